@@ -1,0 +1,4 @@
+mod Examples
+pub mod Ranges
+pub mod Sizes
+pub mod TransferLaws

@@ -1,0 +1,5 @@
+pub mod Boxes
+pub mod Bursts
+pub mod Lines
+pub mod Responses
+pub mod Transfers

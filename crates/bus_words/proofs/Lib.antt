@@ -1,0 +1,5 @@
+pub mod BelowEight
+pub mod LaneLaws
+pub mod MaskLaws
+pub mod TextLaws
+mod Examples

@@ -1,0 +1,3 @@
+pub mod Lanes
+pub mod Tables
+pub mod Text

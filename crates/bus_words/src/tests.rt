@@ -1,0 +1,40 @@
+use super::*;
+
+#[test]
+fn lanes_of_words(rt: HostRuntime) {
+    let word = 0x1122334455667788;
+    for (lane, byte) in [(0, 0x88), (1, 0x77), (6, 0x22), (7, 0x11)] {
+        assert_eq!(rt; lane_byte(word, lane), byte, "lane {lane}");
+    }
+    let bytes = [0x88, 0x77, 0x66, 0x55, 0x44, 0x33, 0x22, 0x11];
+    assert_eq!(rt; word_of_lanes(bytes), word);
+    let given = [None, None, None, Some(0xaa), None, None, None, None];
+    assert_eq!(rt; payload_of(given), 0xaa000000);
+}
+
+#[test]
+fn sets_of_lanes(rt: HostRuntime) {
+    for (mask, lane, held) in [
+        (0x08, 3, true),
+        (0x08, 2, false),
+        (0x81, 0, true),
+        (0x81, 7, true),
+    ] {
+        assert_eq!(rt; has_lane(mask, lane), held, "lane {lane} of {mask:02x}");
+    }
+    let odd = [false, true, false, true, false, true, false, true];
+    assert_eq!(rt; mask_of(odd), 0xaa);
+    for (lowest, highest, mask) in [(3, 3, 0x08), (4, 7, 0xf0), (0, 7, 0xff), (0, 0, 0x01)] {
+        assert_eq!(rt;
+            lanes_between(lowest, highest),
+            mask,
+            "{lowest} to {highest}"
+        );
+    }
+}
+
+#[test]
+fn flags(rt: HostRuntime) {
+    assert_eq!(rt; flag_text(true), "1");
+    assert_eq!(rt; flag_text(false), "0");
+}

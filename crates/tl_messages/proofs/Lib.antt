@@ -1,0 +1,3 @@
+pub mod BeatCounts
+mod Examples
+pub mod LineLaws

@@ -1,0 +1,11 @@
+-- Byte lanes of TileLink (TileLink 1.8, byte lanes and byte masks): the byte at address x travels in lane x mod 8.
+use Rattle.std.specs.Prelude.{ℕ, ◌%◌, ◌^◌, ◌==◌, Bool}
+use Rattle.std.specs.List.{range_with_len, list_any}
+
+-- the lane of an address
+abbrev pub lane_of : ℕ → ℕ
+lane_of address = address % 8
+
+-- whether 2^size bytes from an address on have a byte in this lane
+abbrev pub in_lanes : ℕ → ℕ → ℕ → Bool
+in_lanes address size lane = list_any (λ x. lane_of x == lane) (range_with_len address (2 ^ size))

@@ -1,0 +1,4 @@
+pub mod Lanes
+pub mod Lines
+pub mod Operations
+pub mod Requests
