@@ -13,7 +13,7 @@ lane_byte word lane = byte_at lane word
 abbrev pub has_lane : ℕ → ℕ → Bool
 has_lane mask lane = bit_at mask lane == 1
 
--- whether a lane is neither below the lowest nor above the highest of some lanes
+-- whether a number, as a lane, is neither below the lowest nor above the highest of some numbers
 abbrev pub is_between : ℕ → ℕ → ℕ → Bool
 is_between lowest highest lane = nat_le lowest lane && nat_le lane highest
 

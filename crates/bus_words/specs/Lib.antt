@@ -1,3 +1,4 @@
 pub mod Lanes
+pub mod Places
 pub mod Tables
 pub mod Text

@@ -1,0 +1,4 @@
+mod Examples
+pub mod FaultLaws
+pub mod PageLaws
+pub mod TranslationLaws

@@ -1,0 +1,85 @@
+-- Where a page map leads to.
+use Rattle.std.proofs.Common.{◌≡◌, ℕ, ◌+◌, ◌-◌, ◌*◌, ◌/◌, ◌%◌, ◌^◌, ◌<◌, ◌≤◌, Bool, true, Some, None, List, [], ◌∷◌, length, get_or, refl, ap, ◌∙◌, sym, subst, inl, inr, arith, All, IfSome, find, if◌then◌else◌}
+use Rattle.std.specs.List.{slice_get, position_or_len}
+use Rattle.std.proofs.lemmas.Bool.{cases_Bool, cond-true, cond-false, false_from_ne_true}
+use Rattle.std.proofs.lemmas.List.Folds.{find_at}
+use Rattle.std.proofs.lemmas.List.Sums.{position_or_len_is}
+use Rattle.std.proofs.lemmas.Nat.{div-mul-add, mod-mul-add, mod_below, mod-pow-add, pow_pos}
+use Rattle.std.proofs.lemmas.Option.{same_Some, slice_get-get_or, slice_get_within, get_or_from_slice_get, option_and_then_some, cond_some}
+use Rattle.tl_messages.specs.declared.Operation.{Operation}
+use Rattle.burst_plan.specs.PageMap.{holds_page, permits, address_in, translated, IsInRange, IsPageMap, LeadsThrough, LeadsTo}
+use Rattle.burst_plan.specs.declared.Region.{Region}
+use Rattle.burst_plan.proofs.PageLaws.{holds_page-true}
+use Rattle.burst_plan.proofs.FaultLaws.{each_some}
+
+-- in a page map it is the one region that holds a page that is found by it
+pub find-holds_page : (regions : List Region) → IsPageMap regions → (page i : ℕ) (d : Region) → i < length regions → holds_page page (get_or regions i d) ≡ true
+    → find (holds_page page) regions ≡ Some (get_or regions i d)
+find-holds_page regions map page i d below holds =
+    let none_before = λ (j : ℕ) (before : j < i). false_from_ne_true (holds_page page (get_or regions j d)) (λ other. map.apart j i d before below page other holds) in
+    find_at (holds_page page) regions
+    ∙ ap (slice_get regions) (position_or_len_is (holds_page page) regions i d (omega arith) none_before (λ _. holds))
+    ∙ slice_get-get_or regions i d below
+
+-- where an operation leads to, at an address in a region of a page map
+pub translated-through : (regions : List Region) → IsPageMap regions → (operation : Operation) (address i : ℕ) (d : Region) → i < length regions → holds_page (address / 4096) (get_or regions i d) ≡ true
+    → translated regions operation address ≡ (if permits (get_or regions i d) operation then Some (address_in (get_or regions i d) address) else None)
+translated-through regions map operation address i d below holds = rw (find-holds_page regions map (address / 4096) i d below holds) refl
+
+found_passes : (p : Region → Bool) (regions : List Region) (region : Region) → find p regions ≡ Some region → p region ≡ true
+found_passes p [] region e = cc
+found_passes p (first ∷ regions) region e =
+    elim (cases_Bool (p first)) [
+      | inl passes ↦ subst (λ (x : Region). p x ≡ true) (same_Some _ _ (sym (cond-true (p first) (Some first) (find p regions) passes) ∙ e)) passes
+      | inr fails ↦ found_passes p regions region (sym (cond-false (p first) (Some first) (find p regions) fails) ∙ e)
+    ]
+
+-- the numbers of an address in a region that is in range
+place_exists : (axi tl pages page rest : ℕ) → rest < 4096 → tl ≤ page → page < tl + pages → axi + pages ≤ 1048576 → (axi + (page - tl)) * 4096 + rest < 2 ^ 32
+place_exists axi tl pages page rest small first last within = omega arith
+
+LeadsThrough-address_in : (operation : Operation) (address : ℕ) (region : Region) → holds_page (address / 4096) region ≡ true → permits region operation ≡ true
+    → LeadsThrough operation address (address_in region address) region
+LeadsThrough-address_in operation address region holds permitted =
+    let between = holds_page-true (address / 4096) region holds in
+    let small : address % 4096 < 4096 = mod_below address 4096 (omega arith) in
+    let page : address_in region address / 4096 ≡ region.axi_page + (address / 4096 - region.tl_page) = div-mul-add (region.axi_page + (address / 4096 - region.tl_page)) 4096 (address % 4096) small in
+    record { holds = holds; permitted = permitted; first = omega arith; last = omega arith; same_page = omega arith }
+
+LeadsTo-address_in : (regions : List Region) (operation : Operation) (address : ℕ) (region : Region) → All IsInRange regions
+    → find (holds_page (address / 4096)) regions ≡ Some region → permits region operation ≡ true → LeadsTo regions operation address (address_in region address)
+LeadsTo-address_in regions operation address region in_range found permitted =
+    let holds = found_passes (holds_page (address / 4096)) regions region found in
+    let at = sym (find_at (holds_page (address / 4096)) regions) ∙ found in
+    let k = position_or_len (holds_page (address / 4096)) regions in
+    let below = slice_get_within regions k region at in
+    let here = get_or_from_slice_get regions k region region at in
+    let between = holds_page-true (address / 4096) region holds in
+    let small : address % 4096 < 4096 = mod_below address 4096 (omega arith) in
+    let its_range : IsInRange region = subst IsInRange here (in_range k region below) in
+    record {
+      exists = place_exists region.axi_page region.tl_page region.pages (address / 4096) (address % 4096) small between.0 between.1 its_range.axi;
+      same_byte = mod-mul-add (region.axi_page + (address / 4096 - region.tl_page)) 4096 (address % 4096) small;
+      through = (k, region, below, here, LeadsThrough-address_in operation address region holds permitted);
+    }
+
+-- wherever an operation leads to, it is an address, at the same byte of a page, in the AXI pages of a region that holds the TileLink page and permits the operation
+pub translated-LeadsTo : (regions : List Region) (operation : Operation) (address : ℕ) → All IsInRange regions → IfSome (translated regions operation address) (LeadsTo regions operation address)
+translated-LeadsTo regions operation address in_range =
+    each_some (translated regions operation address) (LeadsTo regions operation address)
+    (λ place e. option_and_then_some (λ region. if permits region operation then Some (address_in region address) else None) (find (holds_page (address / 4096)) regions) place e
+    (λ region found one. let parts = cond_some (permits region operation) (address_in region address) place one in
+    subst (LeadsTo regions operation address) parts.1 (LeadsTo-address_in regions operation address region in_range found parts.0)))
+
+rest_of_rest : (n size : ℕ) → size ≤ 12 → n % 4096 % 2 ^ size ≡ n % 2 ^ size
+rest_of_rest n size fits =
+    let some : 0 < 2 ^ size = pow_pos size in
+    let sum : (12 - size) + size ≡ 12 = omega arith in
+    subst (λ bits. n % 2 ^ bits % 2 ^ size ≡ n % 2 ^ size) sum
+    (ap (λ m. m % 2 ^ size) (mod-pow-add n (12 - size) size) ∙ mod-mul-add (n / 2 ^ size % 2 ^ (12 - size)) (2 ^ size) (n % 2 ^ size) (mod_below n (2 ^ size) some))
+
+-- an operation leads to an address with the alignment of its own, up to that of a page
+pub LeadsTo-alignment : (regions : List Region) (operation : Operation) (address place size : ℕ) → LeadsTo regions operation address place → size ≤ 12
+    → place % 2 ^ size ≡ address % 2 ^ size
+LeadsTo-alignment regions operation address place size leads fits =
+    sym (rest_of_rest place size fits) ∙ ap (λ m. m % 2 ^ size) leads.same_byte ∙ rest_of_rest address size fits

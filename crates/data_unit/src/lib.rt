@@ -1,0 +1,11 @@
+//! Words and masks by their bytes, and the results of atomics (TileLink 1.8, byte lanes and byte masks, ArithmeticData
+//! and LogicalData).
+#![tactic(auto)]
+
+mod atomics;
+#[cfg(test)]
+mod tests;
+mod words;
+
+pub use atomics::apply;
+pub use words::{cut, full_mask, merge, place};
