@@ -1,0 +1,139 @@
+-- The bytes of a memory are just those of its good pages: at the opening of pages that aren't refused, and after every beat.
+use Rattle.std.proofs.Common.{◌≡◌, ℕ, ◌+◌, ◌/◌, ◌==◌, Bool, true, false, ◌||◌, cond, List, [], ◌∷◌, ◌++◌, map, inl, inr, refl, ◌∙◌}
+use Rattle.std.proofs.lemmas.Bool.Decides.{eqb_tells}
+use Rattle.std.specs.List.{AllByRecursion, list_any}
+use Rattle.std.specs.Prelude.{Option, Some, None, filter, find, is_some, nat_lt, option_map, slice_get}
+use Rattle.bus_words.specs.Tables.{first_broken}
+use Rattle.axi_beats.specs.Bursts.{Burst, WriteBurst, ReadBurst}
+use Rattle.axi_beats.specs.declared.WBeat.{WBeat}
+use Rattle.subordinate.specs.Effects.{HasGoodPages, IsWholePage}
+use Rattle.subordinate.specs.Faults.{device_fault, is_good, lists_page, rules_of_pages, rules_of_words, standing_of_listed}
+use Rattle.subordinate.specs.FreeMemory.{BeatState, Waiting, Written, Captured, FreeMemory, Pending, beat_at, has_serial, memory_after, memory_with, opening, performed, performed_beat, performed_in, with_performed}
+use Rattle.subordinate.specs.Pages.{Memory, byte_at_address, holds_address, is_listed_good, opening_memory, word_at, zero_page, zero_words}
+use Rattle.subordinate.specs.declared.DeviceFault.{DeviceFault}
+use Rattle.subordinate.specs.declared.DeviceFault.TheVariants.{PageRange, PageTwice}
+use Rattle.subordinate.specs.declared.PageKind.{PageKind}
+use Rattle.subordinate.specs.declared.PageKind.TheVariants.{Good, SlaveError}
+use Rattle.subordinate.proofs.EffectLaws.{is_some-bytes_written, whole-bytes_written}
+
+-- ---- tables without a broken rule
+
+none_parts : (test : Bool) (rule : DeviceFault) (rows : List (Bool × DeviceFault)) → first_broken ((test, rule) ∷ rows) ≡ None → (test ≡ false) × (first_broken rows ≡ None)
+none_parts true rule rows none = absurd (cc)
+none_parts false rule rows none = (refl, none)
+
+none_before : (xs ys : List (Bool × DeviceFault)) → first_broken (xs ++ ys) ≡ None → first_broken xs ≡ None
+none_before [] ys none = refl
+none_before ((true, rule) ∷ xs) ys none = absurd (cc)
+none_before ((false, rule) ∷ xs) ys none = none_before xs ys none
+
+-- ---- the opening memory
+
+-- whether a good page of a number is kept
+abbrev keeps : ℕ → Memory → Bool
+keeps number memory = is_some (find (λ page. page.number == number) memory)
+
+listed_more : (number : ℕ) (earlier : List (ℕ × PageKind)) (page : ℕ × PageKind) → list_any (lists_page number) earlier ≡ true → list_any (lists_page number) (earlier ++ page ∷ []) ≡ true
+listed_more number [] page = λ listed. absurd (cc)
+listed_more number (first ∷ earlier) page =
+    elim (lists_page number first) as (λ b. (b || list_any (lists_page number) earlier) ≡ true → (b || list_any (lists_page number) (earlier ++ page ∷ [])) ≡ true)
+    [ true ↦ (λ listed. refl) | false ↦ listed_more number earlier page ]
+
+listed_last : (number : ℕ) (earlier : List (ℕ × PageKind)) (page : ℕ × PageKind) → lists_page number page ≡ true → list_any (lists_page number) (earlier ++ page ∷ []) ≡ true
+listed_last number [] page here = rw here refl
+listed_last number (first ∷ earlier) page here =
+    elim (lists_page number first) as (λ b. (b || list_any (lists_page number) (earlier ++ page ∷ [])) ≡ true) [ true ↦ refl | false ↦ listed_last number earlier page here ]
+
+-- what the rules on a page ask: it doesn't stand earlier, and the later ones break none
+page_parts : (earlier : List (ℕ × PageKind)) (i : ℕ) (page : ℕ × PageKind) (pages : List (ℕ × PageKind)) → first_broken (rules_of_pages earlier i (page ∷ pages)) ≡ None
+    → (list_any (lists_page page.0) earlier ≡ false) × (first_broken (rules_of_pages (earlier ++ page ∷ []) (i + 1) pages) ≡ None)
+page_parts earlier i page pages none =
+    let later = rules_of_pages (earlier ++ page ∷ []) (i + 1) pages in
+    let range = none_parts (nat_lt 1048575 page.0) (PageRange i) ((list_any (lists_page page.0) earlier, PageTwice i) ∷ later) none in
+    none_parts (list_any (lists_page page.0) earlier) (PageTwice i) later range.1
+
+-- a page that stands earlier isn't among the later ones
+not_later : (number : ℕ) (earlier : List (ℕ × PageKind)) (i : ℕ) (pages : List (ℕ × PageKind)) → first_broken (rules_of_pages earlier i pages) ≡ None → list_any (lists_page number) earlier ≡ true
+    → keeps number (opening_memory pages) ≡ false
+not_later number earlier i [] none listed = refl
+not_later number earlier i (page ∷ pages) none listed =
+    let twice = page_parts earlier i page pages none in
+    let later = not_later number (earlier ++ page ∷ []) (i + 1) pages twice.1 (listed_more number earlier page listed) in
+    elim (eqb_tells page.0 number) [
+      | inl here ↦ absurd (cc (twice.0, listed, here.1))
+      | inr other ↦
+          elim (is_listed_good page) as (λ b. keeps number (map zero_page (cond b (page ∷ filter is_listed_good pages) (filter is_listed_good pages))) ≡ false)
+          [ true ↦ rw (other.0) later | false ↦ later ]
+    ]
+
+-- the opening memory keeps just the good pages
+keeps-opening_memory : (number : ℕ) (earlier : List (ℕ × PageKind)) (i : ℕ) (pages : List (ℕ × PageKind)) → first_broken (rules_of_pages earlier i pages) ≡ None
+    → keeps number (opening_memory pages) ≡ is_good (standing_of_listed (find (lists_page number) pages))
+keeps-opening_memory number earlier i [] none = refl
+keeps-opening_memory number earlier i ((page, Good) ∷ pages) none =
+    let twice = page_parts earlier i (page, Good) pages none in
+    let later = keeps-opening_memory number (earlier ++ (page, Good) ∷ []) (i + 1) pages twice.1 in
+    elim (page == number) as (λ b. is_some (cond b (Some (zero_page (page, Good))) (find (λ p. p.number == number) (opening_memory pages))) ≡ is_good (standing_of_listed (cond b (Some (page, Good)) (find (lists_page number) pages))))
+    [ true ↦ refl | false ↦ later ]
+keeps-opening_memory number earlier i ((page, SlaveError) ∷ pages) none =
+    let twice = page_parts earlier i (page, SlaveError) pages none in
+    let later = keeps-opening_memory number (earlier ++ (page, SlaveError) ∷ []) (i + 1) pages twice.1 in
+    elim (page == number) as (λ b. (page == number) ≡ b → keeps number (opening_memory pages) ≡ is_good (standing_of_listed (cond b (Some (page, SlaveError)) (find (lists_page number) pages))))
+    [ true ↦ (λ here. not_later number (earlier ++ (page, SlaveError) ∷ []) (i + 1) pages twice.1 (listed_last number earlier (page, SlaveError) here)) | false ↦ (λ other. later) ]
+    refl
+
+is_some-option_map : {X Y : Type 0} (f : X → Y) (found : Option X) → is_some (option_map f found) ≡ is_some found
+is_some-option_map f None = refl
+is_some-option_map f (Some x) = refl
+
+whole-opening_memory : (pages : List (ℕ × PageKind)) → AllByRecursion IsWholePage (map zero_page pages)
+unfolding zero_words
+whole-opening_memory [] = tt
+whole-opening_memory (page ∷ pages) = (refl, whole-opening_memory pages)
+
+-- pages and bad words that aren't refused open a memory whose bytes are those of the good pages
+pub has_good_pages-opening : (bus_bytes : ℕ) (pages : List (ℕ × PageKind)) (bad_words : List ℕ) → device_fault pages bad_words ≡ None → HasGoodPages (opening bus_bytes pages bad_words)
+has_good_pages-opening bus_bytes pages bad_words none =
+    record {
+      exactly = λ address.
+          is_some-option_map _ (word_at (opening_memory pages) address)
+          ∙ is_some-option_map _ (find (holds_address address) (opening_memory pages))
+          ∙ keeps-opening_memory (address / 4096) [] 0 pages (none_before (rules_of_pages [] 0 pages) (rules_of_words pages 0 bad_words) none);
+      whole = whole-opening_memory (filter is_listed_good pages);
+    }
+
+-- ---- performing
+
+kept_bytes : (state : FreeMemory) (burst : Burst) (beat x : ℕ) → is_some (byte_at_address (memory_after state burst beat) x) ≡ is_some (byte_at_address state.memory x)
+kept_bytes state (ReadBurst ar) beat x = refl
+kept_bytes state (WriteBurst aw data_beats) beat x = by_data (slice_get data_beats beat)
+  where
+    by_data : (w : Option WBeat) → is_some (byte_at_address (memory_with state aw (beat + 1) w) x) ≡ is_some (byte_at_address state.memory x)
+    by_data None = refl
+    by_data (Some w) = is_some-bytes_written state.bus_bytes state.memory aw (beat + 1) w x
+
+kept_whole : (state : FreeMemory) (burst : Burst) (beat : ℕ) → AllByRecursion IsWholePage state.memory → AllByRecursion IsWholePage (memory_after state burst beat)
+kept_whole state (ReadBurst ar) beat whole = whole
+kept_whole state (WriteBurst aw data_beats) beat whole = by_data (slice_get data_beats beat)
+  where
+    by_data : (w : Option WBeat) → AllByRecursion IsWholePage (memory_with state aw (beat + 1) w)
+    by_data None = whole
+    by_data (Some w) = whole-bytes_written state.bus_bytes state.memory aw (beat + 1) w whole
+
+-- every beat that is performed keeps it so
+pub has_good_pages-with_performed : (state : FreeMemory) (pending : Pending) (beat : ℕ) → HasGoodPages state → HasGoodPages (with_performed state pending beat)
+has_good_pages-with_performed state pending beat pages =
+    record { exactly = λ address. kept_bytes state pending.burst beat address ∙ pages.exactly address; whole = kept_whole state pending.burst beat pages.whole }
+
+pub has_good_pages-performed : (state : FreeMemory) (serial beat : ℕ) → HasGoodPages state → HasGoodPages (performed state serial beat).0
+has_good_pages-performed state serial beat pages = by_burst (find (has_serial serial) state.pending)
+  where
+    by_beat : (pending : Pending) (is : Option BeatState) → HasGoodPages (performed_beat state pending beat is).0
+    by_beat pending None = pages
+    by_beat pending (Some Waiting) = has_good_pages-with_performed state pending beat pages
+    by_beat pending (Some Written) = pages
+    by_beat pending (Some (Captured payload resp)) = pages
+
+    by_burst : (found : Option Pending) → HasGoodPages (performed_in state beat found).0
+    by_burst None = pages
+    by_burst (Some pending) = by_beat pending (beat_at pending beat)

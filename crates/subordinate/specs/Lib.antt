@@ -1,0 +1,6 @@
+pub mod Device
+pub mod Effects
+pub mod Faults
+pub mod FreeMemory
+pub mod Inside
+pub mod Pages

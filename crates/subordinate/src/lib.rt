@@ -1,0 +1,56 @@
+//! A memory that performs the beats of outstanding bursts in any order, and answers them as AXI4's ordering allows.
+#![tactic(auto)]
+
+mod device;
+mod faults;
+mod pages;
+#[cfg(test)]
+mod tests;
+
+use axi_beats::BurstBox;
+use axi_checker::AxiRule;
+pub use device::Device;
+pub use faults::device_fault;
+
+/// What a listed page is.
+#[derive(Clone, Copy, Debug, Default, PartialEq, Eq)]
+pub enum PageKind {
+    /// Its bytes are kept; they start as zero.
+    #[default]
+    Good,
+    /// Each beat on it is answered SLVERR, and changes nothing.
+    SlaveError,
+}
+
+/// Why a list of pages and bad words is refused; the number is the place in its list, from 0.
+#[derive(Clone, Copy, Debug, PartialEq, Eq)]
+pub enum DeviceFault {
+    /// A page's number is over 1,048,575, so that its addresses have more than 32 bits.
+    PageRange(u32),
+    /// A page stands in the list before.
+    PageTwice(u32),
+    /// A bad word's address is no multiple of 8, or in no good page.
+    BadWord(u32),
+    /// Memory was refused.
+    NoMemory,
+}
+
+/// What came of performing a beat.
+#[derive(Clone, Copy, Debug, PartialEq, Eq)]
+pub enum Performed {
+    /// No open burst has that serial, or it has no such beat.
+    NoSuch,
+    /// The beat was performed before.
+    Already,
+    /// The beat is performed now.
+    Done,
+}
+
+/// A burst that was refused: the first rule that it breaks, and its box.
+#[derive(Drop)]
+pub struct SendRefused {
+    /// The rule.
+    pub rule: AxiRule,
+    /// The box, as it was handed in.
+    pub burst: BurstBox,
+}

@@ -1,0 +1,11 @@
+-- The record of all steps is that of the run, and so what the main theorem says of a run holds of it.
+use Rattle.world_run.specs.Setups.{lists_of}
+use Rattle.world_run.proofs.MainTheorem.{one_at_a_time_of}
+use Rattle.world_run.proofs.RunLoop.{first_setup, ran_whole}
+use Rattle.world_run.proofs.runs.run.Goals as goal
+
+pub returns-clause-one_at_a_time : goal.returns-clause-one_at_a_time
+returns-clause-one_at_a_time c =
+    one_at_a_time_of (lists_of c.args.setup.now) c.args.steps.now _ _ _ _ _
+    (first_setup (lists_of c.args.setup.now) c.in-Ok.world c.in-Ok.ensures.refused c.requires.bus c.requires.no_bad_words)
+    (ran_whole c.args.steps.now c.loop-step.step-index c.loop-step-test.false c.loop-step.invariant)

@@ -1,0 +1,71 @@
+-- The main theorem, as one statement about a run: its replies are those of the accepted requests carried out whole, one at a time,
+-- in order of acceptance, each at most once; once nothing is in flight the memory is theirs too; every burst sent obeys the AXI4 rules.
+-- Its right side knows no beats, IDs, bursts, buffers or tables.
+use Rattle.std.specs.Prelude.{ℕ, ◌≡◌, List, map, zip, length, Option, Some, None, if◌then◌else◌, nat_eq, slice_get, flat_map, IsTrue}
+use Rattle.std.specs.List.{IsDistinct, AllByRecursion, list_all, range_with_len}
+use Rattle.tl_messages.specs.Requests.{WholeRequest}
+use Rattle.tl_checker.specs.Requests.{Spells}
+use Rattle.axi_beats.specs.Bursts.{Burst, is_legal}
+use Rattle.axi_checker.specs.OpenBursts.{nothing_open}
+use Rattle.axi_checker.specs.Rules.{AxiPortLimits, first_axi_fault}
+use Rattle.responses.specs.Shown.{Reply, shown}
+use Rattle.bridge_core.specs.Configs.{port_of}
+use Rattle.bridge_core.specs.declared.Config.{Config}
+use Rattle.subordinate.specs.Faults.{standing_at, is_good}
+use Rattle.world_run.specs.Meaning.{Bytes, zeros, replies_in_order, bytes_after_all}
+use Rattle.world_run.specs.Runs.{AcceptedMessage, HandedReply, messages_in, accepted_in, accepted_numbers, whose, replies_told, sent_beats, pumps_told, axi_history}
+use Rattle.world_run.specs.Setups.{SetupLists, faults_of}
+use Rattle.world_run.specs.World.{WorldState, IsQuiet, byte_of}
+use Rattle.world_run.specs.declared.Answer.{Answer}
+use Rattle.world_run.specs.declared.SentBeat.{SentBeat}
+use Rattle.world_run.specs.declared.Step.{Step}
+
+-- the replies to the accepted requests, carried out one at a time from zero, and the bytes they leave
+abbrev pub replies_of : SetupLists → List WholeRequest → List Reply
+replies_of setup requests = replies_in_order (faults_of setup) setup.regions requests zeros
+
+abbrev pub bytes_of_all : SetupLists → List WholeRequest → Bytes
+bytes_of_all setup requests = bytes_after_all (faults_of setup) setup.regions requests zeros
+
+-- a reply handed out is that of the accepted request of its number, and goes to that request's client
+pub record IsReplyTo (requests : List WholeRequest) (replies : List Reply) (handed : HandedReply) : Type 0 where
+  pub request : WholeRequest
+  pub reply : Reply
+  pub accepted : slice_get requests handed.number ≡ Some request
+  pub carried_out : slice_get replies handed.number ≡ Some reply
+  pub client : handed.client ≡ request.client
+  pub beats : handed.beats ≡ shown request reply
+
+-- an accepted message spells its request on its client's port
+abbrev pub IsSpelled : SetupLists → AcceptedMessage × WholeRequest → Type 0
+IsSpelled setup (message, request) = Spells (port_of setup.config message.client) message.beats request
+
+-- the byte that a memory with these bytes shows at an address
+abbrev pub byte_shown : SetupLists → Bytes → ℕ → Option ℕ
+byte_shown setup bytes address = if is_good (standing_at (faults_of setup) address) then Some (bytes address) else None
+
+-- what the AXI4 port of a set-up allows
+abbrev pub axi_port_of : Config → AxiPortLimits
+axi_port_of config = record { bus_bytes = config.axi_bytes; ids = config.ids; depth = config.depth }
+
+-- the beats sent are those of whole legal bursts, one for each answer Sent, and no beat, sent or answered, broke a rule at its place
+pub record IsLegalTraffic (setup : SetupLists) (answers : List Answer) (sent : List SentBeat) : Type 0 where
+  pub bursts : List Burst
+  pub whole : sent ≡ flat_map sent_beats bursts
+  pub paired : length bursts ≡ pumps_told answers
+  pub legal : IsTrue (list_all (is_legal setup.config.axi_bytes) bursts)
+  pub in_place : first_axi_fault (axi_port_of setup.config) nothing_open (axi_history answers bursts) ≡ None
+
+-- the statement, of a set-up, a list of events, and what a run of them gave
+pub record IsOneAtATime (setup : SetupLists) (steps : List Step) (answers : List Answer) (handed : List HandedReply) (sent : List SentBeat) (world : WorldState) : Type 0 where
+  -- each event has its answer, the accepted requests have the numbers from 0, each is spelled, and replies went as answers tell
+  pub answered : length answers ≡ length steps
+  pub numbered : accepted_numbers answers ≡ range_with_len 0 (length (accepted_in steps answers))
+  pub spelled : AllByRecursion (IsSpelled setup) (zip (messages_in steps answers) (accepted_in steps answers))
+  pub as_many : length (accepted_in steps answers) ≡ length (messages_in steps answers)
+  pub told : map whose handed ≡ replies_told (zip steps answers)
+  -- the sentence
+  pub replies : AllByRecursion (IsReplyTo (accepted_in steps answers) (replies_of setup (accepted_in steps answers))) handed
+  pub once : IsDistinct nat_eq (map (λ reply. reply.number) handed)
+  pub memory : IsQuiet world → (address : ℕ) → byte_of world address ≡ byte_shown setup (bytes_of_all setup (accepted_in steps answers)) address
+  pub traffic : IsLegalTraffic setup answers sent

@@ -1,0 +1,121 @@
+//! Bridge and memory as one world, one event at a time.
+#![tactic(auto)]
+
+mod runs;
+mod setups;
+#[cfg(test)]
+mod tests;
+mod world;
+
+use arrayvec::ArrayVec;
+use axi_beats::{ArBeat, AwBeat, BBeat, RBeat, WBeat};
+use bridge_core::Config;
+use burst_plan::{MapFault, Region};
+pub use runs::{RunRecord, run};
+pub use setups::setup_fault;
+use subordinate::{DeviceFault, PageKind};
+use tl_checker::TlRule;
+use tl_messages::ABeat;
+pub use world::World;
+
+/// What a world is made of: the bridge's limits, its regions, and the memory's pages and bad words.
+#[derive(Drop)]
+pub struct Setup {
+    /// The bridge's limits.
+    pub config: Config,
+    /// The regions of TileLink pages, each leading to AXI pages.
+    pub regions: ArrayVec<Region, 16>,
+    /// The memory's pages with their kinds; other pages are absent.
+    pub pages: ArrayVec<(u32, PageKind), 64>,
+    /// The addresses of eight-byte words of good pages that went bad.
+    pub bad_words: ArrayVec<u32, 64>,
+}
+
+/// Why a set-up is refused.
+#[derive(Clone, Copy, Debug, PartialEq, Eq)]
+pub enum SetupFault {
+    /// A limit isn't in its range.
+    BadConfig,
+    /// The page map is refused.
+    Map(MapFault),
+    /// The memory is refused.
+    Device(DeviceFault),
+    /// Memory was refused.
+    NoMemory,
+}
+
+/// One event.
+#[derive(Clone, Copy, Debug, PartialEq, Eq)]
+pub enum Step {
+    /// A client offers a beat.
+    Offer(u8, ABeat),
+    /// The bridge sends a burst.
+    Pump,
+    /// The memory performs a beat, from 0, of the burst with a serial.
+    Perform(u64, u16),
+    /// The memory gives the B that an ID may give.
+    AnswerB(u8),
+    /// The memory gives the R that an ID may give.
+    AnswerR(u8),
+    /// A client takes a reply.
+    Take(u8),
+}
+
+/// What an event answers.
+#[derive(Clone, Copy, Debug, PartialEq, Eq)]
+pub enum Answer {
+    /// Offer: beats of the request are still to come.
+    More,
+    /// Offer: the request is whole, and accepted with this number.
+    Accepted(u64),
+    /// Offer: the beat isn't taken now.
+    NotReady,
+    /// Offer: all numbers are used up.
+    Exhausted,
+    /// Offer: the beat breaks this rule.
+    Refused(TlRule),
+    /// Offer, Take: there is no such client.
+    NoClient,
+    /// Pump: the burst was sent, and has this serial.
+    Sent(u64),
+    /// Pump: no burst is ready.
+    Idle,
+    /// Perform: the beat was performed.
+    Done,
+    /// Perform: there is no such beat.
+    NoSuch,
+    /// Perform: the beat was performed before.
+    Already,
+    /// AnswerB: this beat came.
+    B(BBeat),
+    /// AnswerR: this beat came.
+    R(RBeat),
+    /// AnswerB, AnswerR, Take: there is none.
+    Nothing,
+    /// Take: the reply to the request of this number was handed out.
+    Reply(u64),
+}
+
+/// One beat that Pump sent.
+#[derive(Clone, Copy, Debug, PartialEq, Eq)]
+pub enum SentBeat {
+    /// On the write address channel.
+    Aw(AwBeat),
+    /// On the write data channel.
+    W(WBeat),
+    /// On the read address channel.
+    Ar(ArBeat),
+}
+
+/// A reply that was handed out, as a piece of a run's list of D beats.
+#[derive(Clone, Copy, Debug, PartialEq, Eq)]
+pub struct Handed {
+    /// The client that took it.
+    pub client: u8,
+    /// The request's number.
+    pub number: u64,
+    /// The place of its first beat.
+    pub first: usize,
+    /// How many beats it has.
+    pub beats: u16,
+}
