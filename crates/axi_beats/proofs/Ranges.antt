@@ -7,7 +7,7 @@ use Rattle.std.proofs.lemmas.List.Elements.{filter-append}
 use Rattle.bus_words.specs.Lanes.{is_between}
 
 -- a range and the range that begins where it stops are one range
-range_with_len-append-range_with_len : (a m k : ℕ) → range_with_len a m ++ range_with_len (a + m) k ≡ range_with_len a (m + k)
+pub range_with_len-append-range_with_len : (a m k : ℕ) → range_with_len a m ++ range_with_len (a + m) k ≡ range_with_len a (m + k)
 range_with_len-append-range_with_len a zero k = grind arith
 range_with_len-append-range_with_len a (suc m) k =
     let later : a + suc m ≡ a + 1 + m = omega arith in

@@ -7,7 +7,7 @@ use Rattle.std.specs.List.{range_with_len}
 use Rattle.std.proofs.lemmas.Bool.Decides.{nat_tests}
 use Rattle.std.proofs.lemmas.Bool.{leb-true, lt-leb, le-leb, and_parts, and_from}
 use Rattle.std.proofs.lemmas.Nat.{pow_pos, mod_below, div-add-mod', mod-mul-add, mul-le}
-use Rattle.axi_beats.specs.Transfers.{IsBusWidth, fits_bus, transfer_address, transfer_end, lowest_lane, highest_lane, covers_lane, lane_address, last_byte, transfer_addresses, TransfersCoverOnce}
+use Rattle.axi_beats.specs.Transfers.{IsBusWidth, fits_bus, aligned_address, transfer_bytes, transfer_address, transfer_end, lowest_lane, highest_lane, covers_lane, lane_address, last_byte, transfer_addresses, TransfersCoverOnce}
 use Rattle.axi_beats.proofs.Ranges.{map-add-filter-is_between, flat_map-range_with_len}
 
 -- a piece of memory of 1, 2 or 4 bytes, at a multiple of its bytes, stops in the word of four bytes in which any of it begins
@@ -74,6 +74,12 @@ transfer_address-next start size n one =
     let later = lt-leb (n + 1) 1 (omega arith) in
     let before : n + 1 - 1 ≡ n = omega arith in
     rw (later, before) (omega (arith, one_transfer size n one))
+
+-- the transfers of an aligned burst begin one transfer's bytes apart
+pub transfer_address-aligned : (start size n : ℕ) → aligned_address start size ≡ start → 1 ≤ n → transfer_address start size n ≡ start + (n - 1) * transfer_bytes size
+transfer_address-aligned start size zero aligned one = absurd (omega arith)
+transfer_address-aligned start size (suc zero) aligned one = omega arith
+transfer_address-aligned start size (suc (suc n)) aligned one = let later = lt-leb (suc (suc n)) 1 (omega arith) in rw later (omega (arith, aligned))
 
 -- a burst stops where its last transfer stops
 pub transfer_end-last : (start len size : ℕ) → transfer_end start size (len + 1) ≡ last_byte start len size

@@ -28,6 +28,10 @@ transfer_address start size n = if nat_le n 1 then start else (aligned_address s
 abbrev pub transfer_end : ℕ → ℕ → ℕ → ℕ
 transfer_end start size n = aligned_address start size + n * transfer_bytes size - 1
 
+-- whether transfer n has the byte at an address
+abbrev pub transfer_has : ℕ → ℕ → ℕ → ℕ → Bool
+transfer_has start size n address = is_between (transfer_address start size n) (transfer_end start size n) address
+
 -- the lowest lane of transfer n, Lower_Byte_Lane
 abbrev pub lowest_lane : ℕ → ℕ → ℕ → ℕ → ℕ
 lowest_lane bus_bytes start size n = transfer_address start size n % bus_bytes

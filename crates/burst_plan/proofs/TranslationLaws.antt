@@ -1,6 +1,7 @@
 -- Where a page map leads to.
 use Rattle.std.proofs.Common.{◌≡◌, ℕ, ◌+◌, ◌-◌, ◌*◌, ◌/◌, ◌%◌, ◌^◌, ◌<◌, ◌≤◌, Bool, true, Some, None, List, [], ◌∷◌, length, get_or, refl, ap, ◌∙◌, sym, subst, inl, inr, arith, All, IfSome, find, if◌then◌else◌}
 use Rattle.std.specs.List.{slice_get, position_or_len}
+use Rattle.std.proofs.Math.Pow.{mod-mod-pow}
 use Rattle.std.proofs.lemmas.Bool.{cases_Bool, cond-true, cond-false, false_from_ne_true}
 use Rattle.std.proofs.lemmas.List.Folds.{find_at}
 use Rattle.std.proofs.lemmas.List.Sums.{position_or_len_is}
@@ -83,3 +84,13 @@ pub LeadsTo-alignment : (regions : List Region) (operation : Operation) (address
     → place % 2 ^ size ≡ address % 2 ^ size
 LeadsTo-alignment regions operation address place size leads fits =
     sym (rest_of_rest place size fits) ∙ ap (λ m. m % 2 ^ size) leads.same_byte ∙ rest_of_rest address size fits
+
+-- an address that leads to the same byte of a page is a multiple of the same powers of two, up to a page's bytes
+pub same_byte-mod : (address place size : ℕ) → size ≤ 12 → place % 4096 ≡ address % 4096 → place % 2 ^ size ≡ address % 2 ^ size
+same_byte-mod address place size small same = sym (cut place) ∙ ap (λ z. z % 2 ^ size) same ∙ cut address
+  where
+    whole : 12 - size + size ≡ 12
+    whole = omega arith
+
+    cut : (x : ℕ) → x % 4096 % 2 ^ size ≡ x % 2 ^ size
+    cut x = rw whole at (mod-mod-pow x (12 - size) size)

@@ -1,1 +1,4 @@
 pub mod PageMap
+pub mod Pieces
+pub mod PlannedBursts
+pub mod PlannedTransfers

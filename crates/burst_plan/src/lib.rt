@@ -1,16 +1,20 @@
-//! Where a request goes on the AXI side: the page map, from pages of TileLink addresses to pages of AXI addresses (this
-//! project's profile).
+//! Where a request goes on the AXI side, and as which bursts: the page map, from pages of TileLink addresses to pages of
+//! AXI addresses, and the plan of a range of bytes (this project's profile).
 //!
 //! Addresses have 32 bits on both sides, and a page has 4,096 bytes.
 #![tactic(auto)]
 
 mod faults;
 mod page_map;
+mod plan;
 #[cfg(test)]
 mod tests;
+mod write_beats;
 
 pub use faults::region_fault;
 pub use page_map::PageMap;
+pub use plan::Plan;
+pub use write_beats::w_beat;
 
 /// TileLink pages that lead to AXI pages, one after another, and which operations may go there (this project's
 /// profile). Two regions may lead to the same AXI pages.
@@ -44,4 +48,15 @@ pub enum MapFault {
     RegionOverlap(u32),
     /// Memory was refused.
     NoMemory,
+}
+
+/// A part of a range of bytes that goes as one INCR burst (AXI4, A3.4.1).
+#[derive(Clone, Copy, Debug, PartialEq, Eq)]
+pub struct Piece {
+    /// The address of the first byte.
+    pub address: u32,
+    /// The number of transfers, less one.
+    pub len: u8,
+    /// The bytes of a transfer, as a power of two.
+    pub size: u8,
 }

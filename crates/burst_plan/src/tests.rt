@@ -1,6 +1,9 @@
+ghost use Rattle.std.specs.Prelude.{◌≡◌};
+
 use super::*;
+use axi_beats::WBeat;
 use std::test::Fail;
-use tl_messages::{AtomicOp, Operation};
+use tl_messages::{AtomicOp, MaskedWord, Operation};
 
 /// A region that permits everything.
 fn region(tl_page: u32, pages: u32, axi_page: u32) -> Region {
@@ -80,4 +83,114 @@ fn leads_to_axi_addresses(rt: HostRuntime) -> Result<(), Fail> {
     let nowhere = PageMap::new(rt.alloc(), &[])?;
     assert_eq!(rt; nowhere.translate(Operation::Get, 0), None);
     Ok(())
+}
+
+fn piece(address: u32, len: u8, size: u8) -> Piece
+    ensures { result ≡ record { address = address; len = len; size = size } }
+{
+    Piece { address, len, size }
+}
+
+/// How many bursts and transfers a plan has, its first burst and its last.
+fn outline(plan: Plan) -> (u16, u16, Piece, Piece) {
+    let bursts = plan.bursts();
+    (bursts, plan.beats(), plan.burst(0), plan.burst(bursts - 1))
+}
+
+/// Whether each burst begins so many bytes after the one before.
+fn is_in_steps_of(plan: Plan, bytes: u32) -> bool {
+    for k in 0..plan.bursts() {
+        if u64::from(plan.burst(k).address)
+            != u64::from(plan.address()) + u64::from(k) * u64::from(bytes)
+        {
+            return false;
+        }
+    }
+    true
+}
+
+#[test]
+fn plans_of_ranges(rt: HostRuntime) {
+    let page = Plan::new_of(0x11000, 12, 16, 8);
+    assert_eq!(rt; (page.address(), page.size()), (0x11000, 12));
+    let last = piece(0x11f80, 15, 3);
+    assert_eq!(rt; outline(page), (32, 512, piece(0x11000, 15, 3), last));
+    assert!(rt; is_in_steps_of(page, 0x80));
+    let halves = Plan::new_of(0x11000, 12, 256, 8);
+    let second = piece(0x11800, 255, 3);
+    assert_eq!(rt; outline(halves), (2, 512, piece(0x11000, 255, 3), second));
+    let singles = Plan::new_of(0x10040, 6, 1, 8);
+    let last = piece(0x10078, 0, 3);
+    assert_eq!(rt; outline(singles), (8, 8, piece(0x10040, 0, 3), last));
+    assert!(rt; is_in_steps_of(singles, 8));
+    let narrow = piece(0x10014, 0, 2);
+    let four_bytes = Plan::new_of(0x10014, 2, 16, 8);
+    assert_eq!(rt; outline(four_bytes), (1, 1, narrow, narrow));
+}
+
+#[test]
+fn plans_on_a_bus_of_four(rt: HostRuntime) {
+    let page = Plan::new_of(0x11000, 12, 256, 4);
+    let last = piece(0x11c00, 255, 2);
+    assert_eq!(rt; outline(page), (4, 1024, piece(0x11000, 255, 2), last));
+    assert!(rt; is_in_steps_of(page, 0x400));
+    let words = piece(0x10000, 7, 2);
+    let read = Plan::new_of(0x10000, 5, 16, 4);
+    assert_eq!(rt; outline(read), (1, 8, words, words));
+    let two_transfers = piece(0x10008, 1, 2);
+    let eight_bytes = Plan::new_of(0x10008, 3, 4, 4);
+    assert_eq!(rt; outline(eight_bytes), (1, 2, two_transfers, two_transfers));
+    let one_byte = piece(0x1000d, 0, 0);
+    let put = Plan::new_of(0x1000d, 0, 16, 4);
+    assert_eq!(rt; outline(put), (1, 1, one_byte, one_byte));
+}
+
+fn word(word: u64, mask: u8) -> MaskedWord {
+    MaskedWord { word, mask }
+}
+
+fn beat(payload: u64, strobes: u8, last: bool) -> WBeat {
+    WBeat {
+        payload,
+        strobes,
+        last,
+    }
+}
+
+#[test]
+fn beats_of_writes(rt: HostRuntime) {
+    let byte = word(0x00000000aa000000, 0x08);
+    assert_eq!(rt;
+        w_beat(&piece(0x1000b, 0, 0), 1, 8, byte),
+        beat(0x00000000aa000000, 0x08, true)
+    );
+    let eight = piece(0x10008, 0, 3);
+    assert_eq!(rt; w_beat(&eight, 1, 8, word(u64::MAX, 0)), beat(0, 0, true));
+    let full = 0x1122334455667788;
+    assert_eq!(rt;
+        w_beat(&eight, 1, 8, word(full, 0x3c)),
+        beat(0x0000334455660000, 0x3c, true)
+    );
+    let four = piece(0x10014, 0, 2);
+    assert_eq!(rt; w_beat(&four, 1, 8, word(0, 0xf0)), beat(0, 0xf0, true));
+    assert_eq!(rt; w_beat(&four, 1, 4, word(0, 0xf0)), beat(0, 0x0f, true));
+    let two_halves = piece(0x10008, 1, 2);
+    assert_eq!(rt;
+        w_beat(&two_halves, 1, 4, word(full, 0xff)),
+        beat(0x55667788, 0x0f, false)
+    );
+    assert_eq!(rt;
+        w_beat(&two_halves, 2, 4, word(full, 0xff)),
+        beat(0x11223344, 0x0f, true)
+    );
+    let byte = word(0x0000bb0000000000, 0x20);
+    assert_eq!(rt;
+        w_beat(&piece(0x1000d, 0, 0), 1, 4, byte),
+        beat(0xbb00, 0x02, true)
+    );
+    let lowest = word(0x8000000000000000, 0xc0);
+    assert_eq!(rt;
+        w_beat(&piece(0x10016, 0, 1), 1, 4, lowest),
+        beat(0x80000000, 0x0c, true)
+    );
 }

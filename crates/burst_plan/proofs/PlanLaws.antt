@@ -1,0 +1,57 @@
+-- What the code of a plan computes.
+use Rattle.std.proofs.Common.{◌≡◌, ℕ, zero, suc, ◌+◌, ◌-◌, ◌*◌, ◌/◌, ◌%◌, ◌^◌, ◌<◌, ◌≤◌, List, map, length, Some, sym, ◌∙◌, ap, arith, refl}
+use Rattle.std.specs.List.{slice_get, range_with_len, sum_by}
+use Rattle.std.proofs.lemmas.Nat.{one_shl, div-mul-add}
+use Rattle.burst_plan.specs.Pieces.{PlannedRange, IsPlannable, beat_size, pieces}
+use Rattle.burst_plan.specs.PlannedTransfers.{beat_bytes, burst_beats, burst_bytes, burst_count, piece_at}
+use Rattle.burst_plan.specs.declared.Piece.{Piece}
+use Rattle.std.proofs.lemmas.List.Sums.{sum_by-cons}
+use Rattle.burst_plan.proofs.PieceLaws.{divides_evenly, length-pieces, pieces_are, slice_get-pieces, piece_within, range_in_page}
+
+-- how many bursts the code counts
+pub bursts_counted : (range : PlannedRange) (bytes : ℕ) → IsPlannable range → bytes ≡ burst_bytes range → 1 * 2 ^ range.size % 2 ^ 32 / bytes ≡ length (pieces range)
+bursts_counted range bytes plannable is =
+    let whole : 1 * 2 ^ range.size % 2 ^ 32 ≡ 2 ^ range.size = one_shl range.size 32 (omega (arith, plannable.size)) in
+    rw (whole, is, length-pieces range (divides_evenly range plannable)) refl
+
+-- there is one
+pub some_bursts : (range : PlannedRange) → IsPlannable range → 1 ≤ length (pieces range)
+some_bursts range plannable = let even = divides_evenly range plannable in rw (length-pieces range even) even.parts.parts
+
+-- burst k as the code makes it
+pub burst_made : (range : PlannedRange) (bytes size k : ℕ) → IsPlannable range → bytes ≡ burst_bytes range → size ≡ beat_size range → k < length (pieces range)
+    → slice_get (pieces range) k ≡ Some (record { address = range.address + k * bytes; len = bytes / 2 ^ size - 1; size = size })
+burst_made range bytes size k plannable bytes_is size_is below =
+    let even = divides_evenly range plannable in
+    let within : k < burst_count range = omega (arith, length-pieces range even) in
+    rw (bytes_is, size_is) (slice_get-pieces range even k within)
+
+-- its address has 32 bits
+pub burst_fits : (range : PlannedRange) (bytes k : ℕ) → IsPlannable range → range.address < 2 ^ 32 → bytes ≡ burst_bytes range → k < length (pieces range) → range.address + k * bytes < 2 ^ 32
+burst_fits range bytes k plannable small bytes_is below =
+    let even = divides_evenly range plannable in
+    let within : k < burst_count range = omega (arith, length-pieces range even) in
+    let page = range_in_page range plannable in
+    let inside = piece_within range even k within in
+    let some = even.parts.some in
+    rw bytes_is (omega arith)
+
+-- it has a transfer
+pub some_transfers : (range : PlannedRange) (bytes size : ℕ) → IsPlannable range → bytes ≡ burst_bytes range → size ≡ beat_size range → 1 ≤ bytes / 2 ^ size
+some_transfers range bytes size plannable bytes_is size_is = rw (bytes_is, size_is) ((divides_evenly range plannable).some_beats)
+
+sum_alike : (f : ℕ → Piece) (m a n : ℕ) → ((k : ℕ) → (f k).len + 1 ≡ m) → sum_by (λ (piece : Piece). piece.len + 1) (map f (range_with_len a n)) ≡ n * m
+sum_alike f m a zero each = let none : 0 * m ≡ 0 = omega arith in rw none refl
+sum_alike f m a (suc n) each =
+    let more : suc n * m ≡ m + n * m = omega arith in
+    rw (sum_by-cons (λ (piece : Piece). piece.len + 1) (f a) (map f (range_with_len (a + 1) n)), each a, sum_alike f m (a + 1) n each, more) refl
+
+-- how many transfers the code counts
+pub beats_counted : (range : PlannedRange) (size : ℕ) → IsPlannable range → size ≡ beat_size range → 1 * 2 ^ range.size % 2 ^ 16 / 2 ^ size ≡ sum_by (λ (piece : Piece). piece.len + 1) (pieces range)
+beats_counted range size plannable is =
+    let even = divides_evenly range plannable in
+    let whole : 1 * 2 ^ range.size % 2 ^ 16 ≡ 2 ^ range.size = one_shl range.size 16 (omega (arith, plannable.size)) in
+    let rows : 2 ^ range.size ≡ burst_count range * burst_beats range * beat_bytes range + 0 = even.parts.whole ∙ ap (λ z. burst_count range * z) even.beats ∙ omega arith in
+    let quotient : 2 ^ range.size / beat_bytes range ≡ burst_count range * burst_beats range = ap (λ z. z / beat_bytes range) rows ∙ div-mul-add (burst_count range * burst_beats range) (beat_bytes range) 0 even.beat in
+    ap (λ z. z / 2 ^ size) whole ∙ ap (λ s. 2 ^ range.size / 2 ^ s) is ∙ quotient
+    ∙ sym (ap (λ (parts : List Piece). sum_by (λ (piece : Piece). piece.len + 1) parts) (pieces_are range even) ∙ sum_alike (piece_at range) (burst_beats range) 0 (burst_count range) (λ k. omega (arith, even.some_beats)))
