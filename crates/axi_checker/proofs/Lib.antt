@@ -1,0 +1,11 @@
+mod Examples
+pub mod DataBeats
+pub mod Few
+pub mod Histories
+pub mod InOrder
+pub mod Judging
+pub mod Lasts
+pub mod LegalBursts
+pub mod ReadsAfter
+pub mod SoundMonitors
+pub mod WithinLimits

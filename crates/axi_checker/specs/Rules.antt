@@ -1,6 +1,6 @@
 -- The rules on the beats of an AXI4 port (AXI4; this project's profile: INCR alone, limits on IDs and outstanding bursts, no data ahead of
 -- its address, and the order of the tests).
-use Rattle.std.specs.Prelude.{ℕ, ◌+◌, ◌==◌, Bool, true, false, not, List, [], ◌∷◌, map, length, Option, Some, None, is_some, filter, if◌then◌else◌, nat_le}
+use Rattle.std.specs.Prelude.{ℕ, ◌+◌, ◌==◌, Bool, true, false, not, List, [], ◌∷◌, ◌++◌, map, length, Option, Some, None, is_some, filter, if◌then◌else◌, nat_le}
 use Rattle.std.specs.Bool.{beq}
 use Rattle.axi_beats.specs.Bursts.{Burst, WriteBurst, ReadBurst, strobes_fit}
 use Rattle.bus_words.specs.Tables.{first_broken}
@@ -99,3 +99,13 @@ burst_fault port open_bursts burst = or_short (first_axi_fault port open_bursts 
     or_short : Option AxiRule → Option AxiRule
     or_short (Some rule) = Some rule
     or_short None = if ends_early burst then Some WLast else None
+
+-- the open bursts with a whole burst at the end that was just sent, all its data with it
+abbrev pub open_with_burst : OpenBursts → Burst → OpenBursts
+open_with_burst open_bursts (WriteBurst aw data_beats) = record open_bursts { writes = open_bursts.writes ++ record { aw = aw; came = aw.len + 1 } ∷ [] }
+open_with_burst open_bursts (ReadBurst ar) = record open_bursts { reads = open_bursts.reads ++ record { ar = ar; came = 0 } ∷ [] }
+
+-- how many transfers a burst has beside the first
+abbrev pub len_of : Burst → ℕ
+len_of (WriteBurst aw data_beats) = aw.len
+len_of (ReadBurst ar) = ar.len

@@ -1,6 +1,19 @@
-//! The rules on the beats of an AXI4 port: the definitions that other layers cite. The monitor that computes them is still
-//! to be built.
+//! A monitor of an AXI4 port: it takes the beats of all five channels, and answers the first rule that one breaks.
+//!
+//! The rules are those of AMBA AXI4 (Arm IHI 0022). This project's profile adds to them: INCR bursts alone, a limit on
+//! IDs and on the outstanding bursts of an ID, no write data ahead of its address, and the order of the tests.
 #![tactic(auto)]
+
+ghost use Rattle.std.specs.Prelude.{◌≡◌};
+ghost use Rattle.axi_checker.specs.Names.{rule_name, rule_number};
+
+mod limits;
+mod monitor;
+mod outstanding;
+#[cfg(test)]
+mod tests;
+
+pub use monitor::Monitor;
 
 /// The rules on AXI4 beats, 1 to 12.
 #[derive(Clone, Copy, Debug, PartialEq, Eq)]
@@ -29,4 +42,33 @@ pub enum AxiRule {
     RLast,
     /// B, R: the response is EXOKAY.
     ExOkay,
+}
+
+impl AxiRule {
+    /// The rule's number, from 1 to 12 (this project's profile).
+    pub fn number(self) -> u8
+        ensures { result ≡ rule_number self }
+    {
+        self as u8
+    }
+
+    /// The rule's name, in capital letters (this project's profile).
+    pub fn name(self) -> &'static str
+        ensures { result.now ≡ rule_name self }
+    {
+        match self {
+            AxiRule::Size => "SIZE",
+            AxiRule::BurstKind => "BURST_KIND",
+            AxiRule::Cross4K => "CROSS_4K",
+            AxiRule::IdRange => "ID_RANGE",
+            AxiRule::Depth => "DEPTH",
+            AxiRule::WWithoutAw => "W_WITHOUT_AW",
+            AxiRule::Strobe => "STROBE",
+            AxiRule::WLast => "WLAST",
+            AxiRule::BWithoutWrite => "B_WITHOUT_WRITE",
+            AxiRule::RWithoutRead => "R_WITHOUT_READ",
+            AxiRule::RLast => "RLAST",
+            AxiRule::ExOkay => "EXOKAY",
+        }
+    }
 }

@@ -1,5 +1,9 @@
 pub mod BelowEight
+pub mod FirstPlaces
+pub mod Inclusion
 pub mod LaneLaws
 pub mod MaskLaws
+pub mod PlaceChanges
+pub mod TableLaws
 pub mod TextLaws
 mod Examples

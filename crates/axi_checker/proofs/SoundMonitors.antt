@@ -1,0 +1,35 @@
+-- A monitor's parts after an accepted beat.
+use Rattle.std.proofs.Common.{◌≡◌, ℕ, ◌<◌, ◌≤◌, List, length, sym, subst, arith}
+use Rattle.std.specs.Prelude.{None}
+use Rattle.axi_beats.specs.declared.AwBeat.{AwBeat}
+use Rattle.axi_beats.specs.declared.ArBeat.{ArBeat}
+use Rattle.axi_checker.specs.Monitors.{IsSoundMonitor, MonitorState, monitor_state}
+use Rattle.axi_checker.specs.OpenBursts.{AxiBeat, OnAr, OnAw, OpenRead, OpenWrite, open_after}
+use Rattle.axi_checker.specs.Rules.{axi_fault}
+use Rattle.axi_checker.proofs.WithinLimits.{room_for_read, room_for_write, within-open_after}
+
+-- it stays sound: its lists are those after the beat, and its room isn't less
+pub sound-open_after : (old now : MonitorState) (beat : AxiBeat) (writes : List OpenWrite) (reads : List OpenRead) (old_writes old_reads new_writes new_reads : ℕ) → IsSoundMonitor old old_writes old_reads → old ≡ now
+    → axi_fault now.port now.open_bursts beat ≡ None → writes ≡ (open_after old.open_bursts beat).writes → reads ≡ (open_after old.open_bursts beat).reads → old_writes ≤ new_writes → old_reads ≤ new_reads
+    → IsSoundMonitor (monitor_state old.port writes reads) new_writes new_reads
+sound-open_after old now beat writes reads old_writes old_reads new_writes new_reads sound same none is_writes is_reads more_writes more_reads =
+    record {
+      bus = sound.bus;
+      within = rw (is_writes, is_reads) (within-open_after old.port old.open_bursts beat accepted sound.within);
+      write_room = omega (arith, sound.write_room);
+      read_room = omega (arith, sound.read_room);
+    }
+  where
+    accepted : axi_fault old.port old.open_bursts beat ≡ None
+    accepted = subst (λ (m : MonitorState). axi_fault m.port m.open_bursts beat ≡ None) (sym same) none
+
+-- and it has room for a burst whose address is accepted
+pub sound_write_room : (old now : MonitorState) (aw : AwBeat) (room_of_writes room_of_reads : ℕ) → IsSoundMonitor old room_of_writes room_of_reads → old ≡ now → axi_fault now.port now.open_bursts (OnAw aw) ≡ None
+    → length old.open_bursts.writes < room_of_writes
+sound_write_room old now aw room_of_writes room_of_reads sound same none =
+    omega (arith, room_for_write old.port old.open_bursts aw (subst (λ (m : MonitorState). axi_fault m.port m.open_bursts (OnAw aw) ≡ None) (sym same) none) sound.within, sound.write_room)
+
+pub sound_read_room : (old now : MonitorState) (ar : ArBeat) (room_of_writes room_of_reads : ℕ) → IsSoundMonitor old room_of_writes room_of_reads → old ≡ now → axi_fault now.port now.open_bursts (OnAr ar) ≡ None
+    → length old.open_bursts.reads < room_of_reads
+sound_read_room old now ar room_of_writes room_of_reads sound same none =
+    omega (arith, room_for_read old.port old.open_bursts ar (subst (λ (m : MonitorState). axi_fault m.port m.open_bursts (OnAr ar) ≡ None) (sym same) none) sound.within, sound.read_room)

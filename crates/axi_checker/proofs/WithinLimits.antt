@@ -1,0 +1,158 @@
+-- An accepted beat leaves the outstanding bursts within a port's limits.
+use Rattle.std.proofs.Common.{◌≡◌, ℕ, ◌+◌, ◌*◌, ◌<◌, ◌≤◌, ◌==◌, Bool, true, false, List, [], ◌∷◌, length, refl, arith}
+use Rattle.std.specs.Prelude.{None, if◌then◌else◌, filter, nat_le, not}
+use Rattle.std.specs.List.{AllByRecursion}
+use Rattle.std.proofs.lemmas.Bool.{leb-false, leb-true, ltb-true, not-false}
+use Rattle.bus_words.specs.Tables.{first_broken}
+use Rattle.bus_words.proofs.PlaceChanges.{all-append, all-change_first, all-without_first}
+use Rattle.bus_words.proofs.TableLaws.{unbroken}
+use Rattle.axi_beats.specs.Transfers.{fits_bus, in_one_page}
+use Rattle.axi_beats.specs.declared.AwBeat.{AwBeat}
+use Rattle.axi_beats.specs.declared.ArBeat.{ArBeat}
+use Rattle.axi_checker.specs.Monitors.{HasFewOfEach, IsSoundRead, IsSoundWrite, IsWithinLimits, id_of_read, id_of_write}
+use Rattle.axi_checker.specs.OpenBursts.{AxiBeat, OnAr, OnAw, OnB, OnR, OnW, OpenBursts, OpenRead, OpenWrite, lacks_data, open_after, read_of_id, reads_after, write_of_id}
+use Rattle.axi_checker.specs.Rules.{AxiPortLimits, address_rules, axi_fault}
+use Rattle.axi_checker.specs.declared.AxiRule.{AxiRule}
+use Rattle.axi_checker.specs.declared.AxiRule.TheVariants.{Size, BurstKind, Cross4K, IdRange, Depth}
+use Rattle.axi_checker.proofs.Few.{few-append, few-change_first, few-without_first, of_id, room_for_one}
+use Rattle.axi_checker.proofs.ReadsAfter.{goes_on, one_more}
+
+-- what an address beat keeps to that breaks no rule
+pub record IsAllowed (port : AxiPortLimits) (id address len size burst_type open_of_id : ℕ) : Type 0 where
+  pub fits : fits_bus port.bus_bytes size ≡ true
+  pub incr : (burst_type == 1) ≡ true
+  pub page : in_one_page address len size ≡ true
+  pub known : id < port.ids
+  pub few : open_of_id < port.depth
+
+pub address_allowed : (port : AxiPortLimits) (id address len size burst_type open_of_id : ℕ) → first_broken (address_rules port id address len size burst_type open_of_id) ≡ None
+    → IsAllowed port id address len size burst_type open_of_id
+address_allowed port id address len size burst_type open_of_id none =
+    let depth_on : List (Bool × AxiRule) = (nat_le port.depth open_of_id, Depth) ∷ [] in
+    let ids_on : List (Bool × AxiRule) = (nat_le port.ids id, IdRange) ∷ depth_on in
+    let page_on : List (Bool × AxiRule) = (not (in_one_page address len size), Cross4K) ∷ ids_on in
+    let incr_on : List (Bool × AxiRule) = (not (burst_type == 1), BurstKind) ∷ page_on in
+    let fits = unbroken (not (fits_bus port.bus_bytes size)) Size incr_on none in
+    let incr = unbroken (not (burst_type == 1)) BurstKind page_on fits.1 in
+    let page = unbroken (not (in_one_page address len size)) Cross4K ids_on incr.1 in
+    let known = unbroken (nat_le port.ids id) IdRange depth_on page.1 in
+    let few = unbroken (nat_le port.depth open_of_id) Depth [] known.1 in
+    record {
+      fits = not-false (fits_bus port.bus_bytes size) fits.0;
+      incr = not-false (burst_type == 1) incr.0;
+      page = not-false (in_one_page address len size) page.0;
+      known = leb-false port.ids id known.0;
+      few = leb-false port.depth open_of_id few.0;
+    }
+
+pub aw_allowed : (port : AxiPortLimits) (open_bursts : OpenBursts) (aw : AwBeat) → axi_fault port open_bursts (OnAw aw) ≡ None
+    → IsAllowed port aw.id aw.address aw.len aw.size aw.burst (of_id id_of_write aw.id open_bursts.writes)
+aw_allowed port open_bursts aw none = address_allowed port aw.id aw.address aw.len aw.size aw.burst (of_id id_of_write aw.id open_bursts.writes) none
+
+pub ar_allowed : (port : AxiPortLimits) (open_bursts : OpenBursts) (ar : ArBeat) → axi_fault port open_bursts (OnAr ar) ≡ None
+    → IsAllowed port ar.id ar.address ar.len ar.size ar.burst (of_id id_of_read ar.id open_bursts.reads)
+ar_allowed port open_bursts ar none = address_allowed port ar.id ar.address ar.len ar.size ar.burst (of_id id_of_read ar.id open_bursts.reads) none
+
+-- there is room for a burst whose address is allowed
+pub room_for_write : (port : AxiPortLimits) (open_bursts : OpenBursts) (aw : AwBeat) → axi_fault port open_bursts (OnAw aw) ≡ None → IsWithinLimits port open_bursts
+    → length open_bursts.writes < port.ids * port.depth
+room_for_write port open_bursts aw none within =
+    let allowed = aw_allowed port open_bursts aw none in
+    room_for_one id_of_write port.ids port.depth open_bursts.writes (record { aw = aw; came = 0 }) within.writes allowed.known allowed.few
+
+pub room_for_read : (port : AxiPortLimits) (open_bursts : OpenBursts) (ar : ArBeat) → axi_fault port open_bursts (OnAr ar) ≡ None → IsWithinLimits port open_bursts
+    → length open_bursts.reads < port.ids * port.depth
+room_for_read port open_bursts ar none within =
+    let allowed = ar_allowed port open_bursts ar none in
+    room_for_one id_of_read port.ids port.depth open_bursts.reads (record { ar = ar; came = 0 }) within.reads allowed.known allowed.few
+
+-- an R beat keeps what holds of each read, and lets no more reads have an ID
+all-reads_after : (P : OpenRead → Type 0) (id : ℕ) (reads : List OpenRead) → ((read : OpenRead) → goes_on read ≡ true → P read → P (one_more read)) → AllByRecursion P reads
+    → AllByRecursion P (reads_after id reads)
+all-reads_after P id [] keeps all = tt
+all-reads_after P id (r ∷ rs) keeps all = by_test (read_of_id id r) (goes_on r) (keeps r) (all-reads_after P id rs keeps all.1)
+  where
+    by_test : (here on : Bool) → (on ≡ true → P r → P (one_more r)) → AllByRecursion P (reads_after id rs)
+        → AllByRecursion P (if here then (if on then one_more r ∷ rs else rs) else r ∷ reads_after id rs)
+    by_test true true kept rest = (kept refl all.0, all.1)
+    by_test true false kept rest = all.1
+    by_test false on kept rest = (all.0, rest)
+
+-- a test that an R beat leaves as it was; what the head adds to the count is the same on both sides
+of_id-reads_after : (id other : ℕ) (reads : List OpenRead) → of_id id_of_read other (reads_after id reads) ≤ of_id id_of_read other reads
+of_id-reads_after id other [] = omega arith
+of_id-reads_after id other (r ∷ rs) = by_test (read_of_id id r) (goes_on r) (of_id-reads_after id other rs)
+  where
+    has : OpenRead → Bool
+    has read = read.ar.id == other
+
+    keeps_head : (b : Bool) (x : OpenRead) (xs ys : List OpenRead) → length (filter has xs) ≤ length (filter has ys)
+        → length (if b then x ∷ filter has xs else filter has xs) ≤ length (if b then r ∷ filter has ys else filter has ys)
+    keeps_head true x xs ys fewer = omega (arith, fewer)
+    keeps_head false x xs ys fewer = fewer
+
+    drops_head : (b : Bool) → length (filter has rs) ≤ length (if b then r ∷ filter has rs else filter has rs)
+    drops_head true = omega arith
+    drops_head false = omega arith
+
+    by_test : (here on : Bool) → length (filter has (reads_after id rs)) ≤ length (filter has rs)
+        → length (filter has (if here then (if on then one_more r ∷ rs else rs) else r ∷ reads_after id rs)) ≤ length (filter has (r ∷ rs))
+    by_test true true rest = keeps_head (r.ar.id == other) (one_more r) rs rs (omega arith)
+    by_test true false rest = drops_head (r.ar.id == other)
+    by_test false on rest = keeps_head (r.ar.id == other) r (reads_after id rs) rs rest
+
+few-reads_after : (ids depth id : ℕ) (reads : List OpenRead) → HasFewOfEach id_of_read ids depth reads → HasFewOfEach id_of_read ids depth (reads_after id reads)
+few-reads_after ids depth id reads few =
+    record {
+      known = all-reads_after (λ read. read.ar.id < ids) id reads (λ read goes known. known) few.known;
+      few = λ other. omega (arith, of_id-reads_after id other reads, few.few other);
+    }
+
+sound-fill : (bus_bytes : ℕ) (write : OpenWrite) → lacks_data write ≡ true → IsSoundWrite bus_bytes write → IsSoundWrite bus_bytes (record write { came = write.came + 1 })
+sound-fill bus_bytes write lacks sound = record { fits = sound.fits; came = omega (arith, leb-true write.came write.aw.len lacks) }
+
+sound-answer : (bus_bytes : ℕ) (read : OpenRead) → goes_on read ≡ true → IsSoundRead bus_bytes read → IsSoundRead bus_bytes (one_more read)
+sound-answer bus_bytes read goes sound = record { fits = sound.fits; came = omega (arith, ltb-true read.came read.ar.len goes) }
+
+pub within-open_after : (port : AxiPortLimits) (open_bursts : OpenBursts) (beat : AxiBeat) → axi_fault port open_bursts beat ≡ None → IsWithinLimits port open_bursts
+    → IsWithinLimits port (open_after open_bursts beat)
+within-open_after port open_bursts (OnAw aw) none within =
+    let allowed = aw_allowed port open_bursts aw none in
+    let write : OpenWrite = record { aw = aw; came = 0 } in
+    record {
+      writes = few-append id_of_write port.ids port.depth open_bursts.writes write within.writes allowed.known allowed.few;
+      reads = within.reads;
+      sound_writes = all-append (IsSoundWrite port.bus_bytes) open_bursts.writes write within.sound_writes (record { fits = allowed.fits; came = omega arith });
+      sound_reads = within.sound_reads;
+    }
+within-open_after port open_bursts (OnW w) none within =
+    record {
+      writes = few-change_first id_of_write port.ids port.depth lacks_data (λ write. record write { came = write.came + 1 }) open_bursts.writes (λ write. refl) within.writes;
+      reads = within.reads;
+      sound_writes =
+          all-change_first (IsSoundWrite port.bus_bytes) lacks_data (λ write. record write { came = write.came + 1 }) open_bursts.writes (sound-fill port.bus_bytes) within.sound_writes;
+      sound_reads = within.sound_reads;
+    }
+within-open_after port open_bursts (OnB b) none within =
+    record {
+      writes = few-without_first id_of_write port.ids port.depth (write_of_id b.id) open_bursts.writes within.writes;
+      reads = within.reads;
+      sound_writes = all-without_first (IsSoundWrite port.bus_bytes) (write_of_id b.id) open_bursts.writes within.sound_writes;
+      sound_reads = within.sound_reads;
+    }
+within-open_after port open_bursts (OnAr ar) none within =
+    let allowed = ar_allowed port open_bursts ar none in
+    let read : OpenRead = record { ar = ar; came = 0 } in
+    record {
+      writes = within.writes;
+      reads = few-append id_of_read port.ids port.depth open_bursts.reads read within.reads allowed.known allowed.few;
+      sound_writes = within.sound_writes;
+      sound_reads = all-append (IsSoundRead port.bus_bytes) open_bursts.reads read within.sound_reads (record { fits = allowed.fits; came = omega arith });
+    }
+within-open_after port open_bursts (OnR r) none within =
+    record {
+      writes = within.writes;
+      reads = few-reads_after port.ids port.depth r.id open_bursts.reads within.reads;
+      sound_writes = within.sound_writes;
+      sound_reads = all-reads_after (IsSoundRead port.bus_bytes) r.id open_bursts.reads (sound-answer port.bus_bytes) within.sound_reads;
+    }

@@ -1,0 +1,64 @@
+-- What a monitor knows, and what stays true of it: an accepted beat leaves no ID with more outstanding bursts than the port allows.
+use Rattle.std.specs.Prelude.{◌≡◌, ℕ, ◌+◌, ◌*◌, ◌<◌, ◌≤◌, ◌==◌, true, List, [], ◌∷◌, length, filter, Option, Some, None, if◌then◌else◌}
+use Rattle.std.specs.Option.{option_or}
+use Rattle.std.specs.List.{AllByRecursion}
+use Rattle.axi_beats.specs.Transfers.{IsBusWidth, fits_bus}
+use Rattle.axi_beats.specs.declared.WBeat.{WBeat}
+use Rattle.bus_words.specs.Tables.{first_broken}
+use Rattle.axi_checker.specs.OpenBursts.{OpenBursts, OpenWrite, OpenRead, lacks_data}
+use Rattle.axi_checker.specs.Rules.{AxiPortLimits, data_rules}
+use Rattle.axi_checker.specs.declared.AxiRule.{AxiRule}
+
+-- a port's limits, and the bursts that are outstanding on it
+pub record MonitorState : Type 0 where
+  pub port : AxiPortLimits
+  pub open_bursts : OpenBursts
+
+-- the entries of a list have IDs below `ids`, and at most `depth` of them the same
+pub record HasFewOfEach {X : Type 0} (id_of : X → ℕ) (ids depth : ℕ) (xs : List X) : Type 0 where
+  pub known : AllByRecursion (λ x. id_of x < ids) xs
+  pub few : (id : ℕ) → length (filter (λ x. id_of x == id) xs) ≤ depth
+
+abbrev pub id_of_write : OpenWrite → ℕ
+id_of_write write = write.aw.id
+
+abbrev pub id_of_read : OpenRead → ℕ
+id_of_read read = read.ar.id
+
+-- a write's transfers fit the bus, and no more W beats came than it has transfers
+pub record IsSoundWrite (bus_bytes : ℕ) (write : OpenWrite) : Type 0 where
+  pub fits : fits_bus bus_bytes write.aw.size ≡ true
+  pub came : write.came ≤ write.aw.len + 1
+
+-- a read's transfers fit the bus, and R beats are still to come
+pub record IsSoundRead (bus_bytes : ℕ) (read : OpenRead) : Type 0 where
+  pub fits : fits_bus bus_bytes read.ar.size ≡ true
+  pub came : read.came ≤ read.ar.len
+
+-- outstanding bursts that keep to a port's limits
+pub record IsWithinLimits (port : AxiPortLimits) (open_bursts : OpenBursts) : Type 0 where
+  pub writes : HasFewOfEach id_of_write port.ids port.depth open_bursts.writes
+  pub reads : HasFewOfEach id_of_read port.ids port.depth open_bursts.reads
+  pub sound_writes : AllByRecursion (IsSoundWrite port.bus_bytes) open_bursts.writes
+  pub sound_reads : AllByRecursion (IsSoundRead port.bus_bytes) open_bursts.reads
+
+-- a monitor of a bus that there is, within the port's limits, with room for as many bursts on each side as the limits allow
+pub record IsSoundMonitor (state : MonitorState) (room_of_writes room_of_reads : ℕ) : Type 0 where
+  pub bus : IsBusWidth state.port.bus_bytes
+  pub within : IsWithinLimits state.port state.open_bursts
+  pub write_room : state.port.ids * state.port.depth ≤ room_of_writes
+  pub read_room : state.port.ids * state.port.depth ≤ room_of_reads
+
+-- the state of a monitor's parts
+abbrev pub monitor_state : AxiPortLimits → List OpenWrite → List OpenRead → MonitorState
+monitor_state port writes reads = record { port = port; open_bursts = record { writes = writes; reads = reads } }
+
+-- the write that a W beat would belong to, where this is the only one that may lack data
+abbrev pub if_lacking : OpenWrite → Option OpenWrite
+if_lacking write = if lacks_data write then Some write else None
+
+-- the first rule that W beats break as the next of a write, the only one that may lack data, each after those before it
+abbrev pub first_data_fault : AxiPortLimits → OpenWrite → List WBeat → Option AxiRule
+first_data_fault port write [] = None
+first_data_fault port write (w ∷ ws) =
+    option_or (first_broken (data_rules port (if_lacking write) w)) (first_data_fault port (record write { came = write.came + 1 }) ws)

@@ -1,0 +1,276 @@
+//! The monitor.
+ghost use Rattle.std.specs.Prelude.{◌≡◌, ℕ, ◌+◌, ◌∷◌, ◌++◌, ◌<◌, ◌≤◌, None, Some, Ok, Err, IsErr, IsOk, IsSome, IfOk, IfSome, MatchOption, MatchResult, filter, length, position};
+ghost use Rattle.axi_beats.specs.Boxes.{aw_of};
+ghost use Rattle.axi_beats.specs.Bursts.{IsLegal};
+ghost use Rattle.axi_beats.specs.Responses.{is_exokay};
+ghost use Rattle.axi_beats.specs.Transfers.{IsBusWidth};
+ghost use Rattle.axi_checker.specs.OpenBursts.{OnAr, OnAw, OnB, OnR, OnW, lacks_data, nothing_open, open_after, read_of_id, write_of_id, write_to_fill};
+ghost use Rattle.axi_checker.specs.Order.{lasts_from, read_given, reads_asked, reads_owe, writes_lack};
+ghost use Rattle.axi_checker.specs.Rules.{axi_fault, beats_sent, burst_fault, len_of, open_after_all, open_with_burst};
+
+use crate::AxiRule;
+use crate::limits::{Address, Limits};
+use crate::outstanding::{
+    OpenRead, OpenWrite, answer_read, close_write, fill_write, oldest_read, oldest_write,
+    open_read, open_write, reads_of_id, write_to_fill, writes_of_id,
+};
+use axi_beats::{ArBeat, AwBeat, BBeat, BurstBox, RBeat, Resp, WBeat};
+use std::alloc::{AllocError, Global};
+use std::marker::Model;
+
+/// A monitor of an AXI4 port. It takes the beats of all five channels in the order in which they come, and keeps which
+/// bursts are outstanding. A beat that breaks a rule is refused with the first rule that it breaks, and changes nothing.
+/// All room is taken by `new`; no other call takes memory.
+#[derive(Drop)]
+pub struct Monitor {
+    limits: Limits,
+    writes: Vec<OpenWrite>,
+    reads: Vec<OpenRead>,
+}
+
+impl Model for Monitor {
+    ghost use Rattle.std.specs.Vec.{vec_capacity};
+    ghost use Rattle.axi_checker.specs.Monitors.{MonitorState, IsSoundMonitor, monitor_state};
+
+    ghost Value = { MonitorState };
+
+    ghost view = { λ m. monitor_state m.limits m.writes.items m.reads.items };
+
+    ghost invariant = { λ m. IsSoundMonitor (monitor_state m.limits m.writes.items m.reads.items) (vec_capacity m.writes) (vec_capacity m.reads) };
+}
+
+impl Monitor {
+    /// A monitor of a port with `ids` IDs, 1 to 16, of which each may have `depth` bursts outstanding on each side, 1 to
+    /// 4, and a bus of `bus_bytes` bytes, 4 or 8. Nothing is outstanding.
+    ///
+    /// The one error is that memory was refused.
+    pub fn new(alloc: Global, ids: u8, depth: u8, bus_bytes: u8) -> Result<Self, AllocError>
+        requires some_ids { 1 ≤ ids }
+        requires most_ids { ids ≤ 16 }
+        requires some_depth { 1 ≤ depth }
+        requires most_depth { depth ≤ 4 }
+        requires bus { IsBusWidth bus_bytes }
+        ensures { IfOk result (λ monitor. monitor
+            ≡ record { port = record { bus_bytes = bus_bytes; ids = ids; depth = depth }; open_bursts = nothing_open }) }
+    {
+        let room = usize::from(ids) * usize::from(depth);
+        let writes = Vec::with_capacity(alloc, room)?;
+        let reads = Vec::with_capacity(alloc, room)?;
+        let limits = Limits {
+            bus_bytes,
+            ids,
+            depth,
+        };
+        Ok(Monitor {
+            limits,
+            writes,
+            reads,
+        })
+    }
+
+    /// Takes a write's address (AXI4, A3.4.1): its burst is outstanding until its B.
+    pub fn aw(&mut self, beat: &AwBeat) -> Result<(), AxiRule>
+        ensures answer { MatchOption (axi_fault self.old.port self.old.open_bursts (OnAw beat.now)) (result ≡ Ok tt) (λ rule. result ≡ Err rule) }
+        ensures taken { IsOk result → self.new ≡ record self.old { open_bursts = open_after self.old.open_bursts (OnAw beat.now) } }
+        ensures kept { IsErr result → self.new ≡ self.old }
+
+        // Its data are due after those of all writes before it.
+        ensures order { IsOk result → writes_lack self.new.open_bursts.writes ≡ writes_lack self.old.open_bursts.writes ++ lasts_from 0 beat.now.len }
+    {
+        if let Some(rule) = self.aw_fault(beat) {
+            return Err(rule);
+        }
+        open_write(&mut self.writes, *beat);
+        Ok(())
+    }
+
+    /// Takes a write's data (AXI4, A3.4.3): the next transfer of the oldest write that lacks data.
+    pub fn w(&mut self, beat: &WBeat) -> Result<(), AxiRule>
+        ensures answer { MatchOption (axi_fault self.old.port self.old.open_bursts (OnW beat.now)) (result ≡ Ok tt) (λ rule. result ≡ Err rule) }
+        ensures taken { IsOk result → self.new ≡ record self.old { open_bursts = open_after self.old.open_bursts (OnW beat.now) } }
+        ensures kept { IsErr result → self.new ≡ self.old }
+
+        // Write data come in the order of the write addresses.
+        ensures order { IsOk result → beat.now.last ∷ writes_lack self.new.open_bursts.writes ≡ writes_lack self.old.open_bursts.writes }
+    {
+        let place = self.place_of_data(beat)?;
+        fill_write(&mut self.writes, place);
+        Ok(())
+    }
+
+    /// Takes a read's address (AXI4, A3.4.1): its burst is outstanding until its last R.
+    pub fn ar(&mut self, beat: &ArBeat) -> Result<(), AxiRule>
+        ensures answer { MatchOption (axi_fault self.old.port self.old.open_bursts (OnAr beat.now)) (result ≡ Ok tt) (λ rule. result ≡ Err rule) }
+        ensures taken { IsOk result → self.new ≡ record self.old { open_bursts = open_after self.old.open_bursts (OnAr beat.now) } }
+        ensures kept { IsErr result → self.new ≡ self.old }
+
+        // Its data are due after those of all reads of its ID before it.
+        ensures order { IsOk result → (id : ℕ) → reads_owe id self.new.open_bursts.reads ≡ reads_owe id self.old.open_bursts.reads ++ reads_asked id (OnAr beat.now) }
+    {
+        if let Some(rule) = self.ar_fault(beat) {
+            return Err(rule);
+        }
+        open_read(&mut self.reads, *beat);
+        Ok(())
+    }
+
+    /// Takes a write's response (AXI4, A3.4.4 and A5): that of the ID's oldest write, whose data have all come.
+    pub fn b(&mut self, beat: &BBeat) -> Result<(), AxiRule>
+        ensures answer { MatchOption (axi_fault self.old.port self.old.open_bursts (OnB beat.now)) (result ≡ Ok tt) (λ rule. result ≡ Err rule) }
+        ensures taken { IsOk result → self.new ≡ record self.old { open_bursts = open_after self.old.open_bursts (OnB beat.now) } }
+        ensures kept { IsErr result → self.new ≡ self.old }
+
+        // One write of the ID is answered, and it lacked no data.
+        ensures one_less { IsOk result → 1 + length (filter (write_of_id beat.now.id) self.new.open_bursts.writes)
+            ≡ length (filter (write_of_id beat.now.id) self.old.open_bursts.writes) }
+        ensures complete { IsOk result → writes_lack self.new.open_bursts.writes ≡ writes_lack self.old.open_bursts.writes }
+    {
+        let place = self.place_of_response(beat)?;
+        close_write(&mut self.writes, beat.id, place);
+        Ok(())
+    }
+
+    /// Takes a read's data with their response (AXI4, A3.4.4 and A5): the next transfer of the ID's oldest read.
+    pub fn r(&mut self, beat: &RBeat) -> Result<(), AxiRule>
+        ensures answer { MatchOption (axi_fault self.old.port self.old.open_bursts (OnR beat.now)) (result ≡ Ok tt) (λ rule. result ≡ Err rule) }
+        ensures taken { IsOk result → self.new ≡ record self.old { open_bursts = open_after self.old.open_bursts (OnR beat.now) } }
+        ensures kept { IsErr result → self.new ≡ self.old }
+
+        // Read data of one ID come in the order of its read addresses.
+        ensures order { IsOk result → (id : ℕ) → read_given id (OnR beat.now) ++ reads_owe id self.new.open_bursts.reads ≡ reads_owe id self.old.open_bursts.reads }
+    {
+        let place = self.place_of_read(beat)?;
+        answer_read(&mut self.reads, beat.id, place);
+        Ok(())
+    }
+
+    /// The first rule that the beats with which a burst is sent would break, in their order; a write whose data end before
+    /// its last transfer breaks `WLast`. Nothing changes.
+    ///
+    /// The box isn't empty, and every accepted write has its data.
+    pub fn judge(&self, burst: &BurstBox) -> Option<AxiRule>
+        requires full { IsSome burst.now }
+        requires ready { write_to_fill self.now.open_bursts ≡ None }
+        ensures rule { IfSome burst.now (λ b. result ≡ burst_fault self.now.port self.now.open_bursts b) }
+
+        // A burst that breaks no rule is legal, and once it was sent it is outstanding with all its data.
+        ensures legal { result ≡ None → IfSome burst.now (IsLegal self.now.port.bus_bytes) }
+        ensures sent { result ≡ None → IfSome burst.now (λ b. open_after_all self.now.open_bursts (beats_sent b) ≡ open_with_burst self.now.open_bursts b) }
+    {
+        if burst.is_write() {
+            self.write_fault(burst)
+        } else {
+            self.ar_fault(&burst.ar())
+        }
+    }
+
+    fn write_fault(&self, burst: &BurstBox) -> Option<AxiRule>
+        requires write { IsSome (aw_of burst.now) }
+        requires ready { write_to_fill self.now.open_bursts ≡ None }
+        ensures rule { IfSome burst.now (λ b. result ≡ burst_fault self.now.port self.now.open_bursts b) }
+        ensures len { IfSome burst.now (λ b. len_of b < 256) }
+    {
+        let aw = burst.aw();
+        if let Some(rule) = self.aw_fault(&aw) {
+            return Some(rule);
+        }
+        if let Some(rule) = self.limits.first_data_fault(aw, burst) {
+            return Some(rule);
+        }
+        if burst.w_beats() <= u16::from(aw.len) {
+            return Some(AxiRule::WLast);
+        }
+        None
+    }
+
+    fn aw_fault(&self, beat: &AwBeat) -> Option<AxiRule>
+        ensures { result ≡ axi_fault self.now.port self.now.open_bursts (OnAw beat.now) }
+    {
+        let address = Address {
+            id: beat.id,
+            start: beat.address,
+            len: beat.len,
+            size: beat.size,
+            burst: beat.burst,
+        };
+        self.limits
+            .address_fault(address, writes_of_id(&self.writes, beat.id))
+    }
+
+    fn ar_fault(&self, beat: &ArBeat) -> Option<AxiRule>
+        ensures { result ≡ axi_fault self.now.port self.now.open_bursts (OnAr beat.now) }
+    {
+        let address = Address {
+            id: beat.id,
+            start: beat.address,
+            len: beat.len,
+            size: beat.size,
+            burst: beat.burst,
+        };
+        self.limits
+            .address_fault(address, reads_of_id(&self.reads, beat.id))
+    }
+
+    /// The place of the write that a W beat belongs to.
+    fn place_of_data(&self, beat: &WBeat) -> Result<usize, AxiRule>
+        ensures { MatchResult result
+            (λ place. (axi_fault self.now.port self.now.open_bursts (OnW beat.now) ≡ None) × (position lacks_data self.now.open_bursts.writes ≡ Some place))
+            (λ rule. axi_fault self.now.port self.now.open_bursts (OnW beat.now) ≡ Some rule) }
+    {
+        let Some((place, write)) = write_to_fill(&self.writes) else {
+            return Err(AxiRule::WWithoutAw);
+        };
+        match self.limits.data_fault(write, beat) {
+            Some(rule) => Err(rule),
+            None => Ok(place),
+        }
+    }
+
+    /// The place of the write that a B answers.
+    fn place_of_response(&self, beat: &BBeat) -> Result<usize, AxiRule>
+        ensures { MatchResult result
+            (λ place. (axi_fault self.now.port self.now.open_bursts (OnB beat.now) ≡ None) × (position (write_of_id beat.now.id) self.now.open_bursts.writes ≡ Some place))
+            (λ rule. axi_fault self.now.port self.now.open_bursts (OnB beat.now) ≡ Some rule) }
+    {
+        if beat.id >= self.limits.ids {
+            return Err(AxiRule::IdRange);
+        }
+        let Some((place, write)) = oldest_write(&self.writes, beat.id) else {
+            return Err(AxiRule::BWithoutWrite);
+        };
+        if write.lacks_data() {
+            return Err(AxiRule::BWithoutWrite);
+        }
+        if is_exokay(beat.resp) {
+            return Err(AxiRule::ExOkay);
+        }
+        Ok(place)
+    }
+
+    /// The place of the read that an R beat answers.
+    fn place_of_read(&self, beat: &RBeat) -> Result<usize, AxiRule>
+        ensures { MatchResult result
+            (λ place. (axi_fault self.now.port self.now.open_bursts (OnR beat.now) ≡ None) × (position (read_of_id beat.now.id) self.now.open_bursts.reads ≡ Some place))
+            (λ rule. axi_fault self.now.port self.now.open_bursts (OnR beat.now) ≡ Some rule) }
+    {
+        if beat.id >= self.limits.ids {
+            return Err(AxiRule::IdRange);
+        }
+        let Some((place, read)) = oldest_read(&self.reads, beat.id) else {
+            return Err(AxiRule::RWithoutRead);
+        };
+        if beat.last != read.is_at_last() {
+            return Err(AxiRule::RLast);
+        }
+        if is_exokay(beat.resp) {
+            return Err(AxiRule::ExOkay);
+        }
+        Ok(place)
+    }
+}
+
+fn is_exokay(resp: Resp) -> bool
+    ensures { result ≡ is_exokay resp }
+{
+    matches!(resp, Resp::ExOkay)
+}

@@ -1,0 +1,110 @@
+-- What changes of a list's first passing entry keep: what holds of each entry, and how many entries pass a test.
+use Rattle.std.proofs.Common.{◌≡◌, suc, ◌≤◌, Bool, true, false, List, [], ◌∷◌, ◌++◌, length, refl, ap, arith}
+use Rattle.std.specs.Prelude.{None, Some, if◌then◌else◌}
+use Rattle.std.specs.List.{AllByRecursion, filter, find}
+use Rattle.bus_words.specs.Places.{change_first, without_first}
+
+-- what holds of each entry holds of the one that a search finds
+pub all-find : {X : Type 0} (P : X → Type 0) (p : X → Bool) (xs : List X) (x : X) → AllByRecursion P xs → find p xs ≡ Some x → P x
+all-find P p [] x all found = absurd (cc)
+all-find {X = X} P p (y ∷ ys) x all found = by_test (p y) found (λ later. all-find P p ys x all.1 later)
+  where
+    by_test : (b : Bool) → (if b then Some y else find p ys) ≡ Some x → (find p ys ≡ Some x → P x) → P x
+    by_test true here rest =
+        let same : y ≡ x = cc in
+        rw same at all.0
+    by_test false later rest = rest later
+
+pub all-append : {X : Type 0} (P : X → Type 0) (xs : List X) (x : X) → AllByRecursion P xs → P x → AllByRecursion P (xs ++ x ∷ [])
+all-append P [] x all last = (last, tt)
+all-append P (y ∷ ys) x all last = (all.0, all-append P ys x all.1 last)
+
+pub all-change_first : {X : Type 0} (P : X → Type 0) (p : X → Bool) (f : X → X) (xs : List X) → ((x : X) → p x ≡ true → P x → P (f x)) → AllByRecursion P xs → AllByRecursion P (change_first p f xs)
+all-change_first P p f [] keeps all = tt
+all-change_first {X = X} P p f (x ∷ xs) keeps all = by_test (p x) (keeps x) (all-change_first P p f xs keeps all.1)
+  where
+    by_test : (b : Bool) → (b ≡ true → P x → P (f x)) → AllByRecursion P (change_first p f xs) → AllByRecursion P (if b then f x ∷ xs else x ∷ change_first p f xs)
+    by_test true here rest = (here refl all.0, all.1)
+    by_test false here rest = (all.0, rest)
+
+pub all-without_first : {X : Type 0} (P : X → Type 0) (p : X → Bool) (xs : List X) → AllByRecursion P xs → AllByRecursion P (without_first p xs)
+all-without_first P p [] all = tt
+all-without_first {X = X} P p (x ∷ xs) all = by_test (p x) (all-without_first P p xs all.1)
+  where
+    by_test : (b : Bool) → AllByRecursion P (without_first p xs) → AllByRecursion P (if b then xs else x ∷ without_first p xs)
+    by_test true rest = all.1
+    by_test false rest = (all.0, rest)
+
+-- one more entry that may pass
+pass_more : {X : Type 0} (q : X → Bool) (x : X) (xs ys : List X) → length (filter q xs) ≤ length (filter q ys) → length (filter q (x ∷ xs)) ≤ length (filter q (x ∷ ys))
+pass_more q x xs ys fewer = by_test (q x)
+  where
+    by_test : (b : Bool) → length (if b then x ∷ filter q xs else filter q xs) ≤ length (if b then x ∷ filter q ys else filter q ys)
+    by_test true = omega (arith, fewer)
+    by_test false = fewer
+
+pass_fewer : {X : Type 0} (q : X → Bool) (x : X) (xs : List X) → length (filter q xs) ≤ length (filter q (x ∷ xs))
+pass_fewer q x xs = by_test (q x)
+  where
+    by_test : (b : Bool) → length (filter q xs) ≤ length (if b then x ∷ filter q xs else filter q xs)
+    by_test true = omega arith
+    by_test false = omega arith
+
+-- a change that leaves a test as it was lets as many entries pass it
+pub length-filter-change_first : {X : Type 0} (q p : X → Bool) (f : X → X) (xs : List X) → ((x : X) → q (f x) ≡ q x) → length (filter q (change_first p f xs)) ≡ length (filter q xs)
+length-filter-change_first q p f [] same = refl
+length-filter-change_first {X = X} q p f (x ∷ xs) same = by_test (p x) (length-filter-change_first q p f xs same)
+  where
+    head : (b : Bool) → length (filter q (change_first p f xs)) ≡ length (filter q xs)
+        → length (if b then x ∷ filter q (change_first p f xs) else filter q (change_first p f xs)) ≡ length (if b then x ∷ filter q xs else filter q xs)
+    head true rest = ap suc rest
+    head false rest = rest
+
+    by_test : (b : Bool) → length (filter q (change_first p f xs)) ≡ length (filter q xs) → length (filter q (if b then f x ∷ xs else x ∷ change_first p f xs)) ≡ length (filter q (x ∷ xs))
+    by_test true rest = rw (same x) (each (q x))
+      where
+        each : (b : Bool) → length (if b then f x ∷ filter q xs else filter q xs) ≡ length (if b then x ∷ filter q xs else filter q xs)
+        each true = refl
+        each false = refl
+    by_test false rest = head (q x) rest
+
+-- taking an entry out lets no more pass
+pub length-filter-without_first : {X : Type 0} (q p : X → Bool) (xs : List X) → length (filter q (without_first p xs)) ≤ length (filter q xs)
+length-filter-without_first q p [] = omega arith
+length-filter-without_first {X = X} q p (x ∷ xs) = by_test (p x) (length-filter-without_first q p xs)
+  where
+    by_test : (b : Bool) → length (filter q (without_first p xs)) ≤ length (filter q xs) → length (filter q (if b then xs else x ∷ without_first p xs)) ≤ length (filter q (x ∷ xs))
+    by_test true rest = pass_fewer q x xs
+    by_test false rest = pass_more q x (without_first p xs) xs rest
+
+-- the entry that a search finds passes its test
+pub find-passes : {X : Type 0} (p : X → Bool) (xs : List X) (x : X) → find p xs ≡ Some x → p x ≡ true
+find-passes p [] x found = absurd (cc)
+find-passes {X = X} p (y ∷ ys) x found = by_test (p y) refl found (λ later. find-passes p ys x later)
+  where
+    by_test : (b : Bool) → p y ≡ b → (if b then Some y else find p ys) ≡ Some x → (find p ys ≡ Some x → p x ≡ true) → p x ≡ true
+    by_test true passes here rest =
+        let same : y ≡ x = cc in
+        rw same at passes
+    by_test false fails later rest = rest later
+
+-- a change passes over the entries that fail the test
+pub change_first-append-none : {X : Type 0} (p : X → Bool) (f : X → X) (xs ys : List X) → find p xs ≡ None → change_first p f (xs ++ ys) ≡ xs ++ change_first p f ys
+change_first-append-none p f [] ys none = refl
+change_first-append-none {X = X} p f (x ∷ xs) ys none = by_test (p x) none (λ later. change_first-append-none p f xs ys later)
+  where
+    by_test : (b : Bool) → (if b then Some x else find p xs) ≡ None → (find p xs ≡ None → change_first p f (xs ++ ys) ≡ xs ++ change_first p f ys)
+        → (if b then f x ∷ (xs ++ ys) else x ∷ change_first p f (xs ++ ys)) ≡ x ∷ (xs ++ change_first p f ys)
+    by_test true here rest = absurd (cc)
+    by_test false later rest = ap (λ (zs : List X). x ∷ zs) (rest later)
+
+-- where nothing is found, nothing is found after an entry was taken out
+pub find-without_first-none : {X : Type 0} (p q : X → Bool) (xs : List X) → find p xs ≡ None → find p (without_first q xs) ≡ None
+find-without_first-none p q [] none = refl
+find-without_first-none {X = X} p q (x ∷ xs) none = by_tests (p x) refl (q x) none (λ later. find-without_first-none p q xs later)
+  where
+    by_tests : (b : Bool) → p x ≡ b → (c : Bool) → (if b then Some x else find p xs) ≡ None → (find p xs ≡ None → find p (without_first q xs) ≡ None)
+        → find p (if c then xs else x ∷ without_first q xs) ≡ None
+    by_tests true is c found rest = absurd (cc (found))
+    by_tests false is true later rest = later
+    by_tests false is false later rest = rw is (rest later)
