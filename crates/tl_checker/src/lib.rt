@@ -1,6 +1,16 @@
-//! The rules on TileLink beats, and the lists of beats that spell a request: the definitions that other layers cite. The
-//! checker that computes them is still to be built.
+//! The checker of TileLink traffic: which beats a port takes, when they spell a request, and which beats are a reply
+//! (TileLink 1.8, TL-UL and TL-UH, channels A and D; this project's profile).
 #![tactic(auto)]
+
+mod names;
+mod port;
+mod replies;
+mod requests;
+#[cfg(test)]
+mod tests;
+
+pub use port::Port;
+pub use replies::check_reply;
 
 /// The conformance level of a port (TileLink 1.8, TL-UL and TL-UH).
 #[derive(Clone, Copy, Debug, PartialEq, Eq)]
