@@ -14,6 +14,7 @@ mod write_beats;
 pub use faults::region_fault;
 pub use page_map::PageMap;
 pub use plan::Plan;
+use thiserror::Error;
 pub use write_beats::w_beat;
 
 /// TileLink pages that lead to AXI pages, one after another, and which operations may go there (this project's
@@ -38,15 +39,19 @@ pub struct Region {
 
 /// Why a list of regions makes no page map; the number is the place, from 0, of the first region at fault (this
 /// project's profile).
-#[derive(Clone, Copy, Debug, PartialEq, Eq)]
+#[derive(Clone, Copy, Debug, PartialEq, Eq, Error)]
 pub enum MapFault {
     /// The region has no pages.
+    #[error("RegionEmpty {0}")]
     RegionEmpty(u32),
     /// The region goes past the last TileLink page, or past the last AXI page.
+    #[error("RegionRange {0}")]
     RegionRange(u32),
     /// The region shares a TileLink page with an earlier one.
+    #[error("RegionOverlap {0}")]
     RegionOverlap(u32),
     /// Memory was refused.
+    #[error("out of memory")]
     NoMemory,
 }
 

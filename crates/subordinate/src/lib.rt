@@ -11,6 +11,7 @@ use axi_beats::BurstBox;
 use axi_checker::AxiRule;
 pub use device::Device;
 pub use faults::device_fault;
+use thiserror::Error;
 
 /// What a listed page is.
 #[derive(Clone, Copy, Debug, Default, PartialEq, Eq)]
@@ -23,15 +24,19 @@ pub enum PageKind {
 }
 
 /// Why a list of pages and bad words is refused; the number is the place in its list, from 0.
-#[derive(Clone, Copy, Debug, PartialEq, Eq)]
+#[derive(Clone, Copy, Debug, PartialEq, Eq, Error)]
 pub enum DeviceFault {
     /// A page's number is over 1,048,575, so that its addresses have more than 32 bits.
+    #[error("PageRange {0}")]
     PageRange(u32),
     /// A page stands in the list before.
+    #[error("PageTwice {0}")]
     PageTwice(u32),
     /// A bad word's address is no multiple of 8, or in no good page.
+    #[error("BadWord {0}")]
     BadWord(u32),
     /// Memory was refused.
+    #[error("out of memory")]
     NoMemory,
 }
 

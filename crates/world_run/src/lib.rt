@@ -14,6 +14,7 @@ use burst_plan::{MapFault, Region};
 pub use runs::{RunRecord, run};
 pub use setups::setup_fault;
 use subordinate::{DeviceFault, PageKind};
+use thiserror::Error;
 use tl_checker::TlRule;
 use tl_messages::ABeat;
 pub use world::World;
@@ -32,15 +33,19 @@ pub struct Setup {
 }
 
 /// Why a set-up is refused.
-#[derive(Clone, Copy, Debug, PartialEq, Eq)]
+#[derive(Clone, Copy, Debug, PartialEq, Eq, Error)]
 pub enum SetupFault {
     /// A limit isn't in its range.
+    #[error("BadConfig 0")]
     BadConfig,
     /// The page map is refused.
+    #[error(transparent)]
     Map(MapFault),
     /// The memory is refused.
+    #[error(transparent)]
     Device(DeviceFault),
     /// Memory was refused.
+    #[error("out of memory")]
     NoMemory,
 }
 

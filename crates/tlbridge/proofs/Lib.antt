@@ -1,0 +1,12 @@
+mod Examples
+mod PageLists
+mod PlainLines
+mod Numbers
+mod TraceTexts
+mod FirstSetups
+mod Parts
+mod WordParts
+mod ScriptLines
+mod Endings
+mod Progress
+mod LineRooms

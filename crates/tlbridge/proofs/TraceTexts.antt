@@ -1,0 +1,13 @@
+-- The lines of one beat more.
+use Rattle.std.proofs.Common.{◌≡◌, ℕ, zero, suc, ◌+◌, List, [], ◌∷◌, ◌++◌, take, flat_map, Some, slice_get, ap, sym, ◌∙◌, append_assoc, rules, arith}
+
+flat_map-take-suc : {X : Type 0} (f : X → List ℕ) (xs : List X) (k : ℕ) (x : X) → slice_get xs k ≡ Some x → flat_map f (take (suc k) xs) ≡ flat_map f (take k xs) ++ f x
+flat_map-take-suc f [] k x found = search rules
+flat_map-take-suc f (y ∷ ys) zero x found = search rules
+flat_map-take-suc f (y ∷ ys) (suc k) x found =
+    ap (λ text. f y ++ text) (flat_map-take-suc f ys k x found) ∙ sym (append_assoc (f y) (flat_map f (take k ys)) (f x))
+
+pub flat_map-take : {X : Type 0} (f : X → List ℕ) (xs : List X) (k : ℕ) (x : X) → slice_get xs k ≡ Some x → flat_map f (take (k + 1) xs) ≡ flat_map f (take k xs) ++ f x
+flat_map-take f xs k x found =
+    let next : k + 1 ≡ suc k = omega arith in
+    rw next (flat_map-take-suc f xs k x found)

@@ -1,0 +1,11 @@
+pub mod FirstPath
+pub mod Forms
+pub mod Inside
+pub mod Names
+pub mod Reads
+pub mod Results
+pub mod Run
+pub mod Scripts
+pub mod SetupLines
+pub mod Steps
+pub mod Words

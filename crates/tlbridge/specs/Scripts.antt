@@ -1,0 +1,94 @@
+-- How a script is read, whatever its lines do, and how a call that reads one ends (this project's profile).
+use Rattle.std.specs.Prelude.{◌≡◌, ◌≤◌, ◌⊎◌, ⊤, ℕ, ◌+◌, Bool, not, ◌||◌, List, [], ◌∷◌, ◌++◌, length, Option, Result, Ok, Err, if◌then◌else◌, nat_lt}
+use Rattle.std.specs.Io.KnownBytes.{Appends, Consumes, Keeps, IsAtEnd}
+use Rattle.tlbridge.specs.Words.{lines_of, ended_lines_of, is_plain_line, is_skipped, words_of}
+use Rattle.tlbridge.specs.declared.faults.TextFault.{TextFault}
+use Rattle.tlbridge.specs.declared.faults.TextFault.TheVariants.{Script, Setup, Read, Write, NoMemory}
+
+-- ---- lines
+
+-- what a line makes of a script's state: the text that is written and the state after it, or the fault that ends the script
+abbrev pub LineStep : Type 0 → Type 0
+LineStep S = Result (List ℕ × S) TextFault
+
+-- a kind of script: what the words of a line do, by the line's number from 1, and how the script ends where no line has a fault, by the
+-- number of the line after the last
+pub record Reading (S : Type 0) : Type 0 where
+  pub step : S → ℕ → List (List ℕ) → LineStep S
+  pub ending : S → ℕ → Result Bool TextFault
+
+-- one line: at fault at word 0 where its bytes may not stand or it is the 65,537th, skipped, or read by its words
+abbrev pub line_step : {S : Type 0} → Reading S → S → ℕ → List ℕ → LineStep S
+line_step reading state number line =
+    if not (is_plain_line line) || nat_lt 65536 number
+    then Err (Script number 0)
+    else (if is_skipped (words_of line) then Ok ([], state) else reading.step state number (words_of line))
+
+-- ---- a whole script
+
+-- the output of a script, and its result: true where `check` refused something, or the fault that ended it
+pub record TextResult : Type 0 where
+  pub output : List ℕ
+  pub result : Result Bool TextFault
+
+abbrev pub ended : Result Bool TextFault → TextResult
+ended result = record { output = []; result = result }
+
+abbrev pub after_text : List ℕ → TextResult → TextResult
+after_text text rest = record rest { output = text ++ rest.output }
+
+-- what one line gives, with what stands after it
+abbrev pub after_step : {S : Type 0} → (S → TextResult) → LineStep S → TextResult
+after_step rest (Err fault) = ended (Err fault)
+after_step rest (Ok went) = after_text went.0 (rest went.1)
+
+-- the lines from a number on; `ending` says how the script ends after the last
+abbrev pub lines_result : {S : Type 0} → Reading S → (S → ℕ → Result Bool TextFault) → S → ℕ → List (List ℕ) → TextResult
+lines_result reading ending state number [] = ended (ending state number)
+lines_result reading ending state number (line ∷ lines) =
+    after_step (λ next. lines_result reading ending next (number + 1) lines) (line_step reading state number line)
+
+-- the text of a whole input, from a state and a line's number on
+abbrev pub text_from : {S : Type 0} → Reading S → S → ℕ → List ℕ → TextResult
+text_from reading state number input = lines_result reading reading.ending state number (lines_of input)
+
+abbrev pub text_of : {S : Type 0} → Reading S → S → List ℕ → TextResult
+text_of reading start input = text_from reading start 1 input
+
+-- the text where the reader failed after these bytes: that of the lines whose line feed was read, and a fault in them comes first
+abbrev pub text_before_failure : {S : Type 0} → Reading S → S → List ℕ → TextResult
+text_before_failure reading start input = lines_result reading (λ state number. Err Read) start 1 (ended_lines_of input)
+
+-- ---- how a call ends
+
+-- what was written and answered is the text of these bytes
+abbrev pub Tells : TextResult → Option (List ℕ) → Option (List ℕ) → Result Bool TextFault → Type 0
+Tells text old new result = Appends old new text.output × (text.result ≡ result)
+
+-- a fault that stands whatever follows
+abbrev pub IsSettled : (List ℕ → TextResult) → List ℕ → Type 0
+IsSettled whole read = (rest : List ℕ) → whole (read ++ rest) ≡ whole read
+
+-- how a call ends that has read these bytes: `whole` and `before_failure` are the texts of a whole input and of one whose reader failed
+abbrev pub EndsAfter : (List ℕ → TextResult) → (List ℕ → TextResult) → List ℕ → Option (List ℕ) → Option (List ℕ) → Option (List ℕ) → Result Bool TextFault → Type 0
+-- to the end, with the text of all of it
+EndsAfter whole before_failure read rest old new (Ok refused) = IsAtEnd rest × Tells (whole read) old new (Ok refused)
+-- with the text of the lines before the fault, and no later than where the fault stands whatever follows
+EndsAfter whole before_failure read rest old new (Err (Script line word)) =
+    (IsAtEnd rest ⊎ IsSettled whole read) × Tells (whole read) old new (Err (Script line word))
+EndsAfter whole before_failure read rest old new (Err (Setup fault)) =
+    (IsAtEnd rest ⊎ IsSettled whole read) × Tells (whole read) old new (Err (Setup fault))
+-- with the text of the lines whose line feed was read
+EndsAfter whole before_failure read rest old new (Err Read) = Tells (before_failure read) old new (Err Read)
+-- how much a writer took that failed isn't told
+EndsAfter whole before_failure read rest old new (Err Write) = ⊤
+-- with nothing written
+EndsAfter whole before_failure read rest old new (Err NoMemory) = Keeps old new
+
+-- how a call ends, by what the reader has left before and after it and what the writer holds before and after it, where these are known;
+-- at most 65,536 lines of 128 bytes with their line ends, and one byte more, are read
+pub record EndsAs (whole before_failure : List ℕ → TextResult) (input rest old new : Option (List ℕ)) (result : Result Bool TextFault) : Type 0 where
+  pub read : List ℕ
+  pub consumed : Consumes input rest read
+  pub bound : length read ≤ 8519681
+  pub ends : EndsAfter whole before_failure read rest old new result

@@ -1,0 +1,90 @@
+//! The program: it reads a script and prints its trace.
+#![tactic(auto)]
+
+mod faults;
+mod forms;
+mod lines;
+mod run;
+mod run_lines;
+mod scripts;
+mod setup_lines;
+#[cfg(test)]
+mod tests;
+mod trace;
+mod words;
+
+use clap::Command;
+use faults::{TextFault, status_of};
+use run::run_text;
+use std::alloc::{AllocError, Global};
+use std::env;
+use std::io::{BufReader, BufWriter, Write};
+use std::process::ExitCode;
+use std::rt::Env;
+
+/// The exit status where the words are refused.
+const BAD_WORDS: u8 = 6;
+
+/// What the program is asked to do.
+#[derive(Clone, Copy, Debug, PartialEq, Eq)]
+enum Mode {
+    /// Carry out a script.
+    Run,
+}
+
+fn command<'a>(alloc: Global) -> Result<Command<'a>, AllocError> {
+    Command::new(alloc, "tlbridge")
+        .disable_help_flag(true)
+        .disable_version_flag(true)
+        .disable_help_subcommand(true)
+        .subcommand(Command::new(alloc, "run").disable_help_flag(true))
+}
+
+/// What the words ask for; none where they are refused.
+fn mode_of<'a>(alloc: Global, words: &'a [String]) -> Option<Mode> {
+    let command: Command<'a> = command(alloc).ok()?;
+    let matches = command.try_get_matches_from(words).ok()?;
+    match matches.subcommand_name() {
+        None => Some(Mode::Run),
+        Some(name) => match name.as_bytes() {
+            b"run" => Some(Mode::Run),
+            _ => None,
+        },
+    }
+}
+
+fn words_given<R: Env + AllocGlobal>(rt: &R) -> Option<Vec<String>> {
+    let args = env::args(rt).ok()?;
+    args.collect(rt.alloc()).ok()
+}
+
+/// Carries out the script of standard input. Output that can't be flushed counts as a write that failed.
+fn run_input(rt: &HostRuntime) -> Result<bool, TextFault> {
+    let Ok(mut reader) = BufReader::new(rt.alloc(), rt.reader()) else {
+        return Err(TextFault::NoMemory);
+    };
+    let Ok(mut writer) = BufWriter::new(rt.alloc(), rt.stdout()) else {
+        return Err(TextFault::NoMemory);
+    };
+    let ending = run_text(rt.alloc(), &mut reader, &mut writer);
+    match writer.flush() {
+        Ok(()) => ending,
+        Err(_) => Err(TextFault::Write),
+    }
+}
+
+fn main(rt: HostRuntime) -> ExitCode {
+    let mode = match words_given(&rt) {
+        None => None,
+        Some(words) => mode_of(rt.alloc(), words.as_slice()),
+    };
+    let Some(Mode::Run) = mode else {
+        let _ = eprintln!(rt; "usage: tlbridge run, check or threads");
+        return ExitCode::from(BAD_WORDS);
+    };
+    let ending = run_input(&rt);
+    if let Err(fault) = ending {
+        let _ = eprintln!(rt; "{fault}");
+    }
+    ExitCode::from(status_of(&ending))
+}

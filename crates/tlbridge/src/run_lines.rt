@@ -1,0 +1,112 @@
+//! The lines of `tlbridge run`.
+ghost use Rattle.std.specs.Prelude.{◌≡◌, []};
+ghost use Rattle.tlbridge.specs.Forms.{read_as};
+ghost use Rattle.world_run.specs.declared.Step.TheVariants.{Pump};
+ghost use Rattle.tlbridge.specs.Run.{line_of_form, offer_line, perform_line, byte_line, mem_line};
+
+use crate::forms::Form;
+use crate::setup_lines::{SetupLine, config_line, page_line, region_line};
+use crate::words::Words;
+use tl_messages::ABeat;
+use world_run::Step;
+
+/// A command.
+#[derive(Clone, Copy, Debug, PartialEq, Eq)]
+pub enum Command {
+    /// One event of the world.
+    Event(Step),
+    /// Show the byte at an address.
+    Mem(u32),
+}
+
+/// What a line says.
+#[derive(Clone, Copy, Debug, PartialEq, Eq)]
+pub enum RunLine {
+    /// A set-up line.
+    Setup(SetupLine),
+    /// A command.
+    Command(Command),
+}
+
+/// `a CLIENT OPCODE PARAM SIZE SOURCE ADDRESS MASK PAYLOAD CORRUPT`.
+fn offer(words: &Words<'_>) -> Result<Step, u32>
+    ensures { result ≡ offer_line words.now }
+{
+    let client = words.byte(2)?;
+    let opcode = words.byte(3)?;
+    let param = words.byte(4)?;
+    let size = words.byte(5)?;
+    let source = words.byte(6)?;
+    let address = words.address(7)?;
+    let mask = words.mask(8)?;
+    let payload = words.hex(9, u64::MAX)?;
+    let corrupt = words.flag(10)?;
+    words.end(10)?;
+    let beat = ABeat {
+        opcode,
+        param,
+        size,
+        source,
+        address,
+        mask,
+        payload,
+        corrupt,
+    };
+    Ok(Step::Offer(client, beat))
+}
+
+/// `do SERIAL BEAT`.
+fn perform(words: &Words<'_>) -> Result<Step, u32>
+    ensures { result ≡ perform_line words.now }
+{
+    let serial = words.dec(2, u64::MAX)?;
+    let beat = words.short(3)?;
+    words.end(3)?;
+    Ok(Step::Perform(serial, beat))
+}
+
+/// A line with one field, a number to 255: `b ID`, `r ID` or `take CLIENT`.
+fn one_byte(words: &Words<'_>) -> Result<u8, u32>
+    ensures { result ≡ byte_line words.now }
+{
+    let byte = words.byte(2)?;
+    words.end(2)?;
+    Ok(byte)
+}
+
+/// `mem ADDRESS`.
+fn mem(words: &Words<'_>) -> Result<u32, u32>
+    ensures { result ≡ mem_line words.now }
+{
+    let address = words.address(2)?;
+    words.end(2)?;
+    Ok(address)
+}
+
+fn pump(words: &Words<'_>) -> Result<Step, u32>
+    ensures { result ≡ read_as [] words.now Pump }
+{
+    words.end(1)?;
+    Ok(Step::Pump)
+}
+
+/// What a line of this form says, or its first wrong word.
+pub fn line_of_form(form: Form, words: &Words<'_>) -> Result<RunLine, u32>
+    ensures { result ≡ line_of_form form words.now }
+{
+    let event = match form {
+        Form::Config => return Ok(RunLine::Setup(config_line(words)?)),
+        Form::Region => return Ok(RunLine::Setup(region_line(words)?)),
+        Form::Page => return Ok(RunLine::Setup(page_line(words)?)),
+        Form::Offer => offer(words)?,
+        Form::Pump => pump(words)?,
+        Form::Perform => perform(words)?,
+        Form::AnswerB => Step::AnswerB(one_byte(words)?),
+        Form::AnswerR => Step::AnswerR(one_byte(words)?),
+        Form::Take => Step::Take(one_byte(words)?),
+        Form::Mem => return Ok(RunLine::Command(Command::Mem(mem(words)?))),
+        // These can't stand yet.
+        Form::BadWord | Form::Drain | Form::Work => return Err(1),
+    };
+    Ok(RunLine::Command(Command::Event(event)))
+}

@@ -1,0 +1,433 @@
+use crate::faults::{TextFault, status_of};
+use crate::run::run_text;
+use burst_plan::MapFault;
+use std::alloc::{AllocError, Global};
+use std::io;
+use std::io::{ErrorKind, Read, Write};
+use std::test::Fail;
+use subordinate::DeviceFault;
+use world_run::SetupFault;
+
+/// The first script, line by line: the line; for each number of its bytes the word at fault where the input ends there, or
+/// `.` where that part may stand as a line; and the line's trace.
+const FIRST: [(&str, &str, &str); 9] = [
+    ("config 2 4 16 2 16 12 hh", "11111223344555667778888.", ""),
+    ("region 0 4 10 gpah", "21111223344555555.", ""),
+    ("page 10 4 good", "1112233344444.", ""),
+    (
+        "a 0 0 0 3 5 8 ff 1122334455667788 0",
+        "22334455667788999XXXXXXXXXXXXXXXXX.",
+        "A 0 0 0 3 5 00000008 ff 1122334455667788 0\n= accepted 0\n",
+    ),
+    (
+        "pump",
+        "111.",
+        "= sent 0\nAW 0 00010008 0 3 1\nW 1122334455667788 ff 1\n",
+    ),
+    ("do 0 0", "12233.", "= done\n"),
+    ("b 0", "22.", "B 0 OKAY\n"),
+    (
+        "take 0",
+        "11122.",
+        "= reply 0\nD 0 0 0 3 5 0 0000000000000000 0\n",
+    ),
+    ("mem 10008", "1122.....", "= mem 88\n"),
+];
+
+/// A set-up of one good page, for scripts with one line more.
+const SET_UP: &str = "config 2 4 16 2 16 12 hh\nregion 0 4 10 gpah\npage 10 4 good\n";
+
+fn joined(alloc: Global, front: &[u8], rest: &[u8]) -> Result<Vec<u8>, AllocError> {
+    let mut text = Vec::new(alloc);
+    text.extend_from_slice(front)?;
+    text.extend_from_slice(rest)?;
+    Ok(text)
+}
+
+fn script_fault(line: u32, word: u32) -> Result<bool, TextFault> {
+    Err(TextFault::Script { line, word })
+}
+
+/// What a script ends with that stops within a line.
+fn ending_of(line: u32, code: u8) -> Result<bool, TextFault> {
+    match code {
+        b'.' => Ok(false),
+        b'X' => script_fault(line, 10),
+        _ => script_fault(line, u32::from(code.saturating_sub(b'0'))),
+    }
+}
+
+#[test]
+fn each_front_of_the_first_script(rt: HostRuntime) -> Result<(), Fail> {
+    let alloc = rt.alloc();
+    let mut before = Vec::new(alloc);
+    let mut done = Vec::new(alloc);
+    let mut number = 0u32;
+    for (line, codes, trace) in FIRST {
+        number = number.saturating_add(1);
+        let whole = line.len();
+        for (place, code) in codes.bytes().enumerate() {
+            let count = place.saturating_add(1);
+            let part = line.as_bytes().get(..count).unwrap_or(b"");
+            let input = joined(alloc, before.as_slice(), part)?;
+            let mut reader = input.as_slice();
+            let mut output = Vec::new(alloc);
+            let ending = run_text(alloc, &mut reader, &mut output);
+            assert_eq!(rt;
+                ending,
+                ending_of(number, code),
+                "line {number}, {count} bytes"
+            );
+            let own: &[u8] = match (code, count == whole) {
+                (b'.', true) => trace.as_bytes(),
+                (b'.', false) => b"= mem --\n",
+                _ => b"",
+            };
+            let wanted = joined(alloc, done.as_slice(), own)?;
+            assert_eq!(rt;
+                output.as_slice(),
+                wanted.as_slice(),
+                "line {number}, {count} bytes"
+            );
+        }
+        before.extend_from_slice(line.as_bytes())?;
+        before.push(b'\n')?;
+        done.extend_from_slice(trace.as_bytes())?;
+    }
+    Ok(())
+}
+
+/// A reader over memory whose call number `fails` is interrupted.
+#[derive(Drop)]
+struct Reader<'a> {
+    rest: &'a [u8],
+    calls: usize,
+    fails: usize,
+}
+
+impl Read for Reader<'_> {
+    fn read(&mut self, buf: &mut [u8]) -> io::Result<usize> {
+        let call = self.calls;
+        self.calls = call.saturating_add(1);
+        if call == self.fails {
+            return Err(io::Error::from(ErrorKind::Interrupted));
+        }
+        self.rest.read(buf)
+    }
+}
+
+/// A writer to memory whose call number `fails` fails.
+#[derive(Drop)]
+struct Writer {
+    text: Vec<u8>,
+    calls: u32,
+    fails: u32,
+}
+
+impl Write for Writer {
+    fn write(&mut self, buf: &[u8]) -> io::Result<usize> {
+        let call = self.calls;
+        self.calls = call.saturating_add(1);
+        if call == self.fails {
+            return Err(io::Error::from(ErrorKind::Other));
+        }
+        self.text.write(buf)
+    }
+
+    fn flush(&mut self) -> io::Result<()> {
+        Ok(())
+    }
+}
+
+/// The bytes of the first script, and its trace.
+fn first_script(alloc: Global) -> Result<(Vec<u8>, Vec<u8>), AllocError> {
+    let mut input = Vec::new(alloc);
+    let mut trace = Vec::new(alloc);
+    for (line, _, text) in FIRST {
+        input.extend_from_slice(line.as_bytes())?;
+        input.push(b'\n')?;
+        trace.extend_from_slice(text.as_bytes())?;
+    }
+    Ok((input, trace))
+}
+
+#[test]
+fn each_read_fails_in_turn(rt: HostRuntime) -> Result<(), Fail> {
+    let alloc = rt.alloc();
+    let (input, _) = first_script(alloc)?;
+    let mut calls = 0usize;
+    let mut done = Vec::new(alloc);
+    for (line, _, trace) in FIRST {
+        for _ in 0..line.len().saturating_add(1) {
+            let mut reader = Reader {
+                rest: input.as_slice(),
+                calls: 0,
+                fails: calls,
+            };
+            let mut output = Vec::new(alloc);
+            let ending = run_text(alloc, &mut reader, &mut output);
+            assert_eq!(rt; ending, Err(TextFault::Read), "read {calls}");
+            assert_eq!(rt; output.as_slice(), done.as_slice(), "read {calls}");
+            calls = calls.saturating_add(1);
+        }
+        done.extend_from_slice(trace.as_bytes())?;
+    }
+    Ok(())
+}
+
+#[test]
+fn each_write_fails_in_turn(rt: HostRuntime) -> Result<(), Fail> {
+    let alloc = rt.alloc();
+    let (input, trace) = first_script(alloc)?;
+    let mut writes = 0u32;
+    for fails in 0..1_000u32 {
+        let mut reader = input.as_slice();
+        let mut writer = Writer {
+            text: Vec::new(alloc),
+            calls: 0,
+            fails,
+        };
+        match run_text(alloc, &mut reader, &mut writer) {
+            Ok(refused) => {
+                assert!(rt; !refused);
+                assert_eq!(rt; writer.text.as_slice(), trace.as_slice());
+                break;
+            }
+            Err(fault) => assert_eq!(rt; fault, TextFault::Write, "write {fails}"),
+        }
+        writes = writes.saturating_add(1);
+    }
+    assert!(rt; 10 <= writes && writes < 1_000, "{writes} writes");
+    Ok(())
+}
+
+/// Whole scripts and what they end with; none of them writes anything.
+const SILENT: [(&str, u32, u32); 9] = [
+    ("", 1, 1),
+    ("\r", 2, 1),
+    ("# config\n\n  \nregion 0 4 10 gpah", 4, 1),
+    ("config 9 4 16 2 16 12 hhhhhhhhh", 1, 8),
+    ("config 1 4 16 2 65536 12 h", 1, 6),
+    ("config 1 4 16 2 16 12 h 8", 1, 9),
+    ("config 1 4 16 2 16 12 x", 1, 8),
+    ("config 1 4 16 2 16 12 h\nconfig 1 4 16 2 16 12 h", 2, 1),
+    ("config 1 1 1 1 1 12 h\r\r\n", 1, 0),
+];
+
+/// Lines after a set-up, and the word at fault.
+const FAULTY: [(&str, u32); 27] = [
+    ("a 0 0 0 3 5 8 zz 0 0", 8),
+    ("a 0 0 0 3 5 8 100 0 0", 8),
+    ("a 256 0 0 3 5 8 ff 0 0", 2),
+    ("a 0 0 0 3 5 100000000 ff 0 0", 7),
+    ("a 0 0 0 3 5 8 ff 00000000000000000 0", 9),
+    ("a 0 0 0 3 5 8 ff 0 00", 10),
+    ("a 0 0 0 3 5 8 ff 0 0 0", 11),
+    ("pump pump", 2),
+    ("do 18446744073709551616 0", 2),
+    ("do 000000000000000000000 0", 2),
+    ("do 0 65536", 3),
+    ("do +1 0", 2),
+    ("b x", 2),
+    ("frob", 1),
+    ("free 0 0", 1),
+    ("region 8 1 20 gpah", 1),
+    ("bad x", 1),
+    ("drain x", 1),
+    ("work", 1),
+    ("page 20 1 slverr", 4),
+    ("page 20 0 good", 3),
+    ("page 20 65 good", 3),
+    ("page 20 61 good x", 1),
+    ("page ffffffff 2 bad", 1),
+    ("page 100000000 2 good", 2),
+    ("mem 1\t0", 0),
+    ("# \x7f", 0),
+];
+
+#[test]
+fn faults_of_scripts(rt: HostRuntime) -> Result<(), Fail> {
+    let alloc = rt.alloc();
+    for (script, line, word) in SILENT {
+        let mut reader = script.as_bytes();
+        let mut output = Vec::new(alloc);
+        let ending = run_text(alloc, &mut reader, &mut output);
+        assert_eq!(rt; ending, script_fault(line, word), "{script}");
+        assert!(rt; output.is_empty(), "{script}");
+    }
+    for (line, word) in FAULTY {
+        let input = joined(alloc, SET_UP.as_bytes(), line.as_bytes())?;
+        let mut reader = input.as_slice();
+        let mut output = Vec::new(alloc);
+        let ending = run_text(alloc, &mut reader, &mut output);
+        assert_eq!(rt; ending, script_fault(4, word), "{line}");
+        assert!(rt; output.is_empty(), "{line}");
+    }
+    Ok(())
+}
+
+/// What follows a set-up, what it ends with, and the trace.
+const CARRIED_OUT: [(&str, u32, &str); 7] = [
+    ("mem 10000\nregion 8 1 20 gpah", 5, "= mem 00\n"),
+    ("mem 0000000000010000\r\nmem G\n", 5, "= mem 00\n"),
+    (
+        "do 00000000000000000007 0\npump\nr 3\n\n#\nb 255\ntake 1\ntake 2\nx",
+        12,
+        "= nosuch\n= idle\n= nothing\n= nothing\n= nothing\n= noclient\n",
+    ),
+    (
+        "  a 2  4 0 3 0 8 FF 0 0 \na 1 4 0 3 0 8 ff 0 1\nx",
+        6,
+        "A 2 4 0 3 0 00000008 ff 0000000000000000 0\n= noclient\nA 1 4 0 3 0 00000008 ff 0000000000000000 1\n= notready\n",
+    ),
+    (
+        "a 0 4 0 3 5 8 ff 0 0\npump\npump\nr 0\ndo 0 0\ndo 0 0\nr 0\ntake 0\npage 20 1 good\n",
+        12,
+        "A 0 4 0 3 5 00000008 ff 0000000000000000 0\n= accepted 0\n= sent 0\nAR 0 00010008 0 3 1\n= idle\n= nothing\n= done\n= already\nR 0 0000000000000000 OKAY 1\n= reply 0\nD 0 1 0 3 5 0 0000000000000000 0\n",
+    ),
+    ("mem 0\nconfig 1 1 1 1 1 12 h", 5, "= mem --\n"),
+    ("mem 0\nbad 0", 5, "= mem --\n"),
+];
+
+#[test]
+fn traces_of_scripts(rt: HostRuntime) -> Result<(), Fail> {
+    let alloc = rt.alloc();
+    for (commands, line, trace) in CARRIED_OUT {
+        let input = joined(alloc, SET_UP.as_bytes(), commands.as_bytes())?;
+        let mut reader = input.as_slice();
+        let mut output = Vec::new(alloc);
+        let ending = run_text(alloc, &mut reader, &mut output);
+        let word = if commands.ends_with("G\n") { 2 } else { 1 };
+        assert_eq!(rt; ending, script_fault(line, word), "{commands}");
+        assert_eq!(rt; output.as_slice(), trace.as_bytes(), "{commands}");
+    }
+    Ok(())
+}
+
+/// Set-ups alone, and what they end with.
+const SET_UPS: [(&str, Result<bool, TextFault>); 8] = [
+    ("config 1 1 1 1 1 12 h", Ok(false)),
+    (
+        "config 1 1 1 1 3 12 h",
+        Err(TextFault::Setup(SetupFault::BadConfig)),
+    ),
+    (
+        "config 1 1 1 1 1 12 h\nregion 0 0 10 gpah",
+        Err(TextFault::Setup(SetupFault::Map(MapFault::RegionEmpty(0)))),
+    ),
+    (
+        "config 1 1 1 1 1 12 l\nregion fffff 2 10 ----",
+        Err(TextFault::Setup(SetupFault::Map(MapFault::RegionRange(0)))),
+    ),
+    (
+        "config 1 1 1 1 1 12 h\npage 0 3 good\npage 2 1 good",
+        Err(TextFault::Setup(SetupFault::Device(DeviceFault::PageTwice(3)))),
+    ),
+    (
+        "config 1 1 1 1 1 12 h\npage 0 63 good\npage 100000 1 good\nmem 0",
+        Err(TextFault::Setup(SetupFault::Device(DeviceFault::PageRange(63)))),
+    ),
+    (
+        "config 1 1 1 1 3 12 h\nmem x",
+        Err(TextFault::Script { line: 2, word: 2 }),
+    ),
+    (
+        "config 1 1 1 1 3 12 h\nmem 0\nmem x",
+        Err(TextFault::Setup(SetupFault::BadConfig)),
+    ),
+];
+
+#[test]
+fn set_ups(rt: HostRuntime) -> Result<(), Fail> {
+    let alloc = rt.alloc();
+    for (script, wanted) in SET_UPS {
+        let mut reader = script.as_bytes();
+        let mut output = Vec::new(alloc);
+        let ending = run_text(alloc, &mut reader, &mut output);
+        assert_eq!(rt; ending, wanted, "{script}");
+        assert!(rt; output.is_empty(), "{script}");
+    }
+    Ok(())
+}
+
+/// Results, the exit status of each, and its text on standard error.
+const STATUSES: [(Result<bool, TextFault>, u8, &str); 9] = [
+    (Ok(false), 0, ""),
+    (Ok(true), 1, ""),
+    (
+        Err(TextFault::Script { line: 4, word: 8 }),
+        2,
+        "script fault: line 4, word 8",
+    ),
+    (
+        Err(TextFault::Setup(SetupFault::BadConfig)),
+        2,
+        "set-up fault: BadConfig 0",
+    ),
+    (
+        Err(TextFault::Setup(SetupFault::Map(MapFault::RegionOverlap(1)))),
+        2,
+        "set-up fault: RegionOverlap 1",
+    ),
+    (
+        Err(TextFault::Setup(SetupFault::Device(DeviceFault::BadWord(7)))),
+        2,
+        "set-up fault: BadWord 7",
+    ),
+    (Err(TextFault::Read), 3, "read fault"),
+    (Err(TextFault::Write), 3, "write fault"),
+    (Err(TextFault::NoMemory), 4, "out of memory"),
+];
+
+#[test]
+fn statuses_and_texts(rt: HostRuntime) -> Result<(), Fail> {
+    for (ending, status, text) in STATUSES {
+        assert_eq!(rt; status_of(&ending), status, "{text}");
+        if let Err(fault) = ending {
+            assert_eq!(rt; fault.to_string(rt.alloc())?.as_str(), text);
+        }
+    }
+    Ok(())
+}
+
+/// A script of one line of spaces and no `config` line.
+fn spaces(alloc: Global, count: usize, ending: &[u8]) -> Result<Vec<u8>, AllocError> {
+    let mut text = Vec::new(alloc);
+    for _ in 0..count {
+        text.push(b' ')?;
+    }
+    text.extend_from_slice(ending)?;
+    Ok(text)
+}
+
+#[test]
+fn long_lines_and_long_scripts(rt: HostRuntime) -> Result<(), Fail> {
+    let alloc = rt.alloc();
+    for (count, ending, line, word) in [
+        (128, b"\r\n".as_slice(), 2, 1),
+        (129, b"".as_slice(), 1, 0),
+        (129, b"\r\n".as_slice(), 1, 0),
+        (130, b"\n".as_slice(), 1, 0),
+    ] {
+        let input = spaces(alloc, count, ending)?;
+        let mut reader = input.as_slice();
+        let mut output = Vec::new(alloc);
+        let answer = run_text(alloc, &mut reader, &mut output);
+        assert_eq!(rt; answer, script_fault(line, word), "{count} spaces");
+    }
+    let mut input = Vec::new(alloc);
+    for _ in 0..65_536u32 {
+        input.push(b'\n')?;
+    }
+    let mut output = Vec::new(alloc);
+    assert_eq!(rt;
+        run_text(alloc, &mut input.as_slice(), &mut output),
+        script_fault(65_537, 1)
+    );
+    input.push(b'\n')?;
+    assert_eq!(rt;
+        run_text(alloc, &mut input.as_slice(), &mut output),
+        script_fault(65_537, 0)
+    );
+    Ok(())
+}
