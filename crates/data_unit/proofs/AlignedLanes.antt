@@ -9,7 +9,7 @@ use Rattle.bus_words.specs.Lanes.{is_between}
 use Rattle.tl_messages.specs.Lanes.{in_lanes, lane_of}
 
 -- what one number of a range passes, some number of it passes
-any-range : (p : ℕ → Bool) (a n k : ℕ) → k < n → p (a + k) ≡ true → list_any p (range_with_len a n) ≡ true
+pub any-range : (p : ℕ → Bool) (a n k : ℕ) → k < n → p (a + k) ≡ true → list_any p (range_with_len a n) ≡ true
 any-range p a zero k below h = absurd (none below)
   where
     none : k < 0 → ⊥

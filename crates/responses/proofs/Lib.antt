@@ -1,0 +1,5 @@
+mod OldValues
+mod ReadLaws
+mod ReplyRules
+mod ReplyBytes
+mod ShownLaws

@@ -1,1 +1,4 @@
+pub mod Gathered
+pub mod Inside
+pub mod RightReplies
 pub mod Shown

@@ -1,3 +1,9 @@
-//! Replies and the beats that show them: the definitions that other layers cite. The calls that compute them are still to
-//! be built.
+//! The reply to a request, gathered from the memory's answers: B of writes and R of reads go in, and the beats on
+//! channel D come out.
 #![tactic(auto)]
+
+mod gather;
+#[cfg(test)]
+mod tests;
+
+pub use gather::Gather;

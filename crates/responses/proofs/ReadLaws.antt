@@ -1,0 +1,55 @@
+-- The words that reads belong to.
+use Rattle.std.proofs.Common.{◌≡◌, ℕ, zero, suc, ◌+◌, ◌-◌, ◌*◌, ◌/◌, ◌%◌, ◌^◌, ◌<◌, ◌≤◌, max, Bool, true, false, if◌then◌else◌, arith, inl, inr}
+use Rattle.std.proofs.Math.Pow.{pow_mono, mod-mod-pow}
+use Rattle.std.proofs.lemmas.Bool.{cases_lt}
+use Rattle.std.proofs.lemmas.Nat.{pow-add}
+use Rattle.tl_messages.specs.Lanes.{lane_of}
+use Rattle.tl_messages.specs.Operations.{reply_has_data, beats_of}
+use Rattle.tl_messages.proofs.BeatCounts.{beats_of-le}
+use Rattle.axi_beats.specs.Transfers.{IsBusWidth}
+use Rattle.responses.specs.Gathered.{reads_of, word_of_read, words_of}
+use Rattle.responses.specs.declared.gather.Outline.{Outline}
+
+-- a range of eight bytes or more is one of whole words
+pub whole_words : (address size : ℕ) → 3 ≤ size → address % 2 ^ size ≡ 0 → (lane_of address ≡ 0) × (2 ^ size / 8 * 8 ≡ 2 ^ size) × (8 ≤ 2 ^ size)
+whole_words address size big aligned =
+    let parts : size - 3 + 3 ≡ size = omega arith in
+    let eighth : address % 2 ^ size % 8 ≡ address % 8 = rw parts at (mod-mod-pow address (size - 3) 3) in
+    let times : 2 ^ size ≡ 2 ^ (size - 3) * 8 = rw parts at (pow-add 2 (size - 3) 3) in
+    (omega arith, omega arith, pow_mono {i = 3} {j = size} big)
+
+-- a range of fewer bytes stays in its half of a word
+pub narrow : (address size : ℕ) → size < 3 → (2 ^ size / 4 ≤ 1) × (2 ^ size / 8 ≡ 0)
+narrow address zero small = (omega arith, omega arith)
+narrow address (suc zero) small = (omega arith, omega arith)
+narrow address (suc (suc zero)) small = (omega arith, omega arith)
+narrow address (suc (suc (suc size))) small = absurd (omega arith)
+
+-- a reply has at most 512 words
+pub words_of-le : (outline : Outline) → outline.size ≤ 12 → words_of outline ≤ 512
+words_of-le outline small = by_data (reply_has_data outline.operation)
+  where
+    by_data : (b : Bool) → (if b then beats_of outline.size true else 0) ≤ 512
+    by_data true = beats_of-le outline.size true small
+    by_data false = omega arith
+
+at_place : (bus_bytes address size place : ℕ) → IsBusWidth bus_bytes → address % 2 ^ size ≡ 0 → place < max 1 (2 ^ size / bus_bytes) → word_of_read bus_bytes address place < max 1 (2 ^ size / 8)
+at_place bus_bytes address size place (inr eight) aligned below = rw eight (rw eight at below)
+at_place bus_bytes address size place (inl four) aligned below =
+    let within : place < max 1 (2 ^ size / 4) = rw four at below in
+    rw four (elim (cases_lt size 3) [
+      | inl small ↦ omega (arith, narrow address size small)
+      | inr big ↦ omega (arith, whole_words address size big aligned)
+    ])
+
+-- a read's word is one of the reply's
+pub word_of_read-lt : (bus_bytes place : ℕ) (outline : Outline) → IsBusWidth bus_bytes → outline.address % 2 ^ outline.size ≡ 0 → place < reads_of bus_bytes outline
+    → word_of_read bus_bytes outline.address place < words_of outline
+word_of_read-lt bus_bytes place outline width aligned below = by_data (reply_has_data outline.operation) below
+  where
+    by_data : (b : Bool) → place < (if b then max 1 (2 ^ outline.size / bus_bytes) else 0) → word_of_read bus_bytes outline.address place < (if b then beats_of outline.size true else 0)
+    by_data true inside = at_place bus_bytes outline.address outline.size place width aligned inside
+    by_data false inside = absurd (none inside)
+      where
+        none : place < 0 → ⊥
+        none e = omega arith

@@ -1,0 +1,215 @@
+-- The beats that are made of the gathered words are those that show the reply.
+use Rattle.std.proofs.Common.{◌≡◌, ℕ, ◌+◌, ◌-◌, ◌*◌, ◌/◌, ◌%◌, ◌^◌, ◌<◌, ◌≤◌, nat_le, nat_lt, Bool, true, false, not, ◌&&◌, List, [], map, length, get_or, Option, Some, None, if◌then◌else◌, refl, sym, subst, ◌∙◌, ap, arith, inl, inr, lit<}
+use Rattle.std.specs.Prelude.{unwrap_or, is_none, option_map, slice_get}
+use Rattle.std.specs.List.{range_with_len, list_any}
+use Rattle.std.specs.Option.{option_flatten}
+use Rattle.std.proofs.Math.Pow.{pow_pos}
+use Rattle.std.proofs.lemmas.Bool.{cases_lt, leb-true}
+use Rattle.std.proofs.lemmas.Bool.Decides.{nat_tests}
+use Rattle.std.proofs.lemmas.List.{length-map}
+use Rattle.std.proofs.lemmas.List.FromFn.{length-map-range_with_len, get_or-map-range_with_len, fill_by_all}
+use Rattle.std.proofs.lemmas.Option.{slice_get-get_or, slice_get-map, slice_get_past, get_or_from_slice_get}
+use Rattle.bus_words.specs.Lanes.{given_at, has_lane, is_between, lane_byte, payload_of}
+use Rattle.bus_words.proofs.LaneLaws.{word_of_lanes-same}
+use Rattle.tl_messages.specs.Lanes.{in_lanes, lane_of}
+use Rattle.tl_messages.specs.Operations.{reply_has_data, beats_of}
+use Rattle.tl_messages.specs.Requests.{WholeRequest}
+use Rattle.tl_messages.specs.declared.DBeat.{DBeat}
+use Rattle.data_unit.specs.Words.{full_mask, merged}
+use Rattle.data_unit.proofs.AlignedLanes.{any-range, in_lanes-aligned, in_lanes_every}
+use Rattle.data_unit.proofs.ByteLaws.{lane_byte-past}
+use Rattle.data_unit.proofs.FullMask.{has_lane-full_mask}
+use Rattle.responses.specs.Gathered.{Gathering, byte_gathered, gathered, outline_of, words_of}
+use Rattle.responses.specs.declared.gather.Outline.{Outline}
+use Rattle.responses.specs.Inside.{bare_beat, word_beat}
+use Rattle.responses.specs.Shown.{Reply, address_in_word, beat_of_word, in_range, lacks_a_byte, shown}
+use Rattle.responses.proofs.ReadLaws.{narrow, whole_words}
+
+-- ---- the lanes of a range in one of its words
+
+-- the first byte's lane, moved to word k, is in the range
+first_in_word : (address size k : ℕ) → address % 2 ^ size ≡ 0 → k < beats_of size true → 8 * k < 2 ^ size
+first_in_word address size k aligned below =
+    elim (cases_lt size 3) [
+      | inl small ↦ omega (arith, narrow address size small, pow_pos size)
+      | inr big ↦ omega (arith, whole_words address size big aligned)
+    ]
+
+-- the lanes of the range in one of its words are those of the full mask
+lanes_in_word : (q : WholeRequest) (k lane : ℕ) → lane < 8 → q.address % 2 ^ q.size ≡ 0 → k < beats_of q.size true
+    → in_lanes q.address q.size lane ≡ in_range q (address_in_word q k lane)
+lanes_in_word q k lane below aligned inside =
+    elim (cases_lt q.size 3) [
+      | inl small ↦ in_lanes-aligned q.address q.size lane below aligned ∙ narrow_word (omega (arith, narrow q.address q.size small)) (pow_pos q.size)
+      | inr big ↦ in_lanes_every q.address q.size lane big below ∙ sym (wide_word (whole_words q.address q.size big aligned))
+    ]
+  where
+    narrow_word : k ≡ 0 → 0 < 2 ^ q.size → is_between (lane_of q.address) (lane_of q.address + 2 ^ q.size - 1) lane ≡ in_range q (address_in_word q k lane)
+    narrow_word first some = rw first (grind (arith, nat_tests))
+
+    wide_word : (lane_of q.address ≡ 0) × (2 ^ q.size / 8 * 8 ≡ 2 ^ q.size) × (8 ≤ 2 ^ q.size) → in_range q (address_in_word q k lane) ≡ true
+    wide_word (start, whole, many) =
+        let low : q.address ≤ address_in_word q k lane = omega arith in
+        let high : address_in_word q k lane < q.address + 2 ^ q.size = omega arith in
+        grind (arith, nat_tests)
+
+-- ---- the bytes of a word
+
+-- the byte in a lane of a word, where the range has that lane
+abbrev byte_in_word : WholeRequest → ℕ → Option ℕ → ℕ → Option ℕ
+byte_in_word q k word lane = if in_range q (address_in_word q k lane) then option_map (λ w. lane_byte w lane) word else None
+
+bytes_of_reply : WholeRequest → List (Option ℕ) → List (Option ℕ)
+bytes_of_reply q words = map (byte_gathered (outline_of q) words) (range_with_len 0 (2 ^ q.size))
+
+given_in_word : (q : WholeRequest) (words : List (Option ℕ)) (k lane : ℕ) (word : Option ℕ) → lane < 8 → slice_get words k ≡ Some word
+    → given_at (bytes_of_reply q words) q.address (address_in_word q k lane) ≡ byte_in_word q k word lane
+unfolding bytes_of_reply
+given_in_word q words k lane word below there = by_start (nat_le q.address x) refl
+  where
+    x : ℕ
+    x = address_in_word q k lane
+
+    byte : ℕ → Option ℕ
+    byte = byte_gathered (outline_of q) words
+
+    at_place : q.address ≤ x → byte (x - q.address) ≡ option_map (λ w. lane_byte w lane) word
+    at_place low =
+        let word_is : (lane_of q.address + (x - q.address)) / 8 ≡ k = omega arith in
+        let lane_is : lane_of (q.address + (x - q.address)) ≡ lane = omega arith in
+        rw (word_is, lane_is, there) refl
+
+    by_end : q.address ≤ x → (b : Bool) → nat_lt x (q.address + 2 ^ q.size) ≡ b
+        → option_flatten (slice_get (map byte (range_with_len 0 (2 ^ q.size))) (x - q.address)) ≡ (if b then option_map (λ w. lane_byte w lane) word else None)
+    by_end low true high =
+        let inside : x - q.address < 2 ^ q.size = grind (arith, nat_tests) in
+        let listed : slice_get (map byte (range_with_len 0 (2 ^ q.size))) (x - q.address) ≡ Some (byte (x - q.address)) =
+        slice_get-get_or (map byte (range_with_len 0 (2 ^ q.size))) (x - q.address) None (rw (length-map-range_with_len byte 0 (2 ^ q.size)) inside)
+        ∙ ap (λ (o : Option ℕ). Some o) (get_or-map-range_with_len byte 0 (2 ^ q.size) (x - q.address) (x - q.address) None inside (omega arith)) in
+        rw (listed, at_place low) refl
+    by_end low false high =
+        let past : 2 ^ q.size ≤ x - q.address = grind (arith, nat_tests) in
+        rw (slice_get_past (map byte (range_with_len 0 (2 ^ q.size))) (x - q.address) (rw (length-map-range_with_len byte 0 (2 ^ q.size)) past)) refl
+
+    by_start : (b : Bool) → nat_le q.address x ≡ b
+        → (if b then option_flatten (slice_get (map byte (range_with_len 0 (2 ^ q.size))) (x - q.address)) else None) ≡ (if b && nat_lt x (q.address + 2 ^ q.size) then option_map (λ w. lane_byte w lane) word else None)
+    by_start true low = by_end (leb-true _ _ low) (nat_lt x (q.address + 2 ^ q.size)) refl
+    by_start false low = refl
+
+-- ---- a beat
+
+any_lane-same : (p r : ℕ → Bool) → ((lane : ℕ) → lane < 8 → p lane ≡ r lane) → list_any p (range_with_len 0 8) ≡ list_any r (range_with_len 0 8)
+any_lane-same p r same = cc (same 0 (lit< tt), same 1 (lit< tt), same 2 (lit< tt), same 3 (lit< tt), same 4 (lit< tt), same 5 (lit< tt), same 6 (lit< tt), same 7 (lit< tt))
+
+-- the reply of these words, not denied
+abbrev reply_of : WholeRequest → List (Option ℕ) → Reply
+reply_of q words = record { denied = false; bytes = bytes_of_reply q words }
+
+given_none : (held : Bool) (byte : ℕ) → (held && is_none (if held then Some byte else None)) ≡ false
+given_none true byte = refl
+given_none false byte = refl
+
+-- a word that is given lacks no byte
+lacks_none : (q : WholeRequest) (words : List (Option ℕ)) (k word : ℕ) → slice_get words k ≡ Some (Some word) → lacks_a_byte q (reply_of q words) k ≡ false
+lacks_none q words k word there =
+    any_lane-same (λ lane. in_range q (address_in_word q k lane) && is_none (given_at (bytes_of_reply q words) q.address (address_in_word q k lane))) (λ lane. false)
+    (λ lane below. rw (given_in_word q words k lane (Some word) below there) (given_none (in_range q (address_in_word q k lane)) (lane_byte word lane)))
+
+none_held : (held : Bool) (byte : Option ℕ) → held ≡ true → byte ≡ None → (held && is_none (if held then byte else None)) ≡ true
+none_held true byte is none = rw none refl
+none_held false byte is none = is
+
+-- a word that isn't given lacks one
+lacks_some : (q : WholeRequest) (words : List (Option ℕ)) (k : ℕ) → q.address % 2 ^ q.size ≡ 0 → k < beats_of q.size true → slice_get words k ≡ Some None → lacks_a_byte q (reply_of q words) k ≡ true
+lacks_some q words k aligned inside there =
+    any-range (λ lane. in_range q (address_in_word q k lane) && is_none (given_at (bytes_of_reply q words) q.address (address_in_word q k lane))) 0 8 (lane_of q.address) below
+    (rw (from_zero, given_in_word q words k (lane_of q.address) None below there) (none_held (in_range q (address_in_word q k (lane_of q.address))) None held refl))
+  where
+    from_zero : 0 + lane_of q.address ≡ lane_of q.address
+    from_zero = omega arith
+
+    below : lane_of q.address < 8
+    below = omega arith
+
+    first : address_in_word q k (lane_of q.address) ≡ q.address + 8 * k
+    first = omega arith
+
+    held : in_range q (address_in_word q k (lane_of q.address)) ≡ true
+    held = let fits = first_in_word q.address q.size k aligned inside in rw first (grind (arith, nat_tests))
+
+shown_or_zero : (held : Bool) (byte zero_byte : ℕ) → zero_byte ≡ 0 → (if held then byte else zero_byte) ≡ unwrap_or (if held then Some byte else None) 0
+shown_or_zero true byte zero_byte none = refl
+shown_or_zero false byte zero_byte none = none
+
+-- the payload of a word that is given
+payload_shown : (q : WholeRequest) (words : List (Option ℕ)) (k word lanes : ℕ) → q.address % 2 ^ q.size ≡ 0 → k < beats_of q.size true → lanes ≡ full_mask q.address q.size
+    → slice_get words k ≡ Some (Some word) → merged 0 word lanes ≡ payload_of (λ lane. given_at (bytes_of_reply q words) q.address (address_in_word q k lane))
+payload_shown q words k word lanes aligned inside full there =
+    word_of_lanes-same (λ lane. if has_lane lanes lane then lane_byte word lane else lane_byte 0 lane) (λ lane. unwrap_or (given_at (bytes_of_reply q words) q.address (address_in_word q k lane)) 0)
+    (λ lane below.
+    ap (λ b. if b then lane_byte word lane else lane_byte 0 lane) (held lane below)
+    ∙ shown_or_zero (in_range q (address_in_word q k lane)) (lane_byte word lane) (lane_byte 0 lane) (lane_byte-past 0 0 lane (lit< tt) (omega arith))
+    ∙ ap (λ (o : Option ℕ). unwrap_or o 0) (sym (given_in_word q words k lane (Some word) below there)))
+  where
+    held : (lane : ℕ) → lane < 8 → has_lane lanes lane ≡ in_range q (address_in_word q k lane)
+    held lane below = rw full (has_lane-full_mask q.address q.size lane below ∙ lanes_in_word q k lane below aligned inside)
+
+-- the beat of one word
+beat_shown : (q : WholeRequest) (words : List (Option ℕ)) (k lanes : ℕ) (word : Option ℕ) → q.address % 2 ^ q.size ≡ 0 → k < beats_of q.size true → lanes ≡ full_mask q.address q.size
+    → slice_get words k ≡ Some word → word_beat (outline_of q) false lanes word ≡ beat_of_word q (reply_of q words) k
+beat_shown q words k lanes None aligned inside full there = rw (lacks_some q words k aligned inside there) refl
+beat_shown q words k lanes (Some word) aligned inside full there =
+    rw (lacks_none q words k word there, ← payload_shown q words k word lanes aligned inside full there) refl
+
+denied_beat : (q : WholeRequest) (bytes : List (Option ℕ)) (k lanes : ℕ) (word : Option ℕ) → word_beat (outline_of q) true lanes word ≡ beat_of_word q (record { denied = true; bytes = bytes }) k
+denied_beat q bytes k lanes None = refl
+denied_beat q bytes k lanes (Some word) = refl
+
+-- ---- all beats
+
+-- the beats of all words, which are as many as the reply has
+words_shown : (q : WholeRequest) (gathering : Gathering) (lanes : ℕ) → reply_has_data q.operation ≡ true → q.address % 2 ^ q.size ≡ 0
+    → length gathering.words ≡ beats_of q.size true → lanes ≡ full_mask q.address q.size
+    → map (word_beat (outline_of q) gathering.denied lanes) gathering.words ≡ shown q (gathered (outline_of q) gathering)
+unfolding bytes_of_reply
+words_shown q gathering lanes has aligned many full =
+    rw has (fill_by_all (beat_of_word q (reply gathering.denied)) (beats gathering.denied) (beats_of q.size true) (bare_beat (outline_of q) false false) (length_is gathering.denied) (each gathering.denied))
+  where
+    reply : Bool → Reply
+    reply denied = record { denied = denied; bytes = if not denied then bytes_of_reply q gathering.words else [] }
+
+    beats : Bool → List DBeat
+    beats denied = map (word_beat (outline_of q) denied lanes) gathering.words
+
+    length_is : (denied : Bool) → length (beats denied) ≡ beats_of q.size true
+    length_is denied = omega (arith, length-map gathering.words (word_beat (outline_of q) denied lanes))
+
+    listed : (k : ℕ) → k < beats_of q.size true → slice_get gathering.words k ≡ Some (get_or gathering.words k None)
+    listed k inside = slice_get-get_or gathering.words k None (rw many inside)
+
+    beat_is : (denied : Bool) (k : ℕ) (word : Option ℕ) → k < beats_of q.size true → slice_get gathering.words k ≡ Some word
+        → word_beat (outline_of q) denied lanes word ≡ beat_of_word q (reply denied) k
+    beat_is true k word inside there = denied_beat q [] k lanes word
+    beat_is false k word inside there = beat_shown q gathering.words k lanes word aligned inside full there
+
+    each : (denied : Bool) (k : ℕ) → k < beats_of q.size true → get_or (beats denied) k (bare_beat (outline_of q) false false) ≡ beat_of_word q (reply denied) k
+    each denied k inside =
+        let found : slice_get (beats denied) k ≡ Some (word_beat (outline_of q) denied lanes (get_or gathering.words k None)) =
+        slice_get-map (word_beat (outline_of q) denied lanes) gathering.words k ∙ ap (λ (o : Option (Option ℕ)). option_map (word_beat (outline_of q) denied lanes) o) (listed k inside) in
+        get_or_from_slice_get (beats denied) k (word_beat (outline_of q) denied lanes (get_or gathering.words k None)) (bare_beat (outline_of q) false false) found
+        ∙ beat_is denied k (get_or gathering.words k None) inside (listed k inside)
+
+-- the same, by a request's outline
+pub reply_made : (q : WholeRequest) (outline : Outline) (gathering : Gathering) (lanes : ℕ) → outline_of q ≡ outline → reply_has_data outline.operation ≡ true
+    → outline.address % 2 ^ outline.size ≡ 0 → length gathering.words ≡ words_of outline → lanes ≡ full_mask outline.address outline.size
+    → map (word_beat outline gathering.denied lanes) gathering.words ≡ shown q (gathered outline gathering)
+reply_made q outline gathering lanes same has aligned many full =
+    subst
+    (λ (o : Outline).
+    reply_has_data o.operation ≡ true → o.address % 2 ^ o.size ≡ 0 → length gathering.words ≡ words_of o → lanes ≡ full_mask o.address o.size
+    → map (word_beat o gathering.denied lanes) gathering.words ≡ shown q (gathered o gathering))
+    same by_request has aligned many full
+  where
+    by_request : reply_has_data q.operation ≡ true → q.address % 2 ^ q.size ≡ 0 → length gathering.words ≡ words_of (outline_of q) → lanes ≡ full_mask q.address q.size
+        → map (word_beat (outline_of q) gathering.denied lanes) gathering.words ≡ shown q (gathered (outline_of q) gathering)
+    by_request has aligned many full = words_shown q gathering lanes has aligned (rw has at many) full
