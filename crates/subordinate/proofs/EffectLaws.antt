@@ -7,13 +7,13 @@ use Rattle.bus_words.specs.Lanes.{has_lane, lane_byte, payload_of}
 use Rattle.bus_words.proofs.LaneLaws.{MayGiveBytes, lane_byte-payload_of}
 use Rattle.axi_beats.specs.Bursts.{Burst, WriteBurst, ReadBurst, IsLegal, is_legal_address, is_legal_data}
 use Rattle.axi_beats.specs.Responses.{is_okay}
-use Rattle.axi_beats.specs.Transfers.{IsBusWidth, covers_lane, fits_bus, in_one_page, lane_address, transfer_address, transfer_end}
+use Rattle.axi_beats.specs.Transfers.{IsBusWidth, covers_lane, fits_bus, in_one_page, lane_address, transfer_address, transfer_end, transfer_has}
 use Rattle.axi_beats.specs.declared.ArBeat.{ArBeat}
 use Rattle.axi_beats.specs.declared.AwBeat.{AwBeat}
 use Rattle.axi_beats.specs.declared.Resp.{Resp}
 use Rattle.axi_beats.specs.declared.WBeat.{WBeat}
 use Rattle.axi_beats.proofs.TransferLaws.{covers_lane-mod, lane_address-mod, lane_address_within, mod-lane_address}
-use Rattle.subordinate.specs.Effects.{HasEffect, HasEffectAt, HasGoodPages, IsCaptured, IsWholePage, IsWritten, strobes_byte, transfer_has}
+use Rattle.subordinate.specs.Effects.{HasEffect, HasEffectAt, HasGoodPages, IsCaptured, IsWholePage, IsWritten, strobes_byte}
 use Rattle.subordinate.specs.Faults.{IsAbsent, IsGood, IsSlaveError, Standing, is_bad, is_good, lists_page, read_response, read_response_on, standing_at, standing_of_listed}
 use Rattle.subordinate.specs.FreeMemory.{BeatState, Waiting, Written, Captured, FreeMemory, Pending, beat_at, has_serial, performed, performed_beat, performed_in, byte_in_lane, bytes_written, captured, lane_written, memory_after, memory_with, with_performed, writes_lane}
 use Rattle.subordinate.specs.Pages.{Memory, byte_at_address, with_byte, word_at}

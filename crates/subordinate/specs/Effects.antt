@@ -2,10 +2,10 @@
 -- hold of a performed beat of every legal burst.
 use Rattle.std.specs.Prelude.{◌≡◌, ℕ, ◌+◌, ◌%◌, Bool, true, false, ◌&&◌, length, Some, IfSome, find, is_some, slice_get}
 use Rattle.std.specs.List.{AllByRecursion}
-use Rattle.bus_words.specs.Lanes.{lane_byte, has_lane, is_between}
+use Rattle.bus_words.specs.Lanes.{lane_byte, has_lane}
 use Rattle.axi_beats.specs.Bursts.{Burst, WriteBurst, ReadBurst}
 use Rattle.axi_beats.specs.Responses.{is_okay}
-use Rattle.axi_beats.specs.Transfers.{transfer_address, transfer_end}
+use Rattle.axi_beats.specs.Transfers.{transfer_address, transfer_has}
 use Rattle.axi_beats.specs.declared.Resp.{Resp}
 use Rattle.axi_beats.specs.declared.AwBeat.{AwBeat}
 use Rattle.axi_beats.specs.declared.ArBeat.{ArBeat}
@@ -22,10 +22,6 @@ IsWholePage page = length page.words ≡ 512
 pub record HasGoodPages (state : FreeMemory) : Type 0 where
   pub exactly : (address : ℕ) → is_some (byte_at_address state.memory address) ≡ is_good (standing_at state.faults address)
   pub whole : AllByRecursion IsWholePage state.memory
-
--- whether an address lies in transfer n of a burst
-abbrev pub transfer_has : ℕ → ℕ → ℕ → ℕ → Bool
-transfer_has start size n address = is_between (transfer_address start size n) (transfer_end start size n) address
 
 -- whether transfer n of a write has an address, and the strobe of its lane
 abbrev pub strobes_byte : ℕ → AwBeat → ℕ → WBeat → ℕ → Bool
