@@ -10,3 +10,5 @@ mod ScriptLines
 mod Endings
 mod Progress
 mod LineRooms
+mod ClientTables
+mod ConfigLines

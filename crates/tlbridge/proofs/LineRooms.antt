@@ -7,7 +7,9 @@ use Rattle.world_run.specs.declared.Step.TheVariants as step
 use Rattle.tlbridge.specs.FirstPath.{is_for_later, kind_field}
 use Rattle.tlbridge.specs.Forms.{first_wrong, form_of, read_as, unless_wrong, told_as, address_field, count_field}
 use Rattle.tlbridge.specs.Inside.{HasRoom}
-use Rattle.tlbridge.specs.Run.{Stage, Opening, SettingUp, Running, is_misplaced, line_as, line_in, line_of_form, nothing_written, run_step, step_of_line, with_setup_line, offer_line, perform_line, byte_line, mem_line}
+use Rattle.bridge_core.specs.declared.Config.{Config as Limits}
+use Rattle.tlbridge.specs.OfferLines.{offer_line}
+use Rattle.tlbridge.specs.Run.{Stage, Opening, SettingUp, Running, is_misplaced, line_as, line_in, line_of_form, nothing_written, run_step, step_of_line, with_setup_line, perform_line, byte_line, mem_line}
 use Rattle.tlbridge.specs.SetupLines.{config_in, config_fields, region_in, region_fields, page_fields, kind_in}
 use Rattle.tlbridge.specs.Steps.{Goes}
 use Rattle.tlbridge.specs.Words.{word_at, dec_at, hex_at}
@@ -38,6 +40,10 @@ apart wrong = search rules
 said : (value line : SetupLine) (fault : Option ℕ) → told_as SetupForm (unless_wrong value fault) ≡ Ok (SetupForm line) → (fault ≡ None) × (line ≡ value)
 said value line None same = (refl, sym (ap (told value) same))
 said value line (Some word) same = absurd (apart (ap is_setup same))
+
+said_config : (value : Limits) (line : SetupLine) (fault : Option ℕ) → told_as (λ config. SetupForm (Config config)) (unless_wrong value fault) ≡ Ok (SetupForm line) → line ≡ Config value
+said_config value line None same = sym (ap (told (Config value)) same)
+said_config value line (Some word) same = absurd (apart (ap is_setup same))
 
 never : {X : Type 0} (tell : X → Command) (line : SetupLine) (result : Result X ℕ) → told_as (λ x. CommandForm (tell x)) result ≡ Ok (SetupForm line) → ⊥
 never tell line (Ok x) same = apart (ap is_setup same)
@@ -71,11 +77,11 @@ page_says words line same =
     (right.0, right.1, right.2, says.1)
 
 says : (f : Form) (words : List (List ℕ)) (line : SetupLine) → line_of_form f words ≡ Ok (SetupForm line) → SaysAs f words line
-says form.Config words line same = (said (Config (config_in words)) line (first_wrong (config_fields words) words 2) same).1
+says form.Config words line same = said_config (config_in words) line (first_wrong (config_fields words) words 2) same
 says form.Region words line same = (said (Region (region_in words)) line (first_wrong region_fields words 2) same).1
 says form.Page words line same = page_says words line same
 says form.BadWord words line same = apart (ap is_setup same)
-says form.Offer words line same = never Event line (offer_line words) same
+says form.Offer words line same = never (λ offer. Event (step.Offer offer.0 offer.1)) line (offer_line words) same
 says form.Pump words line same = never Event line (read_as [] words step.Pump) same
 says form.Perform words line same = never Event line (perform_line words) same
 says form.AnswerB words line same = never (λ id. Event (step.AnswerB id)) line (byte_line words) same
@@ -84,6 +90,7 @@ says form.Take words line same = never (λ client. Event (step.Take client)) lin
 says form.Drain words line same = apart (ap is_setup same)
 says form.Mem words line same = never Mem line (mem_line words) same
 says form.Work words line same = apart (ap is_setup same)
+says form.Free words line same = apart (ap is_setup same)
 
 -- the pages of a line that has room
 pages_fit : (held count first : ℕ) (counted addressed : Bool) → counted ≡ true → addressed ≡ true
@@ -122,6 +129,7 @@ room stage form.Take words line test is = absurd is
 room stage form.Drain words line test is = absurd is
 room stage form.Mem words line test is = absurd is
 room stage form.Work words line test is = absurd is
+room stage form.Free words line test is = absurd is
 
 line_as-room : (stage : Stage) (words : List (List ℕ)) (f : Option Form) (line : SetupLine) → line_as stage words f ≡ Ok (SetupForm line) → HasRoom stage line
 line_as-room stage words None line same = absurd (apart (ap is_setup same))

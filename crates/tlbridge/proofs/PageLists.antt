@@ -5,7 +5,7 @@ use Rattle.std.specs.List.{range_with_len}
 use Rattle.subordinate.specs.declared.PageKind.{PageKind}
 use Rattle.tlbridge.specs.SetupLines.{pages_from}
 
-map_range-suc : {X : Type 0} (f : ℕ → X) (a b n : ℕ) → b ≡ a + n → map f (range_with_len a (suc n)) ≡ map f (range_with_len a n) ++ f b ∷ []
+pub map_range-suc : {X : Type 0} (f : ℕ → X) (a b n : ℕ) → b ≡ a + n → map f (range_with_len a (suc n)) ≡ map f (range_with_len a n) ++ f b ∷ []
 map_range-suc f a b zero same = let here : b ≡ a = omega arith in rw here refl
 map_range-suc f a b (suc n) same = ap (λ xs. f a ∷ xs) (map_range-suc f (a + 1) b n (omega arith))
 

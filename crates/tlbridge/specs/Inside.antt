@@ -5,7 +5,6 @@ use Rattle.subordinate.specs.Pages.{is_listed_good}
 use Rattle.world_run.specs.Setups.{SetupLists, lists_of}
 use Rattle.tlbridge.specs.Run as run
 use Rattle.subordinate.specs.declared.PageKind.TheVariants.{Good}
-use Rattle.world_run.specs.World.{WorldState}
 use Rattle.tlbridge.specs.declared.faults.TextFault.{TextFault}
 use Rattle.tlbridge.specs.declared.faults.TextFault.TheVariants.{Script, Setup, Read, Write, NoMemory}
 use Rattle.tlbridge.specs.declared.setup_lines.SetupLine.{SetupLine}
@@ -36,11 +35,11 @@ HasRoom (run.SettingUp setup) (Region region) = length setup.regions < 16
 HasRoom (run.SettingUp setup) (Pages first count kind) = (length setup.pages + count ≤ 64) × (first + count ≤ 2 ^ 32) × (kind ≡ Good)
 HasRoom stage line = ⊥
 
--- the world that a command finds was made, or why it wasn't; memory is asked for only while nothing was written
-abbrev pub OpensAs : Result WorldState TextFault → Bool → run.Stage → Result (Unit {0}) TextFault → Type 0
-OpensAs opened silent new (Ok done) = (world : WorldState) × (opened ≡ Ok world) × (new ≡ run.Running world)
-OpensAs opened silent new (Err (Script line word)) = opened ≡ Err (Script line word)
-OpensAs opened silent new (Err (Setup fault)) = opened ≡ Err (Setup fault)
-OpensAs opened silent new (Err Read) = ⊥
-OpensAs opened silent new (Err Write) = ⊥
-OpensAs opened silent new (Err NoMemory) = silent ≡ true
+-- what a script's commands work on was made where there was none, or why it wasn't; memory is asked for only while nothing was written
+abbrev pub OpensAs : {S W : Type 0} → (W → S) → Result W TextFault → Bool → S → Result (Unit {0}) TextFault → Type 0
+OpensAs {S} {W} stage opened silent new (Ok done) = (world : W) × (opened ≡ Ok world) × (new ≡ stage world)
+OpensAs stage opened silent new (Err (Script line word)) = opened ≡ Err (Script line word)
+OpensAs stage opened silent new (Err (Setup fault)) = opened ≡ Err (Setup fault)
+OpensAs stage opened silent new (Err Read) = ⊥
+OpensAs stage opened silent new (Err Write) = ⊥
+OpensAs stage opened silent new (Err NoMemory) = silent ≡ true

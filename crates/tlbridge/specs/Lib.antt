@@ -1,7 +1,11 @@
+pub mod Check
+pub mod ClientPorts
 pub mod FirstPath
 pub mod Forms
 pub mod Inside
+pub mod InsidePorts
 pub mod Names
+pub mod OfferLines
 pub mod Reads
 pub mod Results
 pub mod Run

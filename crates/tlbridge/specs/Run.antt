@@ -1,18 +1,18 @@
 -- `tlbridge run`: what each line of its script does (this project's profile).
 use Rattle.std.specs.Prelude.{ℕ, Bool, true, false, ◌||◌, not, List, [], ◌∷◌, ◌++◌, length, Option, Some, None, Result, Ok, Err, if◌then◌else◌, nat_le}
 use Rattle.tl_messages.specs.Lines.{a_text}
-use Rattle.tl_messages.specs.declared.ABeat.{ABeat}
 use Rattle.world_run.specs.Setups.{SetupLists, setup_fault}
 use Rattle.world_run.specs.World.{WorldState, Outcome, opening_world, next, byte_of}
 use Rattle.world_run.specs.declared.SetupFault.{SetupFault}
 use Rattle.world_run.specs.declared.Step.{Step}
 use Rattle.world_run.specs.declared.Step.TheVariants as step
 use Rattle.tlbridge.specs.FirstPath.{is_for_later, most_regions}
-use Rattle.tlbridge.specs.Forms.{Field, read_as, told_as, form_of, byte_field, short_field, address_field, flag_field, is_set}
+use Rattle.tlbridge.specs.Forms.{read_as, told_as, form_of, byte_field, short_field, address_field}
+use Rattle.tlbridge.specs.OfferLines.{offer_line}
 use Rattle.tlbridge.specs.Names.{answer_text, held_text, reply_text, mem_text}
 use Rattle.tlbridge.specs.Scripts.{LineStep, Reading}
 use Rattle.tlbridge.specs.SetupLines.{config_line, region_line, page_line, too_many_pages, with_config, with_line}
-use Rattle.tlbridge.specs.Words.{is_dec_to, is_hex_to, word_at, dec_at, hex_at}
+use Rattle.tlbridge.specs.Words.{is_dec_to, word_at, dec_at, hex_at}
 use Rattle.tlbridge.specs.declared.faults.TextFault.{TextFault}
 use Rattle.tlbridge.specs.declared.faults.TextFault.TheVariants.{Script, Setup as SetupRefused}
 use Rattle.tlbridge.specs.declared.forms.Form.{Form}
@@ -68,27 +68,6 @@ is_misplaced Opening form words = not (is_config_form form)
 is_misplaced (SettingUp setup) form words = has_no_room setup form words
 is_misplaced (Running world) form words = is_setup_form form
 
--- the beat of an `a` line: a CLIENT OPCODE PARAM SIZE SOURCE ADDRESS MASK PAYLOAD CORRUPT
-abbrev pub offer_fields : List Field
-offer_fields =
-    byte_field ∷ byte_field ∷ byte_field ∷ byte_field ∷ byte_field ∷ address_field ∷ is_hex_to 255 ∷ is_hex_to 18446744073709551615 ∷ flag_field ∷ []
-
-abbrev pub beat_in : List (List ℕ) → ABeat
-beat_in words =
-    record {
-      opcode = dec_at words 3;
-      param = dec_at words 4;
-      size = dec_at words 5;
-      source = dec_at words 6;
-      address = hex_at words 7;
-      mask = hex_at words 8;
-      payload = hex_at words 9;
-      corrupt = is_set (word_at words 10);
-    }
-
-abbrev pub offer_line : List (List ℕ) → Result Step ℕ
-offer_line words = read_as offer_fields words (step.Offer (dec_at words 2) (beat_in words))
-
 -- do SERIAL BEAT
 abbrev pub perform_line : List (List ℕ) → Result Step ℕ
 perform_line words = read_as (is_dec_to 18446744073709551615 ∷ short_field ∷ []) words (step.Perform (dec_at words 2) (dec_at words 3))
@@ -103,10 +82,10 @@ mem_line words = read_as (address_field ∷ []) words (hex_at words 2)
 
 -- what a line of each form says, or its first wrong word
 abbrev pub line_of_form : Form → List (List ℕ) → Result RunLine ℕ
-line_of_form form.Config words = told_as SetupForm (config_line words)
+line_of_form form.Config words = told_as (λ config. SetupForm (Config config)) (config_line words)
 line_of_form form.Region words = told_as SetupForm (region_line words)
 line_of_form form.Page words = told_as SetupForm (page_line words)
-line_of_form form.Offer words = told_as event (offer_line words)
+line_of_form form.Offer words = told_as (λ offer. event (step.Offer offer.0 offer.1)) (offer_line words)
 line_of_form form.Pump words = told_as event (read_as [] words step.Pump)
 line_of_form form.Perform words = told_as event (perform_line words)
 line_of_form form.AnswerB words = told_as (λ id. event (step.AnswerB id)) (byte_line words)
@@ -117,6 +96,8 @@ line_of_form form.Mem words = told_as (λ address. CommandForm (Mem address)) (m
 line_of_form form.BadWord words = Err 1
 line_of_form form.Drain words = Err 1
 line_of_form form.Work words = Err 1
+-- this is one of `tlbridge check`
+line_of_form form.Free words = Err 1
 
 -- what the words of a line of this form say, if there is such a form and it may stand here, or the first wrong word
 abbrev pub line_as : Stage → List (List ℕ) → Option Form → Result RunLine ℕ

@@ -45,8 +45,8 @@ config_in words =
       axi_bytes = 8;
     }
 
-abbrev pub config_line : List (List ℕ) → Result SetupLine ℕ
-config_line words = read_as (config_fields words) words (Config (config_in words))
+abbrev pub config_line : List (List ℕ) → Result Limits ℕ
+config_line words = read_as (config_fields words) words (config_in words)
 
 -- ---- region TLPAGE PAGES AXIPAGE PERMS
 

@@ -31,6 +31,8 @@ pub enum Form {
     Mem,
     /// `work`: how much is left to do.
     Work,
+    /// `free`: a source is free again.
+    Free,
 }
 
 impl Form {
@@ -52,6 +54,7 @@ impl Form {
             "drain" => Some(Form::Drain),
             "mem" => Some(Form::Mem),
             "work" => Some(Form::Work),
+            "free" => Some(Form::Free),
             _ => None,
         }
     }

@@ -1,9 +1,15 @@
 //! The program: it reads a script and prints its trace.
 #![tactic(auto)]
 
+mod check;
+mod check_lines;
+#[cfg(test)]
+mod check_tests;
+mod client_ports;
 mod faults;
 mod forms;
 mod lines;
+mod offer_lines;
 mod run;
 mod run_lines;
 mod scripts;
@@ -13,6 +19,7 @@ mod tests;
 mod trace;
 mod words;
 
+use check::check_text;
 use clap::Command;
 use faults::{TextFault, status_of};
 use run::run_text;
@@ -30,6 +37,8 @@ const BAD_WORDS: u8 = 6;
 enum Mode {
     /// Carry out a script.
     Run,
+    /// Judge a script's beats.
+    Check,
 }
 
 fn command<'a>(alloc: Global) -> Result<Command<'a>, AllocError> {
@@ -37,7 +46,8 @@ fn command<'a>(alloc: Global) -> Result<Command<'a>, AllocError> {
         .disable_help_flag(true)
         .disable_version_flag(true)
         .disable_help_subcommand(true)
-        .subcommand(Command::new(alloc, "run").disable_help_flag(true))
+        .subcommand(Command::new(alloc, "run").disable_help_flag(true))?
+        .subcommand(Command::new(alloc, "check").disable_help_flag(true))
 }
 
 /// What the words ask for; none where they are refused.
@@ -48,6 +58,7 @@ fn mode_of<'a>(alloc: Global, words: &'a [String]) -> Option<Mode> {
         None => Some(Mode::Run),
         Some(name) => match name.as_bytes() {
             b"run" => Some(Mode::Run),
+            b"check" => Some(Mode::Check),
             _ => None,
         },
     }
@@ -59,14 +70,17 @@ fn words_given<R: Env + AllocGlobal>(rt: &R) -> Option<Vec<String>> {
 }
 
 /// Carries out the script of standard input. Output that can't be flushed counts as a write that failed.
-fn run_input(rt: &HostRuntime) -> Result<bool, TextFault> {
+fn read_input(rt: &HostRuntime, mode: Mode) -> Result<bool, TextFault> {
     let Ok(mut reader) = BufReader::new(rt.alloc(), rt.reader()) else {
         return Err(TextFault::NoMemory);
     };
     let Ok(mut writer) = BufWriter::new(rt.alloc(), rt.stdout()) else {
         return Err(TextFault::NoMemory);
     };
-    let ending = run_text(rt.alloc(), &mut reader, &mut writer);
+    let ending = match mode {
+        Mode::Run => run_text(rt.alloc(), &mut reader, &mut writer),
+        Mode::Check => check_text(rt.alloc(), &mut reader, &mut writer),
+    };
     match writer.flush() {
         Ok(()) => ending,
         Err(_) => Err(TextFault::Write),
@@ -78,11 +92,11 @@ fn main(rt: HostRuntime) -> ExitCode {
         None => None,
         Some(words) => mode_of(rt.alloc(), words.as_slice()),
     };
-    let Some(Mode::Run) = mode else {
+    let Some(mode) = mode else {
         let _ = eprintln!(rt; "usage: tlbridge run, check or threads");
         return ExitCode::from(BAD_WORDS);
     };
-    let ending = run_input(&rt);
+    let ending = read_input(&rt, mode);
     if let Err(fault) = ending {
         let _ = eprintln!(rt; "{fault}");
     }

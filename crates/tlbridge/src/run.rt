@@ -5,7 +5,7 @@ ghost use Rattle.world_run.specs.Setups.{lists_of};
 ghost use Rattle.world_run.specs.World.{next};
 ghost use Rattle.tlbridge.specs.FirstPath.{is_for_later};
 ghost use Rattle.tlbridge.specs.Inside.{HasRoom, OpensAs};
-ghost use Rattle.tlbridge.specs.Run.{Opening, SettingUp, command_step, event_text, has_no_room, is_misplaced, is_setup_form, line_in, nothing_written, run_reading, with_setup_line, world_at};
+ghost use Rattle.tlbridge.specs.Run.{Opening, Running, SettingUp, command_step, event_text, has_no_room, is_misplaced, is_setup_form, line_in, nothing_written, run_reading, with_setup_line, world_at};
 ghost use Rattle.tlbridge.specs.Scripts.{EndsAs, text_of, text_before_failure};
 ghost use Rattle.tlbridge.specs.SetupLines.{pages_from, too_many_pages, with_line};
 ghost use Rattle.tlbridge.specs.Steps.{TakesStep};
@@ -192,7 +192,7 @@ impl RunScript {
 
     /// Makes the world where there is none yet.
     fn open_world(&mut self, alloc: Global, number: u32) -> Result<(), TextFault>
-        ensures { OpensAs (world_at self.old number) (nothing_written self.old) self.new result }
+        ensures { OpensAs Running (world_at self.old number) (nothing_written self.old) self.new result }
     {
         let opened = match &self.stage {
             Stage::Opening => {

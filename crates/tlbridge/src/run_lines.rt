@@ -2,12 +2,12 @@
 ghost use Rattle.std.specs.Prelude.{◌≡◌, []};
 ghost use Rattle.tlbridge.specs.Forms.{read_as};
 ghost use Rattle.world_run.specs.declared.Step.TheVariants.{Pump};
-ghost use Rattle.tlbridge.specs.Run.{line_of_form, offer_line, perform_line, byte_line, mem_line};
+ghost use Rattle.tlbridge.specs.Run.{line_of_form, perform_line, byte_line, mem_line};
 
 use crate::forms::Form;
+use crate::offer_lines::offer_line;
 use crate::setup_lines::{SetupLine, config_line, page_line, region_line};
 use crate::words::Words;
-use tl_messages::ABeat;
 use world_run::Step;
 
 /// A command.
@@ -26,33 +26,6 @@ pub enum RunLine {
     Setup(SetupLine),
     /// A command.
     Command(Command),
-}
-
-/// `a CLIENT OPCODE PARAM SIZE SOURCE ADDRESS MASK PAYLOAD CORRUPT`.
-fn offer(words: &Words<'_>) -> Result<Step, u32>
-    ensures { result ≡ offer_line words.now }
-{
-    let client = words.byte(2)?;
-    let opcode = words.byte(3)?;
-    let param = words.byte(4)?;
-    let size = words.byte(5)?;
-    let source = words.byte(6)?;
-    let address = words.address(7)?;
-    let mask = words.mask(8)?;
-    let payload = words.hex(9, u64::MAX)?;
-    let corrupt = words.flag(10)?;
-    words.end(10)?;
-    let beat = ABeat {
-        opcode,
-        param,
-        size,
-        source,
-        address,
-        mask,
-        payload,
-        corrupt,
-    };
-    Ok(Step::Offer(client, beat))
 }
 
 /// `do SERIAL BEAT`.
@@ -95,18 +68,21 @@ pub fn line_of_form(form: Form, words: &Words<'_>) -> Result<RunLine, u32>
     ensures { result ≡ line_of_form form words.now }
 {
     let event = match form {
-        Form::Config => return Ok(RunLine::Setup(config_line(words)?)),
+        Form::Config => return Ok(RunLine::Setup(SetupLine::Config(config_line(words)?))),
         Form::Region => return Ok(RunLine::Setup(region_line(words)?)),
         Form::Page => return Ok(RunLine::Setup(page_line(words)?)),
-        Form::Offer => offer(words)?,
+        Form::Offer => {
+            let (client, beat) = offer_line(words)?;
+            Step::Offer(client, beat)
+        }
         Form::Pump => pump(words)?,
         Form::Perform => perform(words)?,
         Form::AnswerB => Step::AnswerB(one_byte(words)?),
         Form::AnswerR => Step::AnswerR(one_byte(words)?),
         Form::Take => Step::Take(one_byte(words)?),
         Form::Mem => return Ok(RunLine::Command(Command::Mem(mem(words)?))),
-        // These can't stand yet.
-        Form::BadWord | Form::Drain | Form::Work => return Err(1),
+        // These can't stand yet, and `free` is a line of `check`.
+        Form::BadWord | Form::Drain | Form::Work | Form::Free => return Err(1),
     };
     Ok(RunLine::Command(Command::Event(event)))
 }

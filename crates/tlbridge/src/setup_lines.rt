@@ -64,7 +64,7 @@ fn levels(words: &Words<'_>, clients: u8) -> Result<[Level; 8], u32>
 }
 
 /// `config CLIENTS QUOTA IDS DEPTH MAXLEN MAXSIZE LEVELS`.
-pub fn config_line(words: &Words<'_>) -> Result<SetupLine, u32>
+pub fn config_line(words: &Words<'_>) -> Result<Config, u32>
     ensures { result ≡ config_line words.now }
 {
     let clients = words.byte(2)?;
@@ -75,7 +75,7 @@ pub fn config_line(words: &Words<'_>) -> Result<SetupLine, u32>
     let max_size = words.byte(7)?;
     let levels = levels(words, clients)?;
     words.end(8)?;
-    Ok(SetupLine::Config(Config {
+    Ok(Config {
         clients,
         quota,
         ids,
@@ -84,7 +84,7 @@ pub fn config_line(words: &Words<'_>) -> Result<SetupLine, u32>
         max_size,
         levels,
         axi_bytes: 8,
-    }))
+    })
 }
 
 fn permissions(words: &Words<'_>) -> Result<[bool; 4], u32>
