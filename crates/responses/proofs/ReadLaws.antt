@@ -1,7 +1,7 @@
 -- The words that reads belong to.
 use Rattle.std.proofs.Common.{◌≡◌, ℕ, zero, suc, ◌+◌, ◌-◌, ◌*◌, ◌/◌, ◌%◌, ◌^◌, ◌<◌, ◌≤◌, max, Bool, true, false, if◌then◌else◌, arith, inl, inr}
 use Rattle.std.proofs.Math.Pow.{pow_mono, mod-mod-pow}
-use Rattle.std.proofs.lemmas.Bool.{cases_lt}
+use Rattle.std.proofs.lemmas.Bool.{cases_lt, le-leb, lt-leb}
 use Rattle.std.proofs.lemmas.Nat.{pow-add}
 use Rattle.tl_messages.specs.Lanes.{lane_of}
 use Rattle.tl_messages.specs.Operations.{reply_has_data, beats_of}
@@ -9,6 +9,13 @@ use Rattle.tl_messages.proofs.BeatCounts.{beats_of-le}
 use Rattle.axi_beats.specs.Transfers.{IsBusWidth}
 use Rattle.responses.specs.Gathered.{reads_of, word_of_read, words_of}
 use Rattle.responses.specs.declared.gather.Outline.{Outline}
+
+-- eight bytes or more are whole words
+pub eighths : (size : ℕ) → 3 ≤ size → (2 ^ size / 8 * 8 ≡ 2 ^ size) × (8 ≤ 2 ^ size)
+eighths size big =
+    let parts : size - 3 + 3 ≡ size = omega arith in
+    let times : 2 ^ size ≡ 2 ^ (size - 3) * 8 = rw parts at (pow-add 2 (size - 3) 3) in
+    (omega arith, pow_mono {i = 3} {j = size} big)
 
 -- a range of eight bytes or more is one of whole words
 pub whole_words : (address size : ℕ) → 3 ≤ size → address % 2 ^ size ≡ 0 → (lane_of address ≡ 0) × (2 ^ size / 8 * 8 ≡ 2 ^ size) × (8 ≤ 2 ^ size)
@@ -33,22 +40,23 @@ words_of-le outline small = by_data (reply_has_data outline.operation)
     by_data true = beats_of-le outline.size true small
     by_data false = omega arith
 
-at_place : (bus_bytes address size place : ℕ) → IsBusWidth bus_bytes → address % 2 ^ size ≡ 0 → place < max 1 (2 ^ size / bus_bytes) → word_of_read bus_bytes address place < max 1 (2 ^ size / 8)
-at_place bus_bytes address size place (inr eight) aligned below = rw eight (rw eight at below)
-at_place bus_bytes address size place (inl four) aligned below =
-    let within : place < max 1 (2 ^ size / 4) = rw four at below in
-    rw four (elim (cases_lt size 3) [
-      | inl small ↦ omega (arith, narrow address size small)
-      | inr big ↦ omega (arith, whole_words address size big aligned)
+at_place : (bus_bytes place : ℕ) (outline : Outline) → IsBusWidth bus_bytes → place < max 1 (2 ^ outline.size / bus_bytes)
+    → word_of_read bus_bytes outline place < max 1 (2 ^ outline.size / 8)
+at_place bus_bytes place outline (inr eight) below = rw eight (rw eight at below)
+at_place bus_bytes place outline (inl four) below =
+    let within : place < max 1 (2 ^ outline.size / 4) = rw four at below in
+    rw four (elim (cases_lt outline.size 3) [
+      | inl small ↦ rw (lt-leb 3 outline.size small) (omega arith)
+      | inr big ↦ rw (le-leb 3 outline.size big) (omega (arith, eighths outline.size big))
     ])
 
 -- a read's word is one of the reply's
-pub word_of_read-lt : (bus_bytes place : ℕ) (outline : Outline) → IsBusWidth bus_bytes → outline.address % 2 ^ outline.size ≡ 0 → place < reads_of bus_bytes outline
-    → word_of_read bus_bytes outline.address place < words_of outline
-word_of_read-lt bus_bytes place outline width aligned below = by_data (reply_has_data outline.operation) below
+pub word_of_read-lt : (bus_bytes place : ℕ) (outline : Outline) → IsBusWidth bus_bytes → place < reads_of bus_bytes outline
+    → word_of_read bus_bytes outline place < words_of outline
+word_of_read-lt bus_bytes place outline width below = by_data (reply_has_data outline.operation) below
   where
-    by_data : (b : Bool) → place < (if b then max 1 (2 ^ outline.size / bus_bytes) else 0) → word_of_read bus_bytes outline.address place < (if b then beats_of outline.size true else 0)
-    by_data true inside = at_place bus_bytes outline.address outline.size place width aligned inside
+    by_data : (b : Bool) → place < (if b then max 1 (2 ^ outline.size / bus_bytes) else 0) → word_of_read bus_bytes outline place < (if b then beats_of outline.size true else 0)
+    by_data true inside = at_place bus_bytes place outline width inside
     by_data false inside = absurd (none inside)
       where
         none : place < 0 → ⊥

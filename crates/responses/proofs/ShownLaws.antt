@@ -1,57 +1,72 @@
 -- The beats that are made of the gathered words are those that show the reply.
-use Rattle.std.proofs.Common.{◌≡◌, ℕ, ◌+◌, ◌-◌, ◌*◌, ◌/◌, ◌%◌, ◌^◌, ◌<◌, ◌≤◌, nat_le, nat_lt, Bool, true, false, not, ◌&&◌, List, [], map, length, get_or, Option, Some, None, if◌then◌else◌, refl, sym, subst, ◌∙◌, ap, arith, inl, inr, lit<}
+use Rattle.std.proofs.Common.{◌≡◌, ℕ, zero, suc, ◌⊎◌, min, ◌+◌, ◌-◌, ◌*◌, ◌/◌, ◌^◌, ◌<◌, ◌≤◌, nat_le, nat_lt, Bool, true, false, not, ◌&&◌, List, [], map, length, get_or, Option, Some, None, if◌then◌else◌, refl, sym, subst, ◌∙◌, ap, arith, inl, inr, lit<}
 use Rattle.std.specs.Prelude.{unwrap_or, is_none, option_map, slice_get}
 use Rattle.std.specs.List.{range_with_len, list_any}
 use Rattle.std.specs.Option.{option_flatten}
 use Rattle.std.proofs.Math.Pow.{pow_pos}
-use Rattle.std.proofs.lemmas.Bool.{cases_lt, leb-true}
+use Rattle.std.proofs.lemmas.Bool.{cases_lt, leb-true, ne_eqb}
 use Rattle.std.proofs.lemmas.Bool.Decides.{nat_tests}
-use Rattle.std.proofs.lemmas.List.{length-map}
-use Rattle.std.proofs.lemmas.List.FromFn.{length-map-range_with_len, get_or-map-range_with_len, fill_by_all}
-use Rattle.std.proofs.lemmas.Option.{slice_get-get_or, slice_get-map, slice_get_past, get_or_from_slice_get}
+use Rattle.std.proofs.lemmas.List.FromFn.{length-map-range_with_len, get_or-map-range_with_len}
+use Rattle.std.proofs.lemmas.Option.{slice_get-get_or, slice_get_past}
 use Rattle.bus_words.specs.Lanes.{given_at, has_lane, is_between, lane_byte, payload_of}
+use Rattle.bus_words.proofs.BelowEight.{below_eight}
+use Rattle.bus_words.proofs.MaskLaws.{has_lane-mask_of}
 use Rattle.bus_words.proofs.LaneLaws.{word_of_lanes-same}
-use Rattle.tl_messages.specs.Lanes.{in_lanes, lane_of}
+use Rattle.tl_messages.specs.Lanes.{lane_of}
 use Rattle.tl_messages.specs.Operations.{reply_has_data, beats_of}
 use Rattle.tl_messages.specs.Requests.{WholeRequest}
 use Rattle.tl_messages.specs.declared.DBeat.{DBeat}
-use Rattle.data_unit.specs.Words.{full_mask, merged}
-use Rattle.data_unit.proofs.AlignedLanes.{any-range, in_lanes-aligned, in_lanes_every}
+use Rattle.data_unit.specs.Words.{merged}
+use Rattle.data_unit.proofs.AlignedLanes.{any-range}
 use Rattle.data_unit.proofs.ByteLaws.{lane_byte-past}
-use Rattle.data_unit.proofs.FullMask.{has_lane-full_mask}
 use Rattle.responses.specs.Gathered.{Gathering, byte_gathered, gathered, outline_of, words_of}
 use Rattle.responses.specs.declared.gather.Outline.{Outline}
-use Rattle.responses.specs.Inside.{bare_beat, word_beat}
+use Rattle.responses.specs.Inside.{word_lanes, word_beat, word_beat_at}
 use Rattle.responses.specs.Shown.{Reply, address_in_word, beat_of_word, in_range, lacks_a_byte, shown}
-use Rattle.responses.proofs.ReadLaws.{narrow, whole_words}
+use Rattle.responses.proofs.ReadLaws.{eighths, narrow}
 
 -- ---- the lanes of a range in one of its words
 
--- the first byte's lane, moved to word k, is in the range
-first_in_word : (address size k : ℕ) → address % 2 ^ size ≡ 0 → k < beats_of size true → 8 * k < 2 ^ size
-first_in_word address size k aligned below =
+-- a range has a byte in each of its words
+first_in_word : (size k : ℕ) → k < beats_of size true → 8 * k < 2 ^ size
+first_in_word size k below =
     elim (cases_lt size 3) [
-      | inl small ↦ omega (arith, narrow address size small, pow_pos size)
-      | inr big ↦ omega (arith, whole_words address size big aligned)
+      | inl small ↦ omega (arith, narrow 0 size small, pow_pos size)
+      | inr big ↦ omega (arith, eighths size big)
     ]
 
--- the lanes of the range in one of its words are those of the full mask
-lanes_in_word : (q : WholeRequest) (k lane : ℕ) → lane < 8 → q.address % 2 ^ q.size ≡ 0 → k < beats_of q.size true
-    → in_lanes q.address q.size lane ≡ in_range q (address_in_word q k lane)
-lanes_in_word q k lane below aligned inside =
-    elim (cases_lt q.size 3) [
-      | inl small ↦ in_lanes-aligned q.address q.size lane below aligned ∙ narrow_word (omega (arith, narrow q.address q.size small)) (pow_pos q.size)
-      | inr big ↦ in_lanes_every q.address q.size lane big below ∙ sym (wide_word (whole_words q.address q.size big aligned))
-    ]
+every_lane : (lane : ℕ) → lane < 8 → has_lane 255 lane ≡ true
+every_lane lane below = below_eight (λ k. has_lane 255 k ≡ true) refl refl refl refl refl refl refl refl lane below
+
+-- the lanes of the range in one of its words
+lanes_in_word : (q : WholeRequest) (k lane : ℕ) → lane < 8 → k < beats_of q.size true → has_lane (word_lanes (outline_of q) k) lane ≡ in_range q (address_in_word q k lane)
+lanes_in_word q zero lane below inside =
+    let some : 0 < 2 ^ q.size = pow_pos q.size in
+    has_lane-mask_of (is_between (lane_of q.address) (min (lane_of q.address + 2 ^ q.size - 1) 7)) lane below ∙ by_end some (cases_lt (lane_of q.address + 2 ^ q.size - 1) 7)
   where
-    narrow_word : k ≡ 0 → 0 < 2 ^ q.size → is_between (lane_of q.address) (lane_of q.address + 2 ^ q.size - 1) lane ≡ in_range q (address_in_word q k lane)
-    narrow_word first some = rw first (grind (arith, nat_tests))
+    by_end : 0 < 2 ^ q.size → (lane_of q.address + 2 ^ q.size - 1 < 7) ⊎ (7 ≤ lane_of q.address + 2 ^ q.size - 1)
+        → is_between (lane_of q.address) (min (lane_of q.address + 2 ^ q.size - 1) 7) lane ≡ in_range q (address_in_word q 0 lane)
+    by_end some (inl low) =
+        let least : min (lane_of q.address + 2 ^ q.size - 1) 7 ≡ lane_of q.address + 2 ^ q.size - 1 = omega arith in
+        rw least (grind (arith, nat_tests))
+    by_end some (inr high) =
+        let least : min (lane_of q.address + 2 ^ q.size - 1) 7 ≡ 7 = omega arith in
+        rw least (grind (arith, nat_tests))
+lanes_in_word q (suc k) lane below inside =
+    let fits = last_in_word q.size (suc k) inside in
+    let low : q.address ≤ address_in_word q (suc k) lane = omega arith in
+    let high : address_in_word q (suc k) lane < q.address + 2 ^ q.size = omega arith in
+    rw (ne_eqb (suc k) 0 none) (every_lane lane below ∙ sym (grind (arith, nat_tests)))
+  where
+    none : suc k ≡ 0 → ⊥
+    none e = omega arith
 
-    wide_word : (lane_of q.address ≡ 0) × (2 ^ q.size / 8 * 8 ≡ 2 ^ q.size) × (8 ≤ 2 ^ q.size) → in_range q (address_in_word q k lane) ≡ true
-    wide_word (start, whole, many) =
-        let low : q.address ≤ address_in_word q k lane = omega arith in
-        let high : address_in_word q k lane < q.address + 2 ^ q.size = omega arith in
-        grind (arith, nat_tests)
+    last_in_word : (size k : ℕ) → k < beats_of size true → 0 < k → 8 * k + 8 ≤ 2 ^ size
+    last_in_word size k below some =
+        elim (cases_lt size 3) [
+          | inl small ↦ absurd (omega (arith, narrow 0 size small))
+          | inr big ↦ omega (arith, eighths size big)
+        ]
 
 -- ---- the bytes of a word
 
@@ -120,8 +135,8 @@ none_held true byte is none = rw none refl
 none_held false byte is none = is
 
 -- a word that isn't given lacks one
-lacks_some : (q : WholeRequest) (words : List (Option ℕ)) (k : ℕ) → q.address % 2 ^ q.size ≡ 0 → k < beats_of q.size true → slice_get words k ≡ Some None → lacks_a_byte q (reply_of q words) k ≡ true
-lacks_some q words k aligned inside there =
+lacks_some : (q : WholeRequest) (words : List (Option ℕ)) (k : ℕ) → k < beats_of q.size true → slice_get words k ≡ Some None → lacks_a_byte q (reply_of q words) k ≡ true
+lacks_some q words k inside there =
     any-range (λ lane. in_range q (address_in_word q k lane) && is_none (given_at (bytes_of_reply q words) q.address (address_in_word q k lane))) 0 8 (lane_of q.address) below
     (rw (from_zero, given_in_word q words k (lane_of q.address) None below there) (none_held (in_range q (address_in_word q k (lane_of q.address))) None held refl))
   where
@@ -135,31 +150,28 @@ lacks_some q words k aligned inside there =
     first = omega arith
 
     held : in_range q (address_in_word q k (lane_of q.address)) ≡ true
-    held = let fits = first_in_word q.address q.size k aligned inside in rw first (grind (arith, nat_tests))
+    held = let fits = first_in_word q.size k inside in rw first (grind (arith, nat_tests))
 
 shown_or_zero : (held : Bool) (byte zero_byte : ℕ) → zero_byte ≡ 0 → (if held then byte else zero_byte) ≡ unwrap_or (if held then Some byte else None) 0
 shown_or_zero true byte zero_byte none = refl
 shown_or_zero false byte zero_byte none = none
 
 -- the payload of a word that is given
-payload_shown : (q : WholeRequest) (words : List (Option ℕ)) (k word lanes : ℕ) → q.address % 2 ^ q.size ≡ 0 → k < beats_of q.size true → lanes ≡ full_mask q.address q.size
-    → slice_get words k ≡ Some (Some word) → merged 0 word lanes ≡ payload_of (λ lane. given_at (bytes_of_reply q words) q.address (address_in_word q k lane))
-payload_shown q words k word lanes aligned inside full there =
-    word_of_lanes-same (λ lane. if has_lane lanes lane then lane_byte word lane else lane_byte 0 lane) (λ lane. unwrap_or (given_at (bytes_of_reply q words) q.address (address_in_word q k lane)) 0)
+payload_shown : (q : WholeRequest) (words : List (Option ℕ)) (k word : ℕ) → k < beats_of q.size true
+    → slice_get words k ≡ Some (Some word) → merged 0 word (word_lanes (outline_of q) k) ≡ payload_of (λ lane. given_at (bytes_of_reply q words) q.address (address_in_word q k lane))
+payload_shown q words k word inside there =
+    word_of_lanes-same (λ lane. if has_lane (word_lanes (outline_of q) k) lane then lane_byte word lane else lane_byte 0 lane)
+    (λ lane. unwrap_or (given_at (bytes_of_reply q words) q.address (address_in_word q k lane)) 0)
     (λ lane below.
-    ap (λ b. if b then lane_byte word lane else lane_byte 0 lane) (held lane below)
+    ap (λ b. if b then lane_byte word lane else lane_byte 0 lane) (lanes_in_word q k lane below inside)
     ∙ shown_or_zero (in_range q (address_in_word q k lane)) (lane_byte word lane) (lane_byte 0 lane) (lane_byte-past 0 0 lane (lit< tt) (omega arith))
     ∙ ap (λ (o : Option ℕ). unwrap_or o 0) (sym (given_in_word q words k lane (Some word) below there)))
-  where
-    held : (lane : ℕ) → lane < 8 → has_lane lanes lane ≡ in_range q (address_in_word q k lane)
-    held lane below = rw full (has_lane-full_mask q.address q.size lane below ∙ lanes_in_word q k lane below aligned inside)
 
 -- the beat of one word
-beat_shown : (q : WholeRequest) (words : List (Option ℕ)) (k lanes : ℕ) (word : Option ℕ) → q.address % 2 ^ q.size ≡ 0 → k < beats_of q.size true → lanes ≡ full_mask q.address q.size
-    → slice_get words k ≡ Some word → word_beat (outline_of q) false lanes word ≡ beat_of_word q (reply_of q words) k
-beat_shown q words k lanes None aligned inside full there = rw (lacks_some q words k aligned inside there) refl
-beat_shown q words k lanes (Some word) aligned inside full there =
-    rw (lacks_none q words k word there, ← payload_shown q words k word lanes aligned inside full there) refl
+beat_shown : (q : WholeRequest) (words : List (Option ℕ)) (k : ℕ) (word : Option ℕ) → k < beats_of q.size true → slice_get words k ≡ Some word
+    → word_beat (outline_of q) false (word_lanes (outline_of q) k) word ≡ beat_of_word q (reply_of q words) k
+beat_shown q words k None inside there = rw (lacks_some q words k inside there) refl
+beat_shown q words k (Some word) inside there = rw (lacks_none q words k word there, ← payload_shown q words k word inside there) refl
 
 denied_beat : (q : WholeRequest) (bytes : List (Option ℕ)) (k lanes : ℕ) (word : Option ℕ) → word_beat (outline_of q) true lanes word ≡ beat_of_word q (record { denied = true; bytes = bytes }) k
 denied_beat q bytes k lanes None = refl
@@ -167,49 +179,38 @@ denied_beat q bytes k lanes (Some word) = refl
 
 -- ---- all beats
 
+same_beats : (f g : ℕ → DBeat) (a n : ℕ) → ((k : ℕ) → k < a + n → f k ≡ g k) → map f (range_with_len a n) ≡ map g (range_with_len a n)
+same_beats f g a zero same = refl
+same_beats f g a (suc n) same = rw (same a (omega arith), same_beats f g (a + 1) n (λ k below. same k (omega arith))) refl
+
 -- the beats of all words, which are as many as the reply has
-words_shown : (q : WholeRequest) (gathering : Gathering) (lanes : ℕ) → reply_has_data q.operation ≡ true → q.address % 2 ^ q.size ≡ 0
-    → length gathering.words ≡ beats_of q.size true → lanes ≡ full_mask q.address q.size
-    → map (word_beat (outline_of q) gathering.denied lanes) gathering.words ≡ shown q (gathered (outline_of q) gathering)
+words_shown : (q : WholeRequest) (gathering : Gathering) → reply_has_data q.operation ≡ true → length gathering.words ≡ beats_of q.size true
+    → map (word_beat_at (outline_of q) gathering) (range_with_len 0 (length gathering.words)) ≡ shown q (gathered (outline_of q) gathering)
 unfolding bytes_of_reply
-words_shown q gathering lanes has aligned many full =
-    rw has (fill_by_all (beat_of_word q (reply gathering.denied)) (beats gathering.denied) (beats_of q.size true) (bare_beat (outline_of q) false false) (length_is gathering.denied) (each gathering.denied))
+words_shown q gathering has many =
+    rw (has, many) (same_beats (word_beat_at (outline_of q) gathering) (beat_of_word q (reply gathering.denied)) 0 (beats_of q.size true) (λ k below. each gathering.denied k (omega arith)))
   where
     reply : Bool → Reply
     reply denied = record { denied = denied; bytes = if not denied then bytes_of_reply q gathering.words else [] }
 
-    beats : Bool → List DBeat
-    beats denied = map (word_beat (outline_of q) denied lanes) gathering.words
-
-    length_is : (denied : Bool) → length (beats denied) ≡ beats_of q.size true
-    length_is denied = omega (arith, length-map gathering.words (word_beat (outline_of q) denied lanes))
-
     listed : (k : ℕ) → k < beats_of q.size true → slice_get gathering.words k ≡ Some (get_or gathering.words k None)
     listed k inside = slice_get-get_or gathering.words k None (rw many inside)
 
-    beat_is : (denied : Bool) (k : ℕ) (word : Option ℕ) → k < beats_of q.size true → slice_get gathering.words k ≡ Some word
-        → word_beat (outline_of q) denied lanes word ≡ beat_of_word q (reply denied) k
-    beat_is true k word inside there = denied_beat q [] k lanes word
-    beat_is false k word inside there = beat_shown q gathering.words k lanes word aligned inside full there
-
-    each : (denied : Bool) (k : ℕ) → k < beats_of q.size true → get_or (beats denied) k (bare_beat (outline_of q) false false) ≡ beat_of_word q (reply denied) k
-    each denied k inside =
-        let found : slice_get (beats denied) k ≡ Some (word_beat (outline_of q) denied lanes (get_or gathering.words k None)) =
-        slice_get-map (word_beat (outline_of q) denied lanes) gathering.words k ∙ ap (λ (o : Option (Option ℕ)). option_map (word_beat (outline_of q) denied lanes) o) (listed k inside) in
-        get_or_from_slice_get (beats denied) k (word_beat (outline_of q) denied lanes (get_or gathering.words k None)) (bare_beat (outline_of q) false false) found
-        ∙ beat_is denied k (get_or gathering.words k None) inside (listed k inside)
+    each : (denied : Bool) (k : ℕ) → k < beats_of q.size true
+        → word_beat (outline_of q) denied (word_lanes (outline_of q) k) (get_or gathering.words k None) ≡ beat_of_word q (reply denied) k
+    each true k inside = denied_beat q [] k (word_lanes (outline_of q) k) (get_or gathering.words k None)
+    each false k inside = beat_shown q gathering.words k (get_or gathering.words k None) inside (listed k inside)
 
 -- the same, by a request's outline
-pub reply_made : (q : WholeRequest) (outline : Outline) (gathering : Gathering) (lanes : ℕ) → outline_of q ≡ outline → reply_has_data outline.operation ≡ true
-    → outline.address % 2 ^ outline.size ≡ 0 → length gathering.words ≡ words_of outline → lanes ≡ full_mask outline.address outline.size
-    → map (word_beat outline gathering.denied lanes) gathering.words ≡ shown q (gathered outline gathering)
-reply_made q outline gathering lanes same has aligned many full =
+pub reply_made : (q : WholeRequest) (outline : Outline) (gathering : Gathering) → outline_of q ≡ outline → reply_has_data outline.operation ≡ true
+    → length gathering.words ≡ words_of outline → map (word_beat_at outline gathering) (range_with_len 0 (length gathering.words)) ≡ shown q (gathered outline gathering)
+reply_made q outline gathering same has many =
     subst
     (λ (o : Outline).
-    reply_has_data o.operation ≡ true → o.address % 2 ^ o.size ≡ 0 → length gathering.words ≡ words_of o → lanes ≡ full_mask o.address o.size
-    → map (word_beat o gathering.denied lanes) gathering.words ≡ shown q (gathered o gathering))
-    same by_request has aligned many full
+    reply_has_data o.operation ≡ true → length gathering.words ≡ words_of o
+    → map (word_beat_at o gathering) (range_with_len 0 (length gathering.words)) ≡ shown q (gathered o gathering))
+    same by_request has many
   where
-    by_request : reply_has_data q.operation ≡ true → q.address % 2 ^ q.size ≡ 0 → length gathering.words ≡ words_of (outline_of q) → lanes ≡ full_mask q.address q.size
-        → map (word_beat (outline_of q) gathering.denied lanes) gathering.words ≡ shown q (gathered (outline_of q) gathering)
-    by_request has aligned many full = words_shown q gathering lanes has aligned (rw has at many) full
+    by_request : reply_has_data q.operation ≡ true → length gathering.words ≡ words_of (outline_of q)
+        → map (word_beat_at (outline_of q) gathering) (range_with_len 0 (length gathering.words)) ≡ shown q (gathered (outline_of q) gathering)
+    by_request has many = words_shown q gathering has (rw has at many)

@@ -1,3 +1,4 @@
+pub mod Answers
 pub mod Gathered
 pub mod Inside
 pub mod RightReplies

@@ -1,14 +1,16 @@
 //! What was gathered for a reply.
-ghost use Rattle.std.specs.Prelude.{◌≡◌, ℕ, Option, ◌+◌, ◌<◌, ◌≤◌, ◌%◌, ◌^◌, ◌==◌, true, false, [], map, replicate, Some, IfOk, IfSome};
+ghost use Rattle.std.specs.Prelude.{◌≡◌, ℕ, Option, ◌+◌, ◌<◌, ◌≤◌, ◌%◌, ◌^◌, ◌==◌, true, false, [], length, map, replicate, Some, IfOk, IfSome};
+ghost use Rattle.std.specs.List.{range_with_len};
 ghost use Rattle.std.specs.Vec.{vec_capacity, vec_len};
 ghost use Rattle.axi_beats.specs.Responses.{is_decerr};
 ghost use Rattle.axi_beats.specs.Transfers.{IsBusWidth};
 ghost use Rattle.data_unit.specs.Words.{bytes_of};
-ghost use Rattle.responses.specs.Gathered.{half_of_read, with_payload, word_of_read, word_after, words_of};
-ghost use Rattle.responses.specs.Inside.{bare_beat, word_beat};
+ghost use Rattle.responses.specs.Gathered.{half_of_read, holds_number, with_payload, word_of_read, word_after, words_of};
+ghost use Rattle.responses.specs.Inside.{bare_beat, word_lanes, word_beat, word_beat_at};
 
 use axi_beats::{RBeat, Resp};
-use data_unit::{cut, full_mask, merge};
+use bus_words::lanes_between;
+use data_unit::{cut, merge};
 use std::alloc::{AllocError, Global};
 use std::marker::Model;
 use tl_messages::{DBeat, MAX_BEATS, Operation, ReplyBox, Request, beats_of};
@@ -36,6 +38,61 @@ impl Outline {
         }
     }
 
+    /// On a bus of four bytes, which half a read brings, counted from the lower half of the first word: of eight bytes or
+    /// more each half in its turn, of fewer the one that the address is in.
+    fn half_of_read(&self, place: u16) -> u16
+        ensures { result ≡ half_of_read self.now place }
+    {
+        if self.size >= 3 {
+            place
+        } else {
+            (self.address % 8 / 4) as u16
+        }
+    }
+
+    /// The word that a read belongs to.
+    fn word_of_read(&self, bus_bytes: u8, place: u16) -> u16
+        ensures { result ≡ word_of_read bus_bytes self.now place }
+    {
+        if bus_bytes == 4 {
+            self.half_of_read(place) / 2
+        } else {
+            place
+        }
+    }
+
+    /// A word after the payload of one of its reads.
+    fn with_payload(&self, bus_bytes: u8, place: u16, payload: u64, word: u64) -> u64
+        ensures { result ≡ with_payload bus_bytes self.now place payload word }
+    {
+        const HALF: u64 = 1 << 32;
+        if bus_bytes != 4 {
+            return payload;
+        }
+        if self.half_of_read(place) % 2 == 0 {
+            payload % HALF + word / HALF % HALF * HALF
+        } else {
+            word % HALF + payload % HALF * HALF
+        }
+    }
+
+    /// A word after one of its reads: from SLVERR on it isn't given.
+    fn word_after(&self, bus_bytes: u8, place: u16, beat: &RBeat, word: Option<u64>) -> Option<u64>
+        ensures { result ≡ word_after bus_bytes self.now place beat.now word }
+    {
+        match (beat.resp, word) {
+            (Resp::SlvErr, _) | (_, None) => None,
+            (_, Some(word)) => Some(self.with_payload(bus_bytes, place, beat.payload, word)),
+        }
+    }
+
+    /// Whether the range is one number's: at most eight bytes, at a multiple of how many they are.
+    fn holds_number(&self) -> bool
+        ensures { result ≡ holds_number self.now }
+    {
+        self.size <= 3 && self.address % (1u32 << self.size) == 0
+    }
+
     /// A beat of the reply that shows no data.
     fn bare_beat(&self, denied: bool, corrupt: bool) -> DBeat
         ensures { result ≡ bare_beat self.now denied corrupt }
@@ -51,6 +108,20 @@ impl Outline {
         }
     }
 
+    /// The lanes of the range in word k of it: in the first those from the address on, up to the range's last; in each
+    /// further one all.
+    fn word_lanes(&self, k: usize) -> u8
+        requires { self.now.size ≤ 12 }
+        ensures { result ≡ word_lanes self.now k }
+    {
+        if k > 0 {
+            return 0xff;
+        }
+        let lowest = self.address % 8;
+        let highest = (lowest + (1 << self.size) - 1).min(7);
+        lanes_between(lowest as u8, highest as u8)
+    }
+
     /// The beat of a word, of which these lanes are shown.
     fn word_beat(&self, denied: bool, lanes: u8, word: Option<u64>) -> DBeat
         ensures { result ≡ word_beat self.now denied lanes word }
@@ -62,55 +133,6 @@ impl Outline {
             },
             _ => self.bare_beat(denied, true),
         }
-    }
-}
-
-/// On a bus of four bytes, which half a read brings, counted from the lower half of the first word.
-fn half_of_read(address: u32, place: u16) -> u32
-    ensures { result ≡ half_of_read address place }
-{
-    address % 8 / 4 + u32::from(place)
-}
-
-/// The word that a read belongs to.
-fn word_of_read(bus_bytes: u8, address: u32, place: u16) -> u32
-    ensures { result ≡ word_of_read bus_bytes address place }
-{
-    if bus_bytes == 4 {
-        half_of_read(address, place) / 2
-    } else {
-        u32::from(place)
-    }
-}
-
-/// A word after the payload of one of its reads.
-fn with_payload(bus_bytes: u8, address: u32, place: u16, payload: u64, word: u64) -> u64
-    ensures { result ≡ with_payload bus_bytes address place payload word }
-{
-    const HALF: u64 = 1 << 32;
-    if bus_bytes != 4 {
-        return payload;
-    }
-    if half_of_read(address, place) % 2 == 0 {
-        payload % HALF + word / HALF % HALF * HALF
-    } else {
-        word % HALF + payload % HALF * HALF
-    }
-}
-
-/// A word after one of its reads: from SLVERR on it isn't given.
-fn word_after(
-    bus_bytes: u8,
-    address: u32,
-    place: u16,
-    beat: &RBeat,
-    word: Option<u64>,
-) -> Option<u64>
-    ensures { result ≡ word_after bus_bytes address place beat.now word }
-{
-    match (beat.resp, word) {
-        (Resp::SlvErr, _) | (_, None) => None,
-        (_, Some(word)) => Some(with_payload(bus_bytes, address, place, beat.payload, word)),
     }
 }
 
@@ -143,7 +165,7 @@ pub struct Gather {
 }
 
 impl Model for Gather {
-    ghost use Rattle.std.specs.Prelude.{◌≤◌, ◌≡◌, ◌%◌, ◌^◌};
+    ghost use Rattle.std.specs.Prelude.{◌≤◌, ◌≡◌};
     ghost use Rattle.std.specs.Vec.{vec_len, vec_capacity};
     ghost use Rattle.axi_beats.specs.Transfers.{IsBusWidth};
     ghost use Rattle.responses.specs.Gathered.{GatherState, words_of};
@@ -157,12 +179,13 @@ impl Model for Gather {
     } };
 
     ghost invariant = { λ g. (512 ≤ vec_capacity g.words) × (vec_len g.words ≡ words_of g.outline)
-        × (g.outline.size ≤ 12) × (g.outline.address % 2 ^ g.outline.size ≡ 0) × IsBusWidth g.bus_bytes };
+        × (g.outline.size ≤ 12) × IsBusWidth g.bus_bytes };
 }
 
 impl Gather {
     ghost use Rattle.tl_messages.specs.Operations.{reply_has_data};
     ghost use Rattle.tl_messages.specs.Requests.{WholeRequest, request_of};
+    ghost use Rattle.responses.specs.Answers.{IsNumberSeen, ShowsAnswers};
     ghost use Rattle.responses.specs.Gathered.{after_b, after_r, gathered, gathering_of, old_value, opening_gather, outline_of, reads_of};
     ghost use Rattle.responses.specs.RightReplies.{ShowsReply};
     ghost use Rattle.responses.specs.Shown.{shown};
@@ -191,10 +214,9 @@ impl Gather {
         })
     }
 
-    /// Begins with a request, whose address is a multiple of `2^size`; it is denied from the start where it sends no bursts
-    /// because no answer could make it right. What was gathered before is forgotten.
+    /// Begins with a request; it is denied from the start where it sends no bursts because no answer could make it right.
+    /// What was gathered before is forgotten.
     pub fn start(&mut self, request: &Request, denied: bool)
-        requires aligned { request.now.address % 2 ^ request.now.size ≡ 0 }
         ensures { self.new ≡ record self.old {
           outline = outline_of (request_of request.now);
           gathering = gathering_of (outline_of (request_of request.now)) denied;
@@ -219,18 +241,17 @@ impl Gather {
     }
 
     /// Takes a read beat at its place: the number of its transfer among those of the request's read, from 0 by rising
-    /// address. From SLVERR on the bytes of its word aren't given, and DECERR denies the whole request. No more beats come
-    /// than the read has.
+    /// address. From SLVERR on the bytes of its word aren't given, and DECERR denies the whole request. The count of reads
+    /// that came stops at their number.
     pub fn on_r(&mut self, beat: &RBeat, place: u16)
-        requires place { place < reads_of self.old.bus_bytes self.old.outline }
-        requires count { self.old.gathering.came < reads_of self.old.bus_bytes self.old.outline }
+        requires { place < reads_of self.old.bus_bytes self.old.outline }
         ensures { self.new ≡ record self.old { gathering = after_r self.old.bus_bytes self.old.outline beat.now place self.old.gathering } }
     {
-        let address = self.outline.address;
-        let at = word_of_read(self.bus_bytes, address, place) as usize;
-        self.came += 1;
+        let outline = self.outline;
+        let at = usize::from(outline.word_of_read(self.bus_bytes, place));
+        self.came = self.came.saturating_add(1).min(self.reads());
         self.denied |= denies_read(beat.resp);
-        self.words[at] = word_after(self.bus_bytes, address, place, beat, self.words[at]);
+        self.words[at] = outline.word_after(self.bus_bytes, place, beat, self.words[at]);
     }
 
     /// How many read transfers the request has: none where its reply has no data.
@@ -244,23 +265,28 @@ impl Gather {
         }
     }
 
-    /// How many read beats came since the start.
+    /// How many read beats came since the start: at most all.
     pub fn reads_that_came(&self) -> u16
         ensures { result ≡ self.now.gathering.came }
     {
         self.came
     }
 
-    /// The old value of an atomic, whose request has at most eight bytes, when its reads came: none where it is denied or a
-    /// read failed, and then it is not to write. Of a request that isn't an atomic it tells nothing.
+    /// The old value of an atomic when its reads came: none where it is denied or a read failed, and then it is not to
+    /// write. Of a request that isn't an atomic it tells nothing, nor of one of more than eight bytes or of an address that
+    /// isn't a multiple of their number, which no checker lets pass.
     pub fn old_value(&self) -> Option<u64>
         ensures value { result ≡ old_value self.now.outline self.now.gathering }
+
+        // Where all that came are answers of a memory, it is the number that the memory shows.
+        ensures seen { IsNumberSeen self.now result }
 
         // The reply gives its bytes.
         ensures bytes { IfSome result (λ old. (gathered self.now.outline self.now.gathering).bytes ≡ map Some (bytes_of (2 ^ self.now.outline.size) old)) }
     {
         match (self.outline.operation, self.words.first()) {
-            (Operation::Atomic(_), Some(Some(word))) if !self.denied && self.outline.size <= 3 => {
+            (Operation::Atomic(_), Some(Some(word)))
+                if !self.denied && self.outline.holds_number() => {
                 Some(cut(*word, self.outline.address, self.outline.size))
             }
             _ => None,
@@ -268,11 +294,12 @@ impl Gather {
     }
 
     /// Appends the beats of the words.
-    fn show_words(&self, lanes: u8, reply: &mut ReplyBox)
+    fn show_words(&self, reply: &mut ReplyBox)
         requires { reply.old ≡ [] }
-        ensures { reply.new ≡ map (word_beat self.now.outline self.now.gathering.denied lanes) self.now.gathering.words }
+        ensures { reply.new ≡ map (word_beat_at self.now.outline self.now.gathering) (range_with_len 0 (length self.now.gathering.words)) }
     {
-        for word in self.words.iter() {
+        for (k, word) in self.words.iter().enumerate() {
+            let lanes = self.outline.word_lanes(k);
             reply.push(self.outline.word_beat(self.denied, lanes, *word));
         }
     }
@@ -286,11 +313,14 @@ impl Gather {
             → reply.new ≡ shown q (gathered self.now.outline self.now.gathering) }
         ensures right { (q : WholeRequest) → outline_of q ≡ self.now.outline
             → ShowsReply q (gathered self.now.outline self.now.gathering) reply.new }
+
+        // Where all that came are answers of a memory, whatever the order of the reads, the beats show the memory's bytes.
+        ensures answers { (q : WholeRequest) → outline_of q ≡ self.now.outline
+            → ShowsAnswers self.now q reply.new }
     {
         reply.clear();
         if self.outline.operation.reply_has_data() {
-            let lanes = full_mask(self.outline.address, self.outline.size);
-            self.show_words(lanes, reply);
+            self.show_words(reply);
         } else {
             reply.push(self.outline.bare_beat(self.denied, false));
         }

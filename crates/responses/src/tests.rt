@@ -1,5 +1,3 @@
-ghost use Rattle.std.specs.Prelude.{◌≡◌, ◌%◌, ◌^◌, IfOk, IfSome};
-
 use super::*;
 use axi_beats::{RBeat, Resp};
 use std::alloc::{AllocError, Global};
@@ -90,14 +88,9 @@ struct Case<'a> {
 }
 
 /// A message of one beat; none where the beat isn't legal.
-fn message(alloc: Global, beat: &ABeat) -> Result<Option<Request>, AllocError>
-    ensures { IfOk result (λ made. IfSome made (λ request. request.address % 2 ^ request.size ≡ 0)) }
-{
+fn message(alloc: Global, beat: &ABeat) -> Result<Option<Request>, AllocError> {
     let mut request = Request::new(alloc)?;
     if Operation::named(beat.opcode, beat.param).is_none() || beat.size > 12 {
-        return Ok(None);
-    }
-    if beat.address % (1u32 << beat.size) != 0 {
         return Ok(None);
     }
     request.begin(0, beat);
@@ -107,7 +100,7 @@ fn message(alloc: Global, beat: &ABeat) -> Result<Option<Request>, AllocError>
 /// Takes reads; false where one has no place.
 fn take_reads(gather: &mut Gather, reads: &[(u16, RBeat)]) -> bool {
     for (place, r) in reads {
-        if *place >= gather.reads() || gather.reads_that_came() >= gather.reads() {
+        if *place >= gather.reads() {
             return false;
         }
         gather.on_r(r, *place);

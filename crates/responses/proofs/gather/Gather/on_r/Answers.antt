@@ -6,12 +6,12 @@ use Rattle.responses.proofs.gather.Gather.on_r.Goals as goal
 
 pub index-requires : goal.index-requires
 index-requires c =
-    let place = subst (λ (s : GatherState). c.args.place < reads_of s.bus_bytes s.outline) (sym c.self.view_is) c.requires.place in
-    let below = word_of_read-lt c.self.inside.bus_bytes c.args.place c.self.inside.outline c.self.invariant.4 c.self.invariant.3 place in
-    omega (arith, c.word_of_read-at.ensures, c.self.invariant.1, below)
+    let place = subst (λ (s : GatherState). c.args.place < reads_of s.bus_bytes s.outline) (sym c.self.view_is) c.requires in
+    let below = word_of_read-lt c.self.inside.bus_bytes c.args.place c.self.inside.outline c.self.invariant.3 place in
+    omega (arith, c.word_of_read.ensures, c.self.invariant.1, below)
 
 pub index_mut-requires : goal.index_mut-requires
 index_mut-requires c =
-    let place = subst (λ (s : GatherState). c.args.place < reads_of s.bus_bytes s.outline) (sym c.self.view_is) c.requires.place in
-    let below = word_of_read-lt c.self.inside.bus_bytes c.args.place c.self.inside.outline c.self.invariant.4 c.self.invariant.3 place in
-    omega (arith, c.word_of_read-at.ensures, c.self.invariant.1, below)
+    let place = subst (λ (s : GatherState). c.args.place < reads_of s.bus_bytes s.outline) (sym c.self.view_is) c.requires in
+    let below = word_of_read-lt c.self.inside.bus_bytes c.args.place c.self.inside.outline c.self.invariant.3 place in
+    omega (arith, c.word_of_read.ensures, c.self.invariant.1, below)
