@@ -1,17 +1,20 @@
 -- A burst judged as a whole: the rules on its address, then those on its data, whose write is the only one that lacks any.
-use Rattle.std.proofs.Common.{◌≡◌, ◌+◌, Bool, true, false, List, [], ◌∷◌, ◌++◌, length, map, refl, ap, sym, ◌∙◌, nat_le, subst}
-use Rattle.std.specs.Prelude.{Option, Some, None, IfSome, find, if◌then◌else◌}
+use Rattle.std.proofs.Common.{◌≡◌, ℕ, zero, suc, ◌+◌, ◌<◌, ◌==◌, Bool, true, false, List, [], ◌∷◌, ◌++◌, length, map, refl, ap, sym, ◌∙◌, nat_le, subst, replicate, arith}
+use Rattle.std.specs.Prelude.{Option, Some, None, IfSome, IsSome, filter, find, is_some, if◌then◌else◌}
 use Rattle.std.specs.Option.{option_or}
 use Rattle.std.proofs.lemmas.List.Folds.{find-append}
+use Rattle.std.proofs.lemmas.Bool.{lt-leb}
+use Rattle.std.proofs.lemmas.Bool.Decides.{nat_tests}
 use Rattle.bus_words.specs.Tables.{first_broken}
 use Rattle.bus_words.proofs.PlaceChanges.{change_first-append-none}
-use Rattle.axi_beats.specs.Boxes.{aw_of, w_beats_of}
+use Rattle.axi_beats.specs.Boxes.{aw_of, ar_of, w_beats_of}
 use Rattle.axi_beats.specs.Bursts.{Burst, ReadBurst, WriteBurst}
 use Rattle.axi_beats.specs.declared.AwBeat.{AwBeat}
+use Rattle.axi_beats.specs.declared.ArBeat.{ArBeat}
 use Rattle.axi_beats.specs.declared.WBeat.{WBeat}
 use Rattle.axi_checker.specs.Monitors.{first_data_fault, if_lacking}
-use Rattle.axi_checker.specs.OpenBursts.{AxiBeat, OnAw, OnW, OpenBursts, OpenWrite, lacks_data, open_after, write_to_fill}
-use Rattle.axi_checker.specs.Rules.{AxiPortLimits, axi_fault, beats_sent, burst_fault, data_rules, first_axi_fault}
+use Rattle.axi_checker.specs.OpenBursts.{AxiBeat, OnAr, OnAw, OnW, OpenBursts, OpenWrite, lacks_data, open_after, write_of_id, write_to_fill}
+use Rattle.axi_checker.specs.Rules.{AxiPortLimits, address_rules, axi_fault, beats_sent, burst_fault, data_rules, first_axi_fault, id_of, outstanding_beside}
 use Rattle.axi_checker.specs.declared.AxiRule.{AxiRule}
 use Rattle.axi_checker.specs.declared.AxiRule.TheVariants.{WLast, WWithoutAw}
 
@@ -93,3 +96,91 @@ pub judged_end : (port : AxiPortLimits) (open_bursts : OpenBursts) (held : Optio
 judged_end port open_bursts held aw is ready fine unbroken =
     subst (λ box. IfSome box (λ burst. (if nat_le (length (w_beats_of held)) aw.len then Some WLast else None) ≡ burst_fault port open_bursts burst)) (sym (held_write held aw is))
     (rw (first_axi_fault-write port open_bursts aw (w_beats_of held) ready fine, unbroken) refl)
+
+-- what is said of a box's burst whose ID has so many outstanding, where it holds a write
+pub held_beside : (port : AxiPortLimits) (open_bursts : OpenBursts) (held : Option Burst) (aw : AwBeat) (outstanding : ℕ) (answer : Option AxiRule) → aw_of held ≡ Some aw
+    → (length (filter (write_of_id aw.id) open_bursts.writes) ≡ outstanding → IfSome held (λ burst. answer ≡ burst_fault port open_bursts burst))
+    → IfSome held (λ burst. outstanding_beside open_bursts burst ≡ outstanding → answer ≡ burst_fault port open_bursts burst)
+held_beside port open_bursts None aw outstanding answer is judged = tt
+held_beside port open_bursts (Some (WriteBurst aw2 ws)) aw outstanding answer is judged =
+    let same : aw2 ≡ aw = cc in
+    λ few. judged (rw same at few)
+held_beside port open_bursts (Some (ReadBurst ar)) aw outstanding answer is judged = absurd (cc)
+
+-- the rules on the address of a write whose ID has so many outstanding
+pub address_fault_of : (port : AxiPortLimits) (open_bursts : OpenBursts) (aw : AwBeat) (outstanding : ℕ) (fault : Option AxiRule)
+    → fault ≡ first_broken (address_rules port aw.id aw.address aw.len aw.size aw.burst outstanding)
+    → length (filter (write_of_id aw.id) open_bursts.writes) ≡ outstanding → axi_fault port open_bursts (OnAw aw) ≡ fault
+address_fault_of port open_bursts aw outstanding fault is few = ap (λ n. first_broken (address_rules port aw.id aw.address aw.len aw.size aw.burst n)) few ∙ sym is
+
+-- a write whose address breaks a rule
+pub judged_address : (port : AxiPortLimits) (open_bursts : OpenBursts) (held : Option Burst) (aw : AwBeat) (rule : AxiRule) → aw_of held ≡ Some aw
+    → axi_fault port open_bursts (OnAw aw) ≡ Some rule → IfSome held (λ burst. Some rule ≡ burst_fault port open_bursts burst)
+judged_address port open_bursts held aw rule is broken =
+    subst (λ box. IfSome box (λ burst. Some rule ≡ burst_fault port open_bursts burst)) (sym (held_write held aw is))
+    (rw (first_axi_fault-some port open_bursts (OnAw aw) (map OnW (w_beats_of held)) rule broken) refl)
+
+-- a write's ID, and a read's, is that of the burst in the box
+pub write_room : (held : Option Burst) (aw : AwBeat) (ids outstanding depth : ℕ) → aw_of held ≡ Some aw → aw.id < ids → outstanding < depth → IfSome held (λ burst. (id_of burst < ids) × (outstanding < depth))
+write_room None aw ids outstanding depth is known fewer = tt
+write_room (Some (WriteBurst aw2 ws)) aw ids outstanding depth is known fewer =
+    let same : aw ≡ aw2 = cc in
+    (rw same at known, fewer)
+write_room (Some (ReadBurst ar)) aw ids outstanding depth is known fewer = absurd (cc)
+
+pub read_room : (held : Option Burst) (ar : ArBeat) (ids outstanding depth : ℕ) → ar_of held ≡ Some ar → ar.id < ids → outstanding < depth → IfSome held (λ burst. (id_of burst < ids) × (outstanding < depth))
+read_room None ar ids outstanding depth is known fewer = tt
+read_room (Some (WriteBurst aw ws)) ar ids outstanding depth is known fewer = absurd (cc)
+read_room (Some (ReadBurst ar2)) ar ids outstanding depth is known fewer =
+    let same : ar ≡ ar2 = cc in
+    (rw same at known, fewer)
+
+-- a read is judged by its address
+pub judged_read : (port : AxiPortLimits) (open_bursts : OpenBursts) (held : Option Burst) (ar : ArBeat) (outstanding : ℕ) (fault : Option AxiRule) → ar_of held ≡ Some ar
+    → fault ≡ first_broken (address_rules port ar.id ar.address ar.len ar.size ar.burst outstanding)
+    → IfSome held (λ burst. outstanding_beside open_bursts burst ≡ outstanding → fault ≡ burst_fault port open_bursts burst)
+judged_read port open_bursts None ar outstanding fault is rules = tt
+judged_read port open_bursts (Some (WriteBurst aw ws)) ar outstanding fault is rules = absurd (cc)
+judged_read port open_bursts (Some (ReadBurst ar2)) ar outstanding fault is rules = λ few.
+    let same : ar ≡ ar2 = cc in
+    by_fault fault (sym (ap (λ n. first_broken (address_rules port ar2.id ar2.address ar2.len ar2.size ar2.burst n)) few ∙ sym (rw same at rules)))
+  where
+    by_fault : (found : Option AxiRule) → found ≡ axi_fault port open_bursts (OnAr ar2) → found ≡ burst_fault port open_bursts (ReadBurst ar2)
+    by_fault None none = rw (← none) refl
+    by_fault (Some rule) broken = rw (← broken) refl
+
+-- a box that holds a read holds no write
+pub read_held : (held : Option Burst) → IsSome held → is_some (aw_of held) ≡ false → IsSome (ar_of held)
+read_held None full none = absurd (cc)
+read_held (Some (WriteBurst aw ws)) full none = absurd (cc)
+read_held (Some (ReadBurst ar)) full none = refl
+
+-- so many open writes of one ID, with all their data
+abbrev pub writes_alike : AwBeat → ℕ → OpenBursts
+writes_alike aw n = record { writes = replicate n (record { aw = aw; came = aw.len + 1 }); reads = [] }
+
+pub writes_alike-ready : (aw : AwBeat) (n : ℕ) → write_to_fill (writes_alike aw n) ≡ None
+writes_alike-ready aw zero = refl
+writes_alike-ready aw (suc n) = rw (lt-leb (aw.len + 1) aw.len (omega arith)) (writes_alike-ready aw n)
+
+pub writes_alike-count : (aw : AwBeat) (n : ℕ) → length (filter (write_of_id aw.id) (writes_alike aw n).writes) ≡ n
+writes_alike-count aw zero = refl
+writes_alike-count aw (suc n) =
+    let same : (aw.id == aw.id) ≡ true = grind (arith, nat_tests) in
+    rw same (ap suc (writes_alike-count aw n))
+
+-- what holds of each list of open bursts with so many of the ID of a box's write holds of one
+pub judged_beside : (port : AxiPortLimits) (held : Option Burst) (aw : AwBeat) (outstanding : ℕ) (answer : Option AxiRule) → aw_of held ≡ Some aw
+    → IfSome held (λ burst. outstanding_beside (writes_alike aw outstanding) burst ≡ outstanding → answer ≡ burst_fault port (writes_alike aw outstanding) burst)
+    → IfSome held (λ burst. answer ≡ burst_fault port (writes_alike aw outstanding) burst)
+judged_beside port None aw outstanding answer is judged = tt
+judged_beside port (Some (WriteBurst aw2 ws)) aw outstanding answer is judged =
+    let same : aw ≡ aw2 = cc in
+    judged (subst (λ (beat : AwBeat). length (filter (write_of_id beat.id) (writes_alike aw outstanding).writes) ≡ outstanding) same (writes_alike-count aw outstanding))
+judged_beside port (Some (ReadBurst ar)) aw outstanding answer is judged = absurd (cc)
+
+-- a box that holds a write has its address
+pub held_aw : (held : Option Burst) → is_some (aw_of held) ≡ true → (aw : AwBeat) × (aw_of held ≡ Some aw)
+held_aw None is = absurd (cc)
+held_aw (Some (WriteBurst aw ws)) is = (aw, refl)
+held_aw (Some (ReadBurst ar)) is = absurd (cc)

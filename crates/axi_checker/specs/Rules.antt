@@ -109,3 +109,13 @@ open_with_burst open_bursts (ReadBurst ar) = record open_bursts { reads = open_b
 abbrev pub len_of : Burst → ℕ
 len_of (WriteBurst aw data_beats) = aw.len
 len_of (ReadBurst ar) = ar.len
+
+-- the ID of a burst
+abbrev pub id_of : Burst → ℕ
+id_of (WriteBurst aw data_beats) = aw.id
+id_of (ReadBurst ar) = ar.id
+
+-- how many open bursts have the ID and the side of a burst
+abbrev pub outstanding_beside : OpenBursts → Burst → ℕ
+outstanding_beside open_bursts (WriteBurst aw data_beats) = length (filter (write_of_id aw.id) open_bursts.writes)
+outstanding_beside open_bursts (ReadBurst ar) = length (filter (read_of_id ar.id) open_bursts.reads)

@@ -13,6 +13,7 @@ mod outstanding;
 #[cfg(test)]
 mod tests;
 
+pub use limits::PortLimits;
 pub use monitor::Monitor;
 
 /// The rules on AXI4 beats, 1 to 12.

@@ -1,28 +1,29 @@
 //! The rules on a beat, each table in its order of tests (AXI4, and this project's profile).
-ghost use Rattle.std.specs.Prelude.{◌≡◌, ◌+◌, ◌<◌, ◌≤◌, ◌==◌, Some, IsTrue};
-ghost use Rattle.axi_beats.specs.Boxes.{w_beats_of};
-ghost use Rattle.axi_beats.specs.Bursts.{strobes_fit};
+ghost use Rattle.std.specs.Prelude.{◌≡◌, ◌+◌, ◌<◌, ◌≤◌, ◌==◌, None, Some, IfSome, IsSome, IsTrue};
+ghost use Rattle.axi_beats.specs.Boxes.{aw_of, w_beats_of};
+ghost use Rattle.axi_beats.specs.Bursts.{IsLegal, strobes_fit};
 ghost use Rattle.axi_beats.specs.Transfers.{fits_bus, IsBusWidth};
 ghost use Rattle.bus_words.specs.Tables.{first_broken};
 ghost use Rattle.axi_checker.specs.Monitors.{first_data_fault};
-ghost use Rattle.axi_checker.specs.OpenBursts.{lacks_data};
-ghost use Rattle.axi_checker.specs.Rules.{address_rules, data_rules};
+ghost use Rattle.axi_checker.specs.OpenBursts.{OpenBursts, lacks_data, write_to_fill};
+ghost use Rattle.axi_checker.specs.Rules.{address_rules, burst_fault, data_rules, len_of, outstanding_beside, id_of};
 
 use crate::AxiRule;
 use crate::outstanding::OpenWrite;
-use axi_beats::{AwBeat, BurstBox, WBeat, lanes_of, last_byte};
+use axi_beats::{ArBeat, AwBeat, BurstBox, WBeat, lanes_of, last_byte};
 use bus_words::lanes_between;
 use std::marker::Model;
 
-/// What a port allows: the bytes of its bus, how many IDs, and how many outstanding bursts of an ID on each side.
+/// What an AXI4 port allows: the bytes of its bus, how many IDs, and how many outstanding bursts of an ID on each side
+/// (AXI4, A3.4.1, and this project's profile).
 #[derive(Clone, Copy)]
-pub(crate) struct Limits {
+pub struct PortLimits {
     pub(crate) bus_bytes: u8,
     pub(crate) ids: u8,
     pub(crate) depth: u8,
 }
 
-impl Model for Limits {
+impl Model for PortLimits {
     ghost use Rattle.axi_checker.specs.Monitors.{first_data_fault};
     ghost use Rattle.axi_checker.specs.OpenBursts.{lacks_data};
     ghost use Rattle.axi_checker.specs.Rules.{AxiPortLimits};
@@ -44,6 +45,32 @@ pub(crate) struct Address {
     pub(crate) burst: u8,
 }
 
+impl Address {
+    pub(crate) fn of_write(beat: AwBeat) -> Self
+        ensures { result ≡ record { id = beat.id; start = beat.address; len = beat.len; size = beat.size; burst = beat.burst } }
+    {
+        Address {
+            id: beat.id,
+            start: beat.address,
+            len: beat.len,
+            size: beat.size,
+            burst: beat.burst,
+        }
+    }
+
+    pub(crate) fn of_read(beat: ArBeat) -> Self
+        ensures { result ≡ record { id = beat.id; start = beat.address; len = beat.len; size = beat.size; burst = beat.burst } }
+    {
+        Address {
+            id: beat.id,
+            start: beat.address,
+            len: beat.len,
+            size: beat.size,
+            burst: beat.burst,
+        }
+    }
+}
+
 fn fits_bus(bus_bytes: u8, size: u8) -> bool
     requires { IsBusWidth bus_bytes }
     ensures { result ≡ fits_bus bus_bytes size }
@@ -63,11 +90,67 @@ fn strobes_fit(bus_bytes: u8, aw: &AwBeat, n: u16, strobes: u8) -> bool
     strobes & lanes_between(lowest, highest) == strobes
 }
 
-impl Limits {
+impl PortLimits {
+    /// Those of a port with a bus of `bus_bytes` bytes and `ids` IDs, of which each may have `depth` bursts outstanding on
+    /// each side.
+    pub fn new(bus_bytes: u8, ids: u8, depth: u8) -> Self
+        ensures { result ≡ record { bus_bytes = bus_bytes; ids = ids; depth = depth } }
+    {
+        PortLimits {
+            bus_bytes,
+            ids,
+            depth,
+        }
+    }
+
+    /// The first rule that the beats with which a burst is sent would break, in their order, where all earlier writes have
+    /// their data, and `outstanding` bursts of the burst's ID have no answer yet on its side. A write whose data end before
+    /// its last transfer breaks `WLast`.
+    ///
+    /// The bus has 4 or 8 bytes, and the box isn't empty.
+    pub fn burst_fault(self, burst: &BurstBox, outstanding: usize) -> Option<AxiRule>
+        requires bus { IsBusWidth self.bus_bytes }
+        requires full { IsSome burst.now }
+        ensures rule { (open_bursts : OpenBursts) → write_to_fill open_bursts ≡ None
+            → IfSome burst.now (λ b. outstanding_beside open_bursts b ≡ outstanding → result ≡ burst_fault self open_bursts b) }
+
+        // A burst that breaks no rule is legal, and its ID is one of the port's with fewer bursts than it may have.
+        ensures legal { result ≡ None → IfSome burst.now (IsLegal self.bus_bytes) }
+        ensures room { result ≡ None → IfSome burst.now (λ b. (id_of b < self.ids) × (outstanding < self.depth)) }
+    {
+        if burst.is_write() {
+            self.write_fault(burst, outstanding)
+        } else {
+            self.address_fault(Address::of_read(burst.ar()), outstanding)
+        }
+    }
+
+    fn write_fault(self, burst: &BurstBox, outstanding: usize) -> Option<AxiRule>
+        requires bus { IsBusWidth self.bus_bytes }
+        requires write { IsSome (aw_of burst.now) }
+        ensures rule { (open_bursts : OpenBursts) → write_to_fill open_bursts ≡ None
+            → IfSome burst.now (λ b. outstanding_beside open_bursts b ≡ outstanding → result ≡ burst_fault self open_bursts b) }
+        ensures len { IfSome burst.now (λ b. len_of b < 256) }
+        ensures room { result ≡ None → IfSome burst.now (λ b. (id_of b < self.ids) × (outstanding < self.depth)) }
+    {
+        let aw = burst.aw();
+        if let Some(rule) = self.address_fault(Address::of_write(aw), outstanding) {
+            return Some(rule);
+        }
+        if let Some(rule) = self.first_data_fault(aw, burst) {
+            return Some(rule);
+        }
+        if burst.w_beats() <= u16::from(aw.len) {
+            return Some(AxiRule::WLast);
+        }
+        None
+    }
+
     /// The first rule that the address of a burst breaks whose ID has so many outstanding on its side.
     pub(crate) fn address_fault(self, address: Address, open_of_id: usize) -> Option<AxiRule>
         requires { IsBusWidth self.bus_bytes }
-        ensures { result ≡ first_broken (address_rules self address.id address.start address.len address.size address.burst open_of_id) }
+        ensures rule { result ≡ first_broken (address_rules self address.id address.start address.len address.size address.burst open_of_id) }
+        ensures room { result ≡ None → (address.id < self.ids) × (open_of_id < self.depth) }
     {
         let Address {
             id,

@@ -1,15 +1,14 @@
 //! The monitor.
 ghost use Rattle.std.specs.Prelude.{◌≡◌, ℕ, ◌+◌, ◌∷◌, ◌++◌, ◌<◌, ◌≤◌, None, Some, Ok, Err, IsErr, IsOk, IsSome, IfOk, IfSome, MatchOption, MatchResult, filter, length, position};
-ghost use Rattle.axi_beats.specs.Boxes.{aw_of};
 ghost use Rattle.axi_beats.specs.Bursts.{IsLegal};
 ghost use Rattle.axi_beats.specs.Responses.{is_exokay};
 ghost use Rattle.axi_beats.specs.Transfers.{IsBusWidth};
 ghost use Rattle.axi_checker.specs.OpenBursts.{OnAr, OnAw, OnB, OnR, OnW, lacks_data, nothing_open, open_after, read_of_id, write_of_id, write_to_fill};
 ghost use Rattle.axi_checker.specs.Order.{lasts_from, read_given, reads_asked, reads_owe, writes_lack};
-ghost use Rattle.axi_checker.specs.Rules.{axi_fault, beats_sent, burst_fault, len_of, open_after_all, open_with_burst};
+ghost use Rattle.axi_checker.specs.Rules.{axi_fault, beats_sent, burst_fault, open_after_all, open_with_burst, outstanding_beside};
 
 use crate::AxiRule;
-use crate::limits::{Address, Limits};
+use crate::limits::{Address, PortLimits};
 use crate::outstanding::{
     OpenRead, OpenWrite, answer_read, close_write, fill_write, oldest_read, oldest_write,
     open_read, open_write, reads_of_id, write_to_fill, writes_of_id,
@@ -23,7 +22,7 @@ use std::marker::Model;
 /// All room is taken by `new`; no other call takes memory.
 #[derive(Drop)]
 pub struct Monitor {
-    limits: Limits,
+    limits: PortLimits,
     writes: Vec<OpenWrite>,
     reads: Vec<OpenRead>,
 }
@@ -56,13 +55,8 @@ impl Monitor {
         let room = usize::from(ids) * usize::from(depth);
         let writes = Vec::with_capacity(alloc, room)?;
         let reads = Vec::with_capacity(alloc, room)?;
-        let limits = Limits {
-            bus_bytes,
-            ids,
-            depth,
-        };
         Ok(Monitor {
-            limits,
+            limits: PortLimits::new(bus_bytes, ids, depth),
             writes,
             reads,
         })
@@ -157,42 +151,26 @@ impl Monitor {
         ensures legal { result ≡ None → IfSome burst.now (IsLegal self.now.port.bus_bytes) }
         ensures sent { result ≡ None → IfSome burst.now (λ b. open_after_all self.now.open_bursts (beats_sent b) ≡ open_with_burst self.now.open_bursts b) }
     {
-        if burst.is_write() {
-            self.write_fault(burst)
-        } else {
-            self.ar_fault(&burst.ar())
-        }
+        self.limits
+            .burst_fault(burst, self.outstanding_beside(burst))
     }
 
-    fn write_fault(&self, burst: &BurstBox) -> Option<AxiRule>
-        requires write { IsSome (aw_of burst.now) }
-        requires ready { write_to_fill self.now.open_bursts ≡ None }
-        ensures rule { IfSome burst.now (λ b. result ≡ burst_fault self.now.port self.now.open_bursts b) }
-        ensures len { IfSome burst.now (λ b. len_of b < 256) }
+    /// How many outstanding bursts have the ID and the side of a burst.
+    fn outstanding_beside(&self, burst: &BurstBox) -> usize
+        requires { IsSome burst.now }
+        ensures { IfSome burst.now (λ b. outstanding_beside self.now.open_bursts b ≡ result) }
     {
-        let aw = burst.aw();
-        if let Some(rule) = self.aw_fault(&aw) {
-            return Some(rule);
+        if burst.is_write() {
+            writes_of_id(&self.writes, burst.aw().id)
+        } else {
+            reads_of_id(&self.reads, burst.ar().id)
         }
-        if let Some(rule) = self.limits.first_data_fault(aw, burst) {
-            return Some(rule);
-        }
-        if burst.w_beats() <= u16::from(aw.len) {
-            return Some(AxiRule::WLast);
-        }
-        None
     }
 
     fn aw_fault(&self, beat: &AwBeat) -> Option<AxiRule>
         ensures { result ≡ axi_fault self.now.port self.now.open_bursts (OnAw beat.now) }
     {
-        let address = Address {
-            id: beat.id,
-            start: beat.address,
-            len: beat.len,
-            size: beat.size,
-            burst: beat.burst,
-        };
+        let address = Address::of_write(*beat);
         self.limits
             .address_fault(address, writes_of_id(&self.writes, beat.id))
     }
@@ -200,13 +178,7 @@ impl Monitor {
     fn ar_fault(&self, beat: &ArBeat) -> Option<AxiRule>
         ensures { result ≡ axi_fault self.now.port self.now.open_bursts (OnAr beat.now) }
     {
-        let address = Address {
-            id: beat.id,
-            start: beat.address,
-            len: beat.len,
-            size: beat.size,
-            burst: beat.burst,
-        };
+        let address = Address::of_read(*beat);
         self.limits
             .address_fault(address, reads_of_id(&self.reads, beat.id))
     }

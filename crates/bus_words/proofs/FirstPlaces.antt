@@ -1,6 +1,7 @@
 -- The first entry of a list that passes a test, by its place.
 use Rattle.std.proofs.Common.{◌≡◌, ℕ, zero, suc, ◌+◌, ◌<◌, ◌≤◌, Bool, true, false, cond, not, nat_lt, List, [], ◌∷◌, length, get_or, refl, ◌∙◌, ap, arith}
 use Rattle.std.proofs.Math.ListN.{set}
+use Rattle.std.proofs.Math.Seq.{set_out}
 use Rattle.std.proofs.lemmas.Bool.{ltb-true}
 use Rattle.std.proofs.lemmas.Bool.Decides.{nat_tests}
 use Rattle.std.proofs.lemmas.List.Folds.{find_at}
@@ -65,6 +66,11 @@ change_first-set p f (x ∷ xs) d = by_test (p x) (change_first-set p f xs d)
 
 pub change_first-first : {X : Type 0} (p : X → Bool) (f : X → X) (xs : List X) (k : ℕ) (d : X) → IsFirst p xs k → change_first p f xs ≡ set xs k (f (get_or xs k d))
 change_first-first p f xs k d at = rw at.first at (change_first-set p f xs d)
+
+-- where no entry passes, nothing is changed
+pub change_first-none : {X : Type 0} (p : X → Bool) (f : X → X) (xs : List X) → position p xs ≡ None → change_first p f xs ≡ xs
+change_first-none p f [] missing = refl
+change_first-none p f (x ∷ xs) missing = change_first-set p f (x ∷ xs) x ∙ set_out (x ∷ xs) _ _ (position_is_past p (x ∷ xs) missing)
 
 -- a list without its first entry that passes is the list with its place taken out
 without_first-remove : {X : Type 0} (p : X → Bool) (xs : List X) → position_or_len p xs < length xs → without_first p xs ≡ remove xs (position_or_len p xs)

@@ -10,7 +10,7 @@ use Rattle.bus_words.specs.Lanes.{lane_byte}
 use Rattle.bus_words.specs.Places.{change_first}
 use Rattle.subordinate.specs.Effects.{IsWholePage}
 use Rattle.subordinate.specs.Pages.{GoodPage, Memory, byte_at_address, holds_address, page_with_word, with_byte, word_place, word_with_byte}
-use Rattle.subordinate.proofs.WriteLaws.{lane_byte-word_with_byte}
+use Rattle.subordinate.proofs.PageLaws.{lane_byte-word_with_byte}
 
 -- ---- the first entry that passes, after a change
 

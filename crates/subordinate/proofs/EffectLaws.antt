@@ -15,11 +15,13 @@ use Rattle.axi_beats.specs.declared.WBeat.{WBeat}
 use Rattle.axi_beats.proofs.TransferLaws.{covers_lane-mod, lane_address-mod, lane_address_within, mod-lane_address}
 use Rattle.subordinate.specs.Effects.{HasEffect, HasEffectAt, HasGoodPages, IsCaptured, IsWholePage, IsWritten, strobes_byte}
 use Rattle.subordinate.specs.Faults.{IsAbsent, IsGood, IsSlaveError, Standing, is_bad, is_good, lists_page, read_response, read_response_on, standing_at, standing_of_listed}
-use Rattle.subordinate.specs.FreeMemory.{BeatState, Waiting, Written, Captured, FreeMemory, Pending, beat_at, has_serial, performed, performed_beat, performed_in, byte_in_lane, bytes_written, captured, lane_written, memory_after, memory_with, with_performed, writes_lane}
+use Rattle.subordinate.specs.FreeMemory.{FreeMemory, Pending, beat_at, has_serial, performed, performed_beat, performed_in, byte_in_lane, bytes_written, captured, lane_written, memory_after, memory_with, with_performed, writes_lane}
+use Rattle.subordinate.specs.declared.BeatState.{BeatState}
+use Rattle.subordinate.specs.declared.BeatState.TheVariants.{Waiting, Written, Captured}
 use Rattle.subordinate.specs.Pages.{Memory, byte_at_address, with_byte, word_at}
 use Rattle.subordinate.specs.declared.Performed.TheVariants.{Done}
 use Rattle.subordinate.proofs.ByteLaws.{byte_at_address-with_byte, byte_at_address-with_byte-other, is_some-with_byte, whole-with_byte}
-use Rattle.subordinate.proofs.WriteLaws.{lane_byte-lt}
+use Rattle.subordinate.proofs.PageLaws.{lane_byte-lt}
 
 -- whether the byte of a lane is set, and is that at x
 abbrev SetsByte : ℕ → AwBeat → ℕ → WBeat → ℕ → ℕ → Type 0

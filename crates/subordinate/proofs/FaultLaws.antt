@@ -5,7 +5,7 @@ use Rattle.std.specs.List.{list_any}
 use Rattle.std.specs.Prelude.{Some, None, nat_lt, position, find}
 use Rattle.bus_words.specs.Tables.{first_broken}
 use Rattle.subordinate.specs.Faults.{IsAbsent, is_no_word, lists_page, rules_of_pages, rules_of_words, standing_of_kind, standing_of_listed}
-use Rattle.subordinate.proofs.Finds.{position_is_first, find-first, find-none}
+use Rattle.bus_words.proofs.FirstPlaces.{position_is_first, find-first, find-none}
 use Rattle.subordinate.specs.declared.PageKind.{PageKind}
 use Rattle.subordinate.specs.declared.DeviceFault.{DeviceFault}
 use Rattle.subordinate.specs.declared.DeviceFault.TheVariants.{PageRange, PageTwice, BadWord}

@@ -8,7 +8,10 @@ use Rattle.axi_beats.specs.Bursts.{Burst, WriteBurst, ReadBurst}
 use Rattle.axi_beats.specs.declared.WBeat.{WBeat}
 use Rattle.subordinate.specs.Effects.{HasGoodPages, IsWholePage}
 use Rattle.subordinate.specs.Faults.{device_fault, is_good, lists_page, rules_of_pages, rules_of_words, standing_of_listed}
-use Rattle.subordinate.specs.FreeMemory.{BeatState, Waiting, Written, Captured, FreeMemory, Pending, beat_at, has_serial, memory_after, memory_with, opening, performed, performed_beat, performed_in, with_performed}
+use Rattle.subordinate.specs.FreeMemory.{FreeMemory, Pending, beat_at, has_serial, memory_after, memory_with, opening, performed, performed_beat, performed_in, with_performed}
+use Rattle.subordinate.specs.declared.BeatState.{BeatState}
+use Rattle.subordinate.specs.declared.BeatState.TheVariants.{Waiting, Written, Captured}
+use Rattle.subordinate.specs.InsidePages.{KeepsGoodPages}
 use Rattle.subordinate.specs.Pages.{Memory, byte_at_address, holds_address, is_listed_good, opening_memory, word_at, zero_page, zero_words}
 use Rattle.subordinate.specs.declared.DeviceFault.{DeviceFault}
 use Rattle.subordinate.specs.declared.DeviceFault.TheVariants.{PageRange, PageTwice}
@@ -101,6 +104,16 @@ has_good_pages-opening bus_bytes pages bad_words none =
           ∙ keeps-opening_memory (address / 4096) [] 0 pages (none_before (rules_of_pages [] 0 pages) (rules_of_words pages 0 bad_words) none);
       whole = whole-opening_memory (filter is_listed_good pages);
     }
+
+-- the same of the pages of a device, and the other way
+pub keeps_good_pages-opening : (pages : List (ℕ × PageKind)) (bad_words : List ℕ) → device_fault pages bad_words ≡ None
+    → KeepsGoodPages (record { faults = record { pages = pages; bad_words = bad_words }; memory = opening_memory pages })
+keeps_good_pages-opening pages bad_words none =
+    let opens = has_good_pages-opening 8 pages bad_words none in
+    record { exactly = opens.exactly; whole = opens.whole }
+
+pub has_good_pages-kept : (state : FreeMemory) → KeepsGoodPages (record { faults = state.faults; memory = state.memory }) → HasGoodPages state
+has_good_pages-kept state kept = record { exactly = kept.exactly; whole = kept.whole }
 
 -- ---- performing
 

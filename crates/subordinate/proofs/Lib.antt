@@ -1,13 +1,16 @@
+pub mod BeatStates
+pub mod BoxTransfers
 pub mod ByteLaws
+pub mod BytesRead
+pub mod BytesWritten
 pub mod Changes
-pub mod DeviceLaws
 pub mod EffectLaws
 pub mod FaultLaws
-pub mod Finds
 pub mod GoodPages
-pub mod OneWord
+pub mod OpenBursts
+pub mod OrderLaws
 pub mod PageLaws
-pub mod ReadLaws
-pub mod SendLaws
-pub mod WriteLaws
-mod Examples
+pub mod PageWrites
+pub mod PagesOf
+pub mod SoundDevices
+pub mod TransferWords

@@ -1,21 +1,28 @@
--- The words of good pages, read and changed.
-use Rattle.std.proofs.Common.{◌≡◌, ℕ, ◌/◌, ◌==◌, Bool, List, [], map, get_or, refl, sym, ◌∙◌, ap}
-use Rattle.std.proofs.Math.ListN.{set}
-use Rattle.std.proofs.Math.Seq.{set-get_or, map-set, map-set_same}
-use Rattle.std.specs.Prelude.{Some, None, option_map, position}
-use Rattle.subordinate.specs.Inside.{good_page, listing}
-use Rattle.subordinate.specs.Pages.{GoodPage, Memory, holds_address, page_with_word, word_at, word_place, with_word}
-use Rattle.subordinate.specs.declared.pages.Page.{Page}
+-- Words and their bytes: a byte that is set in a word, a word that is changed in a memory, and addresses of one word.
+use Rattle.std.proofs.Common.{◌≡◌, ℕ, zero, suc, ◌+◌, ◌*◌, ◌/◌, ◌%◌, ◌<◌, ◌==◌, true, false, List, get_or, refl, ◌∙◌, ap, arith}
+use Rattle.std.proofs.Math.Seq.{set-get_or}
+use Rattle.std.specs.Prelude.{if◌then◌else◌, find, option_map}
+use Rattle.bus_words.specs.Lanes.{lane_byte}
+use Rattle.bus_words.specs.Places.{change_first}
+use Rattle.bus_words.proofs.LaneLaws.{GivesBytes, lane_byte-word_of_lanes}
+use Rattle.subordinate.specs.Pages.{GoodPage, Memory, byte_at_address, holds_address, page_with_word, with_word, word_at, word_place, word_with_byte}
 use Rattle.subordinate.proofs.Changes.{change_first-change_first, change_first-same, change_first-agree, set-set_from}
-use Rattle.subordinate.proofs.Finds.{position_is_first, find-first, find-none, change_first-first, change_first-none, position-map, get_or-map}
 
--- the page that the code reads where a place is past the end
-abbrev pub no_page : Page
-no_page = record { number = 0; words = [] }
+-- ---- a byte of a word
 
--- whether a page of the code holds an address
-abbrev pub is_number : ℕ → Page → Bool
-is_number number page = page.number == number
+-- a lane holds a byte
+pub lane_byte-lt : (word lane : ℕ) → lane_byte word lane < 256
+lane_byte-lt word zero = omega arith
+lane_byte-lt word (suc lane) = omega arith
+
+with_byte_gives : (word lane byte : ℕ) → byte < 256 → GivesBytes (λ other. if other == lane then byte else lane_byte word other)
+with_byte_gives word lane byte small =
+    record { at = λ other below. elim (other == lane) as (λ b. (if b then byte else lane_byte word other) < 256) [ true ↦ small | false ↦ lane_byte-lt word other ] }
+
+pub lane_byte-word_with_byte : (word lane byte other : ℕ) → byte < 256 → other < 8 → lane_byte (word_with_byte lane byte word) other ≡ (if other == lane then byte else lane_byte word other)
+lane_byte-word_with_byte word lane byte other small below = lane_byte-word_of_lanes _ other (with_byte_gives word lane byte small) below
+
+-- ---- a word of a memory
 
 page_with_word-twice : (place : ℕ) (f g : ℕ → ℕ) (page : GoodPage) → page_with_word place g (page_with_word place f page) ≡ page_with_word place (λ word. g (f word)) page
 page_with_word-twice place f g page = ap (λ (words : List ℕ). record page { words = words }) (set-set_from page.words place f g)
@@ -35,34 +42,21 @@ pub with_word-same : (memory : Memory) (address : ℕ) (f : ℕ → ℕ) → ((w
 with_word-same memory address f same =
     change_first-same (holds_address address) (page_with_word (word_place address) f) memory (λ page. page_with_word-same (word_place address) f page same)
 
--- what the code finds of the pages is what the model finds
-pub position-good_page : (pages : List Page) (address : ℕ) → position (holds_address address) (map good_page pages) ≡ position (is_number (address / 4096)) pages
-position-good_page pages address = position-map (holds_address address) good_page pages
+-- ---- addresses of one word
 
-pub word_at-found : (pages : List Page) (address place : ℕ) → position (is_number (address / 4096)) pages ≡ Some place
-    → word_at (map good_page pages) address ≡ Some (get_or (get_or pages place no_page).words (word_place address) 0)
-word_at-found pages address place found =
-    let first = position_is_first (holds_address address) (map good_page pages) place (position-good_page pages address ∙ found) in
-    ap (option_map (λ page. get_or page.words (word_place address) 0)) (find-first (holds_address address) (map good_page pages) place (good_page no_page) first ∙ ap Some (get_or-map good_page pages place no_page))
+pub with_word-near : (memory : Memory) (near address : ℕ) (f : ℕ → ℕ) → near / 4096 ≡ address / 4096 → word_place near ≡ word_place address → with_word memory near f ≡ with_word memory address f
+with_word-near memory near address f page place =
+    let at : ℕ → ℕ → Memory = λ number k. change_first (λ (p : GoodPage). p.number == number) (page_with_word k f) memory in
+    ap (λ number. at number (word_place near)) page ∙ ap (at (address / 4096)) place
 
-pub word_at-missing : (pages : List Page) (address : ℕ) → position (is_number (address / 4096)) pages ≡ None → word_at (map good_page pages) address ≡ None
-word_at-missing pages address missing =
-    ap (option_map (λ page. get_or page.words (word_place address) 0)) (find-none (holds_address address) (map good_page pages) (position-good_page pages address ∙ missing))
+word_at-near : (memory : Memory) (near address : ℕ) → near / 4096 ≡ address / 4096 → word_place near ≡ word_place address → word_at memory near ≡ word_at memory address
+word_at-near memory near address page place =
+    let at = λ (number k : ℕ). option_map (λ (p : GoodPage). get_or p.words k 0) (find (λ (p : GoodPage). p.number == number) memory) in
+    ap (λ number. at number (word_place near)) page ∙ ap (at (address / 4096)) place
 
-pub with_word-found : (pages : List Page) (address place word : ℕ) (f : ℕ → ℕ) → position (is_number (address / 4096)) pages ≡ Some place
-    → f (get_or (get_or pages place no_page).words (word_place address) 0) ≡ word
-    → with_word (map good_page pages) address f
-    ≡ map good_page (set pages place (record { number = (get_or pages place no_page).number; words = set (get_or pages place no_page).words (word_place address) word }))
-with_word-found pages address place word f found gives =
-    let first = position_is_first (holds_address address) (map good_page pages) place (position-good_page pages address ∙ found) in
-    change_first-first (holds_address address) (page_with_word (word_place address) f) (map good_page pages) place (good_page no_page) first
-    ∙ rw (get_or-map good_page pages place no_page, gives) (sym (map-set good_page pages place _))
-
-pub with_word-missing : (pages : List Page) (address : ℕ) (f : ℕ → ℕ) → position (is_number (address / 4096)) pages ≡ None → with_word (map good_page pages) address f ≡ map good_page pages
-with_word-missing pages address f missing =
-    change_first-none (holds_address address) (page_with_word (word_place address) f) (map good_page pages) (position-good_page pages address ∙ missing)
-
--- a store of words leaves the pages listed as they were
-pub map-listing-set : (pages : List Page) (place : ℕ) (words : List ℕ)
-    → map listing (set pages place (record { number = (get_or pages place no_page).number; words = words })) ≡ map listing pages
-map-listing-set pages place words = map-set_same listing pages place (record { number = (get_or pages place no_page).number; words = words }) no_page refl
+-- the byte of a lane of a word
+pub byte_at_address-lane : (memory : Memory) (address lane : ℕ) → lane < 8 → byte_at_address memory (address / 8 * 8 + lane) ≡ option_map (λ word. lane_byte word lane) (word_at memory address)
+byte_at_address-lane memory address lane below =
+    let within : (address / 8 * 8 + lane) % 8 ≡ lane = omega arith in
+    ap (λ (k : ℕ). option_map (λ word. lane_byte word k) (word_at memory (address / 8 * 8 + lane))) within
+    ∙ ap (option_map (λ word. lane_byte word lane)) (word_at-near memory (address / 8 * 8 + lane) address (omega arith) (omega arith))

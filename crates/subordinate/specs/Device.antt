@@ -1,8 +1,6 @@
 -- A device: a free memory, and the boxes of closed bursts that wait to be taken back.
-use Rattle.std.specs.Prelude.{◌≡◌, ℕ, ◌%◌, true, List, [], ◌∷◌, ◌++◌, Option, Some, None, option_map, option_to_list, drop, find, if◌then◌else◌}
-use Rattle.axi_beats.specs.Bursts.{Burst, WriteBurst, ReadBurst}
-use Rattle.axi_beats.specs.declared.WBeat.{WBeat}
-use Rattle.subordinate.specs.Faults.{Faults, standing_at, is_good}
+use Rattle.std.specs.Prelude.{ℕ, List, [], ◌∷◌, ◌++◌, Option, Some, None, option_map, option_to_list, drop, find, if◌then◌else◌}
+use Rattle.axi_beats.specs.Bursts.{Burst}
 use Rattle.subordinate.specs.FreeMemory.{FreeMemory, Pending, opening, has_serial, is_write_of, is_read_of, gives_last, after_b_of, after_r_of}
 use Rattle.subordinate.specs.declared.PageKind.{PageKind}
 
@@ -40,25 +38,3 @@ after_r device id = record { memory = after_r_of device.memory id; closed = devi
 -- the device without the box that closed first
 abbrev pub after_take : DeviceState → DeviceState
 after_take device = record device { closed = drop 1 device.closed }
-
--- ---- what the first device takes
-
--- an address beat of one aligned transfer of eight bytes, of ID 0, on a good page
-pub record IsWordAddress (faults : Faults) (id address len size burst_type : ℕ) : Type 0 where
-  pub first_id : id ≡ 0
-  pub aligned : address % 8 ≡ 0
-  pub one_transfer : len ≡ 0
-  pub eight_bytes : size ≡ 3
-  pub incr : burst_type ≡ 1
-  pub good : is_good (standing_at faults address) ≡ true
-
--- the W beats of one transfer
-pub record IsOneBeat (data_beats : List WBeat) : Type 0 where
-  pub beat : WBeat
-  pub alone : data_beats ≡ beat ∷ []
-  pub last : beat.last ≡ true
-
--- a burst of one word: a read, or a write with its one W beat
-abbrev pub IsWordBurst : Faults → Burst → Type 0
-IsWordBurst faults (ReadBurst ar) = IsWordAddress faults ar.id ar.address ar.len ar.size ar.burst
-IsWordBurst faults (WriteBurst aw data_beats) = IsWordAddress faults aw.id aw.address aw.len aw.size aw.burst × IsOneBeat data_beats

@@ -19,15 +19,11 @@ use Rattle.axi_checker.specs.Rules.{AxiPortLimits, burst_fault}
 use Rattle.axi_checker.specs.declared.AxiRule.{AxiRule}
 use Rattle.subordinate.specs.Faults.{Faults, standing_at, write_response, read_response}
 use Rattle.subordinate.specs.Pages.{Memory, opening_memory, byte_at_address, with_byte}
+use Rattle.subordinate.specs.declared.BeatState.{BeatState}
+use Rattle.subordinate.specs.declared.BeatState.TheVariants.{Waiting, Written, Captured}
 use Rattle.subordinate.specs.declared.PageKind.{PageKind}
 use Rattle.subordinate.specs.declared.Performed.{Performed}
 use Rattle.subordinate.specs.declared.Performed.TheVariants.{NoSuch, Already, Done}
-
--- what became of a beat of an open burst: not performed, or performed, with what a read beat captured
-pub data BeatState : Type 0 where
-  Waiting : BeatState
-  Written : BeatState
-  Captured : ℕ → Resp → BeatState
 
 -- an open burst, one that is outstanding: its serial, its beats, and how many of its R beats came
 pub record Pending : Type 0 where

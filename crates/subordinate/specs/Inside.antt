@@ -1,97 +1,125 @@
--- How the fields of a device make its state.
-use Rattle.std.specs.Prelude.{ℕ, Bool, true, false, List, [], ◌∷◌, map, Option, None, Some}
-use Rattle.axi_beats.specs.Bursts.{Burst}
-use Rattle.axi_beats.specs.declared.Resp.TheVariants.{Okay}
-use Rattle.subordinate.specs.Device.{DeviceState, IsWordBurst}
-use Rattle.subordinate.specs.Faults.{Faults}
-use Rattle.subordinate.specs.FreeMemory.{BeatState, FreeMemory, Pending, reads_as, writes_as}
-use Rattle.subordinate.specs.FreeMemory as state
-use Rattle.subordinate.specs.Pages.{GoodPage, zero_words}
-use Rattle.subordinate.specs.declared.PageKind.{PageKind}
-use Rattle.subordinate.specs.declared.PageKind.TheVariants.{Good}
-use Rattle.subordinate.specs.declared.device.Stage.{Stage}
-use Rattle.subordinate.specs.declared.device.Stage.TheVariants.{Waiting, Written, Captured, Answered}
-use Rattle.subordinate.specs.declared.pages.Page.{Page}
+-- How the parts of a device make its state, and what stays true of them.
+use Rattle.std.specs.Prelude.{◌≡◌, ℕ, ◌+◌, ◌*◌, ◌≤◌, ◌<◌, ◌==◌, Bool, false, List, [], ◌∷◌, ◌++◌, length, map, filter, find, take, not, Option, None, Some, option_map, option_to_list, IsSome, if◌then◌else◌}
+use Rattle.std.specs.List.{AllByRecursion}
+use Rattle.axi_beats.specs.Bursts.{Burst, ReadBurst, WriteBurst, IsLegal}
+use Rattle.axi_beats.specs.Transfers.{IsBusWidth}
+use Rattle.axi_beats.specs.declared.ArBeat.{ArBeat}
+use Rattle.axi_checker.specs.Monitors.{HasFewOfEach}
+use Rattle.bus_words.specs.Places.{change_first, without_first}
+use Rattle.subordinate.specs.Device.{DeviceState}
+use Rattle.subordinate.specs.FreeMemory.{FreeMemory, Pending, beat_after, is_read_of, is_waiting, is_write_of, memory_after, transfers_in, with_beat}
+use Rattle.subordinate.specs.InsidePages.{PagesState}
+use Rattle.subordinate.specs.declared.BeatState.{BeatState}
+use Rattle.subordinate.specs.declared.BeatState.TheVariants.{Waiting, Written, Captured}
+use Rattle.axi_beats.specs.declared.Resp.{Resp}
 
-abbrev pub good_page : Page → GoodPage
-good_page page = record { number = page.number; words = page.words }
+-- a read of nothing
+abbrev pub no_burst : Burst
+no_burst = ReadBurst (record { id = 0; address = 0; len = 0; size = 0; burst = 1 })
 
--- a page as it was listed
-abbrev pub listing : Page → ℕ × PageKind
-listing page = (page.number, Good)
+-- the burst in a box that isn't empty
+abbrev pub burst_in : Option Burst → Burst
+burst_in None = no_burst
+burst_in (Some burst) = burst
 
-abbrev pub faults_of : List Page → Faults
-faults_of pages = record { pages = map listing pages; bad_words = [] }
+-- an open burst of its parts
+abbrev pub pending_of : ℕ → Option Burst → List BeatState → ℕ → Pending
+pending_of serial held beats answered = record { serial = serial; burst = burst_in held; beats = beats; answered = answered }
 
--- a listed page, all bytes zero
-abbrev pub zero_page_of : ℕ × PageKind → Page
-zero_page_of listed = record { number = listed.0; words = zero_words }
+-- the beats that aren't performed
+abbrev pub count_waiting : List BeatState → ℕ
+count_waiting beats = length (filter is_waiting beats)
 
--- the memory of some pages, with nothing sent
-abbrev pub memory_of : List Page → FreeMemory
-memory_of pages = record { bus_bytes = 8; faults = faults_of pages; memory = map good_page pages; pending = []; sent = 0 }
+abbrev pub IsPerformed : BeatState → Type 0
+IsPerformed beat = is_waiting beat ≡ false
 
--- an open burst of one beat
-abbrev pub open_with : Burst → ℕ → BeatState → List Pending
-open_with burst serial beat = record { serial = serial; burst = burst; beats = beat ∷ []; answered = 0 } ∷ []
+-- an open burst: legal, with a state of each of its beats, and of a read the beats that were answered are performed
+pub record IsSoundPending (bus_bytes : ℕ) (pending : Pending) : Type 0 where
+  pub legal : IsLegal bus_bytes pending.burst
+  pub whole : length pending.beats ≡ transfers_in pending.burst
+  pub answered : AllByRecursion IsPerformed (take pending.answered pending.beats)
+  pub most : pending.answered ≤ length pending.beats
 
--- the open burst, if a burst is held that isn't answered
-abbrev pub open_at : Burst → ℕ → Stage → List Pending
-open_at burst serial Waiting = open_with burst serial state.Waiting
-open_at burst serial Written = open_with burst serial state.Written
-open_at burst serial (Captured word) = open_with burst serial (state.Captured word Okay)
-open_at burst serial Answered = []
+-- the ID and the side of a burst as one number: the writes of ID i have row 2 i, the reads row 2 i + 1
+abbrev pub row_of_burst : Burst → ℕ
+row_of_burst (WriteBurst aw data_beats) = 2 * aw.id
+row_of_burst (ReadBurst ar) = 2 * ar.id + 1
 
-abbrev pub pending_held : Option (Option Burst) → ℕ → Stage → List Pending
-pending_held None serial stage = []
-pending_held (Some None) serial stage = []
-pending_held (Some (Some burst)) serial stage = open_at burst serial stage
+abbrev pub row_of : Pending → ℕ
+row_of pending = row_of_burst pending.burst
 
--- the closed burst, if the burst that is held is answered
-abbrev pub is_answered : Stage → Bool
-is_answered Waiting = false
-is_answered Written = false
-is_answered (Captured word) = false
-is_answered Answered = true
+-- serials rise, from `low` on and below `top`
+abbrev pub RisesWithin : ℕ → ℕ → List Pending → Type 0
+RisesWithin low top [] = low ≤ top
+RisesWithin low top (pending ∷ later) = (low ≤ pending.serial) × RisesWithin (pending.serial + 1) top later
 
-abbrev pub closed_at : Burst → Stage → List Burst
-closed_at burst Waiting = []
-closed_at burst Written = []
-closed_at burst (Captured word) = []
-closed_at burst Answered = burst ∷ []
+-- a memory of its parts
+abbrev pub memory_of : ℕ → PagesState → List Pending → ℕ → FreeMemory
+memory_of bus_bytes pages pending sent = record { bus_bytes = bus_bytes; faults = pages.faults; memory = pages.memory; pending = pending; sent = sent }
 
-abbrev pub closed_held : Option (Option Burst) → Stage → List Burst
-closed_held None stage = []
-closed_held (Some None) stage = []
-closed_held (Some (Some burst)) stage = closed_at burst stage
+-- pages as a memory with nothing sent
+abbrev pub memory_over : ℕ → PagesState → FreeMemory
+memory_over bus_bytes pages = memory_of bus_bytes pages [] 0
 
-abbrev pub device_state : List Page → Option (Option Burst) → ℕ → Stage → ℕ → DeviceState
-device_state pages held serial stage sent =
+abbrev pub device_state : ℕ → PagesState → List Pending → ℕ → List (Option Burst) → DeviceState
+device_state bus_bytes pages pending sent closed = record { memory = memory_of bus_bytes pages pending sent; closed = map burst_in closed }
+
+-- what the open bursts of a device keep to: each ID has at most four on each side
+pub record IsSoundMemory (bus_bytes : ℕ) (pending : List Pending) (sent : ℕ) : Type 0 where
+  pub bus : IsBusWidth bus_bytes
+  pub rising : RisesWithin 0 sent pending
+  pub few : HasFewOfEach row_of 32 4 pending
+  pub each : AllByRecursion (IsSoundPending bus_bytes) pending
+
+-- the room of a device: 128 bursts may be open or closed, and the beats of those that aren't open are kept to be used again
+pub record HasRoom (open_bursts closed spare room_of_open room_of_closed room_of_spare : ℕ) : Type 0 where
+  pub bursts : open_bursts + closed ≤ 128
+  pub beats : open_bursts + spare ≡ 128
+  pub for_open : 128 ≤ room_of_open
+  pub for_closed : 128 ≤ room_of_closed
+  pub for_spare : 128 ≤ room_of_spare
+
+-- the device after the first open burst that passes a test closed
+abbrev pub after_closing : (Pending → Bool) → DeviceState → DeviceState
+after_closing test device =
     record {
-      memory =
-          record {
-            bus_bytes = 8;
-            faults = faults_of pages;
-            memory = map good_page pages;
-            pending = pending_held held serial stage;
-            sent = sent;
-          };
-      closed = closed_held held stage;
+      memory = record device.memory { pending = without_first test device.memory.pending };
+      closed = device.closed ++ option_to_list (option_map (λ pending. pending.burst) (find test device.memory.pending));
     }
 
--- what is held is a burst of one word
-abbrev pub IsHeld : Faults → Option (Option Burst) → Type 0
-IsHeld faults None = Unit {0}
-IsHeld faults (Some None) = ⊥
-IsHeld faults (Some (Some burst)) = IsWordBurst faults burst
+-- the places of the beats that aren't performed, the first beat's place being `from`
+abbrev pub waiting_places : ℕ → List BeatState → List ℕ
+waiting_places from [] = []
+waiting_places from (beat ∷ beats) = if is_waiting beat then from ∷ waiting_places (from + 1) beats else waiting_places (from + 1) beats
 
--- whether what is held is a write, or a read, of an ID
-abbrev pub holds_write : ℕ → Option (Option Burst) → Bool
-holds_write id None = false
-holds_write id (Some None) = false
-holds_write id (Some (Some burst)) = writes_as id burst
+-- what a read's beat captured, if it did
+abbrev pub captured_at : Option BeatState → Option (ℕ × Resp)
+captured_at None = None
+captured_at (Some Waiting) = None
+captured_at (Some Written) = None
+captured_at (Some (Captured payload resp)) = Some (payload, resp)
 
-abbrev pub holds_read : ℕ → Option (Option Burst) → Bool
-holds_read id None = false
-holds_read id (Some None) = false
-holds_read id (Some (Some burst)) = reads_as id burst
+-- an open read of which one more R beat came
+abbrev pub with_answer : Pending → Pending
+with_answer pending = record pending { answered = pending.answered + 1 }
+
+-- whether an open burst has the side and the ID of a burst
+abbrev pub is_beside : Burst → Pending → Bool
+is_beside (WriteBurst aw data_beats) pending = is_write_of aw.id pending
+is_beside (ReadBurst ar) pending = is_read_of ar.id pending
+
+-- the device after a beat of the first open burst that passes a test was performed
+abbrev pub performed_first : FreeMemory → (Pending → Bool) → ℕ → Option Pending → FreeMemory
+performed_first memory test beat None = memory
+performed_first memory test beat (Some pending) =
+    record memory {
+      memory = memory_after memory pending.burst beat;
+      pending = change_first test (with_beat beat (beat_after memory pending.burst beat)) memory.pending;
+    }
+
+abbrev pub after_performing : (Pending → Bool) → ℕ → DeviceState → DeviceState
+after_performing test beat device = record device { memory = performed_first device.memory test beat (find test device.memory.pending) }
+
+-- the device after an R of the first open burst that passes a test, which was not its last
+abbrev pub after_counting : (Pending → Bool) → DeviceState → DeviceState
+after_counting test device = record device { memory = record device.memory { pending = change_first test with_answer device.memory.pending } }

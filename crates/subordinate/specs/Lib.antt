@@ -3,4 +3,6 @@ pub mod Effects
 pub mod Faults
 pub mod FreeMemory
 pub mod Inside
+pub mod InsidePages
+pub mod Order
 pub mod Pages

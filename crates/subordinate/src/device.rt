@@ -1,65 +1,76 @@
 //! The device.
-ghost use Rattle.std.specs.Prelude.{◌≡◌, ◌<◌, ◌≤◌, ◌^◌, [], ◌∷◌, ◌++◌, length, None, Some, IsNone, IsSome, IfSome, IfOk, Ok, Err, MatchOption, MatchResult, option_map, slice_get, map, IsTrue};
-ghost use Rattle.std.specs.List.{list_all};
+ghost use Rattle.std.specs.Prelude.{◌≡◌, ◌+◌, ◌<◌, ◌≤◌, ◌^◌, Bool, [], ◌∷◌, ◌++◌, length, filter, find, map, position, replicate, None, Some, IsNone, IsSome, IfSome, IfOk, IsOk, Ok, Err, MatchOption, MatchResult, is_some, option_map, slice_get};
 ghost use Rattle.std.specs.Option.{option_copied};
 ghost use Rattle.std.specs.Vec.{vec_capacity, vec_len};
-ghost use Rattle.axi_beats.specs.Boxes.{aw_of, ar_of};
-ghost use Rattle.subordinate.specs.FreeMemory.{beat_after, memory_after};
-ghost use Rattle.subordinate.specs.Inside.{IsHeld, faults_of, good_page, holds_read, holds_write, listing, memory_of, open_at, open_with, zero_page_of};
-ghost use Rattle.subordinate.specs.Pages.{zero_words};
+ghost use Rattle.axi_beats.specs.Bursts.{IsLegal};
+ghost use Rattle.axi_beats.specs.Transfers.{IsBusWidth};
+ghost use Rattle.axi_checker.specs.Rules.{id_of, outstanding_beside};
+ghost use Rattle.subordinate.specs.FreeMemory.{Pending, beat_after, beat_at, has_serial, is_read_of, is_write_of, memory_after, open_bursts_of, transfers_in};
+ghost use Rattle.subordinate.specs.Effects.{HasGoodPages};
+ghost use Rattle.subordinate.specs.Inside.{IsSoundPending, RisesWithin, after_closing, after_counting, after_performing, captured_at, is_beside, memory_over};
 
-use crate::pages::{Page, word_at, write_word};
-use crate::{DeviceFault, PageKind, Performed, SendRefused, device_fault};
-use axi_beats::{ArBeat, AwBeat, BBeat, BurstBox, RBeat, Resp};
-use bus_words::lane_byte;
+use crate::beats::Beats;
+use crate::open_burst::OpenBurst;
+use crate::pages::Pages;
+use crate::{BeatState, DeviceFault, PageKind, Performed, SendRefused, device_fault};
+use axi_beats::{BBeat, BurstBox, RBeat};
+use axi_checker::{AxiRule, PortLimits};
 use std::alloc::{AllocError, Global};
 use std::marker::Model;
 
-/// What became of the one beat of the burst that the device holds, and whether it is answered.
-#[derive(Clone, Copy)]
-enum Stage {
-    Waiting,
-    Written,
-    Captured(u64),
-    Answered,
-}
+/// How many IDs the device knows, and how many open bursts it takes of each on each side (this project's profile).
+const IDS: u8 = 16;
+
+const DEPTH: u8 = 4;
+
+/// How many bursts may be open: those of all IDs on both sides.
+const MOST_OPEN: usize = 128;
 
 /// A memory at the end of an AXI4 port. It performs the beats of the bursts that it was sent in any order, and answers
 /// them as AXI4's ordering allows (AXI4, A5). A box moves in with `send_box`, and out with `take_closed` when its burst is
 /// answered. All room is taken by `new`; no other call takes memory.
 ///
-/// So far it has good pages alone and no bad words, and holds one burst of one aligned word at a time.
+/// A burst is found by its serial in the order of serials, and the oldest of an ID among the open bursts, of which there
+/// are at most 128.
 #[derive(Drop)]
 pub struct Device {
-    pages: Vec<Page>,
-    held: Option<BurstBox>,
-    serial: u64,
-    stage: Stage,
+    bus_bytes: u8,
+    pages: Pages,
+    /// The open bursts in the order sent.
+    open: Vec<OpenBurst>,
+    /// The beats of bursts that closed, to be used again.
+    spare: Vec<Beats>,
+    closed: Vec<BurstBox>,
     sent: u64,
 }
 
 impl Model for Device {
+    ghost use Rattle.std.specs.Prelude.{IsSome};
+    ghost use Rattle.std.specs.List.{AllByRecursion};
+    ghost use Rattle.std.specs.Vec.{vec_capacity, vec_len};
     ghost use Rattle.subordinate.specs.Device.{DeviceState};
+    ghost use Rattle.subordinate.specs.Inside.{HasRoom, IsSoundMemory, device_state};
 
     ghost Value = { DeviceState };
 
-    ghost use Rattle.subordinate.specs.Inside.{device_state, faults_of, IsHeld};
+    ghost view = { λ d. device_state d.bus_bytes d.pages d.open.items d.sent d.closed.items };
 
-    ghost view = { λ d. device_state d.pages.items d.held d.serial d.stage d.sent };
-
-    ghost invariant = { λ d. IsHeld (faults_of d.pages.items) d.held };
+    ghost invariant = { λ d. IsSoundMemory d.bus_bytes d.open.items d.sent
+        × HasRoom (vec_len d.open) (vec_len d.closed) (vec_len d.spare) (vec_capacity d.open) (vec_capacity d.closed) (vec_capacity d.spare)
+        × AllByRecursion IsSome d.closed.items };
 }
 
 impl Device {
-    ghost use Rattle.subordinate.specs.Device.{after_b, after_r, after_take, open_burst, opening_device, IsWordBurst};
+    ghost use Rattle.subordinate.specs.Device.{after_b, after_r, after_take, open_burst, opening_device};
     ghost use Rattle.subordinate.specs.Effects.{HasEffectAt, HasGoodPages};
     ghost use Rattle.subordinate.specs.Faults.{device_fault};
-    ghost use Rattle.subordinate.specs.FreeMemory.{b_of, performed, performed_waiting, r_of, send_fault, with_burst};
-    ghost use Rattle.subordinate.specs.Pages.{byte_at_address, is_listed_good};
+    ghost use Rattle.subordinate.specs.FreeMemory.{b_of, performed, performed_waiting, r_of, send_fault, waiting_beats, with_burst};
+    ghost use Rattle.subordinate.specs.Order.{AnswersNextBeat, AnswersOldestWrite, OwesAfterOthers, OwesTheSame};
+    ghost use Rattle.subordinate.specs.Pages.{byte_at_address};
     ghost use Rattle.subordinate.specs.declared.DeviceFault.TheVariants.{NoMemory};
 
-    /// A memory of these pages, and of these bad words in them, on a bus of `bus_bytes` bytes, with no burst sent. So far
-    /// the bus has 8 bytes, the pages are good, at most 64, and there are no bad words.
+    /// A memory of these pages, at most 64, and of these bad words in them, at most 64, on a bus of `bus_bytes` bytes, 4 or
+    /// 8, with no burst sent.
     ///
     /// It refuses what `device_fault` does; else the one error is that memory was refused.
     pub fn new(
@@ -68,10 +79,9 @@ impl Device {
         pages: &[(u32, PageKind)],
         bad: &[u32],
     ) -> Result<Self, DeviceFault>
-        requires bus { bus_bytes ≡ 8 }
+        requires bus { IsBusWidth bus_bytes }
         requires pages { length pages.now ≤ 64 }
-        requires good { IsTrue (list_all is_listed_good pages.now) }
-        requires bad { bad.now ≡ [] }
+        requires bad { length bad.now ≤ 64 }
 
         ensures state { MatchOption (device_fault pages.now bad.now)
             (MatchResult result (λ device. device ≡ opening_device bus_bytes pages.now bad.now) (λ fault. fault ≡ NoMemory))
@@ -81,14 +91,34 @@ impl Device {
         if let Some(fault) = device_fault(pages, bad) {
             return Err(fault);
         }
-        let Ok(pages) = zero_pages(alloc, pages) else {
-            return Err(DeviceFault::NoMemory);
-        };
+        match Device::opening(alloc, bus_bytes, pages, bad) {
+            Ok(device) => Ok(device),
+            Err(_) => Err(DeviceFault::NoMemory),
+        }
+    }
+
+    fn opening(
+        alloc: Global,
+        bus_bytes: u8,
+        pages: &[(u32, PageKind)],
+        bad: &[u32],
+    ) -> Result<Self, AllocError>
+        requires bus { IsBusWidth bus_bytes }
+        requires fine { device_fault pages.now bad.now ≡ None }
+        requires pages { length pages.now ≤ 64 }
+        requires bad { length bad.now ≤ 64 }
+        ensures { IfOk result (λ device. device ≡ opening_device bus_bytes pages.now bad.now) }
+    {
+        let pages = Pages::new(alloc, pages, bad)?;
+        let open = Vec::with_capacity(alloc, MOST_OPEN)?;
+        let spare = spare_beats(alloc)?;
+        let closed = Vec::with_capacity(alloc, MOST_OPEN)?;
         Ok(Device {
+            bus_bytes,
             pages,
-            held: None,
-            serial: 0,
-            stage: Stage::Answered,
+            open,
+            spare,
+            closed,
             sent: 0,
         })
     }
@@ -104,40 +134,62 @@ impl Device {
     pub fn closed(&self) -> u8
         ensures { result ≡ length self.now.closed }
     {
-        match self.held {
-            Some(_) if matches!(self.stage, Stage::Answered) => 1,
-            _ => 0,
-        }
+        self.closed.len() as u8
     }
 
     /// How many performed beats of open bursts wait for their R, or for their burst's B.
     pub fn performed_waiting(&self) -> u64
         ensures { result ≡ performed_waiting self.now.memory }
     {
-        match self.held {
-            Some(_) if matches!(self.stage, Stage::Written | Stage::Captured(_)) => 1,
-            _ => 0,
+        let mut count = 0;
+        for burst in self.open.iter() {
+            count += u64::from(burst.performed_waiting(self.bus_bytes));
         }
+        count
+    }
+
+    /// How many beats of open bursts aren't performed.
+    pub fn pending(&self) -> u32
+        ensures { result ≡ length (waiting_beats self.now.memory) }
+    {
+        let mut count = 0;
+        for burst in self.open.iter() {
+            count += u32::from(burst.waiting());
+        }
+        count
+    }
+
+    /// Serial and beat of a beat that isn't performed, counted among these from 0 by rising serial and beat.
+    pub fn pending_at(&self, k: u32) -> (u64, u16)
+        requires { k < length (waiting_beats self.now.memory) }
+        ensures { slice_get (waiting_beats self.now.memory) k ≡ Some result }
+    {
+        let mut left = k;
+        for burst in self.open.iter() {
+            let waiting = u32::from(burst.waiting());
+            if left < waiting {
+                return (burst.serial(), burst.nth_waiting(left as u16));
+            }
+            left -= waiting;
+        }
+        unreachable!()
     }
 
     /// The byte at an address of a good page; none outside these.
     pub fn byte(&self, address: u32) -> Option<u8>
         ensures { result ≡ byte_at_address self.now.memory.memory address }
     {
-        match word_at(&self.pages, address) {
-            Some(word) => Some(lane_byte(word, (address % 8) as u8)),
-            None => None,
-        }
+        self.pages.byte(address)
     }
 
     /// The box of the open burst with this serial; none where no open burst has it.
     pub fn burst(&self, serial: u64) -> Option<&BurstBox>
         ensures { option_copied result ≡ option_map Some (open_burst self.now.memory serial) }
     {
-        if matches!(self.stage, Stage::Answered) || serial != self.serial {
-            return None;
+        match self.place_of(serial) {
+            Some(place) => Some(self.open_at(place).burst()),
+            None => None,
         }
-        self.held.as_ref()
     }
 
     /// Gives back the box of a closed burst, the one that closed first; none where none waits.
@@ -146,33 +198,34 @@ impl Device {
         ensures rest { self.new ≡ after_take self.old }
         ensures kept { IsNone result → self.new ≡ self.old }
     {
-        if !matches!(self.stage, Stage::Answered) {
+        if self.closed.is_empty() {
             return None;
         }
-        self.held.take()
+        Some(self.closed.remove(0))
     }
 
     /// Takes a burst, which is open from here on, and answers its serial: 0, 1, 2, .. in the order sent. It refuses what
     /// a monitor of 16 IDs and depth 4 refuses that took all beats sent and answered so far (this project's profile), and
-    /// hands the box back.
-    ///
-    /// So far no burst is open or closed, and the burst is of one aligned word of eight bytes on a good page, of ID 0.
+    /// hands the box back. No box of a closed burst waits to be taken back, and fewer than 2^60 bursts were sent.
     pub fn send_box(&mut self, burst: BurstBox) -> Result<u64, SendRefused>
         requires full { IsSome burst }
         requires serial { self.old.memory.sent < 2 ^ 60 }
         requires given { self.old.closed ≡ [] }
-        requires first { self.old.memory.pending ≡ [] }
-        requires word { IfSome burst (IsWordBurst self.old.memory.faults) }
 
-        ensures { IfSome burst (λ b. MatchResult result
+        ensures answer { IfSome burst (λ b. MatchResult result
             (λ serial. (send_fault self.old.memory b ≡ None) × (serial ≡ self.old.memory.sent)
             × (self.new ≡ record self.old { memory = with_burst self.old.memory b }))
             (λ refused. (send_fault self.old.memory b ≡ Some refused.rule) × (refused.burst ≡ burst) × (self.new ≡ self.old))) }
+
+        // Its answers are owed after those of all bursts of its ID before it.
+        ensures order { IsOk result → IfSome burst (λ b. OwesAfterOthers self.old.memory.sent b self.old.memory.pending self.new.memory.pending) }
     {
+        if let Some(rule) = self.send_fault(&burst) {
+            return Err(SendRefused { rule, burst });
+        }
         let serial = self.sent;
-        self.held = Some(burst);
-        self.serial = serial;
-        self.stage = Stage::Waiting;
+        let beats = self.spare.pop().unwrap();
+        push(&mut self.open, OpenBurst::new(serial, burst, beats));
         self.sent = serial + 1;
         Ok(serial)
     }
@@ -186,18 +239,21 @@ impl Device {
         // By addresses: just the strobed bytes of good pages are set, or each byte is captured in its lane.
         ensures effect { result ≡ Performed.Done → HasGoodPages self.old.memory → HasEffectAt serial beat self.old.memory self.new.memory }
         ensures good_pages { HasGoodPages self.old.memory → HasGoodPages self.new.memory }
+
+        // No answer is given, and the order of those to come stays.
+        ensures order { OwesTheSame self.old.memory.pending self.new.memory.pending }
     {
-        let Some(burst) = &self.held else {
+        let Some(place) = self.place_of(serial) else {
             return Performed::NoSuch;
         };
-        if matches!(self.stage, Stage::Answered) || serial != self.serial || beat != 0 {
-            return Performed::NoSuch;
+        match self.open_at(place).beat_at(beat) {
+            None => Performed::NoSuch,
+            Some(BeatState::Waiting) => {
+                self.perform_at(place, beat);
+                Performed::Done
+            }
+            Some(_) => Performed::Already,
         }
-        if !matches!(self.stage, Stage::Waiting) {
-            return Performed::Already;
-        }
-        self.stage = carried_out(&mut self.pages, burst);
-        Performed::Done
     }
 
     /// The B of the oldest open write of an ID, once all its beats are performed; it closes the write.
@@ -205,15 +261,17 @@ impl Device {
         ensures answer { result ≡ b_of self.old.memory id }
         ensures closed { IsSome result → self.new ≡ after_b self.old id }
         ensures kept { IsNone result → self.new ≡ self.old }
+
+        // Write responses of one ID come in the order of its addresses.
+        ensures order { IsSome result → AnswersOldestWrite id self.old.memory.pending self.new.memory.pending }
     {
-        if matches!(self.stage, Stage::Waiting | Stage::Answered) || !is_write_of(&self.held, id) {
+        let place = self.oldest_write(id)?;
+        if !self.open_at(place).all_performed() {
             return None;
         }
-        self.stage = Stage::Answered;
-        Some(BBeat {
-            id,
-            resp: Resp::Okay,
-        })
+        let resp = self.pages.write_response(self.open_at(place).start());
+        self.close(place);
+        Some(BBeat { id, resp })
     }
 
     /// The next R beat of the oldest open read of an ID, once that beat is performed; the last one closes the read.
@@ -221,106 +279,188 @@ impl Device {
         ensures answer { result ≡ r_of self.old.memory id }
         ensures closed { IsSome result → self.new ≡ after_r self.old id }
         ensures kept { IsNone result → self.new ≡ self.old }
+
+        // Read data of one ID come in the order of its addresses, each as its beat captured it.
+        ensures order { IfSome result (λ beat. AnswersNextBeat id beat self.old.memory.pending self.new.memory.pending) }
     {
-        let Stage::Captured(payload) = self.stage else {
-            return None;
-        };
-        if !is_read_of(&self.held, id) {
-            return None;
+        let place = self.oldest_read(id)?;
+        let (payload, resp) = self.open_at(place).captured()?;
+        let last = self.open_at(place).gives_last();
+        if last {
+            self.close(place);
+        } else {
+            self.count_answer(place);
         }
-        self.stage = Stage::Answered;
         Some(RBeat {
             id,
             payload,
-            resp: Resp::Okay,
-            last: true,
+            resp,
+            last,
         })
     }
-}
 
-/// The pages of a list, all bytes zero.
-fn zero_pages(alloc: Global, pages: &[(u32, PageKind)]) -> Result<Vec<Page>, AllocError>
-    requires { length pages.now ≤ 64 }
-    ensures { IfOk result (λ made. made.items ≡ map zero_page_of pages.now) }
-{
-    let mut made = Vec::with_capacity(alloc, pages.len())?;
-    for page in pages {
-        add_zero_page(&mut made, page.0);
+    /// Whether `answer_b` would give a B.
+    pub fn can_b(&self, id: u8) -> bool
+        ensures { result ≡ is_some (b_of self.now.memory id) }
+    {
+        match self.oldest_write(id) {
+            Some(place) => self.open_at(place).all_performed(),
+            None => false,
+        }
     }
-    Ok(made)
+
+    /// Whether `answer_r` would give an R.
+    pub fn can_r(&self, id: u8) -> bool
+        ensures { result ≡ is_some (r_of self.now.memory id) }
+    {
+        match self.oldest_read(id) {
+            Some(place) => self.open_at(place).captured().is_some(),
+            None => false,
+        }
+    }
+
+    /// The first rule that a burst would break, were it sent now.
+    fn send_fault(&self, burst: &BurstBox) -> Option<AxiRule>
+        requires { IsSome burst.now }
+        ensures rule { IfSome burst.now (λ b. result ≡ send_fault self.now.memory b) }
+        ensures legal { result ≡ None → IfSome burst.now (IsLegal self.now.memory.bus_bytes) }
+        ensures room { result ≡ None → IfSome burst.now (λ b. (id_of b < 16) × (outstanding_beside (open_bursts_of self.now.memory) b < 4)) }
+    {
+        PortLimits::new(self.bus_bytes, IDS, DEPTH).burst_fault(
+            burst,
+            outstanding_beside(&self.open, burst),
+        )
+    }
+
+    /// The place of the open burst with this serial.
+    fn place_of(&self, serial: u64) -> Option<usize>
+        ensures { result ≡ position (has_serial serial) self.now.memory.pending }
+    {
+        self.open
+            .binary_search_by_key(&serial, |burst| burst.serial())
+            .ok()
+    }
+
+    /// The place of the oldest open write of an ID.
+    fn oldest_write(&self, id: u8) -> Option<usize>
+        ensures { result ≡ position (is_write_of id) self.now.memory.pending }
+    {
+        self.open.iter().position(|burst| burst.is_write_of(id))
+    }
+
+    /// The place of the oldest open read of an ID.
+    fn oldest_read(&self, id: u8) -> Option<usize>
+        ensures { result ≡ position (is_read_of id) self.now.memory.pending }
+    {
+        self.open.iter().position(|burst| burst.is_read_of(id))
+    }
+
+    /// The open burst at a place.
+    fn open_at(&self, place: usize) -> &OpenBurst
+        requires { place < length self.now.memory.pending }
+        ensures found { (test : Pending → Bool) → position test self.now.memory.pending ≡ Some place → find test self.now.memory.pending ≡ Some result.now }
+        ensures here { slice_get self.now.memory.pending place ≡ Some result.now }
+        ensures sound { IsSoundPending self.now.memory.bus_bytes result.now }
+        ensures width { IsBusWidth self.now.memory.bus_bytes }
+        ensures rising { RisesWithin 0 self.now.memory.sent self.now.memory.pending }
+    {
+        &self.open[place]
+    }
+
+    /// Performs a beat of the open burst at a place, which is the first that passes any test whose first place it is.
+    fn perform_at(&mut self, place: usize, beat: u16)
+        requires here { place < length self.old.memory.pending }
+        requires waits { IfSome (slice_get self.old.memory.pending place) (λ pending. slice_get pending.beats beat ≡ Some BeatState.Waiting) }
+        ensures { (test : Pending → Bool) → position test self.old.memory.pending ≡ Some place → self.new ≡ after_performing test beat self.old }
+    {
+        let becomes = carried_out(
+            &mut self.pages,
+            self.bus_bytes,
+            self.open[place].burst(),
+            beat,
+        );
+        self.open[place].put(beat, becomes);
+    }
+
+    /// Counts an R beat of the open read at a place, whose next beat is performed.
+    fn count_answer(&mut self, place: usize)
+        requires captured { IfSome (slice_get self.old.memory.pending place) (λ pending. IsSome (captured_at (beat_at pending pending.answered))) }
+        requires here { place < length self.old.memory.pending }
+        ensures { (test : Pending → Bool) → position test self.old.memory.pending ≡ Some place → self.new ≡ after_counting test self.old }
+    {
+        self.open[place].count_answer();
+    }
+
+    /// Closes the open burst at a place: its box waits to be taken back.
+    fn close(&mut self, place: usize)
+        requires { place < length self.old.memory.pending }
+        ensures { (test : Pending → Bool) → position test self.old.memory.pending ≡ Some place → self.new ≡ after_closing test self.old }
+    {
+        let (burst, beats) = self.open.remove(place).into_parts();
+        push(&mut self.spare, beats);
+        push(&mut self.closed, burst);
+    }
 }
 
-/// Appends a page, all bytes zero, for which there is room.
-#[tactic(auto, unfolding(crate::specs::Pages::zero_words))]
-fn add_zero_page(made: &mut Vec<Page>, number: u32)
-    requires { vec_len made.old < vec_capacity made.old }
-    ensures items { made.new.items ≡ made.old.items ++ record { number = number; words = zero_words } ∷ [] }
-    ensures capacity { vec_capacity made.old ≤ vec_capacity made.new }
+/// The beats of as many bursts as may be open.
+fn spare_beats(alloc: Global) -> Result<Vec<Beats>, AllocError>
+    ensures { IfOk result (λ spare. (vec_len spare ≡ 128) × (128 ≤ vec_capacity spare)) }
 {
-    made.push(Page {
-        number,
-        words: [0; 512],
-    })
-    .unwrap();
+    let mut spare = Vec::with_capacity(alloc, MOST_OPEN)?;
+    for _ in 0..MOST_OPEN {
+        push(&mut spare, Beats::new(alloc)?);
+    }
+    Ok(spare)
 }
 
-/// The address beat of the write in a box, if it holds one.
-fn write_address(burst: &BurstBox) -> Option<AwBeat>
-    ensures { result ≡ aw_of burst.now }
+/// Appends an item for which there is room.
+fn push<T>(items: &mut Vec<T>, item: T)
+    requires { vec_len items.old < vec_capacity items.old }
+    ensures items { items.new.items ≡ items.old.items ++ item ∷ [] }
+    ensures len { vec_len items.new ≡ vec_len items.old + 1 }
+    ensures capacity { vec_capacity items.old ≤ vec_capacity items.new }
+{
+    items.push(item).unwrap();
+}
+
+fn writes_of(open: &[OpenBurst], id: u8) -> usize
+    ensures { result ≡ length (filter (is_write_of id) open.now) }
+{
+    open.iter().filter(|burst| burst.is_write_of(id)).count()
+}
+
+fn reads_of(open: &[OpenBurst], id: u8) -> usize
+    ensures { result ≡ length (filter (is_read_of id) open.now) }
+{
+    open.iter().filter(|burst| burst.is_read_of(id)).count()
+}
+
+/// How many open bursts have the ID and the side of a burst.
+fn outstanding_beside(open: &[OpenBurst], burst: &BurstBox) -> usize
+    requires { IsSome burst.now }
+    ensures { IfSome burst.now (λ b. result ≡ length (filter (is_beside b) open.now)) }
 {
     if burst.is_write() {
-        return Some(burst.aw());
-    }
-    None
-}
-
-/// The address beat of the read in a box, if it holds one.
-fn read_address(burst: &BurstBox) -> Option<ArBeat>
-    ensures { result ≡ ar_of burst.now }
-{
-    if burst.is_empty() || burst.is_write() {
-        return None;
-    }
-    Some(burst.ar())
-}
-
-fn is_write_of(held: &Option<BurstBox>, id: u8) -> bool
-    ensures { result ≡ holds_write id held.now }
-{
-    match held {
-        Some(burst) => match write_address(burst) {
-            Some(aw) => aw.id == id,
-            None => false,
-        },
-        None => false,
+        writes_of(open, burst.aw().id)
+    } else {
+        reads_of(open, burst.ar().id)
     }
 }
 
-fn is_read_of(held: &Option<BurstBox>, id: u8) -> bool
-    ensures { result ≡ holds_read id held.now }
+/// Performs a beat of a legal burst, and answers what became of it.
+fn carried_out(pages: &mut Pages, bus_bytes: u8, burst: &BurstBox, beat: u16) -> BeatState
+    requires bus { IsBusWidth bus_bytes }
+    requires full { IsSome burst.now }
+    requires legal { IfSome burst.now (IsLegal bus_bytes) }
+    requires beat { IfSome burst.now (λ b. beat < transfers_in b) }
+    ensures beat { IfSome burst.now (λ b. result ≡ beat_after (memory_over bus_bytes pages.old) b beat) }
+    ensures bytes { IfSome burst.now (λ b. pages.new ≡ record pages.old { memory = memory_after (memory_over bus_bytes pages.old) b beat }) }
+    ensures good_pages { HasGoodPages (memory_over bus_bytes pages.old) }
 {
-    match held {
-        Some(burst) => match read_address(burst) {
-            Some(ar) => ar.id == id,
-            None => false,
-        },
-        None => false,
+    if burst.is_write() {
+        pages.write(bus_bytes, burst.aw(), beat + 1, burst.w(beat));
+        return BeatState::Written;
     }
-}
-
-/// Performs the one beat of a burst of one word.
-fn carried_out(pages: &mut [Page], burst: &BurstBox) -> Stage
-    requires { IsHeld (faults_of pages.old) (Some burst.now) }
-    ensures beat { IfSome burst.now (λ b. open_at b 0 result ≡ open_with b 0 (beat_after (memory_of pages.old) b 0)) }
-    ensures bytes { IfSome burst.now (λ b. map good_page pages.new ≡ memory_after (memory_of pages.old) b 0) }
-    ensures numbers { map listing pages.new ≡ map listing pages.old }
-{
-    if let Some(aw) = write_address(burst) {
-        write_word(pages, aw, burst.w(0));
-        return Stage::Written;
-    }
-    match word_at(pages, burst.ar().address) {
-        Some(word) => Stage::Captured(word),
-        None => unreachable!(),
-    }
+    let (payload, resp) = pages.read(bus_bytes, burst.ar(), beat + 1);
+    BeatState::Captured(payload, resp)
 }

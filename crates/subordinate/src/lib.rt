@@ -1,13 +1,15 @@
 //! A memory that performs the beats of outstanding bursts in any order, and answers them as AXI4's ordering allows.
 #![tactic(auto)]
 
+mod beats;
 mod device;
 mod faults;
+mod open_burst;
 mod pages;
 #[cfg(test)]
 mod tests;
 
-use axi_beats::BurstBox;
+use axi_beats::{BurstBox, Resp};
 use axi_checker::AxiRule;
 pub use device::Device;
 pub use faults::device_fault;
@@ -49,6 +51,17 @@ pub enum Performed {
     Already,
     /// The beat is performed now.
     Done,
+}
+
+/// What became of a beat of an open burst.
+#[derive(Clone, Copy, Debug, PartialEq, Eq)]
+pub enum BeatState {
+    /// It isn't performed.
+    Waiting,
+    /// A write's beat, performed.
+    Written,
+    /// A read's beat, performed: the payload and the response that it captured.
+    Captured(u64, Resp),
 }
 
 /// A burst that was refused: the first rule that it breaks, and its box.

@@ -1,48 +1,233 @@
-//! The good pages of a device, as words of eight bytes.
-ghost use Rattle.std.specs.Prelude.{◌≡◌, ◌==◌, ◌%◌, map, position};
-ghost use Rattle.subordinate.specs.FreeMemory.{bytes_written};
-ghost use Rattle.subordinate.specs.Inside.{good_page, listing};
-ghost use Rattle.subordinate.specs.Pages.{word_at};
+//! The pages of a device: their bytes, and the transfers that are performed on them.
+ghost use Rattle.std.specs.Prelude.{◌≡◌, ◌==◌, ◌+◌, ◌≤◌, filter, map, position, replicate, IfOk, IsTrue, None, Some};
+ghost use Rattle.bus_words.specs.Lanes.{payload_of};
+ghost use Rattle.axi_beats.specs.Bursts.{strobes_fit};
+ghost use Rattle.axi_beats.specs.Transfers.{IsBusWidth, transfer_address};
+ghost use Rattle.subordinate.specs.Faults.{device_fault, lists_page};
+ghost use Rattle.subordinate.specs.FreeMemory.{byte_in_lane, bytes_written};
+ghost use Rattle.subordinate.specs.InsidePages.{IsTransferOf, first_lane};
+ghost use Rattle.subordinate.specs.Pages.{Memory, is_listed_good, word_at, zero_words};
 
-use axi_beats::{AwBeat, WBeat};
+use crate::PageKind;
+use axi_beats::{ArBeat, AwBeat, Resp, WBeat, lanes_of, transfer_address};
+use bus_words::{lane_byte, lanes_between};
 use data_unit::merge;
+use std::alloc::{AllocError, Global};
+use std::marker::Model;
 
-/// A good page: its number, and its words in order.
+/// The pages of a device: which are listed and as what, the words of the good ones, and the addresses of the bad words.
+/// The good pages' numbers stand beside their words, in the same order, so that a page is found without touching words.
 #[derive(Drop)]
-pub struct Page {
-    pub number: u32,
-    pub words: [u64; 512],
+pub(crate) struct Pages {
+    listed: Vec<(u32, PageKind)>,
+    numbers: Vec<u32>,
+    words: Vec<[u64; 512]>,
+    bad: Vec<u32>,
 }
 
-fn place_of_page(pages: &[Page], number: u32) -> Option<usize>
-    ensures { result ≡ position (λ page. page.number == number) pages.now }
-{
-    pages.iter().position(|page| page.number == number)
+impl Model for Pages {
+    ghost use Rattle.std.specs.Prelude.{◌≡◌, length};
+    ghost use Rattle.subordinate.specs.InsidePages.{KeepsGoodPages, PagesState, pages_state};
+
+    ghost Value = { PagesState };
+
+    ghost view = { λ p. pages_state p.listed.items p.numbers.items p.words.items p.bad.items };
+
+    ghost invariant = { λ p. (length p.words.items ≡ length p.numbers.items)
+        × KeepsGoodPages (pages_state p.listed.items p.numbers.items p.words.items p.bad.items) };
 }
 
-/// The word that an address is in; none outside the pages.
-pub fn word_at(pages: &[Page], address: u32) -> Option<u64>
-    ensures { result ≡ word_at (map good_page pages.now) address }
-{
-    match place_of_page(pages, address / 4096) {
-        Some(place) => Some(pages[place].words[(address % 4096 / 8) as usize]),
-        None => None,
+impl Pages {
+    ghost use Rattle.subordinate.specs.Faults.{is_bad, read_response, standing_at, write_response};
+    ghost use Rattle.subordinate.specs.FreeMemory.{captured};
+    ghost use Rattle.subordinate.specs.declared.BeatState.TheVariants.{Captured};
+    ghost use Rattle.subordinate.specs.InsidePages.{KeepsGoodPages};
+    ghost use Rattle.subordinate.specs.Pages.{byte_at_address, opening_memory};
+
+    /// These pages, all bytes of the good ones zero, with these bad words; `device_fault` doesn't refuse them. The one error
+    /// is that memory was refused.
+    pub(crate) fn new(
+        alloc: Global,
+        pages: &[(u32, PageKind)],
+        bad: &[u32],
+    ) -> Result<Self, AllocError>
+        requires fine { device_fault pages.now bad.now ≡ None }
+        ensures { IfOk result (λ p. p ≡ record {
+          faults = record { pages = pages.now; bad_words = bad.now };
+          memory = opening_memory pages.now;
+        }) }
+    {
+        let listed = copied(alloc, pages)?;
+        let numbers = good_numbers(alloc, pages)?;
+        let words = zero_pages(alloc, numbers.len())?;
+        let bad = copied(alloc, bad)?;
+        Ok(Pages {
+            listed,
+            numbers,
+            words,
+            bad,
+        })
+    }
+
+    /// The word that an address is in; none outside good pages.
+    fn word_at(&self, address: u32) -> Option<u64>
+        ensures word { result ≡ word_at self.now.memory address }
+        ensures good_pages { KeepsGoodPages self.now }
+    {
+        match place_of(&self.numbers, address / 4096) {
+            Some(place) => Some(self.words[place][(address % 4096 / 8) as usize]),
+            None => None,
+        }
+    }
+
+    /// The byte at an address of a good page; none outside these.
+    pub(crate) fn byte(&self, address: u32) -> Option<u8>
+        ensures { result ≡ byte_at_address self.now.memory address }
+    {
+        match self.word_at(address) {
+            Some(word) => Some(lane_byte(word, (address % 8) as u8)),
+            None => None,
+        }
+    }
+
+    /// Whether the word that an address is in is bad.
+    fn is_bad(&self, address: u32) -> bool
+        ensures { result ≡ is_bad self.now.faults address }
+    {
+        self.bad.iter().any(|word| *word == address / 8 * 8)
+    }
+
+    /// The response to a write that begins at an address (AXI4, A3.4.4): that of its page (this project's profile).
+    pub(crate) fn write_response(&self, address: u32) -> Resp
+        ensures { result ≡ write_response (standing_at self.now.faults address) }
+    {
+        match listed_at(&self.listed, address / 4096) {
+            Some(place) => match self.listed[place].1 {
+                PageKind::Good => Resp::Okay,
+                PageKind::SlaveError => Resp::SlvErr,
+            },
+            None => Resp::DecErr,
+        }
+    }
+
+    /// The response to a read beat at an address (AXI4, A3.4.4): that of its page and its word (this project's profile).
+    fn read_response(&self, address: u32) -> Resp
+        ensures { result ≡ read_response self.now.faults address }
+    {
+        match self.write_response(address) {
+            Resp::Okay if self.is_bad(address) => Resp::SlvErr,
+            resp => resp,
+        }
+    }
+
+    /// What transfer `n`, from 1, of a read captures on a bus of `bus_bytes` bytes, 4 or 8: its bytes, each in its lane
+    /// (AXI4, A3.4.3), and zero in the other lanes; all zero with an error (this project's profile).
+    pub(crate) fn read(&self, bus_bytes: u8, ar: ArBeat, n: u16) -> (u64, Resp)
+        requires { IsTransferOf bus_bytes ar.address ar.len ar.size n }
+        ensures captured { Captured result.0 result.1 ≡ captured bus_bytes self.now.faults self.now.memory ar n }
+        ensures good_pages { KeepsGoodPages self.now }
+    {
+        let address = address_of(bus_bytes, ar.address, ar.len, ar.size, n);
+        let resp = self.read_response(address);
+        match self.word_at(address) {
+            Some(word) if resp == Resp::Okay => (bytes_read(bus_bytes, ar, n, word), resp),
+            _ => (0, resp),
+        }
+    }
+
+    /// Performs transfer `n`, from 1, of a write on a bus of `bus_bytes` bytes, 4 or 8: the bytes in its strobed lanes are
+    /// set (AXI4, A3.4.3), where their page is good. On other pages nothing changes. A bad word is set too, and stays bad.
+    pub(crate) fn write(&mut self, bus_bytes: u8, aw: AwBeat, n: u16, beat: WBeat)
+        requires transfer { IsTransferOf bus_bytes aw.address aw.len aw.size n }
+        requires strobes { IsTrue (strobes_fit bus_bytes aw n beat.strobes) }
+        ensures written { self.new ≡ record self.old { memory = bytes_written bus_bytes self.old.memory aw n beat } }
+        ensures good_pages { KeepsGoodPages self.old }
+    {
+        let address = address_of(bus_bytes, aw.address, aw.len, aw.size, n);
+        let Some(page) = place_of(&self.numbers, address / 4096) else {
+            return;
+        };
+        let first = first_lane(bus_bytes, address);
+        let words = &mut self.words[page];
+        let place = (address % 4096 / 8) as usize;
+        words[place] = merge(
+            words[place],
+            beat.payload << (8 * first),
+            beat.strobes << first,
+        );
     }
 }
 
-/// Performs the W beat of a write of one aligned word.
-pub fn write_word(pages: &mut [Page], aw: AwBeat, beat: WBeat)
-    requires aligned { aw.address % 8 ≡ 0 }
-    requires eight_bytes { aw.size ≡ 3 }
-    ensures bytes { map good_page pages.new ≡ bytes_written 8 (map good_page pages.old) aw 1 beat }
-    ensures numbers { map listing pages.new ≡ map listing pages.old }
+/// The numbers of the good pages, in order.
+fn good_numbers(alloc: Global, pages: &[(u32, PageKind)]) -> Result<Vec<u32>, AllocError>
+    ensures { IfOk result (λ numbers. numbers.items ≡ map (λ page. page.0) (filter is_listed_good pages.now)) }
 {
-    let Some(at) = place_of_page(pages, aw.address / 4096) else {
-        return;
-    };
-    let place = (aw.address % 4096 / 8) as usize;
-    let old = pages[at].words[place];
-    let word = merge(old, beat.payload, beat.strobes);
-    let page = &mut pages[at];
-    page.words[place] = word;
+    pages
+        .iter()
+        .filter(|page| matches!(page.1, PageKind::Good))
+        .map(|page| page.0)
+        .collect(alloc)
+}
+
+/// A copy of a list.
+fn copied<T: Copy>(alloc: Global, items: &[T]) -> Result<Vec<T>, AllocError>
+    ensures { IfOk result (λ v. v.items ≡ items.now) }
+{
+    items.iter().copied().collect(alloc)
+}
+
+/// So many pages, all bytes zero.
+fn zero_pages(alloc: Global, count: usize) -> Result<Vec<[u64; 512]>, AllocError>
+    ensures { IfOk result (λ pages. pages.items ≡ replicate count zero_words) }
+{
+    let mut pages = Vec::with_capacity(alloc, count)?;
+    for _ in 0..count {
+        pages.push([0; 512])?;
+    }
+    Ok(pages)
+}
+
+/// The place of a good page by its number.
+fn place_of(numbers: &[u32], number: u32) -> Option<usize>
+    ensures { result ≡ position (λ page. page == number) numbers.now }
+{
+    numbers.iter().position(|page| *page == number)
+}
+
+/// The place of a page in the list by its number.
+fn listed_at(listed: &[(u32, PageKind)], number: u32) -> Option<usize>
+    ensures { result ≡ position (lists_page number) listed.now }
+{
+    listed.iter().position(|page| page.0 == number)
+}
+
+/// The address of transfer `n`, from 1, of a burst in one page.
+fn address_of(bus_bytes: u8, start: u32, len: u8, size: u8, n: u16) -> u32
+    requires { IsTransferOf bus_bytes start len size n }
+    ensures { result ≡ transfer_address start size n }
+{
+    transfer_address(start, size, n) as u32
+}
+
+/// Where the bus's word of an address begins in its word of eight bytes.
+fn first_lane(bus_bytes: u8, address: u32) -> u8
+    requires { IsBusWidth bus_bytes }
+    ensures value { result ≡ first_lane bus_bytes address }
+    ensures within { result + bus_bytes ≤ 8 }
+{
+    (address % 8) as u8 / bus_bytes * bus_bytes
+}
+
+/// The bytes of its word that transfer `n`, from 1, of a read takes, each in the bus's lane, and zero in the other lanes.
+fn bytes_read(bus_bytes: u8, ar: ArBeat, n: u16, word: u64) -> u64
+    requires { IsTransferOf bus_bytes ar.address ar.len ar.size n }
+    ensures { (memory : Memory) → word_at memory (transfer_address ar.address ar.size n) ≡ Some word
+        → result ≡ payload_of (byte_in_lane bus_bytes memory ar n) }
+{
+    let (lowest, highest) = lanes_of(ar.address, ar.size, n, bus_bytes);
+    let first = first_lane(
+        bus_bytes,
+        address_of(bus_bytes, ar.address, ar.len, ar.size, n),
+    );
+    merge(0, word >> (8 * first), lanes_between(lowest, highest))
 }

@@ -10,7 +10,9 @@ use Rattle.axi_beats.specs.declared.RBeat.{RBeat}
 use Rattle.axi_beats.specs.declared.Resp.{Resp}
 use Rattle.responses.specs.Shown.{Reply}
 use Rattle.subordinate.specs.Faults.{standing_at, write_response}
-use Rattle.subordinate.specs.FreeMemory.{FreeMemory, BeatState, Waiting, Written, Captured, writes_as, reads_as, b_of, r_of, after_b_of, after_r_of}
+use Rattle.subordinate.specs.FreeMemory.{FreeMemory, writes_as, reads_as, b_of, r_of, after_b_of, after_r_of}
+use Rattle.subordinate.specs.declared.BeatState.{BeatState}
+use Rattle.subordinate.specs.declared.BeatState.TheVariants.{Waiting, Written, Captured}
 use Rattle.world_run.specs.Headline.{bytes_of_all}
 use Rattle.world_run.specs.Meaning.{Bytes, meaning}
 use Rattle.world_run.specs.Setups.{SetupLists, faults_of}

@@ -8,7 +8,9 @@ use Rattle.tl_messages.specs.declared.Operation.TheVariants.{PutFull, Get}
 use Rattle.axi_beats.specs.Bursts.{Burst}
 use Rattle.axi_beats.specs.declared.Resp.TheVariants.{Okay}
 use Rattle.subordinate.specs.Faults.{standing_at, is_good}
-use Rattle.subordinate.specs.FreeMemory.{FreeMemory, Pending, BeatState, Waiting, Written, Captured, has_serial, performed_in, beat_after, memory_after, byte_in_lane, with_performed, performed, performed_beat}
+use Rattle.subordinate.specs.FreeMemory.{FreeMemory, Pending, has_serial, performed_in, beat_after, memory_after, byte_in_lane, with_performed, performed, performed_beat}
+use Rattle.subordinate.specs.declared.BeatState.{BeatState}
+use Rattle.subordinate.specs.declared.BeatState.TheVariants.{Waiting, Written, Captured}
 use Rattle.subordinate.specs.declared.Performed.TheVariants.{NoSuch}
 use Rattle.world_run.specs.Headline.{bytes_of_all}
 use Rattle.world_run.specs.Meaning.{Bytes}

@@ -3,7 +3,8 @@ use Rattle.std.proofs.Common.{◌≡◌, ℕ, true, false, List, [], ◌∷◌, 
 use Rattle.tl_messages.specs.Requests.{WholeRequest}
 use Rattle.tl_messages.specs.declared.Operation.TheVariants.{PutFull, Get}
 use Rattle.axi_beats.specs.Bursts.{Burst}
-use Rattle.subordinate.specs.FreeMemory.{FreeMemory, Waiting, send_fault, sent_unless, transfers_in, with_burst}
+use Rattle.subordinate.specs.FreeMemory.{FreeMemory, send_fault, sent_unless, transfers_in, with_burst}
+use Rattle.subordinate.specs.declared.BeatState.TheVariants.{Waiting}
 use Rattle.world_run.specs.Headline.{bytes_of_all}
 use Rattle.world_run.specs.Setups.{SetupLists}
 use Rattle.world_run.specs.World.{WorldState, Carried, burst_of, burst_to_send, marked_sent, pumped}

@@ -13,7 +13,9 @@ use Rattle.axi_beats.specs.declared.Resp.TheVariants.{Okay}
 use Rattle.axi_checker.specs.OpenBursts.{OpenBursts, AxiBeat, OnB, OnR, nothing_open}
 use Rattle.axi_checker.specs.Rules.{AxiPortLimits, first_axi_fault, beats_sent}
 use Rattle.responses.specs.Shown.{Reply}
-use Rattle.subordinate.specs.FreeMemory.{FreeMemory, BeatState, Waiting, Written, Captured, open_bursts_of, b_of, r_of}
+use Rattle.subordinate.specs.FreeMemory.{FreeMemory, open_bursts_of, b_of, r_of}
+use Rattle.subordinate.specs.declared.BeatState.{BeatState}
+use Rattle.subordinate.specs.declared.BeatState.TheVariants.{Waiting, Written, Captured}
 use Rattle.world_run.specs.Carrying.{IsFirstSetup, IsPerformed, Stage, IsCarrying, Holds, accepted_at}
 use Rattle.world_run.proofs.Events.{EachWay, each_way}
 use Rattle.world_run.proofs.Keeping.{holds_opening, holds_next}

@@ -12,7 +12,8 @@ use Rattle.axi_beats.specs.declared.ArBeat.{ArBeat}
 use Rattle.axi_beats.specs.declared.WBeat.{WBeat}
 use Rattle.axi_beats.specs.declared.Resp.TheVariants.{Okay}
 use Rattle.subordinate.specs.Faults.{Faults, standing_of_listed, lists_page, standing_at, is_good}
-use Rattle.subordinate.specs.FreeMemory.{FreeMemory, send_fault, Captured, lane_written, bytes_written, byte_in_lane, captured}
+use Rattle.subordinate.specs.FreeMemory.{FreeMemory, send_fault, lane_written, bytes_written, byte_in_lane, captured}
+use Rattle.subordinate.specs.declared.BeatState.TheVariants.{Captured}
 use Rattle.subordinate.specs.Pages.{Memory, with_byte}
 use Rattle.world_run.specs.Meaning.{Bytes, with_bytes}
 use Rattle.world_run.proofs.OneWord.{eight_given, has_lane-full, with_bytes-inside, with_bytes-below, with_bytes-above, standing_good, is_bad-none}

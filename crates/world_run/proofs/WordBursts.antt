@@ -15,7 +15,9 @@ use Rattle.axi_beats.specs.declared.Resp.TheVariants.{Okay}
 use Rattle.axi_checker.specs.OpenBursts.{OpenBursts, AxiBeat, OnB, OnR, nothing_open}
 use Rattle.axi_checker.specs.Rules.{AxiPortLimits, first_axi_fault, beats_sent}
 use Rattle.subordinate.specs.Faults.{Faults, Standing, IsGood, IsSlaveError, IsAbsent, standing_at, write_response}
-use Rattle.subordinate.specs.FreeMemory.{FreeMemory, Pending, BeatState, Waiting, Written, Captured, open_write_in, open_read_in, writes_as, reads_as, is_waiting, start_of, transfers_in, b_from, r_from, b_of, r_of}
+use Rattle.subordinate.specs.FreeMemory.{FreeMemory, Pending, open_write_in, open_read_in, writes_as, reads_as, is_waiting, start_of, transfers_in, b_from, r_from, b_of, r_of}
+use Rattle.subordinate.specs.declared.BeatState.{BeatState}
+use Rattle.subordinate.specs.declared.BeatState.TheVariants.{Waiting, Written, Captured}
 use Rattle.world_run.specs.World.{Carried, burst_of}
 
 -- the write of one word, and the read of one

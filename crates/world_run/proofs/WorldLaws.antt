@@ -1,5 +1,5 @@
 -- What each event keeps of a world's fields.
-use Rattle.std.proofs.Common.{◌≡◌, ℕ, ◌+◌, ◌^◌, ◌<◌, ◌≤◌, ◌%◌, Bool, true, false, List, [], ◌∷◌, ◌++◌, Option, Some, None, IsSome, refl, sym, ◌∙◌, ap, subst, arith, inl, inr, drop, find}
+use Rattle.std.proofs.Common.{◌≡◌, ℕ, ◌+◌, ◌^◌, ◌<◌, ◌≤◌, Bool, true, false, List, [], ◌∷◌, ◌++◌, Option, Some, None, IsSome, refl, sym, ◌∙◌, ap, subst, arith, inl, inr, drop, find}
 use Rattle.std.specs.Prelude.{slice_get, option_map, option_to_list, if◌then◌else◌, ◌==◌, ◌&&◌, nat_lt, is_none}
 use Rattle.std.proofs.lemmas.Bool.{ltb-true}
 use Rattle.std.proofs.lemmas.Bool.Decides.{eqb_tells}
@@ -12,9 +12,10 @@ use Rattle.axi_beats.specs.declared.BBeat.{BBeat}
 use Rattle.axi_beats.specs.declared.RBeat.{RBeat}
 use Rattle.burst_plan.specs.PageMap.{translated}
 use Rattle.burst_plan.specs.declared.Region.{Region}
-use Rattle.subordinate.specs.Device.{DeviceState, opening_device, closed_by_b, closed_by_r, closed_by_last, open_burst, IsWordAddress, IsWordBurst}
-use Rattle.subordinate.specs.Faults.{Faults, standing_at, is_good}
-use Rattle.subordinate.specs.FreeMemory.{FreeMemory, Pending, BeatState, Waiting, Written, Captured, performed, performed_in, performed_beat, beat_at, b_of, b_from, r_of, r_from, is_write_of, is_read_of, gives_last, transfers_in, with_burst, send_fault}
+use Rattle.subordinate.specs.Device.{DeviceState, opening_device, closed_by_b, closed_by_r, closed_by_last, open_burst}
+use Rattle.subordinate.specs.FreeMemory.{FreeMemory, Pending, performed, performed_in, performed_beat, beat_at, b_of, b_from, r_of, r_from, is_write_of, is_read_of, gives_last, transfers_in, with_burst, send_fault}
+use Rattle.subordinate.specs.declared.BeatState.{BeatState}
+use Rattle.subordinate.specs.declared.BeatState.TheVariants.{Waiting, Written, Captured}
 use Rattle.subordinate.specs.declared.Performed.TheVariants.{Done}
 use Rattle.world_run.specs.Carrying.{IsFirstSetup, IsLast, IsCarrying, Stage, Unsent, Waits, IsDone, Answered}
 use Rattle.world_run.specs.Inside.{world_state, IsReached, IsStocked, IsSoundWorld, unsent_count}
@@ -226,28 +227,10 @@ is_room state client beat address placed = by_test (client == 0 && is_of_eight_b
 
 -- ---- what a pump finds
 
--- the burst of a request on a good page is of one word
-is_word_burst : (faults : Faults) (carried : Carried) → carried.address % 8 ≡ 0 → is_good (standing_at faults carried.address) ≡ true → IsWordBurst faults (burst_of carried)
-is_word_burst faults carried aligned good = by_data (has_data carried.message.operation)
-  where
-    address : IsWordAddress faults 0 carried.address 0 3 1
-    address = record { first_id = refl; aligned = aligned; one_transfer = refl; eight_bytes = refl; incr = refl; good = good }
-
-    by_data : (writes : Bool)
-        → IsWordBurst faults
-        (if writes
-        then
-        WriteBurst (record { id = 0; address = carried.address; len = 0; size = 3; burst = 1 })
-        (record { payload = (beat_of carried.message 0).word; strobes = 255; last = true } ∷ [])
-        else ReadBurst (record { id = 0; address = carried.address; len = 0; size = 3; burst = 1 }))
-    by_data true = (address, record { beat = record { payload = (beat_of carried.message 0).word; strobes = 255; last = true }; alone = refl; last = refl })
-    by_data false = address
-
 -- a burst that is to be sent finds nothing open, and the memory takes it
 pub record IsReadyToSend (state : WorldState) (carried : Carried) : Type 0 where
   pub nothing : state.memory.pending ≡ []
   pub taken : send_fault state.memory (burst_of carried) ≡ None
-  pub word : IsWordBurst state.memory.faults (burst_of carried)
 
 pub ready_to_send : (state : WorldState) (carried : Carried) → IsReached state → state.live ≡ Some carried → carried.sent ≡ false → IsReadyToSend state carried
 ready_to_send state carried reached live unsent = by_stage last.stage
@@ -261,9 +244,6 @@ ready_to_send state carried reached live unsent = by_stage last.stage
           nothing = nothing;
           taken =
               (is_taken_burst reached.setup carried last.word state.memory (is_placed reached.setup reached.past state carried last) reached.holds.bus nothing last.message.operation).taken;
-          word =
-              is_word_burst state.memory.faults carried last.aligned
-              (subst (λ faults. is_good (standing_at faults carried.address) ≡ true) (sym reached.holds.faults) last.good);
         }
     by_stage (Waits serial sent no_reply waiting shows) = absurd (cc)
     by_stage (IsDone serial becomes sent no_reply waiting was shows) = absurd (cc)

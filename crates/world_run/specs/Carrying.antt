@@ -9,7 +9,8 @@ use Rattle.axi_beats.specs.declared.Resp.TheVariants.{Okay}
 use Rattle.burst_plan.specs.PageMap.{translated_address}
 use Rattle.responses.specs.Shown.{Reply}
 use Rattle.subordinate.specs.Faults.{standing_at, is_good}
-use Rattle.subordinate.specs.FreeMemory.{BeatState, Waiting, Written, Captured}
+use Rattle.subordinate.specs.declared.BeatState.{BeatState}
+use Rattle.subordinate.specs.declared.BeatState.TheVariants.{Waiting, Written, Captured}
 use Rattle.subordinate.specs.Pages.{Memory}
 use Rattle.world_run.specs.Headline.{byte_shown, bytes_of_all}
 use Rattle.world_run.specs.Meaning.{Bytes, meaning}

@@ -1,38 +1,47 @@
--- The effect by addresses is that of the definitions, since what is held is legal.
-use Rattle.std.proofs.Common.{◌≡◌, inr, sym, subst, ap, arith}
-use Rattle.std.proofs.lemmas.Grind.{common_steps}
-use Rattle.std.specs.Prelude.{IfSome, find}
+-- The burst of the serial, if it is open, and the effect of its beat by addresses.
+use Rattle.std.proofs.Common.{◌≡◌, sym, ap, subst, ◌∙◌, refl}
+use Rattle.std.specs.Prelude.{Some, IfSome, find}
 use Rattle.axi_beats.specs.Bursts.{IsLegal}
 use Rattle.subordinate.specs.Device.{DeviceState}
 use Rattle.subordinate.specs.Effects.{HasEffectAt, HasGoodPages}
-use Rattle.subordinate.specs.FreeMemory.{has_serial, performed}
-use Rattle.subordinate.specs.Inside.{faults_of}
+use Rattle.subordinate.specs.FreeMemory.{beat_at, has_serial, performed}
+use Rattle.subordinate.specs.declared.BeatState.{BeatState}
+use Rattle.subordinate.specs.declared.BeatState.TheVariants.{Waiting}
+use Rattle.subordinate.specs.declared.Performed.TheVariants.{Done}
 use Rattle.subordinate.proofs.EffectLaws.{has_effect-performed}
 use Rattle.subordinate.proofs.GoodPages.{has_good_pages-performed}
-use Rattle.subordinate.proofs.SendLaws.{held_is_legal}
+use Rattle.subordinate.specs.Order.{OwesTheSame}
+use Rattle.subordinate.proofs.OpenBursts.{found_none}
+use Rattle.subordinate.proofs.OrderLaws.{owes_performed}
+use Rattle.subordinate.proofs.SoundDevices.{performing-serial}
 use Rattle.subordinate.proofs.device.Device.perform.Goals as goal
 
-pub returns-clause-answer : goal.returns-clause-answer
-returns-clause-answer c = grind (arith, common_steps)
+pub returns-in_default-clause-answer : goal.returns-in_default-clause-answer
+returns-in_default-clause-answer c = rw (found_none (has_serial c.args.serial) c.args.self.now.memory.pending (sym c.place_of.ensures ∙ c.in_default.is)) refl
 
-pub returns-clause-state : goal.returns-clause-state
-returns-clause-state c = grind (arith, common_steps)
+pub returns-in_default-clause-state : goal.returns-in_default-clause-state
+returns-in_default-clause-state c = rw (found_none (has_serial c.args.serial) c.args.self.now.memory.pending (sym c.place_of.ensures ∙ c.in_default.is)) refl
 
-pub returns-clause-effect : goal.returns-clause-effect
-returns-clause-effect c = λ is_done pages.
-    let law : HasEffectAt c.args.serial c.args.beat c.args.self.now.memory (performed c.args.self.now.memory c.args.serial c.args.beat).0 =
-    has_effect-performed c.args.self.now.memory c.args.serial c.args.beat (inr width) legal pages (sym (returns-clause-answer c))
-    in
-    subst (HasEffectAt c.args.serial c.args.beat c.args.self.now.memory) (sym (ap (λ (device : DeviceState). device.memory) (returns-clause-state c))) law
-  where
-    width : c.args.self.now.memory.bus_bytes ≡ 8
-    width = sym (ap (λ (device : DeviceState). device.memory.bus_bytes) c.self.view_is)
+pub returns-in-Some-Waiting-clause-state : goal.returns-in-Some-Waiting-clause-state
+returns-in-Some-Waiting-clause-state c =
+    let place = sym c.place_of.ensures ∙ c.in-Some.is in
+    c.perform_at.ensures (has_serial c.args.serial) place
+    ∙ performing-serial c.args.self.now c.args.serial c.args.beat c.open_at.result.now (c.open_at.ensures.found (has_serial c.args.serial) place)
+    (sym c.beat_at.ensures ∙ c.in-Some-Waiting.is ∙ ap (λ (state : BeatState). Some state) c.in-Some-Waiting.field-0-is)
 
-    legal : IfSome (find (has_serial c.args.serial) c.args.self.now.memory.pending) (λ pending. IsLegal c.args.self.now.memory.bus_bytes pending.burst)
-    legal =
-        subst (λ (device : DeviceState). IfSome (find (has_serial c.args.serial) device.memory.pending) (λ pending. IsLegal device.memory.bus_bytes pending.burst)) c.self.view_is
-        (held_is_legal (faults_of c.self.inside.pages.items) c.self.inside.held c.self.inside.serial c.self.inside.stage c.args.serial c.self.invariant)
+pub returns-in-Some-Waiting-clause-effect : goal.returns-in-Some-Waiting-clause-effect
+returns-in-Some-Waiting-clause-effect c = λ is_done pages.
+    let memory = c.args.self.now.memory in
+    let found = c.open_at.ensures.found (has_serial c.args.serial) (sym c.place_of.ensures ∙ c.in-Some.is) in
+    let waits : beat_at c.open_at.result.now c.args.beat ≡ Some Waiting = sym c.beat_at.ensures ∙ c.in-Some-Waiting.is ∙ ap (λ (state : BeatState). Some state) c.in-Some-Waiting.field-0-is in
+    let legal : IfSome (find (has_serial c.args.serial) memory.pending) (λ pending. IsLegal memory.bus_bytes pending.burst) = rw found c.open_at.ensures.sound.legal in
+    let law : HasEffectAt c.args.serial c.args.beat memory (performed memory c.args.serial c.args.beat).0 = has_effect-performed memory c.args.serial c.args.beat c.open_at.ensures.width legal pages (rw (found, waits) refl) in
+    subst (HasEffectAt c.args.serial c.args.beat memory) (sym (ap (λ (device : DeviceState). device.memory) (returns-in-Some-Waiting-clause-state c))) law
 
-pub returns-clause-good_pages : goal.returns-clause-good_pages
-returns-clause-good_pages c = λ pages.
-    subst (λ (device : DeviceState). HasGoodPages device.memory) (sym (returns-clause-state c)) (has_good_pages-performed c.args.self.now.memory c.args.serial c.args.beat pages)
+pub returns-in-Some-Waiting-clause-good_pages : goal.returns-in-Some-Waiting-clause-good_pages
+returns-in-Some-Waiting-clause-good_pages c = λ pages.
+    subst (λ (device : DeviceState). HasGoodPages device.memory) (sym (returns-in-Some-Waiting-clause-state c)) (has_good_pages-performed c.args.self.now.memory c.args.serial c.args.beat pages)
+
+pub returns-in-Some-Waiting-clause-order : goal.returns-in-Some-Waiting-clause-order
+returns-in-Some-Waiting-clause-order c =
+    subst (λ (device : DeviceState). OwesTheSame c.args.self.now.memory.pending device.memory.pending) (sym (returns-in-Some-Waiting-clause-state c)) (owes_performed c.args.self.now.memory c.args.serial c.args.beat)

@@ -1,0 +1,150 @@
+-- The beats of an open burst, counted by whether they are performed.
+use Rattle.std.proofs.Common.{◌≡◌, ℕ, zero, suc, ◌+◌, ◌-◌, ◌<◌, ◌≤◌, ◌==◌, Bool, true, false, not, List, [], ◌∷◌, ◌++◌, length, get_or, map, replicate, drop, refl, sym, ◌∙◌, ap, arith}
+use Rattle.std.proofs.Math.ListN.{drop_of_length-le}
+use Rattle.std.proofs.Math.Seq.{drop-cons}
+use Rattle.std.proofs.lemmas.Bool.{ne_eqb}
+use Rattle.std.proofs.lemmas.List.{length-append, length-map}
+use Rattle.std.proofs.lemmas.List.Sums.{sum_by-drop_more}
+use Rattle.std.proofs.lemmas.Option.{slice_get-get_or, slice_get-map}
+use Rattle.std.specs.List.{AllByRecursion, list_any, enumerate_from}
+use Rattle.std.specs.Prelude.{Option, Some, None, filter, filter_map, flat_map, option_map, sum_by, if◌then◌else◌, slice_get, slice_set, take}
+use Rattle.axi_beats.specs.declared.Resp.{Resp}
+use Rattle.subordinate.specs.FreeMemory.{Pending, is_waiting, performed_waiting_in, waiting_in}
+use Rattle.subordinate.specs.Inside.{IsPerformed, count_waiting, waiting_places}
+use Rattle.subordinate.specs.declared.BeatState.{BeatState}
+use Rattle.subordinate.specs.declared.BeatState.TheVariants.{Waiting, Written, Captured}
+
+pub count_waiting-replicate : (n : ℕ) → count_waiting (replicate n Waiting) ≡ n
+count_waiting-replicate zero = refl
+count_waiting-replicate (suc n) = ap suc (count_waiting-replicate n)
+
+pub count_waiting-le : (beats : List BeatState) → count_waiting beats ≤ length beats
+count_waiting-le [] = omega arith
+count_waiting-le (Waiting ∷ beats) = omega (arith, count_waiting-le beats)
+count_waiting-le (Written ∷ beats) = omega (arith, count_waiting-le beats)
+count_waiting-le (Captured payload resp ∷ beats) = omega (arith, count_waiting-le beats)
+
+-- no beat waits exactly where none is counted
+pub none_waiting : (beats : List BeatState) → (count_waiting beats == 0) ≡ not (list_any is_waiting beats)
+none_waiting [] = refl
+none_waiting (Waiting ∷ beats) = ne_eqb (suc (count_waiting beats)) 0 (λ same. omega arith)
+none_waiting (Written ∷ beats) = none_waiting beats
+none_waiting (Captured payload resp ∷ beats) = none_waiting beats
+
+-- a beat that waited and is performed now
+pub count_waiting-put : (beats : List BeatState) (k : ℕ) (state : BeatState) → slice_get beats k ≡ Some Waiting → is_waiting state ≡ false → count_waiting (slice_set beats k state) + 1 ≡ count_waiting beats
+count_waiting-put [] k state waits performed = absurd (cc)
+count_waiting-put (Waiting ∷ beats) zero state waits performed = rw performed (omega arith)
+count_waiting-put (Written ∷ beats) zero state waits performed = absurd (cc)
+count_waiting-put (Captured payload resp ∷ beats) zero state waits performed = absurd (cc)
+count_waiting-put (Waiting ∷ beats) (suc k) state waits performed = omega (arith, count_waiting-put beats k state waits performed)
+count_waiting-put (Written ∷ beats) (suc k) state waits performed = count_waiting-put beats k state waits performed
+count_waiting-put (Captured payload resp ∷ beats) (suc k) state waits performed = count_waiting-put beats k state waits performed
+
+-- ---- the places of beats that wait
+
+pub length-waiting_places : (from : ℕ) (beats : List BeatState) → length (waiting_places from beats) ≡ count_waiting beats
+length-waiting_places from [] = refl
+length-waiting_places from (Waiting ∷ beats) = ap suc (length-waiting_places (from + 1) beats)
+length-waiting_places from (Written ∷ beats) = length-waiting_places (from + 1) beats
+length-waiting_places from (Captured payload resp ∷ beats) = length-waiting_places (from + 1) beats
+
+-- the serial and place of each, as the memory lists them
+pub waiting_in-places : (serial from : ℕ) (beats : List BeatState)
+    → filter_map {Y = ℕ × ℕ} (λ (place : ℕ × BeatState). if is_waiting place.1 then Some (serial, place.0) else None) (enumerate_from from beats) ≡ map (λ place. (serial, place)) (waiting_places from beats)
+waiting_in-places serial from [] = refl
+waiting_in-places serial from (Waiting ∷ beats) = ap (λ (places : List (ℕ × ℕ)). (serial, from) ∷ places) (waiting_in-places serial (from + 1) beats)
+waiting_in-places serial from (Written ∷ beats) = waiting_in-places serial (from + 1) beats
+waiting_in-places serial from (Captured payload resp ∷ beats) = waiting_in-places serial (from + 1) beats
+
+-- ---- performed beats that wait for their answer
+
+pub count_performed : (beats : List BeatState) → length (filter (λ beat. not (is_waiting beat)) beats) + count_waiting beats ≡ length beats
+count_performed [] = refl
+count_performed (Waiting ∷ beats) = omega (arith, count_performed beats)
+count_performed (Written ∷ beats) = omega (arith, count_performed beats)
+count_performed (Captured payload resp ∷ beats) = omega (arith, count_performed beats)
+
+pub count_waiting-drop : (n : ℕ) (beats : List BeatState) → AllByRecursion IsPerformed (take n beats) → n ≤ length beats → (count_waiting (drop n beats) ≡ count_waiting beats) × (length (drop n beats) + n ≡ length beats)
+count_waiting-drop zero beats performed within = (refl, omega arith)
+count_waiting-drop (suc n) [] performed within = absurd (omega (arith, within))
+count_waiting-drop (suc n) (Waiting ∷ beats) performed within = absurd (cc (performed.0))
+count_waiting-drop (suc n) (Written ∷ beats) performed within =
+    let rest = count_waiting-drop n beats performed.1 (omega (arith, within)) in
+    (rest.0, omega (arith, rest.1))
+count_waiting-drop (suc n) (Captured payload resp ∷ beats) performed within =
+    let rest = count_waiting-drop n beats performed.1 (omega (arith, within)) in
+    (rest.0, omega (arith, rest.1))
+
+-- the performed beats that aren't answered, counted by those that wait
+pub performed_waiting-count : (pending : Pending) → AllByRecursion IsPerformed (take pending.answered pending.beats) → pending.answered ≤ length pending.beats
+    → performed_waiting_in pending + count_waiting pending.beats + pending.answered ≡ length pending.beats
+performed_waiting-count pending performed within =
+    let dropped = count_waiting-drop pending.answered pending.beats performed within in
+    omega (arith, count_performed (drop pending.answered pending.beats), dropped.0, dropped.1)
+
+-- the beats of an open burst that wait, as the memory lists them
+pub waiting_in-is : (pending : Pending) → waiting_in pending ≡ map (λ place. (pending.serial, place)) (waiting_places 0 pending.beats)
+waiting_in-is pending = waiting_in-places pending.serial 0 pending.beats
+
+pub length-waiting_in : (pending : Pending) → length (waiting_in pending) ≡ count_waiting pending.beats
+length-waiting_in pending = ap (λ (beats : List (ℕ × ℕ)). length beats) (waiting_in-is pending) ∙ length-map (waiting_places 0 pending.beats) (λ place. (pending.serial, place)) ∙ length-waiting_places 0 pending.beats
+
+slice_get-append-before : {X : Type 0} (xs ys : List X) (k : ℕ) → k < length xs → slice_get (xs ++ ys) k ≡ slice_get xs k
+slice_get-append-before [] ys k within = absurd (omega (arith, within))
+slice_get-append-before (x ∷ xs) ys zero within = refl
+slice_get-append-before (x ∷ xs) ys (suc k) within = slice_get-append-before xs ys k (omega (arith, within))
+
+slice_get-append-after : {X : Type 0} (xs ys : List X) (k : ℕ) → length xs ≤ k → slice_get (xs ++ ys) k ≡ slice_get ys (k - length xs)
+slice_get-append-after [] ys k past =
+    let same : k ≡ k - 0 = omega arith in
+    ap (slice_get ys) same
+slice_get-append-after (x ∷ xs) ys zero past = absurd (omega (arith, past))
+slice_get-append-after (x ∷ xs) ys (suc k) past =
+    let less : suc k - suc (length xs) ≡ k - length xs = omega arith in
+    rw less (slice_get-append-after xs ys k (omega (arith, past)))
+
+-- the open bursts from a place on: that one, and those after it
+from_place : (pending : List Pending) (i : ℕ) (p : Pending) → i < length pending → p ≡ get_or pending i p → flat_map waiting_in (drop i pending) ≡ waiting_in p ++ flat_map waiting_in (drop (i + 1) pending)
+from_place pending i p within is =
+    let next : suc i ≡ i + 1 = omega arith in
+    ap (λ (ps : List Pending). flat_map waiting_in ps) (drop-cons pending i p within)
+    ∙ ap (λ (q : Pending). waiting_in q ++ flat_map waiting_in (drop (suc i) pending)) (sym is)
+    ∙ ap (λ (n : ℕ). waiting_in p ++ flat_map waiting_in (drop n pending)) next
+
+-- a waiting beat counted from an open burst on is in that one, or after it
+pub waiting-here : (pending : List Pending) (i left : ℕ) (p : Pending) (beat : ℕ) → i < length pending → p ≡ get_or pending i p → left < count_waiting p.beats → slice_get (waiting_places 0 p.beats) left ≡ Some beat
+    → slice_get (flat_map waiting_in (drop i pending)) left ≡ Some (p.serial, beat)
+waiting-here pending i left p beat within is inside found =
+    ap (λ (beats : List (ℕ × ℕ)). slice_get beats left) (from_place pending i p within is)
+    ∙ slice_get-append-before (waiting_in p) (flat_map waiting_in (drop (i + 1) pending)) left (omega (arith, inside, length-waiting_in p))
+    ∙ ap (λ (beats : List (ℕ × ℕ)). slice_get beats left) (waiting_in-is p)
+    ∙ slice_get-map (λ place. (p.serial, place)) (waiting_places 0 p.beats) left
+    ∙ ap (option_map (λ place. (p.serial, place))) found
+
+pub waiting-after : (pending : List Pending) (i left : ℕ) (p : Pending) → i < length pending → p ≡ get_or pending i p → count_waiting p.beats ≤ left
+    → slice_get (flat_map waiting_in (drop i pending)) left ≡ slice_get (flat_map waiting_in (drop (i + 1) pending)) (left - count_waiting p.beats)
+waiting-after pending i left p within is past =
+    ap (λ (beats : List (ℕ × ℕ)). slice_get beats left) (from_place pending i p within is)
+    ∙ slice_get-append-after (waiting_in p) (flat_map waiting_in (drop (i + 1) pending)) left (omega (arith, past, length-waiting_in p))
+    ∙ ap (λ (n : ℕ). slice_get (flat_map waiting_in (drop (i + 1) pending)) (left - n)) (length-waiting_in p)
+
+-- past all open bursts there is none
+pub waiting-none : (pending : List Pending) (i left k : ℕ) → length pending ≤ i → slice_get (flat_map waiting_in (drop i pending)) left ≡ slice_get (flat_map waiting_in pending) k
+    → k < length (flat_map waiting_in pending) → ⊥
+waiting-none pending i left k past same within =
+    let none : slice_get (flat_map waiting_in pending) k ≡ None = sym same ∙ ap (λ (ps : List Pending). slice_get (flat_map waiting_in ps) left) (drop_of_length-le pending past) in
+    let some : slice_get (flat_map waiting_in pending) k ≡ Some (get_or (flat_map waiting_in pending) k (0, 0)) = slice_get-get_or (flat_map waiting_in pending) k (0, 0) within in
+    absurd (cc (none, some))
+
+-- a sum over the open bursts so far, one further
+pub sum_step : (f : Pending → ℕ) (pending : List Pending) (i count n total : ℕ) (p : Pending) → i < length pending → p ≡ get_or pending i p → n ≡ f p → count + sum_by f (drop i pending) ≡ total
+    → count + n + sum_by f (drop (i + 1) pending) ≡ total
+sum_step f pending i count n total p within is counts so_far = omega (arith, sum_by-drop_more f pending i p within, ap f is, counts, so_far)
+
+pub sum_end : (f : Pending → ℕ) (pending : List Pending) (i count total : ℕ) → length pending ≤ i → count + sum_by f (drop i pending) ≡ total → count ≡ total
+sum_end f pending i count total past so_far = omega (arith, so_far, ap (λ (ps : List Pending). sum_by f ps) (drop_of_length-le pending past))
+
+pub length-waiting_beats : (pending : List Pending) → length (flat_map waiting_in pending) ≡ sum_by (λ p. count_waiting p.beats) pending
+length-waiting_beats [] = refl
+length-waiting_beats (p ∷ ps) = length-append (waiting_in p) (flat_map waiting_in ps) ∙ ap (λ (n : ℕ). n + length (flat_map waiting_in ps)) (length-waiting_in p) ∙ ap (λ (n : ℕ). count_waiting p.beats + n) (length-waiting_beats ps) ∙ sym (sum_by-drop_more (λ q. count_waiting q.beats) (p ∷ ps) 0 p (omega arith))

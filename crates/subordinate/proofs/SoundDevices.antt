@@ -1,0 +1,228 @@
+-- What stays true of a device's open bursts when one is sent, performed, answered or closed.
+use Rattle.std.proofs.Common.{◌≡◌, ℕ, zero, suc, ◌+◌, ◌*◌, ◌<◌, ◌≤◌, ◌==◌, Bool, true, false, List, [], ◌∷◌, ◌++◌, length, get_or, map, replicate, refl, sym, ◌∙◌, ap, subst, arith}
+use Rattle.std.proofs.Math.ListN.{set}
+use Rattle.std.proofs.lemmas.List.{append-nil, length-append, length-set, map-append}
+use Rattle.std.proofs.lemmas.List.Edits.{length-remove}
+use Rattle.std.specs.List.{AllByRecursion, position_or_len, remove}
+use Rattle.std.specs.Prelude.{Option, Some, None, IfSome, IsSome, filter, find, option_map, option_to_list, position, slice_get, slice_set, take}
+use Rattle.axi_beats.specs.Bursts.{Burst, IsLegal, ReadBurst, WriteBurst}
+use Rattle.axi_checker.proofs.Few.{few-append, few-change_first, few-without_first, length-few}
+use Rattle.axi_checker.specs.Monitors.{HasFewOfEach}
+use Rattle.axi_checker.specs.Rules.{id_of, outstanding_beside}
+use Rattle.bus_words.proofs.FirstPlaces.{IsFirst, change_first-first, find-first, position_is_first, without_first-first}
+use Rattle.bus_words.proofs.PlaceChanges.{all-append, all-without_first, find-passes}
+use Rattle.std.proofs.lemmas.Bool.{eqb-true}
+use Rattle.std.proofs.lemmas.Option.{slice_get-get_or}
+use Rattle.bus_words.specs.Places.{change_first, without_first}
+use Rattle.subordinate.specs.Device.{DeviceState, after_r}
+use Rattle.subordinate.specs.FreeMemory.{FreeMemory, Pending, beat_after, beat_at, gives_last, has_serial, is_read_of, is_waiting, memory_after, newly_pending, open_bursts_of, performed, transfers_in, with_beat}
+use Rattle.subordinate.specs.Inside.{HasRoom, IsPerformed, IsSoundMemory, IsSoundPending, RisesWithin, after_closing, after_counting, after_performing, burst_in, captured_at, device_state, is_beside, memory_of, memory_over, no_burst, row_of, row_of_burst, with_answer}
+use Rattle.subordinate.specs.InsidePages.{PagesState}
+use Rattle.subordinate.specs.declared.BeatState.{BeatState}
+use Rattle.subordinate.specs.declared.BeatState.TheVariants.{Waiting, Written, Captured}
+use Rattle.subordinate.proofs.OpenBursts.{all-at, count_in_row, known_beside, pending_after_r-last, pending_after_r-more, position-serial, rises-append, rises-change_first, rises-without_first, serial_at}
+
+-- ---- lists
+
+all-set : {X : Type 0} (P : X → Type 0) (xs : List X) (k : ℕ) (x : X) → AllByRecursion P xs → P x → AllByRecursion P (set xs k x)
+all-set P [] k x all new = tt
+all-set P (y ∷ ys) zero x all new = (new, all.1)
+all-set P (y ∷ ys) (suc k) x all new = (all.0, all-set P ys k x all.1 new)
+
+length-replicate : {X : Type 0} (n : ℕ) (x : X) → length (replicate n x) ≡ n
+length-replicate zero x = refl
+length-replicate (suc n) x = ap suc (length-replicate n x)
+
+-- ---- one open burst
+
+performed-set : (n k : ℕ) (beats : List BeatState) (state : BeatState) → AllByRecursion IsPerformed (take n beats) → is_waiting state ≡ false → AllByRecursion IsPerformed (take n (set beats k state))
+performed-set zero k beats state all performed = tt
+performed-set (suc n) k [] state all performed = tt
+performed-set (suc n) zero (beat ∷ beats) state all performed = (performed, all.1)
+performed-set (suc n) (suc k) (beat ∷ beats) state all performed = (all.0, performed-set n k beats state all.1 performed)
+
+performed-more : (n : ℕ) (beats : List BeatState) (state : BeatState) → AllByRecursion IsPerformed (take n beats) → slice_get beats n ≡ Some state → is_waiting state ≡ false
+    → AllByRecursion IsPerformed (take (suc n) beats) × (suc n ≤ length beats)
+performed-more n [] state all there performed = absurd (cc)
+performed-more zero (beat ∷ beats) state all there performed =
+    let same : state ≡ beat = cc in
+    ((rw same at performed, tt), omega arith)
+performed-more (suc n) (beat ∷ beats) state all there performed =
+    let rest = performed-more n beats state all.1 there performed in
+    ((all.0, rest.0), omega (arith, rest.1))
+
+pub sound-with_beat : (bus_bytes beat : ℕ) (state : BeatState) (p : Pending) → IsSoundPending bus_bytes p → is_waiting state ≡ false → IsSoundPending bus_bytes (with_beat beat state p)
+sound-with_beat bus_bytes beat state p sound performed =
+    record {
+      legal = sound.legal;
+      whole = length-set p.beats beat state ∙ sound.whole;
+      answered = performed-set p.answered beat p.beats state sound.answered performed;
+      most = omega (arith, sound.most, length-set p.beats beat state);
+    }
+
+pub sound-with_answer : (bus_bytes : ℕ) (state : BeatState) (p : Pending) → IsSoundPending bus_bytes p → slice_get p.beats p.answered ≡ Some state → is_waiting state ≡ false → IsSoundPending bus_bytes (with_answer p)
+sound-with_answer bus_bytes state p sound there performed =
+    let more = performed-more p.answered p.beats state sound.answered there performed in
+    let next : suc p.answered ≡ p.answered + 1 = omega arith in
+    record { legal = sound.legal; whole = sound.whole; answered = subst (λ (n : ℕ). AllByRecursion IsPerformed (take n p.beats)) next more.0; most = omega (arith, more.1) }
+
+sound-newly : (bus_bytes serial : ℕ) (burst : Burst) → IsLegal bus_bytes burst → IsSoundPending bus_bytes (newly_pending serial burst)
+sound-newly bus_bytes serial burst legal = record { legal = legal; whole = length-replicate (transfers_in burst) Waiting; answered = tt; most = omega arith }
+
+-- ---- all of them
+
+-- a burst that was sent
+pub sound-append : (bus_bytes sent : ℕ) (pending : List Pending) (burst : Burst) → IsSoundMemory bus_bytes pending sent → IsLegal bus_bytes burst → id_of burst < 16
+    → length (filter (is_beside burst) pending) < 4 → IsSoundMemory bus_bytes (pending ++ newly_pending sent burst ∷ []) (sent + 1)
+sound-append bus_bytes sent pending burst sound legal known fewer =
+    record {
+      bus = sound.bus;
+      rising = rises-append 0 sent pending (newly_pending sent burst) sound.rising refl;
+      few = few-append row_of 32 4 pending (newly_pending sent burst) sound.few (row_below burst known) (omega (arith, count_in_row burst pending, fewer));
+      each = all-append (IsSoundPending bus_bytes) pending (newly_pending sent burst) sound.each (sound-newly bus_bytes sent burst legal);
+    }
+  where
+    row_below : (burst : Burst) → id_of burst < 16 → row_of_burst burst < 32
+    row_below (WriteBurst aw ws) known = omega (arith, known)
+    row_below (ReadBurst ar) known = omega (arith, known)
+
+-- there is room for one more
+pub room-append : (bus_bytes sent : ℕ) (pending : List Pending) (burst : Burst) → IsSoundMemory bus_bytes pending sent → IsLegal bus_bytes burst → id_of burst < 16
+    → length (filter (is_beside burst) pending) < 4 → length pending < 128
+room-append bus_bytes sent pending burst sound legal known fewer =
+    let more = sound-append bus_bytes sent pending burst sound legal known fewer in
+    omega (arith, length-few row_of 32 4 _ more.few, length-append pending (newly_pending sent burst ∷ []))
+
+-- the burst at a place, by its serial
+pub first-serial : (bus_bytes sent : ℕ) (pending : List Pending) (k : ℕ) → IsSoundMemory bus_bytes pending sent → k < length pending → IsFirst (has_serial (serial_at pending k)) pending k
+first-serial bus_bytes sent pending k sound within = record { within = within; first = position-serial 0 sent pending k sound.rising within }
+
+-- a burst that closed
+pub sound-remove : (bus_bytes sent : ℕ) (pending : List Pending) (k : ℕ) → IsSoundMemory bus_bytes pending sent → k < length pending → IsSoundMemory bus_bytes (remove pending k) sent
+sound-remove bus_bytes sent pending k sound within =
+    let test = has_serial (serial_at pending k) in
+    subst (λ (left : List Pending). IsSoundMemory bus_bytes left sent) (without_first-first test pending k (first-serial bus_bytes sent pending k sound within))
+    (record {
+      bus = sound.bus;
+      rising = rises-without_first 0 sent test pending sound.rising;
+      few = few-without_first row_of 32 4 test pending sound.few;
+      each = all-without_first (IsSoundPending bus_bytes) test pending sound.each;
+    })
+
+-- a burst that changed, and kept its serial and its burst
+pub sound-set : (bus_bytes sent : ℕ) (pending : List Pending) (k : ℕ) (change : Pending → Pending) (d : Pending) → ((p : Pending) → (change p).serial ≡ p.serial) → ((p : Pending) → (change p).burst ≡ p.burst)
+    → IsSoundMemory bus_bytes pending sent → k < length pending → IsSoundPending bus_bytes (change (get_or pending k d)) → IsSoundMemory bus_bytes (set pending k (change (get_or pending k d))) sent
+sound-set bus_bytes sent pending k change d same_serial same_burst sound within new =
+    let test = has_serial (serial_at pending k) in
+    let becomes = change_first-first test change pending k d (first-serial bus_bytes sent pending k sound within) in
+    record {
+      bus = sound.bus;
+      rising = subst (λ (ps : List Pending). RisesWithin 0 sent ps) becomes (rises-change_first 0 sent test change pending same_serial sound.rising);
+      few = subst (λ (ps : List Pending). HasFewOfEach row_of 32 4 ps) becomes (few-change_first row_of 32 4 test change pending (λ p. ap row_of_burst (same_burst p)) sound.few);
+      each = all-set (IsSoundPending bus_bytes) pending k _ sound.each new;
+    }
+
+-- ---- the device
+
+-- the first open burst that passes a test closed
+pub closing : (bus_bytes : ℕ) (pages : PagesState) (pending : List Pending) (sent : ℕ) (closed : List (Option Burst)) (test : Pending → Bool) (k : ℕ) (p : Pending) (held : Option Burst) → position test pending ≡ Some k
+    → p ≡ get_or pending k p → held ≡ Some p.burst → device_state bus_bytes pages (remove pending k) sent (closed ++ held ∷ []) ≡ after_closing test (device_state bus_bytes pages pending sent closed)
+closing bus_bytes pages pending sent closed test k p held place is box =
+    let at = position_is_first test pending k place in
+    let found : find test pending ≡ Some p = find-first test pending k p at ∙ ap Some (sym is) in
+    rw (← without_first-first test pending k at, map-append burst_in closed (held ∷ []), box, found) refl
+
+-- a beat of the first open burst that passes a test was performed
+pub performing : (bus_bytes : ℕ) (pages changed : PagesState) (pending : List Pending) (sent : ℕ) (closed : List (Option Burst)) (test : Pending → Bool) (k beat : ℕ) (p : Pending) (state : BeatState) → position test pending ≡ Some k
+    → p ≡ get_or pending k p → state ≡ beat_after (memory_over bus_bytes pages) p.burst beat → changed ≡ record pages { memory = memory_after (memory_over bus_bytes pages) p.burst beat }
+    → device_state bus_bytes changed (set pending k (with_beat beat state p)) sent closed ≡ after_performing test beat (device_state bus_bytes pages pending sent closed)
+performing bus_bytes pages changed pending sent closed test k beat p state place is becomes changes =
+    let at = position_is_first test pending k place in
+    let found : find test pending ≡ Some p = find-first test pending k p at ∙ ap Some (sym is) in
+    let new : change_first test (with_beat beat state) pending ≡ set pending k (with_beat beat state p) = change_first-first test (with_beat beat state) pending k p at ∙ ap (λ q. set pending k (with_beat beat state q)) (sym is) in
+    rw (← new, found, becomes, changes) refl
+
+-- room for those that are open and closed after one closed
+pub room-close : (open_bursts closed spare open_after closed_after spare_after room_of_open room_of_closed room_of_spare new_open new_closed new_spare : ℕ) → HasRoom open_bursts closed spare room_of_open room_of_closed room_of_spare
+    → open_after + 1 ≡ open_bursts → closed_after ≡ closed + 1 → spare_after ≡ spare + 1 → room_of_open ≤ new_open → room_of_closed ≤ new_closed → room_of_spare ≤ new_spare
+    → HasRoom open_after closed_after spare_after new_open new_closed new_spare
+room-close open_bursts closed spare open_after closed_after spare_after room_of_open room_of_closed room_of_spare new_open new_closed new_spare room one_less one_more another more_open more_closed more_spare =
+    record {
+      bursts = omega (arith, room.bursts, one_less, one_more);
+      beats = omega (arith, room.beats, one_less, another);
+      for_open = omega (arith, room.for_open, more_open);
+      for_closed = omega (arith, room.for_closed, more_closed);
+      for_spare = omega (arith, room.for_spare, more_spare);
+    }
+
+-- a performed beat doesn't wait
+pub beat_after-performed : (memory : FreeMemory) (burst : Burst) (beat : ℕ) → is_waiting (beat_after memory burst beat) ≡ false
+beat_after-performed memory (WriteBurst aw ws) beat = refl
+beat_after-performed memory (ReadBurst ar) beat = refl
+
+captured-performed : (state : Option BeatState) → IsSome (captured_at state) → (beat : BeatState) × (state ≡ Some beat) × (is_waiting beat ≡ false)
+captured-performed None captured = absurd (cc)
+captured-performed (Some Waiting) captured = absurd (cc)
+captured-performed (Some Written) captured = absurd (cc)
+captured-performed (Some (Captured payload resp)) captured = (Captured payload resp, refl, refl)
+
+-- an R of the open read at a place
+pub sound-answered : (bus_bytes sent : ℕ) (pending : List Pending) (k : ℕ) (p : Pending) → IsSoundMemory bus_bytes pending sent → k < length pending → p ≡ get_or pending k p
+    → IfSome (slice_get pending k) (λ q. IsSome (captured_at (beat_at q q.answered))) → IsSoundMemory bus_bytes (set pending k (with_answer p)) sent
+sound-answered bus_bytes sent pending k p sound within is captured =
+    let here : slice_get pending k ≡ Some p = slice_get-get_or pending k p within ∙ ap Some (sym is) in
+    let beat = captured-performed (beat_at p p.answered) (subst (λ (found : Option Pending). IfSome found (λ q. IsSome (captured_at (beat_at q q.answered)))) here captured) in
+    let new = sound-with_answer bus_bytes beat.0 p (all-at (IsSoundPending bus_bytes) pending k p sound.each within is) beat.1 beat.2 in
+    subst (λ (q : Pending). IsSoundMemory bus_bytes (set pending k (with_answer q)) sent) (sym is)
+    (sound-set bus_bytes sent pending k with_answer p (λ q. refl) (λ q. refl) sound within (subst (λ (q : Pending). IsSoundPending bus_bytes (with_answer q)) is new))
+
+-- a beat of the open burst at a place
+pub sound-performed : (bus_bytes sent : ℕ) (pending : List Pending) (k beat : ℕ) (state : BeatState) (p : Pending) → IsSoundMemory bus_bytes pending sent → k < length pending → p ≡ get_or pending k p
+    → is_waiting state ≡ false → IsSoundMemory bus_bytes (set pending k (with_beat beat state p)) sent
+sound-performed bus_bytes sent pending k beat state p sound within is performed =
+    let new = sound-with_beat bus_bytes beat state p (all-at (IsSoundPending bus_bytes) pending k p sound.each within is) performed in
+    subst (λ (q : Pending). IsSoundMemory bus_bytes (set pending k (with_beat beat state q)) sent) (sym is)
+    (sound-set bus_bytes sent pending k (with_beat beat state) p (λ q. refl) (λ q. refl) sound within (subst (λ (q : Pending). IsSoundPending bus_bytes (with_beat beat state q)) is new))
+
+pub counting : (bus_bytes : ℕ) (pages : PagesState) (pending : List Pending) (sent : ℕ) (closed : List (Option Burst)) (test : Pending → Bool) (k : ℕ) (p : Pending) → position test pending ≡ Some k
+    → p ≡ get_or pending k p → device_state bus_bytes pages (set pending k (with_answer p)) sent closed ≡ after_counting test (device_state bus_bytes pages pending sent closed)
+counting bus_bytes pages pending sent closed test k p place is =
+    let new : change_first test with_answer pending ≡ set pending k (with_answer p) =
+    change_first-first test with_answer pending k p (position_is_first test pending k place) ∙ ap (λ q. set pending k (with_answer q)) (sym is)
+    in
+    rw (← new) refl
+
+-- the R of an ID is that of its oldest open read, which the last one closes
+pub answering-last : (device : DeviceState) (id : ℕ) (p : Pending) → find (is_read_of id) device.memory.pending ≡ Some p → gives_last p ≡ true → after_closing (is_read_of id) device ≡ after_r device id
+answering-last device id p found last = rw (pending_after_r-last id device.memory.pending p found last, found, last) refl
+
+pub answering-more : (device : DeviceState) (id : ℕ) (p : Pending) → find (is_read_of id) device.memory.pending ≡ Some p → gives_last p ≡ false → after_counting (is_read_of id) device ≡ after_r device id
+answering-more device id p found more = rw (pending_after_r-more id device.memory.pending p found more, found, more) (ap (λ (closed : List Burst). record device { memory = record device.memory { pending = change_first (is_read_of id) with_answer device.memory.pending }; closed = closed }) (sym (append-nil device.closed)))
+
+-- a beat of the open burst with a serial
+pub performing-serial : (device : DeviceState) (serial beat : ℕ) (p : Pending) → find (has_serial serial) device.memory.pending ≡ Some p → beat_at p beat ≡ Some Waiting
+    → after_performing (has_serial serial) beat device ≡ record device { memory = (performed device.memory serial beat).0 }
+performing-serial device serial beat p found waits =
+    let same : p.serial ≡ serial = eqb-true p.serial serial (find-passes (has_serial serial) device.memory.pending p found) in
+    rw (found, waits, same) refl
+
+-- a burst that is sent: there is room for it, and it joins the others
+pub sending : (memory : FreeMemory) (held : Option Burst) → IsSome held → IsSoundMemory memory.bus_bytes memory.pending memory.sent → IfSome held (IsLegal memory.bus_bytes)
+    → IfSome held (λ burst. (id_of burst < 16) × (outstanding_beside (open_bursts_of memory) burst < 4))
+    → (length memory.pending < 128) × IsSoundMemory memory.bus_bytes (memory.pending ++ newly_pending memory.sent (burst_in held) ∷ []) (memory.sent + 1)
+sending memory None full sound legal room = absurd (cc)
+sending memory (Some burst) full sound legal room =
+    let fewer : length (filter (is_beside burst) memory.pending) < 4 = omega (arith, known_beside memory burst, room.1) in
+    (room-append memory.bus_bytes memory.sent memory.pending burst sound legal room.0 fewer, sound-append memory.bus_bytes memory.sent memory.pending burst sound legal room.0 fewer)
+
+-- room for those that are open and closed after one was sent
+pub room-send : (open_bursts closed spare open_after spare_after room_of_open room_of_closed room_of_spare new_open new_spare : ℕ) → HasRoom open_bursts closed spare room_of_open room_of_closed room_of_spare
+    → open_bursts < 128 → closed ≡ 0 → open_after ≡ open_bursts + 1 → spare_after + 1 ≡ spare → room_of_open ≤ new_open → room_of_spare ≤ new_spare → HasRoom open_after closed spare_after new_open room_of_closed new_spare
+room-send open_bursts closed spare open_after spare_after room_of_open room_of_closed room_of_spare new_open new_spare room fewer none one_more one_less more_open more_spare =
+    record {
+      bursts = omega (arith, fewer, none, one_more);
+      beats = omega (arith, room.beats, one_more, one_less);
+      for_open = omega (arith, room.for_open, more_open);
+      for_closed = room.for_closed;
+      for_spare = omega (arith, room.for_spare, more_spare);
+    }

@@ -1,0 +1,38 @@
+-- A page is what its first entry in the list says.
+use Rattle.std.proofs.Common.{◌≡◌, ◌/◌, ℕ, None, Some, get_or, position, sym, ◌∙◌, ap}
+use Rattle.subordinate.specs.Faults.{lists_page, standing_at, write_response}
+use Rattle.subordinate.specs.InsidePages.{PagesState}
+use Rattle.subordinate.specs.declared.PageKind.{PageKind}
+use Rattle.subordinate.specs.declared.PageKind.TheVariants.{Good, SlaveError}
+use Rattle.subordinate.proofs.FaultLaws.{standing-found, standing-missing}
+use Rattle.subordinate.proofs.pages.Pages.write_response.Goals as goal
+
+pub returns-in-Good : goal.returns-in-Good
+returns-in-Good c =
+    ap write_response (sym (standing-found c.self.inside.listed.items (c.args.address / 4096) c.in-Some.place c.index.result.now Good found is))
+    ∙ ap (λ (pages : PagesState). write_response (standing_at pages.faults c.args.address)) c.self.view_is
+  where
+    found : position (lists_page (c.args.address / 4096)) c.self.inside.listed.items ≡ Some c.in-Some.place
+    found = ap (position (lists_page (c.args.address / 4096))) (sym c.deref.ensures.value) ∙ sym c.listed_at.ensures ∙ c.in-Some.is
+
+    is : (get_or c.self.inside.listed.items c.in-Some.place c.index.result.now).1 ≡ Good
+    is = ap (λ (page : ℕ × PageKind). page.1) (sym c.index.ensures) ∙ c.in-Good.is
+
+pub returns-in-SlaveError : goal.returns-in-SlaveError
+returns-in-SlaveError c =
+    ap write_response (sym (standing-found c.self.inside.listed.items (c.args.address / 4096) c.in-Some.place c.index.result.now SlaveError found is))
+    ∙ ap (λ (pages : PagesState). write_response (standing_at pages.faults c.args.address)) c.self.view_is
+  where
+    found : position (lists_page (c.args.address / 4096)) c.self.inside.listed.items ≡ Some c.in-Some.place
+    found = ap (position (lists_page (c.args.address / 4096))) (sym c.deref.ensures.value) ∙ sym c.listed_at.ensures ∙ c.in-Some.is
+
+    is : (get_or c.self.inside.listed.items c.in-Some.place c.index.result.now).1 ≡ SlaveError
+    is = ap (λ (page : ℕ × PageKind). page.1) (sym c.index.ensures) ∙ c.in-SlaveError.is
+
+pub returns-in-None : goal.returns-in-None
+returns-in-None c =
+    ap write_response (sym (standing-missing c.self.inside.listed.items (c.args.address / 4096) missing))
+    ∙ ap (λ (pages : PagesState). write_response (standing_at pages.faults c.args.address)) c.self.view_is
+  where
+    missing : position (lists_page (c.args.address / 4096)) c.self.inside.listed.items ≡ None
+    missing = ap (position (lists_page (c.args.address / 4096))) (sym c.deref.ensures.value) ∙ sym c.listed_at.ensures ∙ c.in-None.is
