@@ -59,9 +59,10 @@ impl Plan {
         self.address
     }
 
-    /// The number of the range's bytes, as a power of two.
+    /// The number of the range's bytes, as a power of two; at most 12.
     pub fn size(&self) -> u8
-        ensures { result ≡ self.now.size }
+        ensures value { result ≡ self.now.size }
+        ensures bound { result ≤ 12 }
     {
         self.size
     }

@@ -22,7 +22,7 @@ use Rattle.subordinate.specs.Faults.{standing_at, write_response}
 use Rattle.subordinate.specs.FreeMemory.{FreeMemory, Pending, b_of, beat_at, gives_last, has_serial, is_read_of, is_waiting, is_write_of, newly_pending, open_bursts_of, open_read_in, open_write_in, pending_after_r, r_of, r_with, start_of}
 use Rattle.subordinate.specs.declared.BeatState.{BeatState}
 use Rattle.subordinate.specs.declared.BeatState.TheVariants.{Waiting, Written, Captured}
-use Rattle.subordinate.specs.Inside.{RisesWithin, captured_at, is_beside, no_burst, row_of, row_of_burst, with_answer}
+use Rattle.subordinate.specs.Inside.{RisesWithin, captured_at, is_beside, no_burst, queue_of, queue_of_burst, with_answer}
 use Rattle.axi_checker.specs.Rules.{AxiPortLimits, burst_fault, id_of, outstanding_beside}
 use Rattle.axi_checker.specs.declared.AxiRule.{AxiRule}
 
@@ -144,26 +144,26 @@ reads_known id (p ∷ ps) = by_burst p.burst (reads_known id ps)
         ≡ length (cond b (record p { burst = ReadBurst ar } ∷ filter (is_read_of id) ps) (filter (is_read_of id) ps)))
         [ true ↦ ap suc rest | false ↦ rest ]
 
--- the bursts of a row are the writes of an ID, or the reads
-row_of_write : (id other : ℕ) → (2 * other == 2 * id) ≡ (other == id)
-row_of_write id other = grind (arith, nat_tests)
+-- the bursts of a queue are the writes of an ID, or its reads
+queue_of_write : (id other : ℕ) → (2 * other == 2 * id) ≡ (other == id)
+queue_of_write id other = grind (arith, nat_tests)
 
-row_of_read : (id other : ℕ) → (2 * other + 1 == 2 * id + 1) ≡ (other == id)
-row_of_read id other = grind (arith, nat_tests)
+queue_of_read : (id other : ℕ) → (2 * other + 1 == 2 * id + 1) ≡ (other == id)
+queue_of_read id other = grind (arith, nat_tests)
 
-pub in_row : (burst : Burst) (p : Pending) → (row_of p == row_of_burst burst) ≡ is_beside burst p
-in_row burst p = by_burst burst p.burst
+pub in_queue : (burst : Burst) (p : Pending) → (queue_of p == queue_of_burst burst) ≡ is_beside burst p
+in_queue burst p = by_burst burst p.burst
   where
-    by_burst : (burst : Burst) (held : Burst) → (row_of (record p { burst = held }) == row_of_burst burst) ≡ is_beside burst (record p { burst = held })
-    by_burst (WriteBurst aw ws) (WriteBurst aw2 ws2) = row_of_write aw.id aw2.id
+    by_burst : (burst : Burst) (held : Burst) → (queue_of (record p { burst = held }) == queue_of_burst burst) ≡ is_beside burst (record p { burst = held })
+    by_burst (WriteBurst aw ws) (WriteBurst aw2 ws2) = queue_of_write aw.id aw2.id
     by_burst (WriteBurst aw ws) (ReadBurst ar2) = ne_eqb (2 * ar2.id + 1) (2 * aw.id) (λ same. omega (arith, same))
     by_burst (ReadBurst ar) (WriteBurst aw2 ws2) = ne_eqb (2 * aw2.id) (2 * ar.id + 1) (λ same. omega (arith, same))
-    by_burst (ReadBurst ar) (ReadBurst ar2) = row_of_read ar.id ar2.id
+    by_burst (ReadBurst ar) (ReadBurst ar2) = queue_of_read ar.id ar2.id
 
-pub count_in_row : (burst : Burst) (pending : List Pending) → length (filter (λ p. row_of p == row_of_burst burst) pending) ≡ length (filter (is_beside burst) pending)
-count_in_row burst [] = refl
-count_in_row burst (p ∷ ps) = rw (in_row burst p) (elim (is_beside burst p) as (λ b. length (cond b (p ∷ filter (λ q. row_of q == row_of_burst burst) ps) (filter (λ q. row_of q == row_of_burst burst) ps)) ≡ length (cond b (p ∷ filter (is_beside burst) ps) (filter (is_beside burst) ps)))
-    [ true ↦ ap suc (count_in_row burst ps) | false ↦ count_in_row burst ps ])
+pub count_in_queue : (burst : Burst) (pending : List Pending) → length (filter (λ p. queue_of p == queue_of_burst burst) pending) ≡ length (filter (is_beside burst) pending)
+count_in_queue burst [] = refl
+count_in_queue burst (p ∷ ps) = rw (in_queue burst p) (elim (is_beside burst p) as (λ b. length (cond b (p ∷ filter (λ q. queue_of q == queue_of_burst burst) ps) (filter (λ q. queue_of q == queue_of_burst burst) ps)) ≡ length (cond b (p ∷ filter (is_beside burst) ps) (filter (is_beside burst) ps)))
+    [ true ↦ ap suc (count_in_queue burst ps) | false ↦ count_in_queue burst ps ])
 
 -- how many a monitor knows beside a burst
 pub known_beside : (memory : FreeMemory) (burst : Burst) → outstanding_beside (open_bursts_of memory) burst ≡ length (filter (is_beside burst) memory.pending)

@@ -16,11 +16,11 @@ use Rattle.std.proofs.lemmas.Option.{slice_get-get_or}
 use Rattle.bus_words.specs.Places.{change_first, without_first}
 use Rattle.subordinate.specs.Device.{DeviceState, after_r}
 use Rattle.subordinate.specs.FreeMemory.{FreeMemory, Pending, beat_after, beat_at, gives_last, has_serial, is_read_of, is_waiting, memory_after, newly_pending, open_bursts_of, performed, transfers_in, with_beat}
-use Rattle.subordinate.specs.Inside.{HasRoom, IsPerformed, IsSoundMemory, IsSoundPending, RisesWithin, after_closing, after_counting, after_performing, burst_in, captured_at, device_state, is_beside, memory_of, memory_over, no_burst, row_of, row_of_burst, with_answer}
+use Rattle.subordinate.specs.Inside.{HasRoom, IsPerformed, IsSoundMemory, IsSoundPending, RisesWithin, after_closing, after_counting, after_performing, burst_in, captured_at, device_state, is_beside, memory_of, memory_over, no_burst, queue_of, queue_of_burst, with_answer}
 use Rattle.subordinate.specs.InsidePages.{PagesState}
 use Rattle.subordinate.specs.declared.BeatState.{BeatState}
 use Rattle.subordinate.specs.declared.BeatState.TheVariants.{Waiting, Written, Captured}
-use Rattle.subordinate.proofs.OpenBursts.{all-at, count_in_row, known_beside, pending_after_r-last, pending_after_r-more, position-serial, rises-append, rises-change_first, rises-without_first, serial_at}
+use Rattle.subordinate.proofs.OpenBursts.{all-at, count_in_queue, known_beside, pending_after_r-last, pending_after_r-more, position-serial, rises-append, rises-change_first, rises-without_first, serial_at}
 
 -- ---- lists
 
@@ -78,20 +78,20 @@ sound-append bus_bytes sent pending burst sound legal known fewer =
     record {
       bus = sound.bus;
       rising = rises-append 0 sent pending (newly_pending sent burst) sound.rising refl;
-      few = few-append row_of 32 4 pending (newly_pending sent burst) sound.few (row_below burst known) (omega (arith, count_in_row burst pending, fewer));
+      few = few-append queue_of 32 4 pending (newly_pending sent burst) sound.few (queue_below burst known) (omega (arith, count_in_queue burst pending, fewer));
       each = all-append (IsSoundPending bus_bytes) pending (newly_pending sent burst) sound.each (sound-newly bus_bytes sent burst legal);
     }
   where
-    row_below : (burst : Burst) → id_of burst < 16 → row_of_burst burst < 32
-    row_below (WriteBurst aw ws) known = omega (arith, known)
-    row_below (ReadBurst ar) known = omega (arith, known)
+    queue_below : (burst : Burst) → id_of burst < 16 → queue_of_burst burst < 32
+    queue_below (WriteBurst aw ws) known = omega (arith, known)
+    queue_below (ReadBurst ar) known = omega (arith, known)
 
 -- there is room for one more
 pub room-append : (bus_bytes sent : ℕ) (pending : List Pending) (burst : Burst) → IsSoundMemory bus_bytes pending sent → IsLegal bus_bytes burst → id_of burst < 16
     → length (filter (is_beside burst) pending) < 4 → length pending < 128
 room-append bus_bytes sent pending burst sound legal known fewer =
     let more = sound-append bus_bytes sent pending burst sound legal known fewer in
-    omega (arith, length-few row_of 32 4 _ more.few, length-append pending (newly_pending sent burst ∷ []))
+    omega (arith, length-few queue_of 32 4 _ more.few, length-append pending (newly_pending sent burst ∷ []))
 
 -- the burst at a place, by its serial
 pub first-serial : (bus_bytes sent : ℕ) (pending : List Pending) (k : ℕ) → IsSoundMemory bus_bytes pending sent → k < length pending → IsFirst (has_serial (serial_at pending k)) pending k
@@ -105,7 +105,7 @@ sound-remove bus_bytes sent pending k sound within =
     (record {
       bus = sound.bus;
       rising = rises-without_first 0 sent test pending sound.rising;
-      few = few-without_first row_of 32 4 test pending sound.few;
+      few = few-without_first queue_of 32 4 test pending sound.few;
       each = all-without_first (IsSoundPending bus_bytes) test pending sound.each;
     })
 
@@ -118,7 +118,7 @@ sound-set bus_bytes sent pending k change d same_serial same_burst sound within 
     record {
       bus = sound.bus;
       rising = subst (λ (ps : List Pending). RisesWithin 0 sent ps) becomes (rises-change_first 0 sent test change pending same_serial sound.rising);
-      few = subst (λ (ps : List Pending). HasFewOfEach row_of 32 4 ps) becomes (few-change_first row_of 32 4 test change pending (λ p. ap row_of_burst (same_burst p)) sound.few);
+      few = subst (λ (ps : List Pending). HasFewOfEach queue_of 32 4 ps) becomes (few-change_first queue_of 32 4 test change pending (λ p. ap queue_of_burst (same_burst p)) sound.few);
       each = all-set (IsSoundPending bus_bytes) pending k _ sound.each new;
     }
 

@@ -40,13 +40,13 @@ pub record IsSoundPending (bus_bytes : ℕ) (pending : Pending) : Type 0 where
   pub answered : AllByRecursion IsPerformed (take pending.answered pending.beats)
   pub most : pending.answered ≤ length pending.beats
 
--- the ID and the side of a burst as one number: the writes of ID i have row 2 i, the reads row 2 i + 1
-abbrev pub row_of_burst : Burst → ℕ
-row_of_burst (WriteBurst aw data_beats) = 2 * aw.id
-row_of_burst (ReadBurst ar) = 2 * ar.id + 1
+-- the ID and the side of a burst as one number: the writes of an ID i are queue 2 i, its reads queue 2 i + 1
+abbrev pub queue_of_burst : Burst → ℕ
+queue_of_burst (WriteBurst aw data_beats) = 2 * aw.id
+queue_of_burst (ReadBurst ar) = 2 * ar.id + 1
 
-abbrev pub row_of : Pending → ℕ
-row_of pending = row_of_burst pending.burst
+abbrev pub queue_of : Pending → ℕ
+queue_of pending = queue_of_burst pending.burst
 
 -- serials rise, from `low` on and below `top`
 abbrev pub RisesWithin : ℕ → ℕ → List Pending → Type 0
@@ -68,7 +68,7 @@ device_state bus_bytes pages pending sent closed = record { memory = memory_of b
 pub record IsSoundMemory (bus_bytes : ℕ) (pending : List Pending) (sent : ℕ) : Type 0 where
   pub bus : IsBusWidth bus_bytes
   pub rising : RisesWithin 0 sent pending
-  pub few : HasFewOfEach row_of 32 4 pending
+  pub few : HasFewOfEach queue_of 32 4 pending
   pub each : AllByRecursion (IsSoundPending bus_bytes) pending
 
 -- the room of a device: 128 bursts may be open or closed, and the beats of those that aren't open are kept to be used again

@@ -477,9 +477,9 @@ fn bytes_in_their_lanes(rt: HostRuntime) -> Result<(), Fail> {
     Ok(())
 }
 
-/// On a bus of four bytes there are four lanes, and no transfer has more bytes.
+/// On a bus of four bytes two transfers make a word of eight.
 #[test]
-fn bus_of_four_bytes(rt: HostRuntime) -> Result<(), Fail> {
+fn word_of_two_transfers(rt: HostRuntime) -> Result<(), Fail> {
     let mut device = Device::new(rt.alloc(), 4, PAGES, &[]).expect(&rt, "memory");
     let whole = [
         data(0x5566_7788, 0x0f, false),
@@ -498,7 +498,13 @@ fn bus_of_four_bytes(rt: HostRuntime) -> Result<(), Fail> {
     {
         assert_eq!(rt; device.byte(0x10008 + place as u32), Some(*byte), "{place}");
     }
-    assert!(rt; device.take_closed().is_some());
+    Ok(())
+}
+
+/// On a bus of four bytes there are four lanes, and no transfer has more bytes.
+#[test]
+fn bus_of_four_bytes(rt: HostRuntime) -> Result<(), Fail> {
+    let mut device = Device::new(rt.alloc(), 4, PAGES, &[]).expect(&rt, "memory");
     let wide = send_read(rt.alloc(), &mut device, read(0, 0x10008, 0, 3))?;
     assert_eq!(rt; wide, Sent::Broken(1));
     let high = send_write(
@@ -508,7 +514,7 @@ fn bus_of_four_bytes(rt: HostRuntime) -> Result<(), Fail> {
         &[data(0, 0xf0, true)],
     )?;
     assert_eq!(rt; high, Sent::Broken(7));
-    let mut serial = 1;
+    let mut serial = 0;
     for (aw, beat, payload) in [
         (
             write(0, 0x10014, 0, 2),
@@ -537,9 +543,9 @@ fn bus_of_four_bytes(rt: HostRuntime) -> Result<(), Fail> {
         serial += 2;
     }
     for (address, byte) in [
-        (0x1000c, 0x44),
+        (0x1000c, 0),
         (0x1000d, 0xbb),
-        (0x1000e, 0x22),
+        (0x1000e, 0),
         (0x10015, 0),
         (0x10017, 0x80),
     ] {

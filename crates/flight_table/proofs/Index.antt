@@ -1,0 +1,230 @@
+-- The requests of an index under changes of the slab.
+use Rattle.std.proofs.Common.{◌⊎◌, ◌∙◌, is_some, true, false, Bool, count_by, OnSome, zero, ◌≡◌, ◌≢◌, ℕ, suc, ◌+◌, ◌==◌, List, [], ◌∷◌, ◌++◌, map, length, Option, Some, None, refl, ap, sym, arith, length-append, get_or, set, IsSome}
+use Rattle.std.specs.Prelude.{if◌then◌else◌, option_map}
+use Rattle.std.specs.List.{AllByRecursion, find, position}
+use Rattle.bus_words.proofs.FirstPlaces.{find-none}
+use Rattle.std.proofs.lemmas.Bool.{eqb-true}
+use Rattle.std.proofs.lemmas.Grind.{common_steps}
+use Rattle.bus_words.specs.Places.{change_first, without_first}
+use Rattle.bus_words.proofs.PlaceChanges.{all-append, all-without_first}
+use Rattle.slab.proofs.SlabLemmas.{Updates-with_value}
+use Rattle.slab.specs.Slab.{Slab, with_value, get, ContainsKey, slab_len, Updates}
+use Rattle.flight_table.specs.Inside.{IsIndex, entries_in, entry_in, stored}
+use Rattle.flight_table.specs.Laws.{AreDistinct}
+use Rattle.flight_table.specs.LiveRequests.{LiveRequest}
+use Rattle.flight_table.specs.Tables.{KeyedRequest, change_entry, has_key, request_in}
+
+abbrev AreOthers : ℕ → List ℕ → Type 0
+AreOthers key ks = AllByRecursion (λ k. k ≢ key) ks
+
+-- the keys of the requests
+pub keys_of : (s : Slab LiveRequest) (ks : List ℕ) → map (λ (entry : KeyedRequest). entry.key) (entries_in s ks) ≡ ks
+keys_of s [] = refl
+keys_of s (k ∷ ks) = rw (keys_of s ks) refl
+
+pub length_entries : (s : Slab LiveRequest) (ks : List ℕ) → length (entries_in s ks) ≡ length ks
+length_entries s [] = refl
+length_entries s (k ∷ ks) = ap suc (length_entries s ks)
+
+-- keys with the values that they had
+entries-same : (s t : Slab LiveRequest) (key : ℕ) (ks : List ℕ) → AreOthers key ks → ((o : ℕ) → o ≢ key → get t o ≡ get s o) → entries_in t ks ≡ entries_in s ks
+entries-same s t key [] others same = refl
+entries-same s t key (k ∷ ks) others same = rw (same k others.0, entries-same s t key ks others.1 same) refl
+
+there-same : (s t : Slab LiveRequest) (key : ℕ) (ks : List ℕ) → AreOthers key ks → ((o : ℕ) → o ≢ key → get t o ≡ get s o) → AllByRecursion (ContainsKey s) ks → AllByRecursion (ContainsKey t) ks
+there-same s t key [] others same there = tt
+there-same s t key (k ∷ ks) others same there = (rw (same k others.0) there.0, there-same s t key ks others.1 same there.1)
+
+-- a key without a value isn't in the index
+fresh : (s : Slab LiveRequest) (key : ℕ) (ks : List ℕ) → get s key ≡ None → AllByRecursion (ContainsKey s) ks → AreOthers key ks
+fresh s key [] none there = tt
+fresh s key (k ∷ ks) none there = (λ e. grind (arith, none, e, there.0), fresh s key ks none there.1)
+
+fresh-request : (s : Slab LiveRequest) (key : ℕ) (ks : List ℕ) → AreOthers key ks → request_in key (entries_in s ks) ≡ None
+fresh-request s key [] others = refl
+fresh-request s key (k ∷ ks) others = by_test (k == key) refl (fresh-request s key ks others.1)
+  where
+    by_test : (b : Bool) → (k == key) ≡ b → request_in key (entries_in s ks) ≡ None → option_map (λ (entry : KeyedRequest). entry.request) (if b then Some (entry_in s k) else find (has_key key) (entries_in s ks)) ≡ None
+    by_test true is rest = absurd (others.0 (eqb-true k key is))
+    by_test false is rest = rest
+
+-- ---- one more request
+
+entries-append : (s : Slab LiveRequest) (ks : List ℕ) (key : ℕ) → entries_in s (ks ++ key ∷ []) ≡ entries_in s ks ++ entry_in s key ∷ []
+entries-append s [] key = refl
+entries-append s (k ∷ ks) key = rw (entries-append s ks key) refl
+
+others-sym : (key k : ℕ) → k ≢ key → key ≢ k
+others-sym key k other = λ e. other (sym e)
+
+pub distinct-append : (key : ℕ) (ks : List ℕ) → AreDistinct ks → AreOthers key ks → AreDistinct (ks ++ key ∷ [])
+distinct-append key [] distinct others = (tt, tt)
+distinct-append key (k ∷ ks) distinct others = (all-append (λ m. m ≢ k) ks key distinct.0 (others-sym key k others.0), distinct-append key ks distinct.1 others.1)
+
+pub entries-add : (s t : Slab LiveRequest) (key : ℕ) (r : LiveRequest) (ks : List ℕ) → IsIndex s ks → get s key ≡ None → Updates s t key (Some r)
+    → entries_in t (ks ++ key ∷ []) ≡ entries_in s ks ++ record { key = key; request = r } ∷ []
+entries-add s t key r ks index none u =
+    rw (entries-append t ks key, entries-same s t key ks (fresh s key ks none index.there) u.others, u.changed) refl
+
+pub index-add : (s t : Slab LiveRequest) (key : ℕ) (r : LiveRequest) (ks : List ℕ) → IsIndex s ks → get s key ≡ None → Updates s t key (Some r) → slab_len t ≡ slab_len s + 1 → IsIndex t (ks ++ key ∷ [])
+index-add s t key r ks index none u len =
+    let others = fresh s key ks none index.there in record {
+      there = all-append (ContainsKey t) ks key (there-same s t key ks others u.others index.there) (rw u.changed refl);
+      distinct = distinct-append key ks index.distinct others;
+      count = rw len (omega (arith, length-append ks (key ∷ []), index.count));
+    }
+
+pub fresh-add : (s : Slab LiveRequest) (key : ℕ) (ks : List ℕ) → IsIndex s ks → get s key ≡ None → request_in key (entries_in s ks) ≡ None
+fresh-add s key ks index none = fresh-request s key ks (fresh s key ks none index.there)
+
+-- ---- the request of a key
+
+pub stored-request : (s : Slab LiveRequest) (key : ℕ) (ks : List ℕ) → IsSome (request_in key (entries_in s ks)) → request_in key (entries_in s ks) ≡ Some (stored s key)
+stored-request s key [] some = absurd (grind (arith, some))
+stored-request s key (k ∷ ks) some = by_test (k == key) refl (stored-request s key ks) some
+  where
+    by_test : (b : Bool) → (k == key) ≡ b → (IsSome (request_in key (entries_in s ks)) → request_in key (entries_in s ks) ≡ Some (stored s key)) → IsSome (option_map (λ (entry : KeyedRequest). entry.request) (if b then Some (entry_in s k) else find (has_key key) (entries_in s ks)))
+        → option_map (λ (entry : KeyedRequest). entry.request) (if b then Some (entry_in s k) else find (has_key key) (entries_in s ks)) ≡ Some (stored s key)
+    by_test true is rest here = rw (eqb-true k key is) refl
+    by_test false is rest later = rest later
+
+pub key-there : (s : Slab LiveRequest) (key : ℕ) (ks : List ℕ) → AllByRecursion (ContainsKey s) ks → IsSome (request_in key (entries_in s ks)) → ContainsKey s key
+key-there s key [] there some = absurd (grind (arith, some))
+key-there s key (k ∷ ks) there some = by_test (k == key) refl (key-there s key ks there.1) some
+  where
+    by_test : (b : Bool) → (k == key) ≡ b → (IsSome (request_in key (entries_in s ks)) → ContainsKey s key) → IsSome (option_map (λ (entry : KeyedRequest). entry.request) (if b then Some (entry_in s k) else find (has_key key) (entries_in s ks))) → ContainsKey s key
+    by_test true is rest here = rw (← eqb-true k key is) there.0
+    by_test false is rest later = rest later
+
+-- ---- another request in its place
+
+pub entries-set : (s t : Slab LiveRequest) (key : ℕ) (r : LiveRequest) (ks : List ℕ) → AreDistinct ks → Updates s t key (Some r)
+    → entries_in t ks ≡ change_first (has_key key) (change_entry (λ o. r)) (entries_in s ks)
+entries-set s t key r [] distinct u = refl
+entries-set s t key r (k ∷ ks) distinct u = by_test (k == key) refl (entries-set s t key r ks distinct.1 u)
+  where
+    by_test : (b : Bool) → (k == key) ≡ b → entries_in t ks ≡ change_first (has_key key) (change_entry (λ o. r)) (entries_in s ks)
+        → entries_in t (k ∷ ks) ≡ (if b then record { key = k; request = r } ∷ entries_in s ks else entry_in s k ∷ change_first (has_key key) (change_entry (λ o. r)) (entries_in s ks))
+    by_test true is rest =
+        let same : k ≡ key = eqb-true k key is in
+        let changed : get t k ≡ Some r = rw same u.changed in
+        let tail : entries_in t ks ≡ entries_in s ks = entries-same s t key ks (rw (← same) distinct.0) u.others in
+        rw (changed, tail) refl
+    by_test false is rest =
+        let kept : get t k ≡ get s k = u.others k (λ e. grind (arith, is, e)) in
+        rw (kept, rest) refl
+
+eqb-cases : (x y : ℕ) → (x ≡ y) ⊎ (x ≢ y)
+eqb-cases x y = grind arith
+
+kept : (s t : Slab LiveRequest) (key k : ℕ) (r : LiveRequest) → Updates s t key (Some r) → ContainsKey s k → ContainsKey t k
+kept s t key k r u there = grind (arith, u.changed, u.others k, there, eqb-cases k key)
+
+there-set : (s t : Slab LiveRequest) (ks : List ℕ) (key : ℕ) (r : LiveRequest) → Updates s t key (Some r) → AllByRecursion (ContainsKey s) ks → AllByRecursion (ContainsKey t) ks
+there-set s t [] key r u there = tt
+there-set s t (k ∷ ks) key r u there = (kept s t key k r u there.0, there-set s t ks key r u there.1)
+
+count-set : (xs : List (Option LiveRequest)) (k : ℕ) (v : LiveRequest) → is_some (get_or xs k None) ≡ true → count_by is_some (set xs k (Some v)) ≡ count_by is_some xs
+count-set [] k v h = refl
+count-set (None ∷ xs) zero v h = grind (arith, h)
+count-set (Some x ∷ xs) zero v h = refl
+count-set (x ∷ xs) (suc k) v h = grind (arith, common_steps, count-set xs k v h)
+
+pub index-set : (s : Slab LiveRequest) (ks : List ℕ) (key : ℕ) (r : LiveRequest) → IsIndex s ks → ContainsKey s key → IsIndex (with_value s key r) ks
+index-set s ks key r index there =
+    record {
+      there = there-set s (with_value s key r) ks key r (Updates-with_value s key r there) index.there;
+      distinct = index.distinct;
+      count = index.count ∙ sym (count-set s.slots key r there);
+    }
+
+-- a change that gives this request
+pub change-constant : (change : LiveRequest → LiveRequest) (key : ℕ) (entries : List KeyedRequest) (r request : LiveRequest) → request_in key entries ≡ Some r → request ≡ change r
+    → change_first (has_key key) (change_entry (λ o. request)) entries ≡ change_first (has_key key) (change_entry change) entries
+change-constant change key [] r request found is = refl
+change-constant change key (entry ∷ entries) r request found is = by_test (entry.key == key) found (λ later. change-constant change key entries r request later is)
+  where
+    by_test : (b : Bool) → option_map (λ (e : KeyedRequest). e.request) (if b then Some entry else find (has_key key) entries) ≡ Some r
+        → (request_in key entries ≡ Some r → change_first (has_key key) (change_entry (λ o. request)) entries ≡ change_first (has_key key) (change_entry change) entries)
+        → (if b then change_entry (λ o. request) entry ∷ entries else entry ∷ change_first (has_key key) (change_entry (λ o. request)) entries)
+        ≡ (if b then change_entry change entry ∷ entries else entry ∷ change_first (has_key key) (change_entry change) entries)
+    by_test true here rest =
+        let same : entry.request ≡ r = cc in
+        rw (is, same) refl
+    by_test false later rest = ap (λ (es : List KeyedRequest). entry ∷ es) (rest later)
+
+-- ---- a request less
+
+without-others : (key : ℕ) (ks : List ℕ) → AreDistinct ks → AreOthers key (without_first (λ k. k == key) ks)
+without-others key [] distinct = tt
+without-others key (k ∷ ks) distinct = by_test (k == key) refl (without-others key ks distinct.1)
+  where
+    by_test : (b : Bool) → (k == key) ≡ b → AreOthers key (without_first (λ k. k == key) ks) → AreOthers key (if b then ks else k ∷ without_first (λ k. k == key) ks)
+    by_test true is rest = rw (← eqb-true k key is) distinct.0
+    by_test false is rest = (λ e. grind (arith, is, e), rest)
+
+entries-without : (s : Slab LiveRequest) (key : ℕ) (ks : List ℕ) → entries_in s (without_first (λ k. k == key) ks) ≡ without_first (has_key key) (entries_in s ks)
+entries-without s key [] = refl
+entries-without s key (k ∷ ks) = by_test (k == key) (entries-without s key ks)
+  where
+    by_test : (b : Bool) → entries_in s (without_first (λ k. k == key) ks) ≡ without_first (has_key key) (entries_in s ks) → entries_in s (if b then ks else k ∷ without_first (λ k. k == key) ks) ≡ (if b then entries_in s ks else entry_in s k ∷ without_first (has_key key) (entries_in s ks))
+    by_test true rest = refl
+    by_test false rest = rw rest refl
+
+pub entries-remove : (s t : Slab LiveRequest) (key : ℕ) (ks : List ℕ) → AreDistinct ks → Updates s t key None
+    → entries_in t (without_first (λ k. k == key) ks) ≡ without_first (has_key key) (entries_in s ks)
+entries-remove s t key ks distinct u =
+    entries-same s t key (without_first (λ k. k == key) ks) (without-others key ks distinct) u.others ∙ entries-without s key ks
+
+pub distinct-without : (p : ℕ → Bool) (ks : List ℕ) → AreDistinct ks → AreDistinct (without_first p ks)
+distinct-without p [] distinct = tt
+distinct-without p (k ∷ ks) distinct = by_test (p k) (distinct-without p ks distinct.1)
+  where
+    by_test : (b : Bool) → AreDistinct (without_first p ks) → AreDistinct (if b then ks else k ∷ without_first p ks)
+    by_test true rest = distinct.1
+    by_test false rest = (all-without_first (λ m. m ≢ k) p ks distinct.0, rest)
+
+pub length-without : (s : Slab LiveRequest) (key : ℕ) (ks : List ℕ) → IsSome (request_in key (entries_in s ks)) → length (without_first (λ k. k == key) ks) + 1 ≡ length ks
+length-without s key [] some = absurd (grind (arith, some))
+length-without s key (k ∷ ks) some = by_test (k == key) (length-without s key ks) some
+  where
+    by_test : (b : Bool) → (IsSome (request_in key (entries_in s ks)) → length (without_first (λ k. k == key) ks) + 1 ≡ length ks) → IsSome (option_map (λ (entry : KeyedRequest). entry.request) (if b then Some (entry_in s k) else find (has_key key) (entries_in s ks)))
+        → length (if b then ks else k ∷ without_first (λ k. k == key) ks) + 1 ≡ length (k ∷ ks)
+    by_test true rest here = omega arith
+    by_test false rest later = grind (arith, rest later)
+
+on_some : {P : Type 0} (r : Option LiveRequest) → is_some r ≡ true → OnSome r P → P
+on_some None h p = absurd (grind (arith, h))
+on_some (Some x) h p = p
+
+pub index-remove : (s t : Slab LiveRequest) (key : ℕ) (ks : List ℕ) (r : Option LiveRequest) → IsIndex s ks → IsSome (request_in key (entries_in s ks)) → Updates s t key None → r ≡ get s key
+    → OnSome r (slab_len t + 1 ≡ slab_len s) → IsIndex t (without_first (λ k. k == key) ks)
+index-remove s t key ks r index some u is len =
+    let others = without-others key ks index.distinct in
+    let found : is_some r ≡ true = rw is (key-there s key ks index.there some) in
+    let less : slab_len t + 1 ≡ slab_len s = on_some r found len in record {
+      there = there-same s t key (without_first (λ k. k == key) ks) others u.others (all-without_first (ContainsKey s) (λ k. k == key) ks index.there);
+      distinct = distinct-without (λ k. k == key) ks index.distinct;
+      count = omega (arith, less, index.count, length-without s key ks some);
+    }
+
+-- no key, no request
+no_request_of : (s : Slab LiveRequest) (key : ℕ) (ks : List ℕ) → find (λ k. k == key) ks ≡ None → IsSome (request_in key (entries_in s ks)) → ⊥
+no_request_of s key [] none some = grind (arith, some)
+no_request_of s key (k ∷ ks) none some = by_test (k == key) (no_request_of s key ks) none some
+  where
+    by_test : (b : Bool) → (find (λ k. k == key) ks ≡ None → IsSome (request_in key (entries_in s ks)) → ⊥) → (if b then Some k else find (λ k. k == key) ks) ≡ None
+        → IsSome (option_map (λ (entry : KeyedRequest). entry.request) (if b then Some (entry_in s k) else find (has_key key) (entries_in s ks))) → ⊥
+    by_test true rest none some = cc
+    by_test false rest none some = rest none some
+
+-- the place of a key in the index
+pub key_placed : (s : Slab LiveRequest) (key : ℕ) (ks : List ℕ) → IsSome (request_in key (entries_in s ks)) → IsSome (position (λ k. k == key) ks)
+key_placed s key ks some = placed (position (λ k. k == key) ks) refl
+  where
+    none-found : find (λ k. k == key) ks ≡ None → IsSome (request_in key (entries_in s ks)) → ⊥
+    none-found none some = no_request_of s key ks none some
+
+    placed : (o : Option ℕ) → position (λ k. k == key) ks ≡ o → IsSome (position (λ k. k == key) ks)
+    placed None is = absurd (none-found (find-none (λ k. k == key) ks is) some)
+    placed (Some k) is = rw is refl

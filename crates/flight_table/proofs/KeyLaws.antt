@@ -1,0 +1,198 @@
+-- Keys: which request a key names, and what a change of it is among the requests by number.
+use Rattle.std.proofs.Common.{◌≡◌, ◌≢◌, ℕ, ◌==◌, ◌<◌, ◌≤◌, is_some, subst, Bool, true, false, List, [], ◌∷◌, map, Option, Some, None, refl, ap, sym, ◌∙◌, arith}
+use Rattle.std.specs.Prelude.{if◌then◌else◌, option_map, option_and_then, IfSome, IsSomeAnd}
+use Rattle.std.specs.List.{AllByRecursion, find}
+use Rattle.std.proofs.lemmas.Bool.{eqb-true, eq-eqb}
+use Rattle.bus_words.specs.Places.{change_first, without_first}
+use Rattle.bus_words.proofs.PlaceChanges.{find-passes}
+use Rattle.flight_table.specs.Laws.{AreRising, HaveOwnKeys, IsSound}
+use Rattle.flight_table.specs.Order.{IsSmallestReady, is_ready}
+use Rattle.flight_table.specs.LiveRequests.{LiveRequest}
+use Rattle.flight_table.specs.Tables.{KeyedRequest, KeyedTable, change_entry, has_key, has_number, key_in, request_in, request_named, requests_of, table_of}
+
+-- a key that a search found is one of the keys
+key_listed : (P : ℕ → Type 0) (test : LiveRequest → Bool) (entries : List KeyedRequest) (k : ℕ) → AllByRecursion P (map (λ entry. entry.key) entries) → key_in test entries ≡ Some k → P k
+key_listed P test [] k all found = absurd (cc)
+key_listed P test (entry ∷ entries) k all found = by_test (test entry.request) found (λ later. key_listed P test entries k all.1 later)
+  where
+    by_test : (b : Bool) → option_map (λ (e : KeyedRequest). e.key) (if b then Some entry else find (λ e. test e.request) entries) ≡ Some k → (key_in test entries ≡ Some k → P k) → P k
+    by_test true here rest =
+        let same : entry.key ≡ k = cc in
+        rw same at all.0
+    by_test false later rest = rest later
+
+-- what is true of each request is true of the one that a key names
+pub request_listed : (P : LiveRequest → Type 0) (key : ℕ) (entries : List KeyedRequest) (r : LiveRequest) → AllByRecursion P (requests_of entries) → request_in key entries ≡ Some r → P r
+request_listed P key [] r all found = absurd (cc)
+request_listed P key (entry ∷ entries) r all found = by_test (entry.key == key) found (λ later. request_listed P key entries r all.1 later)
+  where
+    by_test : (b : Bool) → option_map (λ (e : KeyedRequest). e.request) (if b then Some entry else find (has_key key) entries) ≡ Some r → (request_in key entries ≡ Some r → P r) → P r
+    by_test true here rest =
+        let same : entry.request ≡ r = cc in
+        rw same at all.0
+    by_test false later rest = rest later
+
+-- the request that a search found by its key: it passes, and it is the first that does
+pub record IsNamed (test : LiveRequest → Bool) (entries : List KeyedRequest) (k : ℕ) : Type 0 where
+  pub request : LiveRequest
+  pub named : request_in k entries ≡ Some request
+  pub passes : test request ≡ true
+  pub first : find test (requests_of entries) ≡ Some request
+
+skip : (entry : KeyedRequest) (entries : List KeyedRequest) (k : ℕ) → k ≢ entry.key → request_in k (entry ∷ entries) ≡ request_in k entries
+skip entry entries k other = by_test (entry.key == k) refl
+  where
+    by_test : (b : Bool) → (entry.key == k) ≡ b → option_map (λ (e : KeyedRequest). e.request) (if b then Some entry else find (has_key k) entries) ≡ request_in k entries
+    by_test true is = absurd (other (sym (eqb-true entry.key k is)))
+    by_test false is = refl
+
+pub named : (test : LiveRequest → Bool) (entries : List KeyedRequest) (k : ℕ) → HaveOwnKeys entries → key_in test entries ≡ Some k → IsNamed test entries k
+named test [] k own found = absurd (cc)
+named test (entry ∷ entries) k own found = by_test (test entry.request) refl found (λ later. named test entries k own.1 later)
+  where
+    by_test : (b : Bool) → test entry.request ≡ b → option_map (λ (e : KeyedRequest). e.key) (if b then Some entry else find (λ e. test e.request) entries) ≡ Some k
+        → (key_in test entries ≡ Some k → IsNamed test entries k) → IsNamed test (entry ∷ entries) k
+    by_test true is here rest =
+        let same : entry.key ≡ k = cc in
+        record { request = entry.request; named = rw (eq-eqb entry.key k same) refl; passes = is; first = rw is refl }
+    by_test false is later rest =
+        let found = rest later in
+        let other : k ≢ entry.key = key_listed (λ m. m ≢ entry.key) test entries k own.0 later in
+        record { request = found.request; named = skip entry entries k other ∙ found.named; passes = found.passes; first = rw is found.first }
+
+pub none_named : (test : LiveRequest → Bool) (entries : List KeyedRequest) → key_in test entries ≡ None → find test (requests_of entries) ≡ None
+none_named test [] none = refl
+none_named test (entry ∷ entries) none = by_test (test entry.request) none (λ later. none_named test entries later)
+  where
+    by_test : (b : Bool) → option_map (λ (e : KeyedRequest). e.key) (if b then Some entry else find (λ e. test e.request) entries) ≡ None
+        → (key_in test entries ≡ None → find test (requests_of entries) ≡ None) → (if b then Some entry.request else find test (requests_of entries)) ≡ None
+    by_test true here rest = absurd (cc)
+    by_test false later rest = rest later
+
+-- the same of what a call answers
+pub answer_names : (test : LiveRequest → Bool) (entries : List KeyedRequest) (answer : Option ℕ) → HaveOwnKeys entries → answer ≡ key_in test entries
+    → option_and_then (λ k. request_in k entries) answer ≡ find test (requests_of entries)
+answer_names test entries None own is = sym (none_named test entries (sym is))
+answer_names test entries (Some k) own is = let found = named test entries k own (sym is) in found.named ∙ sym found.first
+
+some_and : (o : Option LiveRequest) (r : LiveRequest) (P : LiveRequest → Type 0) → o ≡ Some r → P r → IsSomeAnd o P
+some_and o r P is holds = rw is holds
+
+pub answer_passes : (test : LiveRequest → Bool) (P : LiveRequest → Type 0) (entries : List KeyedRequest) (answer : Option ℕ) → ((r : LiveRequest) → test r ≡ true → P r) → HaveOwnKeys entries
+    → answer ≡ key_in test entries → IfSome answer (λ k. IsSomeAnd (request_in k entries) P)
+answer_passes test P entries None so own is = tt
+answer_passes test P entries (Some k) so own is =
+    let found = named test entries k own (sym is) in some_and (request_in k entries) found.request P found.named (so found.request found.passes)
+
+-- ---- by number
+
+all_numbers : (n : ℕ) (live : List LiveRequest) → AllByRecursion (λ m. n < m) (map (λ (o : LiveRequest). o.number) live) → AllByRecursion (λ (o : LiveRequest). n < o.number) live
+all_numbers n [] all = tt
+all_numbers n (o ∷ live) all = (all.0, all_numbers n live all.1)
+
+other_number : (entry : KeyedRequest) (entries : List KeyedRequest) (key : ℕ) (r : LiveRequest) → AllByRecursion (λ m. entry.request.number < m) (map (λ (o : LiveRequest). o.number) (requests_of entries))
+    → request_in key entries ≡ Some r → (entry.request.number == r.number) ≡ false
+other_number entry entries key r above found =
+    let larger : entry.request.number < r.number = request_listed (λ o. entry.request.number < o.number) key entries r (all_numbers entry.request.number (requests_of entries) above) found in
+    grind (arith, larger)
+
+abbrev numbers_of : List KeyedRequest → List ℕ
+numbers_of entries = map (λ (o : LiveRequest). o.number) (requests_of entries)
+
+pub by_number : (change : LiveRequest → LiveRequest) (key : ℕ) (entries : List KeyedRequest) (r : LiveRequest) → AreRising (numbers_of entries) → request_in key entries ≡ Some r
+    → requests_of (change_first (has_key key) (change_entry change) entries) ≡ change_first (has_number r.number) change (requests_of entries)
+by_number change key [] r rising found = refl
+by_number change key (entry ∷ entries) r rising found = by_test (entry.key == key) found (λ later. by_number change key entries r rising.1 later)
+  where
+    by_test : (b : Bool) → option_map (λ (e : KeyedRequest). e.request) (if b then Some entry else find (has_key key) entries) ≡ Some r
+        → (request_in key entries ≡ Some r → requests_of (change_first (has_key key) (change_entry change) entries) ≡ change_first (has_number r.number) change (requests_of entries))
+        → requests_of (if b then change_entry change entry ∷ entries else entry ∷ change_first (has_key key) (change_entry change) entries)
+        ≡ (if entry.request.number == r.number then change entry.request ∷ requests_of entries else entry.request ∷ change_first (has_number r.number) change (requests_of entries))
+    by_test true here rest =
+        let same : entry.request ≡ r = cc in
+        rw (eq-eqb entry.request.number r.number (ap (λ (o : LiveRequest). o.number) same)) refl
+    by_test false later rest = rw (other_number entry entries key r rising.0 later) (ap (λ (live : List LiveRequest). entry.request ∷ live) (rest later))
+
+pub without_by_number : (key : ℕ) (entries : List KeyedRequest) (r : LiveRequest) → AreRising (numbers_of entries) → request_in key entries ≡ Some r
+    → requests_of (without_first (has_key key) entries) ≡ without_first (has_number r.number) (requests_of entries)
+without_by_number key [] r rising found = refl
+without_by_number key (entry ∷ entries) r rising found = by_test (entry.key == key) found (λ later. without_by_number key entries r rising.1 later)
+  where
+    by_test : (b : Bool) → option_map (λ (e : KeyedRequest). e.request) (if b then Some entry else find (has_key key) entries) ≡ Some r
+        → (request_in key entries ≡ Some r → requests_of (without_first (has_key key) entries) ≡ without_first (has_number r.number) (requests_of entries))
+        → requests_of (if b then entries else entry ∷ without_first (has_key key) entries)
+        ≡ (if entry.request.number == r.number then requests_of entries else entry.request ∷ without_first (has_number r.number) (requests_of entries))
+    by_test true here rest =
+        let same : entry.request ≡ r = cc in
+        rw (eq-eqb entry.request.number r.number (ap (λ (o : LiveRequest). o.number) same)) refl
+    by_test false later rest = rw (other_number entry entries key r rising.0 later) (ap (λ (live : List LiveRequest). entry.request ∷ live) (rest later))
+
+-- a key's request is found by its number
+pub found_by_number : (key : ℕ) (entries : List KeyedRequest) (r : LiveRequest) → AreRising (numbers_of entries) → request_in key entries ≡ Some r → find (has_number r.number) (requests_of entries) ≡ Some r
+found_by_number key [] r rising found = absurd (cc)
+found_by_number key (entry ∷ entries) r rising found = by_test (entry.key == key) found (λ later. found_by_number key entries r rising.1 later)
+  where
+    by_test : (b : Bool) → option_map (λ (e : KeyedRequest). e.request) (if b then Some entry else find (has_key key) entries) ≡ Some r
+        → (request_in key entries ≡ Some r → find (has_number r.number) (requests_of entries) ≡ Some r)
+        → (if entry.request.number == r.number then Some entry.request else find (has_number r.number) (requests_of entries)) ≡ Some r
+    by_test true here rest =
+        let same : entry.request ≡ r = cc in
+        rw (eq-eqb entry.request.number r.number (ap (λ (o : LiveRequest). o.number) same)) (ap (λ (o : LiveRequest). Some o) same)
+    by_test false later rest = rw (other_number entry entries key r rising.0 later) (rest later)
+
+-- ---- the first that passes
+
+no_smaller : (test : LiveRequest → Bool) (n : ℕ) (live : List LiveRequest) (r : LiveRequest) → n ≡ r.number → AllByRecursion (λ (o : LiveRequest). n < o.number) live
+    → AllByRecursion (λ o. test o ≡ true → r.number ≤ o.number) live
+no_smaller test n [] r is all = tt
+no_smaller test n (o ∷ live) r is all = (λ passes. omega (arith, is, all.0), no_smaller test n live r is all.1)
+
+-- a search by rising numbers finds the smallest number
+pub smallest : (test : LiveRequest → Bool) (live : List LiveRequest) (r : LiveRequest) → AreRising (map (λ (o : LiveRequest). o.number) live) → find test live ≡ Some r
+    → AllByRecursion (λ o. test o ≡ true → r.number ≤ o.number) live
+smallest test [] r rising found = tt
+smallest test (x ∷ live) r rising found = by_test (test x) refl found (λ later. smallest test live r rising.1 later)
+  where
+    by_test : (b : Bool) → test x ≡ b → (if b then Some x else find test live) ≡ Some r
+        → (find test live ≡ Some r → AllByRecursion (λ o. test o ≡ true → r.number ≤ o.number) live) → AllByRecursion (λ o. test o ≡ true → r.number ≤ o.number) (x ∷ live)
+    by_test true is here rest =
+        let same : x ≡ r = cc in
+        (λ passes. rw same (omega arith), no_smaller test x.number live r (ap (λ (o : LiveRequest). o.number) same) (all_numbers x.number live rising.0))
+    by_test false is later rest = (λ passes. absurd (cc (passes, is)), rest later)
+
+pub none_passes : (test : LiveRequest → Bool) (live : List LiveRequest) → find test live ≡ None → AllByRecursion (λ o. test o ≡ false) live
+none_passes test [] none = tt
+none_passes test (x ∷ live) none = by_test (test x) refl none (λ later. none_passes test live later)
+  where
+    by_test : (b : Bool) → test x ≡ b → (if b then Some x else find test live) ≡ None → (find test live ≡ None → AllByRecursion (λ o. test o ≡ false) live) → AllByRecursion (λ o. test o ≡ false) (x ∷ live)
+    by_test true is here rest = absurd (cc)
+    by_test false is later rest = (is, rest later)
+
+pub some_found : (test : LiveRequest → Bool) (entries : List KeyedRequest) → is_some (key_in test entries) ≡ is_some (find test (requests_of entries))
+some_found test [] = refl
+some_found test (entry ∷ entries) = by_test (test entry.request) (some_found test entries)
+  where
+    by_test : (b : Bool) → is_some (key_in test entries) ≡ is_some (find test (requests_of entries))
+        → is_some (option_map (λ (e : KeyedRequest). e.key) (if b then Some entry else find (λ e. test e.request) entries)) ≡ is_some (if b then Some entry.request else find test (requests_of entries))
+    by_test true rest = refl
+    by_test false rest = rest
+
+-- the smallest ready number
+pub smallest_ready : (old now : KeyedTable) (answer : Option ℕ) → old ≡ now → IsSound old → HaveOwnKeys old.entries → answer ≡ key_in (is_ready (table_of old)) old.entries
+    → IfSome (request_named answer now) (IsSmallestReady (table_of now))
+smallest_ready old now answer same sound own is =
+    subst (λ t. IfSome (request_named answer t) (IsSmallestReady (table_of t))) same (by_answer (request_named answer old) (answer_names (is_ready (table_of old)) old.entries answer own is))
+  where
+    by_answer : (o : Option LiveRequest) → o ≡ find (is_ready (table_of old)) (requests_of old.entries) → IfSome o (IsSmallestReady (table_of old))
+    by_answer None found = tt
+    by_answer (Some r) found =
+        record {
+          ready = find-passes (is_ready (table_of old)) (requests_of old.entries) r (sym found);
+          smallest = smallest (is_ready (table_of old)) (requests_of old.entries) r sound.table.rising (sym found);
+        }
+
+pub none_ready : (old now : KeyedTable) (answer : Option ℕ) → old ≡ now → answer ≡ key_in (is_ready (table_of old)) old.entries → answer ≡ None
+    → AllByRecursion (λ request. is_ready (table_of now) request ≡ false) (table_of now).live
+none_ready old now answer same is none =
+    subst (λ t. AllByRecursion (λ request. is_ready (table_of t) request ≡ false) (table_of t).live) same
+    (none_passes (is_ready (table_of old)) (requests_of old.entries) (none_named (is_ready (table_of old)) old.entries (sym is ∙ none)))

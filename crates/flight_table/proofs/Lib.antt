@@ -1,0 +1,8 @@
+pub mod SlabScans
+pub mod Index
+pub mod CourseLaws
+pub mod KeyLaws
+pub mod TableChanges
+pub mod Steps
+pub mod NewRequests
+pub mod Ranges

@@ -1,0 +1,268 @@
+-- What each call makes of a request keeps the laws of the table.
+use Rattle.std.proofs.Common.{◌≡◌, ℕ, suc, zero, ◌+◌, ◌-◌, ◌==◌, ◌<◌, ◌≤◌, Bool, true, false, not, ◌&&◌, ◌||◌, is_some, nat_lt, List, [], ◌∷◌, length, Option, Some, None, refl, ap, sym, ◌∙◌, arith, inl, inr, ◌⊎◌, subst, IsTrue}
+use Rattle.std.specs.Prelude.{IfSome, IsSomeAnd, if◌then◌else◌}
+use Rattle.std.specs.List.{find, list_any, range_with_len, slice_get}
+use Rattle.std.specs.Option.{option_or}
+use Rattle.std.proofs.lemmas.Bool.{and_parts, eqb-true, ltb-true}
+use Rattle.bus_words.proofs.PlaceChanges.{find-passes}
+use Rattle.bus_words.specs.Places.{change_first}
+use Rattle.flight_table.specs.Laws.{HaveOwnKeys, IsSound, IsSoundRequest, IsSoundTable}
+use Rattle.flight_table.specs.LiveRequests.{LiveRequest, finished, is_atomic, next_burst, planned, planned_writes, read_pieces, unanswered, with_answered, with_sent, with_write, write_pieces}
+use Rattle.flight_table.specs.Order.{conflict, free_id, holds_back, holds_id, id_for, is_free, is_held, is_id, is_ready}
+use Rattle.flight_table.specs.Tables.{FlightTable, KeyedRequest, KeyedTable, change_entry, change_key, change_number, has_key, has_number, request_at, requests_of, table_of}
+use Rattle.flight_table.specs.declared.TableLimits.{TableLimits}
+use Rattle.flight_table.proofs.CourseLaws.{length_course}
+use Rattle.flight_table.proofs.Index.{change-constant}
+use Rattle.flight_table.proofs.KeyLaws.{by_number, found_by_number, request_listed}
+use Rattle.flight_table.proofs.TableChanges.{IsStep, sound-put}
+
+not_false : (b : Bool) → not b ≡ true → b ≡ false
+not_false true is = absurd (cc)
+not_false false is = refl
+
+-- what it means to be ready
+pub record IsReady (table : FlightTable) (r : LiveRequest) : Type 0 where
+  pub undone : r.done ≡ false
+  pub more : r.sent < length (planned r)
+  pub depth : r.sent - r.answered < table.limits.depth
+  pub some : is_some (id_for table.limits table.live r) ≡ true
+  pub free : is_held table.live r ≡ false
+
+within_some : {X : Type 0} (xs : List X) (k : ℕ) → is_some (slice_get xs k) ≡ true → k < length xs
+within_some [] k some = absurd (cc)
+within_some (x ∷ xs) zero some = omega arith
+within_some (x ∷ xs) (suc k) some = omega (arith, within_some xs k some)
+
+pub ready_parts : (table : FlightTable) (r : LiveRequest) → is_ready table r ≡ true → IsReady table r
+ready_parts table r ready =
+    let held = not (is_held table.live r) in
+    let some = is_some (id_for table.limits table.live r) in
+    let deep = nat_lt (unanswered r) table.limits.depth in
+    let next = is_some (next_burst r) in
+    let all = and_parts (not r.done && next && deep && some) held ready in
+    let four = and_parts (not r.done && next && deep) some all.0 in
+    let three = and_parts (not r.done && next) deep four.0 in
+    let two = and_parts (not r.done) next three.0 in
+    record {
+      undone = not_false r.done two.0;
+      more = within_some (planned r) r.sent two.1;
+      depth = ltb-true (unanswered r) table.limits.depth three.1;
+      some = four.1;
+      free = not_false (is_held table.live r) all.1;
+    }
+
+-- ---- sent
+
+below_range : (p : ℕ → Bool) (a n id : ℕ) → find p (range_with_len a n) ≡ Some id → id < a + n
+below_range p a zero id found = absurd (cc)
+below_range p a (suc n) id found = by_test (p a) found (λ later. below_range p (a + 1) n id later)
+  where
+    by_test : (b : Bool) → (if b then Some a else find p (range_with_len (a + 1) n)) ≡ Some id → (find p (range_with_len (a + 1) n) ≡ Some id → id < a + 1 + n) → id < a + suc n
+    by_test true here rest = let same : a ≡ id = cc in omega (arith, same)
+    by_test false later rest = omega (arith, rest later)
+
+-- the ID is in range, and it is the request's own or free
+pub record MayTake (limits : TableLimits) (live : List LiveRequest) (r : LiveRequest) (id : ℕ) : Type 0 where
+  pub below : id < limits.ids
+  pub own : (is_id id r.id ≡ true) ⊎ (list_any (holds_id id) live ≡ false)
+
+eqb-self : (n m : ℕ) → n ≡ m → (n == m) ≡ true
+eqb-self n m same = grind (arith, same)
+
+pub takes_id : (limits : TableLimits) (live : List LiveRequest) (r : LiveRequest) (id : ℕ) (own : Option ℕ) → r.id ≡ own → IfSome own (λ held. held < limits.ids) → option_or own (free_id limits.ids live) ≡ Some id
+    → MayTake limits live r id
+takes_id limits live r id None none within is =
+    record {
+      below = omega (arith, below_range (is_free live) 0 limits.ids id is);
+      own = inr (not_false (list_any (holds_id id) live) (find-passes (is_free live) (range_with_len 0 limits.ids) id is));
+    }
+takes_id limits live r id (Some held) some within is =
+    let same : held ≡ id = cc in
+    record { below = rw (← same) within; own = inl (rw some (eqb-self held id same)) }
+
+pub step_sent : (table : FlightTable) (r : LiveRequest) (id : ℕ) → IsSoundRequest table.limits table.accepted r → is_ready table r ≡ true → id_for table.limits table.live r ≡ Some id
+    → IsStep table.limits table.accepted table.live r (with_sent id r)
+step_sent table r id sound ready is =
+    let parts = ready_parts table r ready in
+    let takes = takes_id table.limits table.live r id r.id refl sound.id is in
+    record {
+      number = refl;
+      client = refl;
+      source = refl;
+      sound =
+          record {
+            number = sound.number;
+            client = sound.client;
+            sent = omega (arith, parts.more);
+            answered = omega (arith, sound.answered);
+            depth = omega (arith, parts.depth, sound.answered);
+            id = takes.below;
+            holds = λ undone sent. refl;
+            freed = λ done. absurd (cc (done, parts.undone));
+            no_plan = sound.no_plan;
+          };
+      ids = λ other holds. let same : id ≡ other = eqb-true id other holds in rw (← same) takes.own;
+      back = λ x holds. holds;
+      order = λ undone held. absurd (cc (held, parts.free));
+    }
+
+-- ---- answered, and the write of an atomic
+
+-- more bursts answered, or an atomic's write planned
+step_progressed : (table : FlightTable) (r : LiveRequest) (answered : ℕ) (writing : Bool) → IsSoundRequest table.limits table.accepted r → (r.done ≡ false → is_held table.live r ≡ true → r.sent ≡ 0) → r.answered ≤ answered
+    → answered ≤ r.sent → length (planned r) ≤ length (planned (record r { answered = answered; writing = writing }))
+    → IsStep table.limits table.accepted table.live r (record r { answered = answered; writing = writing })
+step_progressed table r answered writing sound order later within more =
+    record {
+      number = refl;
+      client = refl;
+      source = refl;
+      sound =
+          record {
+            number = sound.number;
+            client = sound.client;
+            sent = omega (arith, sound.sent, more);
+            answered = within;
+            depth = omega (arith, sound.depth, later);
+            id = sound.id;
+            holds = sound.holds;
+            freed = sound.freed;
+            no_plan = sound.no_plan;
+          };
+      ids = λ id holds. inl holds;
+      back = λ x holds. holds;
+      order = order;
+    }
+
+pub step_answered : (table : FlightTable) (r : LiveRequest) → IsSoundRequest table.limits table.accepted r → (r.done ≡ false → is_held table.live r ≡ true → r.sent ≡ 0) → r.answered < r.sent
+    → IsStep table.limits table.accepted table.live r (with_answered r)
+step_answered table r sound order one = step_progressed table r (r.answered + 1) r.writing sound order (omega arith) (omega (arith, one)) (omega arith)
+
+more_planned : (r : LiveRequest) → length (planned r) ≤ length (planned (with_write r))
+more_planned r =
+    let old : length (planned r) ≡ length (read_pieces r) + length (planned_writes r) = length_course (read_pieces r) (planned_writes r) in
+    let new : length (planned (with_write r)) ≡ length (read_pieces r) + length (planned_writes (with_write r)) = length_course (read_pieces r) (planned_writes (with_write r)) in
+    omega (arith, old, new, by_tests (not (is_atomic r)) r.writing)
+  where
+    by_tests : (b c : Bool) → length (if b || c then write_pieces r else []) ≤ length (if b || true then write_pieces r else [])
+    by_tests true c = omega arith
+    by_tests false true = omega arith
+    by_tests false false = omega arith
+
+pub step_write : (table : FlightTable) (r : LiveRequest) → IsSoundRequest table.limits table.accepted r → (r.done ≡ false → is_held table.live r ≡ true → r.sent ≡ 0)
+    → IsStep table.limits table.accepted table.live r (with_write r)
+step_write table r sound order = step_progressed table r r.answered true sound order (omega arith) sound.answered (more_planned r)
+
+-- ---- done
+
+done_holds_none : (x r : LiveRequest) → holds_back x (finished r) ≡ true → holds_back x r ≡ true
+done_holds_none x r holds =
+    let one = and_parts (nat_lt r.number x.number && false) (conflict r x) holds in
+    let two = and_parts (nat_lt r.number x.number) false one.0 in
+    absurd (cc (two.1))
+
+pub step_finished : (table : FlightTable) (r : LiveRequest) → IsSoundRequest table.limits table.accepted r → IsStep table.limits table.accepted table.live r (finished r)
+step_finished table r sound =
+    record {
+      number = refl;
+      client = refl;
+      source = refl;
+      sound =
+          record {
+            number = sound.number;
+            client = sound.client;
+            sent = sound.sent;
+            answered = sound.answered;
+            depth = sound.depth;
+            id = tt;
+            holds = λ undone sent. absurd (cc (undone));
+            freed = λ done. refl;
+            no_plan = λ none. refl;
+          };
+      ids = λ id holds. absurd (cc (holds));
+      back = λ x holds. done_holds_none x r holds;
+      order = λ undone held. absurd (cc (undone));
+    }
+
+-- ---- the table after a change
+
+-- what a call's condition says of the request that the key names
+pub needs : (P : KeyedTable → LiveRequest → Type 0) (old now : KeyedTable) (key : ℕ) (r : LiveRequest) → old ≡ now → request_at key old ≡ Some r → IsSomeAnd (request_at key now) (P now) → P old r
+needs P old now key r same found holds = by_request (request_at key old) found (subst (λ t. IsSomeAnd (request_at key t) (P t)) (sym same) holds)
+  where
+    by_request : (o : Option LiveRequest) → o ≡ Some r → IsSomeAnd o (P old) → P old r
+    by_request None found holds = absurd (cc)
+    by_request (Some q) found holds = let is : q ≡ r = cc in rw is at holds
+
+-- what is known of the request that a key names
+pub known : (keyed : KeyedTable) (key : ℕ) (r : LiveRequest) → IsSound keyed → request_at key keyed ≡ Some r
+    → IsSoundRequest keyed.limits keyed.accepted r × (r.done ≡ false → is_held (requests_of keyed.entries) r ≡ true → r.sent ≡ 0)
+known keyed key r sound found = (
+  request_listed (IsSoundRequest keyed.limits keyed.accepted) key keyed.entries r sound.table.requests found,
+  request_listed (λ q. q.done ≡ false → is_held (requests_of keyed.entries) q ≡ true → q.sent ≡ 0) key keyed.entries r sound.table.in_order found,
+)
+
+-- the table after the request of a key changed, and nothing else
+pub record IsChanged (old new : KeyedTable) (key : ℕ) (change : LiveRequest → LiveRequest) : Type 0 where
+  pub state : new ≡ change_key key change old
+  pub table : IfSome (request_at key old) (λ r. table_of new ≡ change_number r.number change (table_of old))
+  pub laws : IsSound new
+
+if_request : (o : Option LiveRequest) (r : LiveRequest) (P : LiveRequest → Type 0) → o ≡ Some r → P r → IfSome o P
+if_request o r P is holds = rw is holds
+
+number_put : (change : LiveRequest → LiveRequest) (r : LiveRequest) (live : List LiveRequest) → find (has_number r.number) live ≡ Some r
+    → change_first (has_number r.number) change live ≡ change_first (has_number r.number) (λ o. change r) live
+number_put change r [] found = refl
+number_put change r (x ∷ live) found = by_test (x.number == r.number) found (λ later. number_put change r live later)
+  where
+    by_test : (b : Bool) → (if b then Some x else find (has_number r.number) live) ≡ Some r
+        → (find (has_number r.number) live ≡ Some r → change_first (has_number r.number) change live ≡ change_first (has_number r.number) (λ o. change r) live)
+        → (if b then change x ∷ live else x ∷ change_first (has_number r.number) change live) ≡ (if b then change r ∷ live else x ∷ change_first (has_number r.number) (λ o. change r) live)
+    by_test true here rest = let is : x ≡ r = cc in rw is refl
+    by_test false later rest = ap (λ (xs : List LiveRequest). x ∷ xs) (rest later)
+
+abbrev pub with_live : KeyedTable → List LiveRequest → FlightTable
+with_live old live = record { limits = old.limits; accepted = old.accepted; live = live }
+
+changed : (old : KeyedTable) (key : ℕ) (change : LiveRequest → LiveRequest) (r request : LiveRequest) (entries : List KeyedRequest) → IsSound old → request_at key old ≡ Some r → request ≡ change r
+    → entries ≡ change_first (has_key key) (change_entry (λ o. request)) old.entries → HaveOwnKeys entries → IsStep old.limits old.accepted (requests_of old.entries) r (change r)
+    → IsChanged old (record old { entries = entries }) key change
+changed old key change r request entries sound found is made own step =
+    record {
+      state = ap (λ (es : List KeyedRequest). record old { entries = es }) same;
+      table = if_request (request_at key old) r (λ q. table_of (record old { entries = entries }) ≡ change_number q.number change (table_of old)) found numbered;
+      laws = record {
+        limits = sound.limits;
+        table = subst IsSoundTable (sym (numbered ∙ put)) (sound-put (table_of old) r (change r) sound.table by_its_number step);
+        keys = own;
+      };
+    }
+  where
+    same : entries ≡ change_first (has_key key) (change_entry change) old.entries
+    same = made ∙ change-constant change key old.entries r request found is
+
+    by_its_number : find (has_number r.number) (requests_of old.entries) ≡ Some r
+    by_its_number = found_by_number key old.entries r sound.table.rising found
+
+    numbered : table_of (record old { entries = entries }) ≡ change_number r.number change (table_of old)
+    numbered =
+        ap (λ (live : List LiveRequest). with_live old live) (ap requests_of same ∙ by_number change key old.entries r sound.table.rising found)
+
+    put : change_number r.number change (table_of old) ≡ change_number r.number (λ o. change r) (table_of old)
+    put = ap (λ (live : List LiveRequest). with_live old live) (number_put change r (requests_of old.entries) by_its_number)
+
+pub change_is : (old now : KeyedTable) (key : ℕ) (change : LiveRequest → LiveRequest) (r request : LiveRequest) (entries : List KeyedRequest) → old ≡ now → IsSound old → request_at key old ≡ Some r → request ≡ change r
+    → entries ≡ change_first (has_key key) (change_entry (λ o. request)) old.entries → HaveOwnKeys entries → IsStep old.limits old.accepted (requests_of old.entries) r (change r)
+    → IsChanged now (record old { entries = entries }) key change
+change_is old now key change r request entries same sound found is made own step =
+    subst (λ t. IsChanged t (record old { entries = entries }) key change) same (changed old key change r request entries sound found is made own step)
+
+-- ---- a burst is sent
+
+pub sends : (old now : KeyedTable) (key : ℕ) (r : LiveRequest) → old ≡ now → request_at key old ≡ Some r → IsSomeAnd (request_at key now) (λ q. IsTrue (is_ready (table_of now) q)) → is_ready (table_of old) r ≡ true
+sends old now key r same found ready = needs (λ t q. IsTrue (is_ready (table_of t) q)) old now key r same found ready
+
+-- what is known of the request that a key names, seen by a caller
+pub seen : (P : KeyedTable → LiveRequest → Type 0) (old now : KeyedTable) (key : ℕ) (r : LiveRequest) → old ≡ now → request_at key old ≡ Some r → P old r → IfSome (request_at key now) (P now)
+seen P old now key r same found holds = subst (λ t. IfSome (request_at key t) (P t)) same (if_request (request_at key old) r (P old) found holds)

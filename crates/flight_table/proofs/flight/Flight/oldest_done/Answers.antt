@@ -1,0 +1,10 @@
+use Rattle.std.proofs.lemmas.Bool.{and_parts}
+use Rattle.flight_table.specs.Tables.{is_done_of, is_of}
+use Rattle.flight_table.proofs.KeyLaws.{answer_names, answer_passes}
+use Rattle.flight_table.proofs.flight.Flight.oldest_done.Goals as goal
+
+pub returns-clause-request : goal.returns-clause-request
+returns-clause-request c = rw (← c.self.view_is) (answer_names (is_done_of c.args.client) c.self.inside.live c.first_done.result c.first_done.ensures.keys c.first_done.ensures.key)
+
+pub returns-clause-named : goal.returns-clause-named
+returns-clause-named c = rw (← c.self.view_is) (answer_passes (is_done_of c.args.client) _ c.self.inside.live c.first_done.result (λ r passes. (and_parts (is_of c.args.client r) r.done passes).1) c.first_done.ensures.keys c.first_done.ensures.key)

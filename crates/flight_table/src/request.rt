@@ -1,0 +1,337 @@
+//! One live request.
+ghost use Rattle.std.specs.Prelude.{◌≡◌, ◌↔◌, ◌+◌, ◌<◌, ◌≤◌, IsTrue, Some, is_some, length, slice_get};
+ghost use Rattle.flight_table.specs.LiveRequests.{finished, flight_for, is_atomic, next_burst, pieces_planned, plan_for, planned, read_pieces, unanswered, with_answered, with_sent, with_write, write_pieces};
+ghost use Rattle.flight_table.specs.Order.{HaveCommonAddress, conflict, holds_back, holds_id, share_bytes};
+ghost use Rattle.std.specs.List.{AllByRecursion};
+ghost use Rattle.burst_plan.specs.Pieces.{range_end};
+ghost use Rattle.flight_table.specs.Tables.{has_source, is_done_of, is_of};
+ghost use Rattle.flight_table.specs.Work.{work_of};
+
+use burst_plan::{Piece, Plan};
+use std::marker::Model;
+use tl_messages::{Operation, Request};
+
+/// A live request: whose it is, what it sends, and how far it has come.
+#[derive(Clone, Copy)]
+pub(crate) struct LiveRequest {
+    pub(crate) number: u64,
+    pub(crate) client: u8,
+    pub(crate) source: u8,
+    pub(crate) operation: Operation,
+    pub(crate) plan: Option<Plan>,
+    pub(crate) id: Option<u8>,
+    pub(crate) sent: u32,
+    pub(crate) answered: u32,
+    pub(crate) writing: bool,
+    pub(crate) done: bool,
+}
+
+impl Model for LiveRequest {
+    ghost use Rattle.flight_table.specs.LiveRequests.{LiveRequest};
+
+    ghost Value = { LiveRequest };
+
+    ghost view = { λ r. record {
+      number = r.number;
+      client = r.client;
+      source = r.source;
+      operation = r.operation;
+      plan = r.plan;
+      id = r.id;
+      sent = r.sent;
+      answered = r.answered;
+      writing = r.writing;
+      done = r.done;
+    } };
+
+    ghost inverse = { λ r. record {
+      number = r.number;
+      client = r.client;
+      source = r.source;
+      operation = r.operation;
+      plan = r.plan;
+      id = r.id;
+      sent = r.sent;
+      answered = r.answered;
+      writing = r.writing;
+      done = r.done;
+    } };
+}
+
+/// The address after the last byte of a range.
+fn range_end(plan: &Plan) -> u64
+    ensures { result ≡ range_end plan.now }
+{
+    u64::from(plan.address()) + (1u64 << plan.size())
+}
+
+/// Whether each of two ranges begins before the other ends.
+fn overlap(a: &Option<Plan>, b: &Option<Plan>) -> bool
+    ensures { result ≡ share_bytes a.now b.now }
+{
+    match (a, b) {
+        (Some(a), Some(b)) => {
+            u64::from(a.address()) < range_end(b) && u64::from(b.address()) < range_end(a)
+        }
+        _ => false,
+    }
+}
+
+/// Whether two ranges of AXI addresses share a byte.
+fn share_bytes(a: &Option<Plan>, b: &Option<Plan>) -> bool
+    ensures answer { result ≡ share_bytes a.now b.now }
+    ensures address { IsTrue result ↔ HaveCommonAddress a.now b.now }
+{
+    overlap(a, b)
+}
+
+/// The plan that a request of this operation has: an Intent sends nothing.
+fn plan_for(operation: Operation, plan: Option<Plan>) -> Option<Plan>
+    ensures { result ≡ plan_for operation plan }
+{
+    match operation {
+        Operation::Intent(_) => None,
+        _ => plan,
+    }
+}
+
+impl LiveRequest {
+    /// A request as it is accepted. An Intent sends nothing, so it has no plan; without a plan a request is done at once.
+    pub(crate) fn accepted(number: u64, client: u8, request: &Request, plan: Option<Plan>) -> Self
+        ensures { result ≡ flight_for number client request.now plan }
+    {
+        let operation = request.operation();
+        let plan = plan_for(operation, plan);
+        LiveRequest {
+            number,
+            client,
+            source: request.source(),
+            operation,
+            plan,
+            id: None,
+            sent: 0,
+            answered: 0,
+            writing: false,
+            done: plan.is_none(),
+        }
+    }
+
+    /// How many pieces the plan has.
+    fn pieces(&self) -> u32
+        ensures count { result ≡ length (pieces_planned self.now.plan) }
+        ensures bound { result < 65536 }
+    {
+        match &self.plan {
+            Some(plan) => u32::from(plan.bursts()),
+            None => 0,
+        }
+    }
+
+    /// How many bursts are reads.
+    fn reads(&self) -> u32
+        ensures count { result ≡ length (read_pieces self.now) }
+        ensures bound { result < 65536 }
+    {
+        if self.operation.reply_has_data() {
+            self.pieces()
+        } else {
+            0
+        }
+    }
+
+    /// How many bursts are writes, planned or not.
+    fn writes(&self) -> u32
+        ensures count { result ≡ length (write_pieces self.now) }
+        ensures bound { result < 65536 }
+    {
+        if self.operation.has_data() {
+            self.pieces()
+        } else {
+            0
+        }
+    }
+
+    /// Whether the request reads and then writes.
+    pub(crate) fn is_atomic(&self) -> bool
+        ensures { result ≡ is_atomic self.now }
+    {
+        self.operation.reply_has_data() && self.operation.has_data()
+    }
+
+    /// How many bursts are planned.
+    pub(crate) fn planned(&self) -> u32
+        ensures count { result ≡ length (planned self.now) }
+        ensures bound { result < 131072 }
+        ensures writes { result < length (read_pieces self.now) + 65536 }
+    {
+        if !self.is_atomic() || self.writing {
+            self.reads() + self.writes()
+        } else {
+            self.reads()
+        }
+    }
+
+    /// Whether a burst is planned and unsent.
+    pub(crate) fn has_next(&self) -> bool
+        ensures { result ≡ is_some (next_burst self.now) }
+    {
+        self.sent < self.planned()
+    }
+
+    /// Piece `place` of the plan, from 0.
+    fn piece(&self, place: u16) -> Piece
+        requires { place < length (pieces_planned self.now.plan) }
+        ensures piece { slice_get (pieces_planned self.now.plan) place ≡ Some result }
+
+        // All pieces have as many transfers.
+        ensures alike { AllByRecursion (λ piece. piece.len + 1 ≡ result.len + 1) (pieces_planned self.now.plan) }
+    {
+        match &self.plan {
+            Some(plan) => plan.burst(place),
+            None => unreachable!(),
+        }
+    }
+
+    /// The next burst, if one is planned and unsent: whether it is a write, and its piece.
+    pub(crate) fn next(&self) -> Option<(bool, Piece)>
+        ensures { result ≡ next_burst self.now }
+    {
+        if self.sent >= self.planned() {
+            return None;
+        }
+        let reads = self.reads();
+        if self.sent < reads {
+            return Some((false, self.piece(self.sent as u16)));
+        }
+        Some((true, self.piece((self.sent - reads) as u16)))
+    }
+
+    /// The request with one more burst sent, under an ID that it keeps.
+    pub(crate) fn with_sent(self, id: u8) -> Self
+        requires { self.sent < length (planned self) }
+        ensures { result ≡ with_sent id self }
+    {
+        // The count of planned bursts bounds that of the sent ones.
+        let _planned = self.planned();
+        LiveRequest {
+            id: Some(id),
+            sent: self.sent + 1,
+            ..self
+        }
+    }
+
+    /// The request with one more burst answered.
+    pub(crate) fn with_answered(self) -> Self
+        requires { self.answered < self.sent }
+        ensures { result ≡ with_answered self }
+    {
+        LiveRequest {
+            answered: self.answered + 1,
+            ..self
+        }
+    }
+
+    /// The request with its write planned.
+    pub(crate) fn with_write(self) -> Self
+        ensures { result ≡ with_write self }
+    {
+        LiveRequest {
+            writing: true,
+            ..self
+        }
+    }
+
+    /// The request done, and its ID free again.
+    pub(crate) fn finished(self) -> Self
+        ensures { result ≡ finished self }
+    {
+        LiveRequest {
+            id: None,
+            done: true,
+            ..self
+        }
+    }
+
+    /// How many bursts are sent and unanswered.
+    pub(crate) fn unanswered(&self) -> u32
+        ensures { result ≡ unanswered self.now }
+    {
+        self.sent.saturating_sub(self.answered)
+    }
+
+    /// Whether the request conflicts with another: their ranges share a byte, and at least one is no Get.
+    fn conflicts(&self, other: &LiveRequest) -> bool
+        ensures { result ≡ conflict self.now other.now }
+    {
+        let gets = matches!(self.operation, Operation::Get)
+            && matches!(other.operation, Operation::Get);
+        share_bytes(&self.plan, &other.plan) && !gets
+    }
+
+    /// Whether the request holds back another: it was accepted earlier, isn't done, sent or waiting, and conflicts.
+    pub(crate) fn holds_back(&self, other: &LiveRequest) -> bool
+        ensures { result ≡ holds_back other.now self.now }
+    {
+        self.number < other.number && !self.done && self.conflicts(other)
+    }
+
+    /// Whether the request holds this ID.
+    pub(crate) fn holds_id(&self, id: u8) -> bool
+        ensures { result ≡ holds_id id self.now }
+    {
+        match self.id {
+            Some(held) => held == id,
+            None => false,
+        }
+    }
+
+    /// Whether the request is of this client.
+    pub(crate) fn is_of(&self, client: u8) -> bool
+        ensures { result ≡ is_of client self.now }
+    {
+        self.client == client
+    }
+
+    /// Whether the request is of this client and has this source.
+    pub(crate) fn has_source(&self, client: u8, source: u8) -> bool
+        ensures { result ≡ has_source client source self.now }
+    {
+        self.is_of(client) && self.source == source
+    }
+
+    /// Whether the request is of this client, and done.
+    pub(crate) fn is_done_of(&self, client: u8) -> bool
+        ensures { result ≡ is_done_of client self.now }
+    {
+        self.is_of(client) && self.done
+    }
+
+    /// How many transfers each piece has.
+    fn piece_beats(&self) -> u64
+        ensures count { AllByRecursion (λ piece. piece.len + 1 ≡ result) (pieces_planned self.now.plan) }
+        ensures bound { result ≤ 256 }
+    {
+        if self.pieces() == 0 {
+            return 0;
+        }
+        u64::from(self.piece(0).len) + 1
+    }
+
+    /// The bursts to send, beats to perform and answers to come, as though no beat of an unanswered burst was performed or
+    /// answered; the write of an atomic counts from the start.
+    pub(crate) fn work(&self) -> u64
+        ensures work { result ≡ work_of self.now }
+        ensures bound { result ≤ 100000000 }
+    {
+        if self.done {
+            return 0;
+        }
+        let reads = self.reads();
+        let course = reads + self.writes();
+        let beats = self.piece_beats();
+        let unsent = u64::from(course.saturating_sub(self.sent));
+        let unread = u64::from(reads.saturating_sub(self.answered));
+        let unanswered = u64::from(course.saturating_sub(self.answered));
+        unsent + unanswered * beats + (unread * beats + (unanswered - unread))
+    }
+}
