@@ -514,8 +514,7 @@ fn bus_of_four_bytes(rt: HostRuntime) -> Result<(), Fail> {
         &[data(0, 0xf0, true)],
     )?;
     assert_eq!(rt; high, Sent::Broken(7));
-    let mut serial = 0;
-    for (aw, beat, payload) in [
+    for (place, (aw, beat, payload)) in [
         (
             write(0, 0x10014, 0, 2),
             data(0xffff_ffff, 0x0f, true),
@@ -528,7 +527,11 @@ fn bus_of_four_bytes(rt: HostRuntime) -> Result<(), Fail> {
             data(0x8000_0000, 0x0c, true),
             0x8000_0000,
         ),
-    ] {
+    ]
+    .into_iter()
+    .enumerate()
+    {
+        let serial = 2 * place as u64;
         let put = send_write(rt.alloc(), &mut device, aw, &[beat])?;
         let get = send_read(rt.alloc(), &mut device, read(0, aw.address, 0, aw.size))?;
         assert_eq!(rt;
@@ -540,7 +543,6 @@ fn bus_of_four_bytes(rt: HostRuntime) -> Result<(), Fail> {
         assert_eq!(rt; device.answer_b(0), response(0, Resp::Okay));
         assert_eq!(rt; device.answer_r(0), read_data(0, payload, Resp::Okay, true));
         assert!(rt; device.take_closed().is_some() && device.take_closed().is_some());
-        serial += 2;
     }
     for (address, byte) in [
         (0x1000c, 0),
