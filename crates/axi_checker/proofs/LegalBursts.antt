@@ -51,7 +51,7 @@ data_fits port write (w ∷ ws) few none =
     let more : write.came + 1 ≤ write.aw.len + 1 = omega (arith, leb-true write.came write.aw.len next.lacks) in
     omega (arith, data_fits port (one_beat_more write) ws more next.rest)
 
-last_place : (came len : ℕ) → (came + 1 == len + 1) ≡ (came == len)
+pub last_place : (came len : ℕ) → (came + 1 == len + 1) ≡ (came == len)
 last_place came len =
     elim (cases_eq came len) [
       | inl same ↦ eq-eqb (came + 1) (len + 1) (omega arith) ∙ sym (eq-eqb came len same)

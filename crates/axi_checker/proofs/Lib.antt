@@ -8,4 +8,5 @@ pub mod Lasts
 pub mod LegalBursts
 pub mod ReadsAfter
 pub mod SoundMonitors
+pub mod Taking
 pub mod WithinLimits

@@ -1,11 +1,13 @@
 -- A monitor's parts after an accepted beat.
 use Rattle.std.proofs.Common.{◌≡◌, ℕ, ◌<◌, ◌≤◌, List, length, sym, subst, arith}
 use Rattle.std.specs.Prelude.{None}
+use Rattle.axi_beats.specs.Bursts.{Burst}
 use Rattle.axi_beats.specs.declared.AwBeat.{AwBeat}
 use Rattle.axi_beats.specs.declared.ArBeat.{ArBeat}
 use Rattle.axi_checker.specs.Monitors.{IsSoundMonitor, MonitorState, monitor_state}
-use Rattle.axi_checker.specs.OpenBursts.{AxiBeat, OnAr, OnAw, OpenRead, OpenWrite, open_after}
-use Rattle.axi_checker.specs.Rules.{axi_fault}
+use Rattle.axi_checker.specs.OpenBursts.{AxiBeat, OnAr, OnAw, OpenRead, OpenWrite, open_after, write_to_fill}
+use Rattle.axi_checker.specs.Rules.{axi_fault, burst_fault, open_with_burst}
+use Rattle.axi_checker.proofs.Taking.{within-open_with_burst}
 use Rattle.axi_checker.proofs.WithinLimits.{room_for_read, room_for_write, within-open_after}
 
 -- it stays sound: its lists are those after the beat, and its room isn't less
@@ -33,3 +35,21 @@ pub sound_read_room : (old now : MonitorState) (ar : ArBeat) (room_of_writes roo
     → length old.open_bursts.reads < room_of_reads
 sound_read_room old now ar room_of_writes room_of_reads sound same none =
     omega (arith, room_for_read old.port old.open_bursts ar (subst (λ (m : MonitorState). axi_fault m.port m.open_bursts (OnAr ar) ≡ None) (sym same) none) sound.within, sound.read_room)
+
+-- the same of a whole burst
+pub sound-open_with_burst : (old now : MonitorState) (burst : Burst) (writes : List OpenWrite) (reads : List OpenRead) (old_writes old_reads new_writes new_reads : ℕ) → IsSoundMonitor old old_writes old_reads → old ≡ now
+    → write_to_fill now.open_bursts ≡ None → burst_fault now.port now.open_bursts burst ≡ None → writes ≡ (open_with_burst old.open_bursts burst).writes → reads ≡ (open_with_burst old.open_bursts burst).reads
+    → old_writes ≤ new_writes → old_reads ≤ new_reads → IsSoundMonitor (monitor_state old.port writes reads) new_writes new_reads
+sound-open_with_burst old now burst writes reads old_writes old_reads new_writes new_reads sound same ready none is_writes is_reads more_writes more_reads =
+    record {
+      bus = sound.bus;
+      within = rw (is_writes, is_reads) (within-open_with_burst old.port old.open_bursts burst filled accepted sound.within);
+      write_room = omega (arith, sound.write_room);
+      read_room = omega (arith, sound.read_room);
+    }
+  where
+    filled : write_to_fill old.open_bursts ≡ None
+    filled = subst (λ (m : MonitorState). write_to_fill m.open_bursts ≡ None) (sym same) ready
+
+    accepted : burst_fault old.port old.open_bursts burst ≡ None
+    accepted = subst (λ (m : MonitorState). burst_fault m.port m.open_bursts burst ≡ None) (sym same) none

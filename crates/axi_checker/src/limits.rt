@@ -1,5 +1,5 @@
 //! The rules on a beat, each table in its order of tests (AXI4, and this project's profile).
-ghost use Rattle.std.specs.Prelude.{◌≡◌, ◌+◌, ◌<◌, ◌≤◌, ◌==◌, None, Some, IfSome, IsSome, IsTrue};
+ghost use Rattle.std.specs.Prelude.{◌≡◌, ◌+◌, ◌*◌, ◌<◌, ◌≤◌, ◌==◌, None, Some, IfSome, IsSome, IsTrue};
 ghost use Rattle.axi_beats.specs.Boxes.{aw_of, w_beats_of};
 ghost use Rattle.axi_beats.specs.Bursts.{IsLegal, strobes_fit};
 ghost use Rattle.axi_beats.specs.Transfers.{fits_bus, IsBusWidth};
@@ -103,6 +103,14 @@ impl PortLimits {
         }
     }
 
+    /// How many bursts may be outstanding on each side.
+    pub(crate) fn room(self) -> usize
+        ensures count { result ≡ self.ids * self.depth }
+        ensures bound { result ≤ 65536 }
+    {
+        usize::from(self.ids) * usize::from(self.depth)
+    }
+
     /// The first rule that the beats with which a burst is sent would break, in their order, where all earlier writes have
     /// their data, and `outstanding` bursts of the burst's ID have no answer yet on its side. A write whose data end before
     /// its last transfer breaks `WLast`.
@@ -117,6 +125,9 @@ impl PortLimits {
         // A burst that breaks no rule is legal, and its ID is one of the port's with fewer bursts than it may have.
         ensures legal { result ≡ None → IfSome burst.now (IsLegal self.bus_bytes) }
         ensures room { result ≡ None → IfSome burst.now (λ b. (id_of b < self.ids) × (outstanding < self.depth)) }
+
+        // And each such burst breaks none.
+        ensures takes { IfSome burst.now (λ b. IsLegal self.bus_bytes b → id_of b < self.ids → outstanding < self.depth → result ≡ None) }
     {
         if burst.is_write() {
             self.write_fault(burst, outstanding)

@@ -1,17 +1,18 @@
 //! The monitor.
-ghost use Rattle.std.specs.Prelude.{◌≡◌, ℕ, ◌+◌, ◌∷◌, ◌++◌, ◌<◌, ◌≤◌, None, Some, Ok, Err, IsErr, IsOk, IsSome, IfOk, IfSome, MatchOption, MatchResult, filter, length, position};
+ghost use Rattle.std.specs.Prelude.{◌≡◌, ℕ, ◌+◌, ◌∷◌, ◌++◌, ◌<◌, ◌≤◌, None, Some, Ok, Err, IsErr, IsOk, IsSome, IfOk, IfSome, MatchOption, MatchResult, filter, length, position, sum_by};
 ghost use Rattle.axi_beats.specs.Bursts.{IsLegal};
 ghost use Rattle.axi_beats.specs.Responses.{is_exokay};
 ghost use Rattle.axi_beats.specs.Transfers.{IsBusWidth};
 ghost use Rattle.axi_checker.specs.OpenBursts.{OnAr, OnAw, OnB, OnR, OnW, lacks_data, nothing_open, open_after, read_of_id, write_of_id, write_to_fill};
 ghost use Rattle.axi_checker.specs.Order.{lasts_from, read_given, reads_asked, reads_owe, writes_lack};
-ghost use Rattle.axi_checker.specs.Rules.{axi_fault, beats_sent, burst_fault, open_after_all, open_with_burst, outstanding_beside};
+ghost use Rattle.axi_checker.specs.Rules.{axi_fault, beats_sent, burst_fault, id_of, open_after_all, open_with_burst, outstanding_beside};
 
 use crate::AxiRule;
 use crate::limits::{Address, PortLimits};
 use crate::outstanding::{
-    OpenRead, OpenWrite, answer_read, close_write, fill_write, oldest_read, oldest_write,
-    open_read, open_write, reads_of_id, write_to_fill, writes_of_id,
+    OpenRead, OpenWrite, answer_read, beats_came, close_write, fill_write, oldest_read,
+    oldest_write, open_read, open_whole_write, open_write, reads_of_id, write_to_fill,
+    writes_of_id,
 };
 use axi_beats::{ArBeat, AwBeat, BBeat, BurstBox, RBeat, Resp, WBeat};
 use std::alloc::{AllocError, Global};
@@ -52,11 +53,11 @@ impl Monitor {
         ensures { IfOk result (λ monitor. monitor
             ≡ record { port = record { bus_bytes = bus_bytes; ids = ids; depth = depth }; open_bursts = nothing_open }) }
     {
-        let room = usize::from(ids) * usize::from(depth);
-        let writes = Vec::with_capacity(alloc, room)?;
-        let reads = Vec::with_capacity(alloc, room)?;
+        let limits = PortLimits::new(bus_bytes, ids, depth);
+        let writes = Vec::with_capacity(alloc, limits.room())?;
+        let reads = Vec::with_capacity(alloc, limits.room())?;
         Ok(Monitor {
-            limits: PortLimits::new(bus_bytes, ids, depth),
+            limits,
             writes,
             reads,
         })
@@ -118,6 +119,9 @@ impl Monitor {
         ensures one_less { IsOk result → 1 + length (filter (write_of_id beat.now.id) self.new.open_bursts.writes)
             ≡ length (filter (write_of_id beat.now.id) self.old.open_bursts.writes) }
         ensures complete { IsOk result → writes_lack self.new.open_bursts.writes ≡ writes_lack self.old.open_bursts.writes }
+
+        // Where every write had its data, each that is left has them.
+        ensures data { IsOk result → write_to_fill self.old.open_bursts ≡ None → write_to_fill self.new.open_bursts ≡ None }
     {
         let place = self.place_of_response(beat)?;
         close_write(&mut self.writes, beat.id, place);
@@ -147,12 +151,45 @@ impl Monitor {
         requires ready { write_to_fill self.now.open_bursts ≡ None }
         ensures rule { IfSome burst.now (λ b. result ≡ burst_fault self.now.port self.now.open_bursts b) }
 
+        // Each legal burst breaks none whose ID is one of the port's, with fewer outstanding than it may have.
+        ensures takes { IfSome burst.now (λ b. IsLegal self.now.port.bus_bytes b → id_of b < self.now.port.ids
+            → outstanding_beside self.now.open_bursts b < self.now.port.depth → result ≡ None) }
+
         // A burst that breaks no rule is legal, and once it was sent it is outstanding with all its data.
         ensures legal { result ≡ None → IfSome burst.now (IsLegal self.now.port.bus_bytes) }
         ensures sent { result ≡ None → IfSome burst.now (λ b. open_after_all self.now.open_bursts (beats_sent b) ≡ open_with_burst self.now.open_bursts b) }
     {
         self.limits
             .burst_fault(burst, self.outstanding_beside(burst))
+    }
+
+    /// Takes the beats with which a whole burst is sent, all at once: it is outstanding, a write with all its data.
+    ///
+    /// The box isn't empty, every accepted write has its data, and the burst breaks no rule.
+    pub fn take_burst(&mut self, burst: &BurstBox)
+        requires full { IsSome burst.now }
+        requires ready { write_to_fill self.old.open_bursts ≡ None }
+        requires unbroken { IfSome burst.now (λ b. burst_fault self.old.port self.old.open_bursts b ≡ None) }
+        ensures state { IfSome burst.now (λ b. self.new ≡ record self.old { open_bursts = open_with_burst self.old.open_bursts b }) }
+
+        // It is the same as to take its beats one by one.
+        ensures beats { IfSome burst.now (λ b. self.new.open_bursts ≡ open_after_all self.old.open_bursts (beats_sent b)) }
+        ensures ready { write_to_fill self.new.open_bursts ≡ None }
+    {
+        if burst.is_write() {
+            open_whole_write(&mut self.writes, burst.aw());
+        } else {
+            open_read(&mut self.reads, burst.ar());
+        }
+    }
+
+    /// How many R beats came of the reads that are outstanding.
+    pub fn answered_reads(&self) -> u64
+        ensures { result ≡ sum_by (λ read. read.came) self.now.open_bursts.reads }
+    {
+        // The limits bound how many reads are outstanding.
+        let _room = self.limits.room();
+        beats_came(&self.reads)
     }
 
     /// How many outstanding bursts have the ID and the side of a burst.

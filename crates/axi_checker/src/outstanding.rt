@@ -1,5 +1,5 @@
 //! The outstanding bursts of a port, the oldest first (AXI4, A5, transaction ordering).
-ghost use Rattle.std.specs.Prelude.{◌≡◌, ◌+◌, ◌<◌, ◌≤◌, [], ◌∷◌, ◌++◌, ◌==◌, Bool, IfSome, Some, filter, find, length, option_map, position};
+ghost use Rattle.std.specs.Prelude.{◌≡◌, ◌+◌, ◌<◌, ◌≤◌, [], ◌∷◌, ◌++◌, ◌==◌, Bool, IfSome, Some, filter, find, length, option_map, position, sum_by};
 ghost use Rattle.std.specs.Vec.{vec_capacity};
 ghost use Rattle.bus_words.specs.Places.{change_first, without_first};
 ghost use Rattle.axi_checker.specs.OpenBursts.{lacks_data, read_of_id, reads_after, write_of_id};
@@ -103,6 +103,18 @@ fn entry_at<T: Copy>(items: &[T], place: Option<usize>) -> Option<(usize, T)>
     }
 }
 
+/// How many R beats came of some reads, of which there are at most 65,536.
+pub(crate) fn beats_came(reads: &[OpenRead]) -> u64
+    requires { length reads.now ≤ 65536 }
+    ensures { result ≡ sum_by (λ read. read.came) reads.now }
+{
+    let mut came = 0;
+    for read in reads {
+        came += u64::from(read.came);
+    }
+    came
+}
+
 /// The oldest write that lacks data, and its place.
 pub(crate) fn write_to_fill(writes: &[OpenWrite]) -> Option<(usize, OpenWrite)>
     ensures place { option_map (λ found. found.0) result ≡ position lacks_data writes.now }
@@ -134,6 +146,16 @@ pub(crate) fn open_write(writes: &mut Vec<OpenWrite>, aw: AwBeat)
     ensures capacity { vec_capacity writes.old ≤ vec_capacity writes.new }
 {
     writes.push(OpenWrite { aw, came: 0 }).unwrap();
+}
+
+/// Appends a write all of whose data came, for which there is room.
+pub(crate) fn open_whole_write(writes: &mut Vec<OpenWrite>, aw: AwBeat)
+    requires { length writes.old.items < vec_capacity writes.old }
+    ensures items { writes.new.items ≡ writes.old.items ++ record { aw = aw; came = aw.len + 1 } ∷ [] }
+    ensures capacity { vec_capacity writes.old ≤ vec_capacity writes.new }
+{
+    let came = u16::from(aw.len) + 1;
+    writes.push(OpenWrite { aw, came }).unwrap();
 }
 
 /// Appends a read, for which there is room.

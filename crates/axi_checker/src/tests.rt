@@ -1,3 +1,6 @@
+ghost use Rattle.std.specs.Prelude.{◌≡◌, None, IsSome};
+ghost use Rattle.axi_checker.specs.OpenBursts.{write_to_fill};
+
 use super::*;
 use axi_beats::{ArBeat, AwBeat, BBeat, BurstBox, RBeat, Resp, WBeat};
 use std::test::Fail;
@@ -253,6 +256,49 @@ fn judges_by_what_is_outstanding(rt: HostRuntime) -> Result<(), Fail> {
         held.set_write(write(0, 0x10000, 0, 3), &[data(0xff, true)]);
         assert_eq!(rt; monitor.judge(&held), None);
     }
+    Ok(())
+}
+
+/// Takes the burst that a box holds, if it breaks no rule.
+fn takes(monitor: &mut Monitor, held: &BurstBox) -> bool
+    requires full { IsSome held.now }
+    requires ready { write_to_fill monitor.old.open_bursts ≡ None }
+    ensures { write_to_fill monitor.new.open_bursts ≡ None }
+{
+    if monitor.judge(held).is_some() {
+        return false;
+    }
+    monitor.take_burst(held);
+    true
+}
+
+/// Bursts taken whole, and then their answers.
+#[test]
+fn takes_whole_bursts(rt: HostRuntime) -> Result<(), Fail> {
+    let mut monitor = Monitor::new(rt.alloc(), 1, 2, 8)?;
+    let mut held = BurstBox::new(rt.alloc())?;
+    let full = data(0xff, false);
+    held.set_write(write(0, 0x10000, 1, 3), &[full, data(0xff, true)]);
+    assert!(rt; takes(&mut monitor, &held));
+    held.set_read(read(0, 0x10000, 2, 3));
+    assert!(rt; takes(&mut monitor, &held));
+    assert!(rt; takes(&mut monitor, &held));
+    assert!(rt; !takes(&mut monitor, &held));
+    let answers = [
+        (Beat::W(full), 6),
+        (read_data(0, Resp::Okay, false), 0),
+        (read_data(0, Resp::Okay, false), 0),
+    ];
+    assert_eq!(rt; first_difference(&mut monitor, &answers), None);
+    assert_eq!(rt; monitor.answered_reads(), 2);
+    let answers = [
+        (read_data(0, Resp::Okay, true), 0),
+        (read_data(0, Resp::Okay, false), 0),
+        (response(0, Resp::Okay), 0),
+        (response(0, Resp::Okay), 9),
+    ];
+    assert_eq!(rt; first_difference(&mut monitor, &answers), None);
+    assert_eq!(rt; monitor.answered_reads(), 1);
     Ok(())
 }
 

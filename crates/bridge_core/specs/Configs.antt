@@ -1,14 +1,12 @@
--- The limits of a bridge (this project's profile).
-use Rattle.std.specs.Prelude.{ℕ, ◌^◌, ◌==◌, Bool, ◌&&◌, ◌||◌, nat_le, slice_get, unwrap_or}
-use Rattle.std.specs.List.{list_any, range_with_len}
+-- The limits of a bridge, and what they mean for its parts (this project's profile).
+use Rattle.std.specs.Prelude.{ℕ, ◌==◌, Bool, ◌&&◌, ◌||◌, nat_le, slice_get, unwrap_or}
 use Rattle.bus_words.specs.Lanes.{is_between}
 use Rattle.tl_checker.specs.Requests.{TlPortLimits}
 use Rattle.tl_checker.specs.declared.Level.TheVariants.{Ul}
+use Rattle.axi_checker.specs.Rules.{AxiPortLimits}
+use Rattle.burst_plan.specs.Pieces.{is_max_len}
+use Rattle.flight_table.specs.declared.TableLimits.{TableLimits}
 use Rattle.bridge_core.specs.declared.Config.{Config}
-
--- whether a burst may have so many transfers at most: a power of two from 1 to 256
-abbrev pub is_max_len : ℕ → Bool
-is_max_len n = list_any (λ k. n == 2 ^ k) (range_with_len 0 9)
 
 -- whether the limits are in their ranges
 abbrev pub is_valid : Config → Bool
@@ -21,3 +19,11 @@ is_valid config =
 abbrev pub port_of : Config → ℕ → TlPortLimits
 port_of config client =
     record { client = client; level = unwrap_or (slice_get config.levels client) Ul; max_size = config.max_size }
+
+-- what the AXI4 port allows
+abbrev pub axi_port_of : Config → AxiPortLimits
+axi_port_of config = record { bus_bytes = config.axi_bytes; ids = config.ids; depth = config.depth }
+
+-- what the table of live requests allows
+abbrev pub table_limits_of : Config → TableLimits
+table_limits_of config = record { clients = config.clients; quota = config.quota; ids = config.ids; depth = config.depth }

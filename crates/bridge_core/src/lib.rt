@@ -1,14 +1,22 @@
-//! The limits of a bridge. The bridge itself is still to be built.
+//! The bridge: from the beats of TileLink clients to bursts on an AXI4 port, and from the memory's answers to replies (this
+//! project's profile).
 #![tactic(auto)]
 
 ghost use Rattle.std.specs.Prelude.{◌≡◌};
 ghost use Rattle.bus_words.specs.Lanes.{is_between};
-ghost use Rattle.bridge_core.specs.Configs.{is_max_len, is_valid};
+ghost use Rattle.burst_plan.specs.Pieces.{is_max_len};
+ghost use Rattle.bridge_core.specs.Configs.{is_valid};
 
+mod bridge;
+mod bursts;
+mod held;
+mod ports;
+mod requests;
 #[cfg(test)]
 mod tests;
 
-use tl_checker::Level;
+pub use bridge::Bridge;
+use tl_checker::{Level, TlRule};
 
 /// The limits of a bridge (this project's profile).
 #[derive(Clone, Copy, Debug, PartialEq, Eq)]
@@ -29,6 +37,43 @@ pub struct Config {
     pub levels: [Level; 8],
     /// The width of the AXI4 bus in bytes, 8 or 4.
     pub axi_bytes: u8,
+}
+
+/// Why there is no bridge.
+#[derive(Clone, Copy, Debug, PartialEq, Eq)]
+pub enum BridgeFault {
+    /// A limit isn't in its range.
+    BadConfig,
+    /// Memory was refused.
+    NoMemory,
+}
+
+/// What is said of a client's beat.
+#[derive(Clone, Copy, Debug, PartialEq, Eq)]
+pub enum Offered {
+    /// There is no such client.
+    NoClient,
+    /// The beat breaks this rule.
+    Refused(TlRule),
+    /// The beat would complete a request, and the client has as many live requests as it may have.
+    NotReady,
+    /// The beat would complete a request, and 2^48 requests were accepted.
+    Exhausted,
+    /// The beat is taken, and more beats of its message are to come.
+    More,
+    /// The beat is taken, and its request is accepted under this number: 0, 1, 2, .. in the order of acceptance.
+    Accepted(u64),
+}
+
+/// What is said to a client that asks for a reply.
+#[derive(Clone, Copy, Debug, PartialEq, Eq)]
+pub enum Taken {
+    /// There is no such client.
+    NoClient,
+    /// None of the client's live requests is done.
+    Nothing,
+    /// The reply to the request of this number.
+    Reply(u64),
 }
 
 impl Config {

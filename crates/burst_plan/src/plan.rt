@@ -67,6 +67,14 @@ impl Plan {
         self.size
     }
 
+    /// The width of the bus in bytes, 4 or 8.
+    pub fn bus_bytes(&self) -> u8
+        ensures value { result ≡ self.now.bus_bytes }
+        ensures range { IsPlannable self.now }
+    {
+        self.bus_bytes
+    }
+
     /// The bytes of each burst.
     fn burst_bytes(&self) -> u32
         ensures { result ≡ burst_bytes self.now }

@@ -112,7 +112,10 @@ fn is_in_steps_of(plan: Plan, bytes: u32) -> bool {
 #[test]
 fn plans_of_ranges(rt: HostRuntime) {
     let page = Plan::new_of(0x11000, 12, 16, 8);
-    assert_eq!(rt; (page.address(), page.size()), (0x11000, 12));
+    assert_eq!(rt;
+        (page.address(), page.size(), page.bus_bytes()),
+        (0x11000, 12, 8)
+    );
     let last = piece(0x11f80, 15, 3);
     assert_eq!(rt; outline(page), (32, 512, piece(0x11000, 15, 3), last));
     assert!(rt; is_in_steps_of(page, 0x80));

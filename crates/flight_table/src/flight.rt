@@ -110,6 +110,13 @@ impl Flight {
         number
     }
 
+    /// How many requests were accepted since the start; the next one has this number.
+    pub fn accepted(&self) -> u64
+        ensures { result ≡ self.now.accepted }
+    {
+        self.accepted
+    }
+
     /// The key of the live request that may send its next burst and has the smallest number; none where none may.
     pub fn next_ready(&self) -> Option<Key>
         ensures key { result ≡ key_where (is_ready (table_of self.now)) self.now }
@@ -188,6 +195,23 @@ impl Flight {
         self.live.set(key, request.finished());
     }
 
+    /// Whether nothing of a live request that is planned is unsent or unanswered: it may finish.
+    pub fn is_settled(&self, key: Key) -> bool
+        requires { IsSome (request_at key self.now) }
+        ensures { IfSome (request_at key self.now) (λ request. result ≡ is_settled request) }
+    {
+        self.live.get(key).is_settled()
+    }
+
+    /// Whether a live request is an atomic that isn't done, whose read was answered and whose write isn't planned:
+    /// `plan_write` is due.
+    pub fn awaits_write(&self, key: Key) -> bool
+        requires { IsSome (request_at key self.now) }
+        ensures { IfSome (request_at key self.now) (λ request. result ≡ awaits_write request) }
+    {
+        self.live.get(key).awaits_write()
+    }
+
     /// The key of the live request that holds an ID; none where nobody holds it.
     pub fn of_id(&self, id: u8) -> Option<Key>
         ensures key { result ≡ key_where (holds_id id) self.now }
@@ -236,6 +260,14 @@ impl Flight {
         let number = self.live.get(key).number;
         self.live.remove(key);
         number
+    }
+
+    /// The plan of a live request, which is none where it sends nothing.
+    pub fn plan(&self, key: Key) -> Option<Plan>
+        requires { IsSome (request_at key self.now) }
+        ensures { option_map (λ request. request.plan) (request_at key self.now) ≡ Some result }
+    {
+        self.live.get(key).plan
     }
 
     /// The number of a live request.

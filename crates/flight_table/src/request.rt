@@ -1,6 +1,6 @@
 //! One live request.
 ghost use Rattle.std.specs.Prelude.{◌≡◌, ◌↔◌, ◌+◌, ◌<◌, ◌≤◌, IsTrue, Some, is_some, length, slice_get};
-ghost use Rattle.flight_table.specs.LiveRequests.{finished, flight_for, is_atomic, next_burst, pieces_planned, plan_for, planned, read_pieces, unanswered, with_answered, with_sent, with_write, write_pieces};
+ghost use Rattle.flight_table.specs.LiveRequests.{awaits_write, finished, flight_for, is_atomic, is_settled, next_burst, pieces_planned, plan_for, planned, read_pieces, unanswered, with_answered, with_sent, with_write, write_pieces};
 ghost use Rattle.flight_table.specs.Order.{HaveCommonAddress, conflict, holds_back, holds_id, share_bytes};
 ghost use Rattle.std.specs.List.{AllByRecursion};
 ghost use Rattle.burst_plan.specs.Pieces.{range_end};
@@ -176,6 +176,20 @@ impl LiveRequest {
         ensures { result ≡ is_some (next_burst self.now) }
     {
         self.sent < self.planned()
+    }
+
+    /// Whether nothing that is planned is unsent or unanswered.
+    pub(crate) fn is_settled(&self) -> bool
+        ensures { result ≡ is_settled self.now }
+    {
+        self.planned() <= self.answered
+    }
+
+    /// Whether an atomic's read was answered and its write isn't planned, and it isn't done.
+    pub(crate) fn awaits_write(&self) -> bool
+        ensures { result ≡ awaits_write self.now }
+    {
+        self.is_atomic() && !self.done && !self.writing && self.is_settled()
     }
 
     /// Piece `place` of the plan, from 0.

@@ -1,8 +1,6 @@
 ghost use Rattle.std.specs.Prelude.{◌≡◌};
-ghost use Rattle.flight_table.specs.LiveRequests.{awaits_write, is_settled};
 
 use super::*;
-use crate::request::LiveRequest;
 use burst_plan::Plan;
 use std::alloc::{AllocError, Global};
 use std::test::Fail;
@@ -38,24 +36,13 @@ enum Step {
     HeldBy(u64, u8),
     Work(u64),
     InFlight(u16),
+    Accepted(u64),
 }
 
 use Step::{
-    Accept, Answer, Finish, HeldBy, Idle, InFlight, OfId, OldestDone, PlanWrite, Release, Send,
-    Work,
+    Accept, Accepted, Answer, Finish, HeldBy, Idle, InFlight, OfId, OldestDone, PlanWrite, Release,
+    Send, Work,
 };
-
-fn is_settled(request: &LiveRequest) -> bool
-    ensures { result ≡ is_settled request.now }
-{
-    request.planned() <= request.answered
-}
-
-fn awaits_write(request: &LiveRequest) -> bool
-    ensures { result ≡ awaits_write request.now }
-{
-    request.is_atomic() && !request.done && !request.writing && is_settled(request)
-}
 
 fn plan_of(address: u32, size: u8, max_len: u16, bus_bytes: u8) -> Option<Plan> {
     if size > 12 || address % (1u32 << size) != 0 {
@@ -89,7 +76,7 @@ fn accept(flight: &mut Flight, request: &mut Request, asked: Asked) -> Option<u6
         None => None,
     };
     let source = request.source();
-    if asked.client >= flight.limits.clients || flight.accepted >= 1000 {
+    if asked.client >= flight.limits.clients || flight.accepted() >= 1000 {
         return None;
     }
     if !flight.room(asked.client) || flight.busy(asked.client, source) {
@@ -126,7 +113,7 @@ fn plans_write(flight: &mut Flight, number: u64) -> bool {
     let Some(key) = flight.key_of(number) else {
         return false;
     };
-    if !awaits_write(&flight.live.get(key)) {
+    if !flight.awaits_write(key) {
         return false;
     }
     flight.plan_write(key);
@@ -137,7 +124,7 @@ fn finishes(flight: &mut Flight, number: u64) -> bool {
     let Some(key) = flight.key_of(number) else {
         return false;
     };
-    if !is_settled(&flight.live.get(key)) {
+    if !flight.is_settled(key) {
         return false;
     }
     flight.finished(key);
@@ -183,6 +170,7 @@ fn carries(flight: &mut Flight, request: &mut Request, step: Step) -> bool {
         HeldBy(number, count) => held_by(flight, number) == Some(count),
         Work(work) => flight.work() == work,
         InFlight(count) => flight.in_flight() == count,
+        Accepted(count) => flight.accepted() == count,
     }
 }
 
@@ -277,6 +265,7 @@ fn conflicting_requests_keep_their_order(rt: HostRuntime) -> Result<(), Fail> {
         OfId(1, None),
         OldestDone(1, Some(1)),
         Release(1, 1),
+        Accepted(2),
     ];
     assert_eq!(rt; carried(rt.alloc(), USUAL, &passes)?, passes.len());
     Ok(())

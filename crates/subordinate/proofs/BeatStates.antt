@@ -1,5 +1,5 @@
 -- The beats of an open burst, counted by whether they are performed.
-use Rattle.std.proofs.Common.{◌≡◌, ℕ, zero, suc, ◌+◌, ◌-◌, ◌<◌, ◌≤◌, ◌==◌, Bool, true, false, not, List, [], ◌∷◌, ◌++◌, length, get_or, map, replicate, drop, refl, sym, ◌∙◌, ap, arith}
+use Rattle.std.proofs.Common.{◌≡◌, ℕ, zero, suc, ◌+◌, ◌-◌, ◌<◌, ◌≤◌, ◌==◌, false, not, List, [], ◌∷◌, ◌++◌, length, get_or, map, replicate, drop, refl, sym, ◌∙◌, ap, arith}
 use Rattle.std.proofs.Math.ListN.{drop_of_length-le}
 use Rattle.std.proofs.Math.Seq.{drop-cons}
 use Rattle.std.proofs.lemmas.Bool.{ne_eqb}
@@ -7,8 +7,7 @@ use Rattle.std.proofs.lemmas.List.{length-append, length-map}
 use Rattle.std.proofs.lemmas.List.Sums.{sum_by-drop_more}
 use Rattle.std.proofs.lemmas.Option.{slice_get-get_or, slice_get-map}
 use Rattle.std.specs.List.{AllByRecursion, list_any, enumerate_from}
-use Rattle.std.specs.Prelude.{Option, Some, None, filter, filter_map, flat_map, option_map, sum_by, if◌then◌else◌, slice_get, slice_set, take}
-use Rattle.axi_beats.specs.declared.Resp.{Resp}
+use Rattle.std.specs.Prelude.{Some, None, filter, filter_map, flat_map, option_map, sum_by, if◌then◌else◌, slice_get, slice_set, take}
 use Rattle.subordinate.specs.FreeMemory.{Pending, is_waiting, performed_waiting_in, waiting_in}
 use Rattle.subordinate.specs.Inside.{IsPerformed, count_waiting, waiting_places}
 use Rattle.subordinate.specs.declared.BeatState.{BeatState}

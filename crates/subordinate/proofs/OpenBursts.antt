@@ -1,5 +1,5 @@
 -- The open bursts of a device: found by serial, and by ID and side; and what sending, performing and answering keep.
-use Rattle.std.proofs.Common.{◌≡◌, ℕ, zero, suc, ◌+◌, ◌*◌, ◌<◌, ◌≤◌, ◌==◌, Bool, true, false, cond, not, nat_lt, List, [], ◌∷◌, ◌++◌, length, get_or, refl, sym, ◌∙◌, ap, subst, arith, inl, inr}
+use Rattle.std.proofs.Common.{◌≡◌, ℕ, zero, suc, ◌+◌, ◌*◌, ◌<◌, ◌≤◌, ◌==◌, Bool, true, false, cond, not, List, [], ◌∷◌, ◌++◌, length, get_or, refl, sym, ◌∙◌, ap, subst, arith}
 use Rattle.std.specs.List.{AllByRecursion, list_any, position_or_len}
 use Rattle.std.specs.List.Sorted.{IsBinarySearchResult, IsNonDecreasingBy, IsSearchInRange}
 use Rattle.std.specs.Ordering.{nat_cmp, ordering_index}
@@ -17,7 +17,7 @@ use Rattle.axi_beats.specs.declared.ArBeat.{ArBeat}
 use Rattle.axi_beats.specs.declared.AwBeat.{AwBeat}
 use Rattle.axi_beats.specs.declared.BBeat.{BBeat}
 use Rattle.axi_beats.specs.declared.Resp.{Resp}
-use Rattle.axi_checker.specs.OpenBursts.{OpenBursts, OpenRead, OpenWrite, lacks_data, read_of_id, write_of_id, write_to_fill}
+use Rattle.axi_checker.specs.OpenBursts.{OpenBursts, lacks_data, read_of_id, write_of_id, write_to_fill}
 use Rattle.subordinate.specs.Faults.{standing_at, write_response}
 use Rattle.subordinate.specs.FreeMemory.{FreeMemory, Pending, b_of, beat_at, gives_last, has_serial, is_read_of, is_waiting, is_write_of, newly_pending, open_bursts_of, open_read_in, open_write_in, pending_after_r, r_of, r_with, start_of}
 use Rattle.subordinate.specs.declared.BeatState.{BeatState}

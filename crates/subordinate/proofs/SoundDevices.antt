@@ -1,10 +1,9 @@
 -- What stays true of a device's open bursts when one is sent, performed, answered or closed.
-use Rattle.std.proofs.Common.{◌≡◌, ℕ, zero, suc, ◌+◌, ◌*◌, ◌<◌, ◌≤◌, ◌==◌, Bool, true, false, List, [], ◌∷◌, ◌++◌, length, get_or, map, replicate, refl, sym, ◌∙◌, ap, subst, arith}
+use Rattle.std.proofs.Common.{◌≡◌, ℕ, zero, suc, ◌+◌, ◌<◌, ◌≤◌, Bool, true, false, List, [], ◌∷◌, ◌++◌, length, get_or, replicate, refl, sym, ◌∙◌, ap, subst, arith}
 use Rattle.std.proofs.Math.ListN.{set}
 use Rattle.std.proofs.lemmas.List.{append-nil, length-append, length-set, map-append}
-use Rattle.std.proofs.lemmas.List.Edits.{length-remove}
-use Rattle.std.specs.List.{AllByRecursion, position_or_len, remove}
-use Rattle.std.specs.Prelude.{Option, Some, None, IfSome, IsSome, filter, find, option_map, option_to_list, position, slice_get, slice_set, take}
+use Rattle.std.specs.List.{AllByRecursion, remove}
+use Rattle.std.specs.Prelude.{Option, Some, None, IfSome, IsSome, filter, find, position, slice_get, take}
 use Rattle.axi_beats.specs.Bursts.{Burst, IsLegal, ReadBurst, WriteBurst}
 use Rattle.axi_checker.proofs.Few.{few-append, few-change_first, few-without_first, length-few}
 use Rattle.axi_checker.specs.Monitors.{HasFewOfEach}
@@ -13,10 +12,10 @@ use Rattle.bus_words.proofs.FirstPlaces.{IsFirst, change_first-first, find-first
 use Rattle.bus_words.proofs.PlaceChanges.{all-append, all-without_first, find-passes}
 use Rattle.std.proofs.lemmas.Bool.{eqb-true}
 use Rattle.std.proofs.lemmas.Option.{slice_get-get_or}
-use Rattle.bus_words.specs.Places.{change_first, without_first}
+use Rattle.bus_words.specs.Places.{change_first}
 use Rattle.subordinate.specs.Device.{DeviceState, after_r}
 use Rattle.subordinate.specs.FreeMemory.{FreeMemory, Pending, beat_after, beat_at, gives_last, has_serial, is_read_of, is_waiting, memory_after, newly_pending, open_bursts_of, performed, transfers_in, with_beat}
-use Rattle.subordinate.specs.Inside.{HasRoom, IsPerformed, IsSoundMemory, IsSoundPending, RisesWithin, after_closing, after_counting, after_performing, burst_in, captured_at, device_state, is_beside, memory_of, memory_over, no_burst, queue_of, queue_of_burst, with_answer}
+use Rattle.subordinate.specs.Inside.{HasRoom, IsPerformed, IsSoundMemory, IsSoundPending, RisesWithin, after_closing, after_counting, after_performing, burst_in, captured_at, device_state, is_beside, memory_over, queue_of, queue_of_burst, with_answer}
 use Rattle.subordinate.specs.InsidePages.{PagesState}
 use Rattle.subordinate.specs.declared.BeatState.{BeatState}
 use Rattle.subordinate.specs.declared.BeatState.TheVariants.{Waiting, Written, Captured}

@@ -1,9 +1,8 @@
 -- How the parts of a device make its state, and what stays true of them.
-use Rattle.std.specs.Prelude.{◌≡◌, ℕ, ◌+◌, ◌*◌, ◌≤◌, ◌<◌, ◌==◌, Bool, false, List, [], ◌∷◌, ◌++◌, length, map, filter, find, take, not, Option, None, Some, option_map, option_to_list, IsSome, if◌then◌else◌}
+use Rattle.std.specs.Prelude.{◌≡◌, ℕ, ◌+◌, ◌*◌, ◌≤◌, Bool, false, List, [], ◌∷◌, ◌++◌, length, map, filter, find, take, Option, None, Some, option_map, option_to_list, if◌then◌else◌}
 use Rattle.std.specs.List.{AllByRecursion}
 use Rattle.axi_beats.specs.Bursts.{Burst, ReadBurst, WriteBurst, IsLegal}
 use Rattle.axi_beats.specs.Transfers.{IsBusWidth}
-use Rattle.axi_beats.specs.declared.ArBeat.{ArBeat}
 use Rattle.axi_checker.specs.Monitors.{HasFewOfEach}
 use Rattle.bus_words.specs.Places.{change_first, without_first}
 use Rattle.subordinate.specs.Device.{DeviceState}

@@ -2,7 +2,7 @@
 -- responses of one ID. Between IDs, and between reads and writes, there is no order.
 use Rattle.std.specs.Prelude.{◌≡◌, ◌≢◌, ℕ, ◌-◌, List, ◌∷◌, ◌++◌, [], map, filter, find, flat_map, slice_get, Some, IfSome, if◌then◌else◌}
 use Rattle.std.specs.List.{range_with_len}
-use Rattle.axi_beats.specs.Bursts.{Burst, ReadBurst, WriteBurst}
+use Rattle.axi_beats.specs.Bursts.{Burst}
 use Rattle.axi_beats.specs.declared.RBeat.{RBeat}
 use Rattle.subordinate.specs.FreeMemory.{Pending, has_serial, is_read_of, is_write_of, newly_pending, reads_as, transfers_in, writes_as}
 use Rattle.subordinate.specs.declared.BeatState.TheVariants.{Captured}

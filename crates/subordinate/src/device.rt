@@ -18,9 +18,10 @@ use axi_checker::{AxiRule, PortLimits};
 use std::alloc::{AllocError, Global};
 use std::marker::Model;
 
-/// How many IDs the device knows, and how many open bursts it takes of each on each side (this project's profile).
+/// How many IDs the device knows (this project's profile).
 const IDS: u8 = 16;
 
+/// How many open bursts of an ID it takes on each side (this project's profile).
 const DEPTH: u8 = 4;
 
 /// How many bursts may be open: those of all IDs on both sides.
@@ -143,7 +144,7 @@ impl Device {
     {
         let mut count = 0;
         for burst in self.open.iter() {
-            count += u64::from(burst.performed_waiting(self.bus_bytes));
+            count += u64::from(burst.performed_waiting());
         }
         count
     }

@@ -1,8 +1,8 @@
 //! A burst that is open: sent, and not answered whole.
-ghost use Rattle.std.specs.Prelude.{◌≡◌, ◌+◌, ◌<◌, ◌≤◌, false, IsSome, Some, filter, length, not, option_map, slice_get};
-ghost use Rattle.std.specs.List.{list_any};
+ghost use Rattle.std.specs.Prelude.{◌≡◌, ◌+◌, ◌<◌, ◌≤◌, false, IsSome, Some, filter, length, not, option_map, slice_get, take};
+ghost use Rattle.std.specs.List.{AllByRecursion, list_any};
 ghost use Rattle.subordinate.specs.FreeMemory.{beat_at, gives_last, has_serial, is_read_of, is_waiting, is_write_of, newly_pending, performed_waiting_in, start_of, transfers_in, with_beat};
-ghost use Rattle.subordinate.specs.Inside.{IsSoundPending, burst_in, captured_at, count_waiting, waiting_places, with_answer};
+ghost use Rattle.subordinate.specs.Inside.{IsPerformed, burst_in, captured_at, count_waiting, waiting_places, with_answer};
 ghost use Rattle.subordinate.specs.declared.BeatState.TheVariants.{Waiting};
 
 use crate::BeatState;
@@ -140,9 +140,10 @@ impl OpenBurst {
         self.beats.nth_waiting(k)
     }
 
-    /// How many performed beats wait for their R, or for the burst's B.
-    pub(crate) fn performed_waiting(&self, bus_bytes: u8) -> u16
-        requires { IsSoundPending bus_bytes self.now }
+    /// How many performed beats wait for their R, or for the burst's B. The beats that were answered are performed.
+    pub(crate) fn performed_waiting(&self) -> u16
+        requires answered { AllByRecursion IsPerformed (take self.now.answered self.now.beats) }
+        requires most { self.now.answered ≤ length self.now.beats }
         ensures count { result ≡ performed_waiting_in self.now }
         ensures most { result ≤ 256 }
     {

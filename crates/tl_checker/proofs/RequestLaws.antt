@@ -3,7 +3,7 @@ use Rattle.std.proofs.Common.{◌≡◌, ℕ, ◌≤◌, ◌==◌, nat_lt, Bool,
 use Rattle.std.proofs.lemmas.Bool.{and_parts, cases_Bool, eqb-true, not-false, leb-true, ltb-false}
 use Rattle.std.proofs.lemmas.List.{length-map}
 use Rattle.std.specs.List.{AllByRecursion, list_any, list_all, range_with_len}
-use Rattle.std.specs.Prelude.{IfSome, ◌&&◌, ◌||◌}
+use Rattle.std.specs.Prelude.{IfSome, IsSome, ◌&&◌, ◌||◌}
 use Rattle.bus_words.specs.Lanes.{has_lane}
 use Rattle.tl_messages.specs.Lanes.{in_lanes}
 use Rattle.tl_messages.specs.Operations.{opcode_of, operation_of, atomic_opcode}
@@ -15,11 +15,14 @@ use Rattle.tl_messages.specs.declared.Operation.{Operation}
 use Rattle.tl_messages.specs.declared.Operation.TheVariants.{PutFull, PutPartial, Atomic, Get, Intent}
 use Rattle.data_unit.specs.Words.{full_mask}
 use Rattle.data_unit.proofs.FullMask.{has_lane-full_mask}
+use Rattle.tl_checker.specs.Inside.{whole_at}
 use Rattle.tl_checker.specs.Ports.{HasSpelling}
 use Rattle.tl_checker.specs.Requests.{TlPortLimits, beyond_level, is_atomic_size, wrong_mask}
 use Rattle.tl_checker.specs.Sound.{IsRightMask, IsSound}
 use Rattle.tl_checker.specs.declared.Level.{Level}
 use Rattle.tl_checker.specs.declared.Level.TheVariants.{Ul, Uh}
+use Rattle.tl_checker.specs.declared.port.Stage.{Stage}
+use Rattle.tl_checker.specs.declared.port.Stage.TheVariants.{Free, Begun, Whole}
 use Rattle.tl_checker.proofs.BeatRules.{IsRightFirst, first_none, right_named, is_right_later, later_parts, right_again}
 use Rattle.tl_checker.proofs.MaskSubsets.{each_fails}
 
@@ -136,3 +139,8 @@ spelled_sound limits message (first ∷ rest, spelling) = subst (IsSound limits)
 pub whole_sound : (limits : TlPortLimits) (whole : Option HeldMessage) → IfSome whole (HasSpelling limits) → IfSome whole (IsSound limits)
 whole_sound limits None spelled = tt
 whole_sound limits (Some message) spelled = spelled_sound limits message spelled
+
+pub standing_sound : (limits : TlPortLimits) (stage : Stage) (message : HeldMessage) → IsSome (whole_at stage message) → IfSome (whole_at stage message) (HasSpelling limits) → IsSound limits message
+standing_sound limits Free message stands spelled = absurd (cc (stands))
+standing_sound limits Begun message stands spelled = absurd (cc (stands))
+standing_sound limits Whole message stands spelled = spelled_sound limits message spelled

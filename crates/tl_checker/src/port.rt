@@ -1,5 +1,5 @@
 //! A port, as its beats come in.
-ghost use Rattle.std.specs.Prelude.{◌≡◌, ℕ, ◌≤◌, Bool, List, [], ◌∷◌, ◌++◌, None, Some, IfOk, IfSome, IsErr, if◌then◌else◌, nat_le};
+ghost use Rattle.std.specs.Prelude.{◌≡◌, ℕ, ◌≤◌, Bool, List, [], ◌∷◌, ◌++◌, None, Some, IfOk, IfSome, IsSome, IsErr, if◌then◌else◌, nat_le};
 ghost use Rattle.std.specs.Option.{option_copied};
 ghost use Rattle.tl_messages.specs.declared.ABeat.{ABeat};
 ghost use Rattle.tl_checker.specs.Inside.{CanJoin, front_at, limits_of, stage_after};
@@ -11,6 +11,7 @@ use crate::requests::{first_beat_fault, later_beat_fault};
 use crate::{Level, Progress, TlRule};
 use std::alloc::{AllocError, Global};
 use std::marker::Model;
+use std::mem;
 use tl_messages::{ABeat, Request, beats_of};
 
 /// What a port's request is.
@@ -115,6 +116,21 @@ impl Port {
             Stage::Whole => Some(&self.request),
             _ => None,
         }
+    }
+
+    /// Hands out the request that stands whole, and keeps `room` in its place: the next beat is a first one. The request
+    /// moves, so that none of its beats is copied.
+    pub fn take_whole(&mut self, room: Request) -> Request
+        requires { IsSome self.old.whole }
+        ensures request { self.old.whole ≡ Some result }
+        ensures port { self.new ≡ opening_port self.old.limits }
+
+        // It is within the port's limits, aligned and complete, and its masks are right.
+        ensures sound { IsSound self.old.limits result }
+    {
+        let Port { stage, request, .. } = self;
+        *stage = Stage::Free;
+        mem::replace(request, room)
     }
 
     /// Lets go of the whole request, and of a message that has begun: the next beat is a first one.

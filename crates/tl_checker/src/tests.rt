@@ -2,7 +2,7 @@ ghost use Rattle.std.specs.Prelude.{◌≡◌, None};
 
 use super::*;
 use std::test::Fail;
-use tl_messages::{ABeat, DBeat};
+use tl_messages::{ABeat, DBeat, Request};
 
 /// Opcode, param, size, address, mask, corrupt, busy, and the answer on a port on which no message has begun.
 type Row = (u8, u8, u8, u32, u8, bool, bool, Result<Progress, TlRule>);
@@ -152,6 +152,26 @@ fn bursts(rt: HostRuntime) -> Result<(), Fail> {
         let beat = ABeat { mask, ..PARTIAL };
         assert_eq!(rt; answer(&mut port, beat), wanted, "mask {mask:02x}");
     }
+    Ok(())
+}
+
+#[test]
+fn a_request_moves_out(rt: HostRuntime) -> Result<(), Fail> {
+    let mut port = Port::new(rt.alloc(), 3, Level::Uh, 12)?;
+    assert_eq!(rt; answer(&mut port, PUT), Ok(Progress::More));
+    assert_eq!(rt; answer(&mut port, PUT), Ok(Progress::Whole));
+    let room = Request::new(rt.alloc())?;
+    let request = if port.whole().is_some() {
+        port.take_whole(room)
+    } else {
+        room
+    };
+    assert_eq!(rt;
+        (request.client(), request.size(), request.beats()),
+        (3, 4, 2)
+    );
+    assert!(rt; port.whole().is_none());
+    assert_eq!(rt; answer(&mut port, GET), Ok(Progress::Whole));
     Ok(())
 }
 

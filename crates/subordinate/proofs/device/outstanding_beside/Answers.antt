@@ -1,5 +1,4 @@
 -- The box holds a write, or a read.
-use Rattle.std.proofs.Common.{sym}
 use Rattle.subordinate.proofs.OpenBursts.{beside_read, beside_write}
 use Rattle.subordinate.proofs.device.outstanding_beside.Goals as goal
 

@@ -1,13 +1,14 @@
 use Rattle.std.proofs.Common.{◌≡◌, ◌+◌, List, length, refl, ap, ◌∙◌, arith}
-use Rattle.std.specs.Prelude.{filter}
+use Rattle.std.specs.Prelude.{filter, find}
 use Rattle.bus_words.specs.Places.{without_first}
 use Rattle.std.specs.Vec.{vec_capacity}
 use Rattle.axi_checker.specs.Monitors.{MonitorState, monitor_state}
-use Rattle.axi_checker.specs.OpenBursts.{OnB, OpenWrite, write_of_id}
+use Rattle.axi_checker.specs.OpenBursts.{OnB, OpenWrite, lacks_data, write_of_id}
 use Rattle.axi_checker.specs.Order.{writes_lack}
 use Rattle.axi_checker.proofs.InOrder.{finds_response}
 use Rattle.axi_checker.proofs.Lasts.{writes_left, writes_lack-without_first}
 use Rattle.axi_checker.proofs.SoundMonitors.{sound-open_after}
+use Rattle.axi_checker.proofs.Taking.{filled_after_b}
 use Rattle.axi_checker.proofs.monitor.Monitor.b.Goals as goal
 
 pub invariant_of-self : goal.invariant_of-self
@@ -36,3 +37,12 @@ returns-clause-complete c =
     c.close_write.ensures.items ∙ ap (λ (m : MonitorState). without_first (write_of_id id) m.open_bursts.writes) c.self.view_is in
     let finds = finds_response now.port now.open_bursts c.args.beat.now c.in_ok-place.ensures.0 in
     ap writes_lack after ∙ writes_lack-without_first (write_of_id id) now.open_bursts.writes finds.write finds.found finds.full
+
+pub returns-clause-data : goal.returns-clause-data
+returns-clause-data c =
+    λ ok ready.
+    let now = c.args.self.now in
+    let id = c.args.beat.now.id in
+    let after : c.close_write.new.writes.items ≡ without_first (write_of_id id) now.open_bursts.writes =
+    c.close_write.ensures.items ∙ ap (λ (m : MonitorState). without_first (write_of_id id) m.open_bursts.writes) c.self.view_is in
+    ap (find lacks_data) after ∙ filled_after_b id now.open_bursts.writes ready

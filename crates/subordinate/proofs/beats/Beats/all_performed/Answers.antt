@@ -1,6 +1,6 @@
 -- None waits where none is counted.
 use Rattle.std.proofs.Common.{◌==◌, ap, ◌∙◌}
-use Rattle.std.proofs.Common.{List, ℕ, Bool, not}
+use Rattle.std.proofs.Common.{List, ℕ, not}
 use Rattle.std.specs.List.{list_any}
 use Rattle.subordinate.specs.FreeMemory.{is_waiting}
 use Rattle.subordinate.specs.declared.BeatState.{BeatState}

@@ -1,9 +1,9 @@
 -- There are as many places as beats that wait.
-use Rattle.std.proofs.Common.{◌≡◌, ◌<◌, [], length, drop, refl, sym, ◌∙◌, ap, arith, List}
+use Rattle.std.proofs.Common.{◌≡◌, ◌<◌, length, sym, ◌∙◌, ap, arith, List}
 use Rattle.std.proofs.Math.ListN.{drop_of_length-le}
 use Rattle.std.specs.Prelude.{None, slice_get}
 use Rattle.std.proofs.lemmas.Option.{slice_get-get_or}
-use Rattle.subordinate.specs.Inside.{count_waiting, waiting_places}
+use Rattle.subordinate.specs.Inside.{waiting_places}
 use Rattle.subordinate.specs.declared.BeatState.{BeatState}
 use Rattle.subordinate.proofs.BeatStates.{length-waiting_places}
 use Rattle.subordinate.proofs.beats.Beats.nth_waiting.Goals as goal

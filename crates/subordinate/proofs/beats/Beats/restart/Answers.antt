@@ -1,5 +1,5 @@
 -- All of them wait.
-use Rattle.std.proofs.Common.{◌≡◌, arith, sym, ◌∙◌, rules, replicate}
+use Rattle.std.proofs.Common.{◌≡◌, arith, sym, rules, replicate}
 use Rattle.subordinate.specs.declared.BeatState.TheVariants.{Waiting}
 use Rattle.std.specs.Vec.{vec_len}
 use Rattle.subordinate.proofs.BeatStates.{count_waiting-replicate}

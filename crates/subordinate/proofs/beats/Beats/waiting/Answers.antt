@@ -1,6 +1,5 @@
 -- No more wait than there are.
-use Rattle.std.proofs.Common.{List, length, ◌≤◌, arith, ap}
-use Rattle.subordinate.specs.Inside.{count_waiting}
+use Rattle.std.proofs.Common.{List, length, arith, ap}
 use Rattle.subordinate.specs.declared.BeatState.{BeatState}
 use Rattle.subordinate.proofs.BeatStates.{count_waiting-le}
 use Rattle.subordinate.proofs.beats.Beats.waiting.Goals as goal

@@ -1,12 +1,11 @@
 -- The box and the beats of the burst that closed go to those that wait to be taken back, or to be used again.
-use Rattle.std.proofs.Common.{◌≡◌, ◌<◌, ◌≤◌, ◌+◌, [], ◌∷◌, ◌++◌, length, List, arith, refl, sym, ap, subst, ◌∙◌}
+use Rattle.std.proofs.Common.{◌≡◌, ◌<◌, length, arith, refl, sym, ap, subst, ◌∙◌}
 use Rattle.std.specs.Prelude.{Some, IsSome, position}
 use Rattle.std.specs.List.{AllByRecursion}
-use Rattle.std.specs.Vec.{vec_len, vec_capacity}
-use Rattle.std.proofs.lemmas.List.{length-append}
+use Rattle.std.specs.Vec.{vec_len}
 use Rattle.bus_words.proofs.PlaceChanges.{all-append}
 use Rattle.subordinate.specs.Device.{DeviceState}
-use Rattle.subordinate.specs.Inside.{HasRoom, IsSoundMemory, after_closing}
+use Rattle.subordinate.specs.Inside.{IsSoundMemory, after_closing}
 use Rattle.subordinate.proofs.SoundDevices.{closing, room-close, sound-remove}
 use Rattle.subordinate.proofs.device.Device.close.Goals as goal
 

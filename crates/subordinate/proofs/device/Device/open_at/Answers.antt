@@ -1,7 +1,6 @@
 -- The open burst at the first place that passes a test is the one that a search finds.
 use Rattle.std.proofs.Common.{◌≡◌, ◌<◌, length, subst, sym, ◌∙◌, ap}
 use Rattle.std.specs.Prelude.{Some, find, position}
-use Rattle.std.specs.List.{AllByRecursion}
 use Rattle.subordinate.specs.Device.{DeviceState}
 use Rattle.subordinate.specs.Inside.{IsSoundPending}
 use Rattle.subordinate.proofs.OpenBursts.{all-at, found_at}

@@ -1,6 +1,5 @@
 -- Each open burst adds those of its beats that aren't performed.
-use Rattle.std.proofs.Common.{◌≡◌, ◌≤◌, List, length, arith, refl, sym, ap, ◌∙◌, rules}
-use Rattle.std.specs.Prelude.{sum_by}
+use Rattle.std.proofs.Common.{◌≤◌, List, length, arith, sym, ap, ◌∙◌}
 use Rattle.subordinate.specs.Device.{DeviceState}
 use Rattle.subordinate.specs.FreeMemory.{Pending, waiting_beats}
 use Rattle.subordinate.specs.Inside.{count_waiting}

@@ -1,5 +1,5 @@
 -- It is a beat of this open burst, or of a later one.
-use Rattle.std.proofs.Common.{◌≡◌, ◌≤◌, ◌<◌, ◌-◌, ◌+◌, List, ℕ, length, drop, arith, refl, sym, ap, subst, ◌∙◌}
+use Rattle.std.proofs.Common.{◌≡◌, ◌≤◌, ◌<◌, List, ℕ, length, arith, sym, ap, subst, ◌∙◌}
 use Rattle.std.specs.Prelude.{Some, flat_map, slice_get}
 use Rattle.subordinate.specs.Device.{DeviceState}
 use Rattle.subordinate.specs.FreeMemory.{Pending, waiting_in}

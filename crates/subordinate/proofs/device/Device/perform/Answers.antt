@@ -7,7 +7,6 @@ use Rattle.subordinate.specs.Effects.{HasEffectAt, HasGoodPages}
 use Rattle.subordinate.specs.FreeMemory.{beat_at, has_serial, performed}
 use Rattle.subordinate.specs.declared.BeatState.{BeatState}
 use Rattle.subordinate.specs.declared.BeatState.TheVariants.{Waiting}
-use Rattle.subordinate.specs.declared.Performed.TheVariants.{Done}
 use Rattle.subordinate.proofs.EffectLaws.{has_effect-performed}
 use Rattle.subordinate.proofs.GoodPages.{has_good_pages-performed}
 use Rattle.subordinate.specs.Order.{OwesTheSame}

@@ -1,5 +1,5 @@
 -- Each open burst adds its own.
-use Rattle.std.proofs.Common.{◌≡◌, ◌≤◌, List, length, arith, refl, sym, ap, subst, ◌∙◌}
+use Rattle.std.proofs.Common.{◌≤◌, List, length, arith, sym, ap, subst, ◌∙◌}
 use Rattle.std.specs.List.{AllByRecursion}
 use Rattle.std.specs.Prelude.{sum_by}
 use Rattle.subordinate.specs.Device.{DeviceState}
@@ -17,8 +17,10 @@ loop-burst-init c =
 
 pub performed_waiting-requires : goal.performed_waiting-requires
 performed_waiting-requires c =
+    let sound : IsSoundPending c.self.inside.bus_bytes c.burst-item.result =
     all-at (IsSoundPending c.self.inside.bus_bytes) c.deref-burst-items.result.now c.loop-burst.burst-index c.burst-item.result
-    (subst (λ (pending : List Pending). AllByRecursion (IsSoundPending c.self.inside.bus_bytes) pending) (sym c.deref-burst-items.ensures.value) c.self.invariant.0.each) c.loop-burst-test.true c.burst-item.is
+    (subst (λ (pending : List Pending). AllByRecursion (IsSoundPending c.self.inside.bus_bytes) pending) (sym c.deref-burst-items.ensures.value) c.self.invariant.0.each) c.loop-burst-test.true c.burst-item.is in
+    record { answered = sound.answered; most = sound.most }
 
 pub overflow_add-count : goal.overflow_add-count
 overflow_add-count c = omega (arith, c.loop-burst.invariant.1, c.loop-burst.invariant.2, c.loop-burst-test.true, c.from-count.ensures, c.performed_waiting.ensures.most)

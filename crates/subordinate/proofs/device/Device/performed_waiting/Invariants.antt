@@ -1,7 +1,6 @@
 -- What is counted so far and what is still to be counted make all.
 use Rattle.std.proofs.Common.{◌≡◌, ◌+◌, ◌*◌, ◌≤◌, drop, length}
 use Rattle.std.specs.Prelude.{sum_by}
-use Rattle.std.specs.List.{AllByRecursion}
 use Rattle.subordinate.specs.FreeMemory.{performed_waiting_in}
 use Rattle.subordinate.proofs.device.Device.performed_waiting.Given as goal
 

@@ -1,5 +1,5 @@
 -- Serials rise in the order sent.
-use Rattle.std.proofs.Common.{◌≡◌, rules, ap, ◌∙◌, List}
+use Rattle.std.proofs.Common.{rules, ap, ◌∙◌, List}
 use Rattle.std.proofs.lemmas.List.Sorted.{answers_always}
 use Rattle.std.specs.Prelude.{position}
 use Rattle.subordinate.specs.Device.{DeviceState}

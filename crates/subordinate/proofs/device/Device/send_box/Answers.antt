@@ -1,11 +1,10 @@
 -- There is room for a burst that breaks no rule.
-use Rattle.std.proofs.Common.{◌≡◌, ◌<◌, ◌+◌, ◌++◌, ◌∷◌, [], List, length, arith, sym, ap, subst, ◌∙◌}
-use Rattle.std.specs.Prelude.{IsSome}
+use Rattle.std.proofs.Common.{◌≡◌, ◌<◌, ◌+◌, ◌++◌, ◌∷◌, [], List, length, arith, sym, ap, subst}
 use Rattle.std.specs.Vec.{vec_len}
 use Rattle.std.proofs.lemmas.List.{length-map}
 use Rattle.axi_beats.specs.Bursts.{Burst}
 use Rattle.subordinate.specs.Device.{DeviceState}
-use Rattle.subordinate.specs.FreeMemory.{Pending, newly_pending}
+use Rattle.subordinate.specs.FreeMemory.{newly_pending}
 use Rattle.subordinate.specs.Inside.{IsSoundMemory, burst_in}
 use Rattle.subordinate.proofs.OrderLaws.{sent_owed}
 use Rattle.subordinate.proofs.SoundDevices.{room-send, sending}

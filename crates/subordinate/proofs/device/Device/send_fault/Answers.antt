@@ -1,7 +1,6 @@
 -- The limits judge by how many open bursts are beside the burst.
-use Rattle.std.proofs.Common.{◌≡◌, length, List, ap, sym, ◌∙◌, subst}
+use Rattle.std.proofs.Common.{◌≡◌, length, List, ap, ◌∙◌, subst}
 use Rattle.std.specs.Prelude.{IfSome, filter}
-use Rattle.axi_checker.specs.Rules.{AxiPortLimits}
 use Rattle.subordinate.specs.Device.{DeviceState}
 use Rattle.subordinate.specs.FreeMemory.{Pending, device_port}
 use Rattle.subordinate.specs.Inside.{is_beside}

@@ -1,6 +1,6 @@
 -- All beats but those that wait and those that were answered.
-use Rattle.std.proofs.Common.{◌≡◌, ◌≤◌, ◌+◌, length, arith, sym, ap, ◌∙◌}
-use Rattle.subordinate.specs.FreeMemory.{Pending, performed_waiting_in}
+use Rattle.std.proofs.Common.{◌≡◌, length, arith, ap, ◌∙◌}
+use Rattle.subordinate.specs.FreeMemory.{Pending}
 use Rattle.subordinate.specs.Inside.{count_waiting}
 use Rattle.subordinate.proofs.BeatStates.{performed_waiting-count}
 use Rattle.subordinate.proofs.open_burst.OpenBurst.performed_waiting.Goals as goal

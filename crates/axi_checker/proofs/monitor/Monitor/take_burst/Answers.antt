@@ -1,0 +1,66 @@
+-- A burst that breaks no rule finds room, keeps the limits, and lacks no data.
+use Rattle.std.proofs.Common.{◌≡◌, List, refl, ap, ◌∙◌, arith}
+use Rattle.std.specs.Vec.{vec_capacity}
+use Rattle.axi_beats.specs.Boxes.{w_beats_of}
+use Rattle.axi_beats.specs.Bursts.{ReadBurst, WriteBurst}
+use Rattle.axi_checker.specs.Monitors.{MonitorState, monitor_state}
+use Rattle.axi_checker.specs.OpenBursts.{OpenBursts, OpenWrite, write_to_fill}
+use Rattle.axi_checker.specs.Rules.{open_with_burst}
+use Rattle.axi_checker.proofs.SoundMonitors.{sound-open_with_burst, sound_read_room, sound_write_room}
+use Rattle.axi_checker.proofs.Taking.{address_of_read, address_of_write, filled_with_burst, read_unbroken, write_taken, write_unbroken}
+use Rattle.axi_checker.proofs.monitor.Monitor.take_burst.Goals as goal
+
+pub open_whole_write-requires : goal.open_whole_write-requires
+open_whole_write-requires c =
+    let old = c.self.inside in
+    let now = c.args.self.now in
+    let none = write_unbroken now.port now.open_bursts c.args.burst.now c.aw.result c.aw.ensures c.requires.unbroken in
+    sound_write_room (monitor_state old.limits old.writes.items old.reads.items) now c.aw.result (vec_capacity old.writes) (vec_capacity old.reads) c.self.invariant c.self.view_is
+    (address_of_write now.port now.open_bursts c.aw.result (w_beats_of c.args.burst.now) none)
+
+pub open_read-requires : goal.open_read-requires
+open_read-requires c =
+    let old = c.self.inside in
+    let now = c.args.self.now in
+    let none = read_unbroken now.port now.open_bursts c.args.burst.now c.ar.result c.ar.ensures c.requires.unbroken in
+    sound_read_room (monitor_state old.limits old.writes.items old.reads.items) now c.ar.result (vec_capacity old.writes) (vec_capacity old.reads) c.self.invariant c.self.view_is
+    (address_of_read now.port now.open_bursts c.ar.result none)
+
+pub invariant_of-self : goal.invariant_of-self
+invariant_of-self c =
+    let old = c.self.inside in
+    let now = c.args.self.now in
+    let writes = c.open_whole_write.new.writes in
+    let none = write_unbroken now.port now.open_bursts c.args.burst.now c.aw.result c.aw.ensures c.requires.unbroken in
+    sound-open_with_burst (monitor_state old.limits old.writes.items old.reads.items) now (WriteBurst c.aw.result (w_beats_of c.args.burst.now)) writes.items old.reads.items
+    (vec_capacity old.writes) (vec_capacity old.reads) (vec_capacity writes) (vec_capacity old.reads) c.self.invariant c.self.view_is c.requires.ready none
+    c.open_whole_write.ensures.items refl c.open_whole_write.ensures.capacity (omega arith)
+
+pub invariant_of-self-else-is_write : goal.invariant_of-self-else-is_write
+invariant_of-self-else-is_write c =
+    let old = c.self.inside in
+    let now = c.args.self.now in
+    let reads = c.open_read.new.reads in
+    let none = read_unbroken now.port now.open_bursts c.args.burst.now c.ar.result c.ar.ensures c.requires.unbroken in
+    sound-open_with_burst (monitor_state old.limits old.writes.items old.reads.items) now (ReadBurst c.ar.result) old.writes.items reads.items
+    (vec_capacity old.writes) (vec_capacity old.reads) (vec_capacity old.writes) (vec_capacity reads) c.self.invariant c.self.view_is c.requires.ready none
+    refl c.open_read.ensures.items (omega arith) c.open_read.ensures.capacity
+
+abbrev left : goal.After-open_whole_write → OpenBursts
+left c = record { writes = c.open_whole_write.new.writes.items; reads = c.self.inside.reads.items }
+
+taken : (c : goal.After-open_whole_write) → left c ≡ open_with_burst c.args.self.now.open_bursts (WriteBurst c.aw.result (w_beats_of c.args.burst.now))
+taken c =
+    let reads = c.self.inside.reads.items in
+    let after : List OpenWrite → OpenBursts = λ writes. record { writes = writes; reads = reads } in
+    ap after c.open_whole_write.ensures.items
+    ∙ ap (λ (m : MonitorState). open_with_burst m.open_bursts (WriteBurst c.aw.result (w_beats_of c.args.burst.now))) c.self.view_is
+
+pub returns-then-is_write-clause-beats : goal.returns-then-is_write-clause-beats
+returns-then-is_write-clause-beats c =
+    let now = c.args.self.now in
+    write_taken now.port now.open_bursts (left c) c.args.burst.now c.aw.result c.aw.ensures c.requires.ready c.requires.unbroken (taken c)
+
+pub returns-then-is_write-clause-ready : goal.returns-then-is_write-clause-ready
+returns-then-is_write-clause-ready c =
+    ap write_to_fill (taken c) ∙ filled_with_burst c.args.self.now.open_bursts (WriteBurst c.aw.result (w_beats_of c.args.burst.now)) c.requires.ready

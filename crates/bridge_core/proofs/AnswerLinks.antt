@@ -1,0 +1,337 @@
+-- What an answer of the memory tells of the live request that holds its ID: it is to the oldest burst that this request has outstanding.
+use Rattle.std.proofs.Common.{◌≡◌, ℕ, zero, suc, ◌+◌, ◌==◌, ◌<◌, ◌≤◌, nat_le, Bool, true, false, not, ◌&&◌, ◌||◌, List, [], ◌∷◌, length, drop, take, refl, ap, sym, ◌∙◌, subst, arith}
+use Rattle.std.specs.Prelude.{None, Option, Some, if◌then◌else◌}
+use Rattle.std.specs.List.{AllByRecursion, filter, find, slice_get}
+use Rattle.std.proofs.lemmas.List.Sums.{sum_by-cons, sum_by-take-le}
+use Rattle.std.proofs.lemmas.Option.{same_Some}
+use Rattle.std.proofs.lemmas.Bool.{eqb-true, leb-false, leb-true}
+use Rattle.bus_words.proofs.PlaceChanges.{all-find, find-passes}
+use Rattle.axi_beats.specs.declared.BBeat.{BBeat}
+use Rattle.axi_beats.specs.declared.RBeat.{RBeat}
+use Rattle.axi_checker.specs.OpenBursts.{OpenRead, OpenWrite, read_of_id, write_of_id}
+use Rattle.axi_checker.proofs.InOrder.{finds_read, finds_response}
+use Rattle.burst_plan.specs.Pieces.{PlannedRange}
+use Rattle.burst_plan.specs.declared.Piece.{Piece}
+use Rattle.tl_messages.specs.Operations.{has_data, reply_has_data}
+use Rattle.flight_table.specs.Laws.{IsSoundRequest}
+use Rattle.flight_table.specs.LiveRequests.{LiveRequest, course, pieces_planned, planned, planned_writes, read_pieces}
+use Rattle.flight_table.specs.Order.{is_id}
+use Rattle.bridge_core.specs.Bridge.{BridgeState, b_fault, r_fault}
+use Rattle.bridge_core.specs.Configs.{axi_port_of, table_limits_of}
+use Rattle.bridge_core.specs.Laws.{IsPartWay, IsServed, IsSoundBridge, IsSoundRequestTable, answered_pieces, beats_in, came_of, came_of_next, open_read, open_reads, open_writes, outstanding, outstanding_of}
+use Rattle.bridge_core.specs.Requests.{BridgedRequest, RequestTable, holder, holds, outline_in}
+use Rattle.responses.specs.Gathered.{reads_of}
+use Rattle.bridge_core.proofs.HolderChanges.{IsNextOf, all-mapped, all-part, filter-found, part-next}
+use Rattle.bridge_core.proofs.ReadCounts.{reads_counted}
+
+-- ---- all outstanding bursts of a request are on one side
+
+-- bursts that are all writes, or all reads; true is a write
+abbrev pub AreOf : Bool → List (Bool × Piece) → Type 0
+AreOf side bursts = AllByRecursion (λ burst. burst.0 ≡ side) bursts
+
+-- the side of a request's outstanding bursts: writes, once all of its reads were answered
+abbrev pub side_of : LiveRequest → Bool
+side_of flight = nat_le (length (read_pieces flight)) flight.answered
+
+reads_alone : (reads : List Piece) → AreOf false (course reads [])
+reads_alone [] = tt
+reads_alone (piece ∷ reads) = (refl, reads_alone reads)
+
+writes_alone : (writes : List Piece) → AreOf true (course [] writes)
+writes_alone [] = tt
+writes_alone (piece ∷ writes) = (refl, writes_alone writes)
+
+writes_past_reads : (reads writes : List Piece) (from to : ℕ) → length reads ≤ from → AreOf true (drop from (take to (course reads writes)))
+writes_past_reads [] writes from to past = all-part (λ burst. burst.0 ≡ true) (course [] writes) from to (writes_alone writes)
+writes_past_reads (piece ∷ reads) writes zero to past = absurd (omega (arith, past))
+writes_past_reads (piece ∷ reads) writes (suc from) zero past = tt
+writes_past_reads (piece ∷ reads) writes (suc from) (suc to) past = writes_past_reads reads writes from to (omega (arith, past))
+
+-- no write is planned while a read is unanswered
+no_writes_by : (reads writes writing : Bool) (parts : List Piece) (answered : ℕ) → (writing ≡ true → length (if reads then parts else []) ≤ answered) → answered < length (if reads then parts else [])
+    → (if not (reads && writes) || writing then (if writes then parts else []) else []) ≡ []
+no_writes_by false writes writing parts answered late below = absurd (omega arith)
+no_writes_by true false true parts answered late below = refl
+no_writes_by true false false parts answered late below = refl
+no_writes_by true true true parts answered late below = absurd (omega (arith, late refl))
+no_writes_by true true false parts answered late below = refl
+
+no_writes : (flight : LiveRequest) → (flight.writing ≡ true → length (read_pieces flight) ≤ flight.answered) → flight.answered < length (read_pieces flight) → planned_writes flight ≡ []
+no_writes flight late below = no_writes_by (reply_has_data flight.operation) (has_data flight.operation) flight.writing (pieces_planned flight.plan) flight.answered late below
+
+pub one_side : (flight : LiveRequest) → (flight.writing ≡ true → length (read_pieces flight) ≤ flight.answered) → AreOf (side_of flight) (outstanding flight)
+one_side flight late = by_side (side_of flight) refl
+  where
+    by_side : (side : Bool) → side_of flight ≡ side → AreOf side (outstanding flight)
+    by_side true is = writes_past_reads (read_pieces flight) (planned_writes flight) flight.answered flight.sent (leb-true (length (read_pieces flight)) flight.answered is)
+    by_side false is =
+        let below : flight.answered < length (read_pieces flight) = leb-false (length (read_pieces flight)) flight.answered is in
+        let none : planned_writes flight ≡ [] = no_writes flight late below in
+        rw none (all-part (λ burst. burst.0 ≡ false) (course (read_pieces flight) []) flight.answered flight.sent (reads_alone (read_pieces flight)))
+
+-- what a port sees of bursts of the other side
+pub open_writes-reads : (id : ℕ) (bursts : List (Bool × Piece)) → AreOf false bursts → open_writes id bursts ≡ []
+open_writes-reads id [] all = refl
+open_writes-reads id ((true, piece) ∷ bursts) all = absurd (cc (all.0))
+open_writes-reads id ((false, piece) ∷ bursts) all = open_writes-reads id bursts all.1
+
+pub open_reads-writes : (id came : ℕ) (bursts : List (Bool × Piece)) → AreOf true bursts → open_reads id came bursts ≡ []
+open_reads-writes id came [] all = refl
+open_reads-writes id came ((true, piece) ∷ bursts) all = open_reads-writes id came bursts all.1
+open_reads-writes id came ((false, piece) ∷ bursts) all = absurd (cc (all.0))
+
+-- the first of some outstanding bursts, all on its side
+pub record HasNext (side : Bool) (bursts : List (Bool × Piece)) : Type 0 where
+  pub piece : Piece
+  pub rest : List (Bool × Piece)
+  pub is : bursts ≡ (side, piece) ∷ rest
+  pub alike : AreOf side rest
+
+other_name : (a b : Bool) (bursts : List (Bool × Piece)) → a ≡ b → AreOf b bursts → AreOf a bursts
+other_name a b bursts same all = subst (λ side. AreOf side bursts) (sym same) all
+
+next_write : (id : ℕ) (side : Bool) (bursts : List (Bool × Piece)) → AreOf side bursts → (write : OpenWrite) (writes : List OpenWrite) → open_writes id bursts ≡ write ∷ writes → HasNext true bursts
+next_write id side [] all write writes is = absurd (cc (is))
+next_write id side ((true, piece) ∷ rest) all write writes is = record { piece = piece; rest = rest; is = refl; alike = other_name true side rest all.0 all.1 }
+next_write id side ((false, piece) ∷ rest) all write writes is =
+    let none : open_writes id rest ≡ [] = open_writes-reads id rest (other_name false side rest all.0 all.1) in
+    absurd (cc (is, none))
+
+next_read : (id came : ℕ) (side : Bool) (bursts : List (Bool × Piece)) → AreOf side bursts → (read : OpenRead) (reads : List OpenRead) → open_reads id came bursts ≡ read ∷ reads → HasNext false bursts
+next_read id came side [] all read reads is = absurd (cc (is))
+next_read id came side ((true, piece) ∷ rest) all read reads is =
+    let none : open_reads id came rest ≡ [] = open_reads-writes id came rest (other_name true side rest all.0 all.1) in
+    absurd (cc (is, none))
+next_read id came side ((false, piece) ∷ rest) all read reads is = record { piece = piece; rest = rest; is = refl; alike = other_name false side rest all.0 all.1 }
+
+-- ---- the request that holds an ID
+
+-- what is known of it
+pub record IsHolder (table : RequestTable) (id : ℕ) (request : BridgedRequest) : Type 0 where
+  pub held : holder id table.live ≡ Some request
+  pub served : IsServed table.config table.regions request
+  pub sound : IsSoundRequest (table_limits_of table.config) table.accepted request.flight
+  pub has_id : request.flight.id ≡ Some id
+  pub live : request.flight.done ≡ false
+  pub one_side : AreOf (side_of request.flight) (outstanding request.flight)
+
+id_held : (own : Option ℕ) (id : ℕ) → is_id id own ≡ true → own ≡ Some id
+id_held None id holds = absurd (cc (holds))
+id_held (Some held) id holds = ap Some (eqb-true held id holds)
+
+undone : (flight : LiveRequest) (id : ℕ) → flight.id ≡ Some id → (flight.done ≡ true → flight.id ≡ None) → flight.done ≡ false
+undone flight id holds freed = by_flag flight.done refl
+  where
+    by_flag : (done : Bool) → flight.done ≡ done → done ≡ false
+    by_flag true is = let none = freed is in absurd (cc (none, holds))
+    by_flag false is = refl
+
+pub holder_known : (table : RequestTable) (id : ℕ) (request : BridgedRequest) → IsSoundRequestTable table → holder id table.live ≡ Some request → IsHolder table id request
+holder_known table id request sound held =
+    let served : IsServed table.config table.regions request = all-find (IsServed table.config table.regions) (holds id) table.live request sound.served held in
+    let flight_sound : IsSoundRequest (table_limits_of table.config) table.accepted request.flight =
+    all-find (λ r. IsSoundRequest (table_limits_of table.config) table.accepted r.flight) (holds id) table.live request
+    (all-mapped (IsSoundRequest (table_limits_of table.config) table.accepted) (λ (r : BridgedRequest). r.flight) table.live sound.flights.requests) held in
+    let holds_it : request.flight.id ≡ Some id = id_held request.flight.id id (find-passes (holds id) table.live request held) in
+    record {
+      held = held;
+      served = served;
+      sound = flight_sound;
+      has_id = holds_it;
+      live = undone request.flight id holds_it flight_sound.freed;
+      one_side = one_side request.flight (λ writing. (served.writing writing).1);
+    }
+
+-- ---- a B
+
+-- the request that holds the ID of a B: its outstanding bursts are writes
+pub record FindsWriter (state : BridgeState) (b : BBeat) : Type 0 where
+  pub request : BridgedRequest
+  pub holder : IsHolder state.requests b.id request
+  pub next : HasNext true (outstanding request.flight)
+
+pub finds_writer : (state : BridgeState) (b : BBeat) → IsSoundBridge state → b_fault state b ≡ None → FindsWriter state b
+finds_writer state b sound none =
+    let finds = finds_response (axi_port_of state.requests.config) state.open_bursts b none in
+    let writes = drop 1 (filter (write_of_id b.id) state.open_bursts.writes) in
+    let listed : open_writes b.id (outstanding_of (holder b.id state.requests.live)) ≡ finds.write ∷ writes =
+    sym (sound.linked b.id).writes ∙ filter-found (write_of_id b.id) state.open_bursts.writes finds.write finds.found in
+    by_holder (holder b.id state.requests.live) finds.write writes refl listed
+  where
+    by_holder : (held : Option BridgedRequest) (write : OpenWrite) (writes : List OpenWrite) → holder b.id state.requests.live ≡ held → open_writes b.id (outstanding_of held) ≡ write ∷ writes → FindsWriter state b
+    by_holder None write writes is listed = absurd (cc (listed))
+    by_holder (Some request) write writes is listed =
+        let known = holder_known state.requests b.id request sound.requests is in
+        record { request = request; holder = known; next = next_write b.id (side_of request.flight) (outstanding request.flight) known.one_side write writes listed }
+
+-- what a B that breaks no rule tells of the live request that holds its ID: the oldest of its bursts that aren't answered is a write
+pub record AnsweredWriter (state : BridgeState) (b : BBeat) : Type 0 where
+  pub request : BridgedRequest
+  pub held : holder b.id state.requests.live ≡ Some request
+  pub sent : request.flight.answered < request.flight.sent
+  pub live : request.flight.done ≡ false
+  pub id : request.flight.id ≡ Some b.id
+  pub piece : Piece
+  pub burst : slice_get (planned request.flight) request.flight.answered ≡ Some (true, piece)
+
+pub answered_writer : (state : BridgeState) (b : BBeat) → IsSoundBridge state → b_fault state b ≡ None → AnsweredWriter state b
+answered_writer state b sound none =
+    let found = finds_writer state b sound none in
+    let flight = found.request.flight in
+    let next = part-next (planned flight) flight.answered flight.sent (true, found.next.piece) found.next.rest found.next.is in
+    record {
+      request = found.request;
+      held = found.holder.held;
+      sent = next.within;
+      live = found.holder.live;
+      id = found.holder.has_id;
+      piece = found.next.piece;
+      burst = next.at;
+    }
+
+-- ---- an R
+
+-- a burst of a course that is a read is one of its reads
+not_read : (writes : List Piece) (k : ℕ) (piece : Piece) → slice_get (course [] writes) k ≡ Some (false, piece) → ⊥
+not_read [] k piece found = absurd (cc (found))
+not_read (w ∷ writes) zero piece found =
+    let sides : true ≡ false = ap (λ (burst : Bool × Piece). burst.0) (same_Some (true, w) (false, piece) found) in
+    absurd (cc (sides))
+not_read (w ∷ writes) (suc k) piece found = not_read writes k piece found
+
+pub read_at : (reads writes : List Piece) (k : ℕ) (piece : Piece) → slice_get (course reads writes) k ≡ Some (false, piece) → slice_get reads k ≡ Some piece
+read_at [] writes k piece found = absurd (not_read writes k piece found)
+read_at (p ∷ reads) writes zero piece found =
+    ap Some (ap (λ (burst : Bool × Piece). burst.1) (same_Some (false, p) (false, piece) found))
+read_at (p ∷ reads) writes (suc k) piece found = read_at reads writes k piece found
+
+-- the transfers of the pieces to a place, with the next one
+pub beats_in-next : (pieces : List Piece) (k : ℕ) (piece : Piece) → slice_get pieces k ≡ Some piece → beats_in (take (k + 1) pieces) ≡ beats_in (take k pieces) + (piece.len + 1)
+beats_in-next [] k piece found = absurd (cc (found))
+beats_in-next (p ∷ pieces) zero piece found =
+    let same : p ≡ piece = cc (found) in
+    sum_by-cons (λ (q : Piece). q.len + 1) p [] ∙ rw same (omega arith)
+beats_in-next (p ∷ pieces) (suc k) piece found =
+    let next : suc k + 1 ≡ suc (k + 1) = omega arith in
+    let rest = beats_in-next pieces k piece found in
+    rw (next, sum_by-cons (λ (q : Piece). q.len + 1) p (take k pieces), sum_by-cons (λ (q : Piece). q.len + 1) p (take (k + 1) pieces)) (omega (arith, rest))
+
+-- a request that reads has a plan
+pub record HasPlan (flight : LiveRequest) : Type 0 where
+  pub range : PlannedRange
+  pub is : flight.plan ≡ Some range
+
+pub reader_plan : (flight : LiveRequest) (k : ℕ) (piece : Piece) → slice_get (read_pieces flight) k ≡ Some piece → HasPlan flight
+reader_plan flight k piece found = by_plan flight.plan refl (reply_has_data flight.operation) found
+  where
+    by_plan : (plan : Option PlannedRange) → flight.plan ≡ plan → (reads : Bool) → slice_get (if reads then pieces_planned plan else []) k ≡ Some piece → HasPlan flight
+    by_plan None is true found = absurd (cc (found))
+    by_plan None is false found = absurd (cc (found))
+    by_plan (Some range) is reads found = record { range = range; is = is }
+
+-- the request that holds the ID of an R, and its oldest outstanding burst: the read that the R belongs to
+pub record IsReader (state : BridgeState) (r : RBeat) (request : BridgedRequest) (piece : Piece) (rest : List (Bool × Piece)) : Type 0 where
+  pub holder : IsHolder state.requests r.id request
+  pub first : outstanding request.flight ≡ (false, piece) ∷ rest
+  pub alike : AreOf false rest
+  pub next : IsNextOf (planned request.flight) request.flight.answered request.flight.sent (false, piece) rest
+  pub read : slice_get (read_pieces request.flight) request.flight.answered ≡ Some piece
+  pub found : find (read_of_id r.id) state.open_bursts.reads ≡ Some (open_read r.id (came_of_next request) piece)
+  pub last : r.last ≡ (came_of_next request == piece.len)
+  pub few : came_of_next request ≤ piece.len
+  pub more : beats_in (take (request.flight.answered + 1) (read_pieces request.flight)) ≡ beats_in (answered_pieces request.flight) + (piece.len + 1)
+  pub place : request.gathering.came < reads_of state.requests.config.axi_bytes (outline_in request)
+
+pub record FindsReader (state : BridgeState) (r : RBeat) : Type 0 where
+  pub request : BridgedRequest
+  pub piece : Piece
+  pub rest : List (Bool × Piece)
+  pub reader : IsReader state r request piece rest
+
+reader_known : (state : BridgeState) (r : RBeat) (request : BridgedRequest) (piece : Piece) (rest : List (Bool × Piece)) → IsSoundBridge state → IsHolder state.requests r.id request
+    → outstanding request.flight ≡ (false, piece) ∷ rest → AreOf false rest → find (read_of_id r.id) state.open_bursts.reads ≡ Some (open_read r.id (came_of_next request) piece)
+    → r.last ≡ (came_of_next request == piece.len) → IsReader state r request piece rest
+reader_known state r request piece rest sound known first alike found last =
+    let flight = request.flight in
+    let reads = read_pieces flight in
+    let next = part-next (planned flight) flight.answered flight.sent (false, piece) rest first in
+    let read = read_at reads (planned_writes flight) flight.answered piece next.at in
+    let few : came_of_next request ≤ piece.len = subst (IsPartWay (came_of_next request)) first known.served.next in
+    let plan = reader_plan flight flight.answered piece read in
+    let counted = reads_counted state.requests.config state.requests.regions request plan.range sound.requests.config known.served.pages known.served plan.is in
+    let within = sum_by-take-le (λ (p : Piece). p.len + 1) reads (flight.answered + 1) in
+    let more = beats_in-next reads flight.answered piece read in
+    record {
+      holder = known;
+      first = first;
+      alike = alike;
+      next = next;
+      read = read;
+      found = found;
+      last = last;
+      few = few;
+      more = more;
+      place = omega (arith, known.served.came, few, counted, within, more);
+    }
+
+pub finds_reader : (state : BridgeState) (r : RBeat) → IsSoundBridge state → r_fault state r ≡ None → FindsReader state r
+finds_reader state r sound none =
+    let finds = finds_read (axi_port_of state.requests.config) state.open_bursts r none in
+    let reads = drop 1 (filter (read_of_id r.id) state.open_bursts.reads) in
+    let listed : open_reads r.id (came_of (holder r.id state.requests.live)) (outstanding_of (holder r.id state.requests.live)) ≡ finds.read ∷ reads =
+    sym (sound.linked r.id).reads ∙ filter-found (read_of_id r.id) state.open_bursts.reads finds.read finds.found in
+    by_holder (holder r.id state.requests.live) finds.read reads refl listed finds.found finds.last
+  where
+    by_holder : (held : Option BridgedRequest) (read : OpenRead) (reads : List OpenRead) → holder r.id state.requests.live ≡ held → open_reads r.id (came_of held) (outstanding_of held) ≡ read ∷ reads
+        → find (read_of_id r.id) state.open_bursts.reads ≡ Some read → r.last ≡ (read.came == read.ar.len) → FindsReader state r
+    by_holder None read reads is listed found last = absurd (cc (listed))
+    by_holder (Some request) read reads is listed found last =
+        let known = holder_known state.requests r.id request sound.requests is in
+        let next = next_read r.id (came_of_next request) (side_of request.flight) (outstanding request.flight) known.one_side read reads listed in
+        let opened = ap (open_reads r.id (came_of_next request)) (sym next.is) ∙ listed in
+        let same : open_read r.id (came_of_next request) next.piece ≡ read = cc (opened) in
+        let flag : r.last ≡ (came_of_next request == next.piece.len) = last ∙ ap (λ (o : OpenRead). o.came == o.ar.len) (sym same) in
+        record {
+          request = request;
+          piece = next.piece;
+          rest = next.rest;
+          reader = reader_known state r request next.piece next.rest sound known next.is next.alike (found ∙ ap Some (sym same)) flag;
+        }
+
+-- what an R that breaks no rule tells of the live request that holds its ID: the oldest of its bursts that aren't answered is a read, of which
+-- some beats came, this is the next, and its flag `last` is right; and its place among all reads of the request is one of those
+pub record AnsweredReader (state : BridgeState) (r : RBeat) : Type 0 where
+  pub request : BridgedRequest
+  pub held : holder r.id state.requests.live ≡ Some request
+  pub sent : request.flight.answered < request.flight.sent
+  pub live : request.flight.done ≡ false
+  pub id : request.flight.id ≡ Some r.id
+  pub piece : Piece
+  pub burst : slice_get (planned request.flight) request.flight.answered ≡ Some (false, piece)
+  pub read : slice_get (read_pieces request.flight) request.flight.answered ≡ Some piece
+  pub count : ℕ
+  pub came : request.gathering.came ≡ beats_in (answered_pieces request.flight) + count
+  pub few : count ≤ piece.len
+  pub last : r.last ≡ (count == piece.len)
+  pub place : request.gathering.came < reads_of state.requests.config.axi_bytes (outline_in request)
+
+pub answered_reader : (state : BridgeState) (r : RBeat) → IsSoundBridge state → r_fault state r ≡ None → AnsweredReader state r
+answered_reader state r sound none =
+    let finds = finds_reader state r sound none in
+    let reader = finds.reader in
+    record {
+      request = finds.request;
+      held = reader.holder.held;
+      sent = reader.next.within;
+      live = reader.holder.live;
+      id = reader.holder.has_id;
+      piece = finds.piece;
+      burst = reader.next.at;
+      read = reader.read;
+      count = came_of_next finds.request;
+      came = omega (arith, reader.holder.served.came);
+      few = reader.few;
+      last = reader.last;
+      place = reader.place;
+    }

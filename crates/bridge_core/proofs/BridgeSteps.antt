@@ -1,0 +1,133 @@
+-- What is kept of a bridge by a burst that goes, an answer that comes, and a reply that is taken.
+use Rattle.std.proofs.Common.{◌≡◌, ◌∙◌, ℕ, ◌-◌, ◌≤◌, true, List, map, Option, None, Some, Ok, Err, ap, refl, sym, subst, arith}
+use Rattle.std.specs.Prelude.{IsSome, IsSomeAnd, MatchOption, Result, ⊤}
+use Rattle.axi_beats.specs.declared.BBeat.{BBeat}
+use Rattle.axi_beats.specs.declared.RBeat.{RBeat}
+use Rattle.axi_checker.specs.OpenBursts.{OnB, OnR, OpenBursts, write_to_fill}
+use Rattle.axi_checker.specs.Rules.{AxiPortLimits, axi_fault, open_with_burst}
+use Rattle.axi_checker.specs.Monitors.{MonitorState}
+use Rattle.axi_beats.specs.Bursts.{Burst}
+use Rattle.tl_checker.specs.Ports.{PortState}
+use Rattle.axi_checker.specs.declared.AxiRule.{AxiRule}
+use Rattle.bridge_core.specs.Bridge.{BridgeState, StockedBridge, after_b_beat, after_pump, after_r_beat, after_sent, after_take, b_fault, boxes_of, front_of, r_fault}
+use Rattle.bridge_core.specs.Configs.{axi_port_of}
+use Rattle.bridge_core.specs.Inside.{ArePorts, AwaitsAnswer, AwaitsBeat, bridge_kept}
+use Rattle.bridge_core.specs.Laws.{IsSoundBridge, IsSoundRequestTable}
+use Rattle.bridge_core.specs.Requests.{RequestTable, holder, with_read, with_response, with_sent_burst, without_done}
+use Rattle.bridge_core.specs.Sending.{Sending, next_sending}
+use Rattle.bridge_core.proofs.AnswerLinks.{answered_reader, answered_writer}
+use Rattle.bridge_core.proofs.FreeFronts.{free_read, free_response, free_sent, free_taken}
+use Rattle.bridge_core.proofs.ReadLinks.{filled_read, linked_read}
+use Rattle.bridge_core.proofs.ResponseLinks.{filled_response, linked_response}
+use Rattle.bridge_core.proofs.SendingLinks.{linked_taken}
+use Rattle.bridge_core.proofs.SentLinks.{linked_sent}
+
+-- the state of a bridge with these ports
+abbrev pub state_in : List PortState → RequestTable → OpenBursts → BridgeState
+state_in ports requests open_bursts = record { fronts = map (λ (port : PortState). port.front) ports; requests = requests; open_bursts = open_bursts }
+
+pub sound_sent : (state : BridgeState) (sending : Sending) → IsSoundBridge state → next_sending state.requests ≡ Some sending → IsSoundRequestTable (after_sent state sending).requests
+    → write_to_fill (after_sent state sending).open_bursts ≡ None → IsSoundBridge (after_sent state sending)
+sound_sent state sending sound is requests filled =
+    record {
+      requests = requests;
+      fronts = sound.fronts;
+      free = λ client. free_sent sending.request.flight.number sending.id state.requests client (front_of state client) (sound.free client);
+      linked = linked_sent state sending sound is;
+      filled = filled;
+    }
+
+-- the parts of a bridge: with the memory's port, and the boxes that stand in stock and those for which there is room
+abbrev pub IsBridge : List PortState → RequestTable → MonitorState → ℕ → ℕ → Type 0
+IsBridge ports requests monitor stock room =
+    IsSoundBridge (state_in ports requests monitor.open_bursts) × ArePorts requests.config ports × (monitor.port ≡ axi_port_of requests.config) × (stock ≤ boxes_of requests.config) × (boxes_of requests.config ≤ room)
+
+abbrev pub monitor_with : MonitorState → Burst → MonitorState
+monitor_with monitor burst = record monitor { open_bursts = open_with_burst monitor.open_bursts burst }
+
+pub pumped : (ports : List PortState) (requests new_requests : RequestTable) (monitor new_monitor : MonitorState) (stock room new_stock new_room : ℕ) (sending : Sending) → IsBridge ports requests monitor stock room
+    → next_sending requests ≡ Some sending → new_requests ≡ with_sent_burst sending.request.flight.number sending.id requests → new_monitor ≡ monitor_with monitor sending.burst → IsSoundRequestTable new_requests
+    → write_to_fill new_monitor.open_bursts ≡ None → new_stock ≤ stock → room ≤ new_room → IsBridge ports new_requests new_monitor new_stock new_room
+pumped ports requests new_requests monitor new_monitor stock room new_stock new_room sending i is table sent laws ready less more =
+    let filled = subst (λ (m : MonitorState). write_to_fill m.open_bursts ≡ None) sent ready in
+    let sound : IsSoundBridge (after_sent (state_in ports requests monitor.open_bursts) sending) = sound_sent (state_in ports requests monitor.open_bursts) sending i.0 is (subst IsSoundRequestTable table laws) filled in
+    rw (table, sent) (sound, i.1, i.2, omega (arith, i.3, less), omega (arith, i.4, more))
+
+pub pumped_state : (ports : List PortState) (requests new_requests : RequestTable) (monitor new_monitor : MonitorState) (stock new_stock : ℕ) (sending : Sending) (old : StockedBridge)
+    → bridge_kept ports requests monitor.open_bursts stock ≡ old → next_sending requests ≡ Some sending → new_requests ≡ with_sent_burst sending.request.flight.number sending.id requests
+    → new_monitor ≡ monitor_with monitor sending.burst → new_stock ≡ stock - 1 → bridge_kept ports new_requests new_monitor.open_bursts new_stock ≡ record { state = after_pump old.state; stock = old.stock - 1 }
+pumped_state ports requests new_requests monitor new_monitor stock new_stock sending old view is table sent less =
+    subst (λ (b : StockedBridge). bridge_kept ports new_requests new_monitor.open_bursts new_stock ≡ record { state = after_pump b.state; stock = b.stock - 1 }) view (rw (table, sent, is, less) refl)
+
+pub sound_response : (state : BridgeState) (b : BBeat) → IsSoundBridge state → b_fault state b ≡ None → IsSoundRequestTable (with_response b.id b.resp state.requests) → IsSoundBridge (after_b_beat state b)
+sound_response state b sound none requests =
+    record {
+      requests = requests;
+      fronts = sound.fronts;
+      free = λ client. free_response b.id b.resp state.requests client (front_of state client) (sound.free client);
+      linked = linked_response state b sound none;
+      filled = filled_response state b sound;
+    }
+
+pub sound_read : (state : BridgeState) (r : RBeat) → IsSoundBridge state → r_fault state r ≡ None → IsSoundRequestTable (with_read r state.requests) → IsSoundBridge (after_r_beat state r)
+sound_read state r sound none requests =
+    record {
+      requests = requests;
+      fronts = sound.fronts;
+      free = λ client. free_read r state.requests client (front_of state client) (sound.free client);
+      linked = linked_read state r sound none;
+      filled = filled_read state r sound;
+    }
+
+pub sound_taken : (state : BridgeState) (client : ℕ) → IsSoundBridge state → IsSoundRequestTable (without_done client state.requests) → IsSoundBridge (after_take state client)
+sound_taken state client sound requests =
+    record {
+      requests = requests;
+      fronts = sound.fronts;
+      free = λ of. free_taken client state.requests of (front_of state of) (sound.free of);
+      linked = linked_taken client state.requests state.open_bursts sound.requests sound.linked;
+      filled = sound.filled;
+    }
+
+-- an answer that the monitor took breaks no rule, and belongs to the request that holds its ID
+abbrev Answers : Option AxiRule → ⊤ → Type 0
+Answers fault taken = MatchOption fault (◌≡◌ {A = Result ⊤ AxiRule} (Ok taken) (Ok tt)) (λ rule. ◌≡◌ {A = Result ⊤ AxiRule} (Ok taken) (Err rule))
+
+no_fault : (fault : Option AxiRule) (taken : ⊤) → Answers fault taken → fault ≡ None
+no_fault None taken is = refl
+no_fault (Some rule) taken is = absurd (cc (is))
+
+pub b_unbroken : (state : BridgeState) (port : AxiPortLimits) (b : BBeat) (taken : ⊤) → port ≡ axi_port_of state.requests.config → Answers (axi_fault port state.open_bursts (OnB b)) taken → b_fault state b ≡ None
+b_unbroken state port b taken same is = ap (λ (p : AxiPortLimits). axi_fault p state.open_bursts (OnB b)) (sym same) ∙ no_fault (axi_fault port state.open_bursts (OnB b)) taken is
+
+pub r_unbroken : (state : BridgeState) (port : AxiPortLimits) (r : RBeat) (taken : ⊤) → port ≡ axi_port_of state.requests.config → Answers (axi_fault port state.open_bursts (OnR r)) taken → r_fault state r ≡ None
+r_unbroken state port r taken same is = ap (λ (p : AxiPortLimits). axi_fault p state.open_bursts (OnR r)) (sym same) ∙ no_fault (axi_fault port state.open_bursts (OnR r)) taken is
+
+pub awaits_b : (state : BridgeState) (b : BBeat) → IsSoundBridge state → b_fault state b ≡ None → IsSomeAnd (holder b.id state.requests.live) (AwaitsAnswer true)
+awaits_b state b sound none =
+    let found = answered_writer state b sound none in
+    rw found.held (record { piece = found.piece; live = found.live; unanswered = found.sent; next = found.burst })
+
+pub awaits_r : (state : BridgeState) (r : RBeat) → IsSoundBridge state → r_fault state r ≡ None → IsSomeAnd (holder r.id state.requests.live) (AwaitsBeat state.requests.config.axi_bytes r)
+awaits_r state r sound none =
+    let found = answered_reader state r sound none in
+    rw found.held (
+    record {
+      awaits = record { piece = found.piece; live = found.live; unanswered = found.sent; next = found.burst };
+      beats = found.count;
+      came = found.came;
+      within = found.few;
+      last = found.last;
+      place = found.place;
+    }
+    )
+
+-- a reply is taken, if one is there
+pub reply_left : (ports : List PortState) (requests new_requests : RequestTable) (monitor : MonitorState) (stock room client : ℕ) (answer : Option ℕ) → IsBridge ports requests monitor stock room
+    → (IsSome answer → new_requests ≡ without_done client requests) → (answer ≡ None → new_requests ≡ requests) → IsSoundRequestTable new_requests → IsBridge ports new_requests monitor stock room
+reply_left ports requests new_requests monitor stock room client None i table kept laws = subst (λ (t : RequestTable). IsBridge ports t monitor stock room) (sym (kept refl)) i
+reply_left ports requests new_requests monitor stock room client (Some number) i table kept laws =
+    let left = table refl in
+    let sound : IsSoundBridge (after_take (state_in ports requests monitor.open_bursts) client) =
+    sound_taken (state_in ports requests monitor.open_bursts) client i.0 (subst IsSoundRequestTable left laws) in
+    rw left (sound, i.1, i.2, i.3, i.4)

@@ -1,0 +1,136 @@
+-- A plan's pieces as writes, transfer by transfer, and the operand of an atomic.
+use Rattle.std.proofs.Common.{◌≡◌, ℕ, zero, suc, ◌+◌, ◌-◌, ◌*◌, ◌/◌, ◌^◌, ◌<◌, ◌≤◌, Bool, true, false, List, map, length, Option, Some, None, IsSome, if◌then◌else◌, refl, sym, ◌∙◌, ap, arith, inl, inr, lit<}
+use Rattle.std.specs.Prelude.{unwrap_or}
+use Rattle.std.specs.List.{range_with_len, slice_get}
+use Rattle.std.proofs.lemmas.Bool.{and_from, and_parts, cases_lt, le-leb}
+use Rattle.std.proofs.lemmas.List.FromFn.{length-map-range_with_len, map-range_with_len_more}
+use Rattle.std.proofs.lemmas.Option.{slice_get-get_or}
+use Rattle.std.proofs.lemmas.Simd.{map-map}
+use Rattle.std.proofs.Math.Pow.{pow-add, pow_mono}
+use Rattle.bus_words.specs.Lanes.{given_at, has_lane, lane_byte}
+use Rattle.tl_messages.specs.Lanes.{lane_of}
+use Rattle.tl_messages.specs.Operations.{beats_of, has_data}
+use Rattle.tl_messages.specs.Requests.{HeldMessage, beat_at, byte_given, request_of}
+use Rattle.tl_messages.specs.declared.MaskedWord.{MaskedWord}
+use Rattle.tl_messages.proofs.BeatCounts.{beats_of-le}
+use Rattle.axi_beats.specs.Boxes.{aw_of, w_beats_of, with_w_beat}
+use Rattle.axi_beats.specs.Bursts.{Burst, WriteBurst}
+use Rattle.axi_beats.specs.Transfers.{fits_bus, transfer_address, transfer_end, transfer_has}
+use Rattle.axi_beats.specs.declared.WBeat.{WBeat}
+use Rattle.axi_beats.proofs.TransferLaws.{transfer_address_le_transfer_end}
+use Rattle.data_unit.specs.Words.{merged, operand_in, value}
+use Rattle.data_unit.proofs.ByteLaws.{lane_byte-past}
+use Rattle.data_unit.proofs.WordLaws.{lane_byte-merged}
+use Rattle.burst_plan.specs.Pieces.{PlannedRange, IsPlannable, beat_size, pieces}
+use Rattle.burst_plan.specs.PlannedBursts.{w_beat}
+use Rattle.burst_plan.specs.PlannedTransfers.{HasAddress}
+use Rattle.burst_plan.specs.declared.Piece.{Piece}
+use Rattle.burst_plan.proofs.PieceLaws.{divides_evenly, piece_listed}
+use Rattle.burst_plan.proofs.TransferPlaces.{holds_each_byte_once}
+use Rattle.burst_plan.proofs.WriteLaws.{listed_part}
+use Rattle.bridge_core.specs.Sending.{operand_of}
+
+-- ---- transfers of a listed piece
+
+-- a piece that a plan has, at some place
+abbrev pub IsListed : PlannedRange → Piece → Type 0
+IsListed range piece = (k : ℕ) × (slice_get (pieces range) k ≡ Some piece)
+
+-- its transfers fit the bus
+pub listed_fits : (range : PlannedRange) (piece : Piece) → IsPlannable range → IsListed range piece → fits_bus range.bus_bytes piece.size ≡ true
+listed_fits range piece plannable (k, listed) = (and_parts _ _ (and_parts _ _ (and_parts _ _ (listed_part range plannable k piece listed).legal).0).0).0
+
+-- they have at most eight bytes
+pub listed_size : (range : PlannedRange) (piece : Piece) → IsPlannable range → IsListed range piece → piece.size ≤ 3
+listed_size range piece plannable (k, listed) =
+    let is = (piece_listed range (divides_evenly range plannable) k piece listed).1 in
+    rw is (small range)
+  where
+    small : (range : PlannedRange) → beat_size range ≤ 3
+    small range = grind arith
+
+-- there are at most 256 of them
+pub listed_len : (range : PlannedRange) (piece : Piece) → IsPlannable range → IsListed range piece → piece.len < 256
+listed_len range piece plannable (k, listed) =
+    let even = divides_evenly range plannable in
+    let is = (piece_listed range even k piece listed).1 in
+    rw is (omega (arith, even.some_beats, even.few_beats))
+
+-- the first byte of a transfer is one of the range's
+pub transfer_within : (range : PlannedRange) (piece : Piece) (n : ℕ) → IsPlannable range → IsListed range piece → 1 ≤ n → n ≤ piece.len + 1 → HasAddress range (transfer_address piece.address piece.size n)
+transfer_within range piece n plannable (k, listed) one last =
+    let start = transfer_address piece.address piece.size n in
+    let order = transfer_address_le_transfer_end piece.address piece.size n one in
+    let has : transfer_has piece.address piece.size n start ≡ true = and_from _ _ (le-leb start start (omega arith)) (le-leb start (transfer_end piece.address piece.size n) order) in
+    ((holds_each_byte_once range plannable).back k n start piece listed one last has).0
+
+-- a byte of a range is in one of the words of its beats
+word_below : (size i : ℕ) → i < 2 ^ size → i / 8 < beats_of size true
+word_below size i below =
+    elim (cases_lt size 3) [
+      | inl small ↦ omega (arith, below, pow_mono {i = size} {j = 3} (omega arith))
+      | inr big ↦ let parts : size - 3 + 3 ≡ size = omega arith in let times : 2 ^ size ≡ 2 ^ (size - 3) * 8 = rw parts at (pow-add 2 (size - 3) 3) in omega (arith, below, times)
+    ]
+
+-- the word that holds the first byte of a transfer, counted from the range's start, is that of a beat
+pub word_of_transfer : (range : PlannedRange) (piece : Piece) (k start first address : ℕ) → IsPlannable range → IsListed range piece → k ≤ piece.len → start ≡ first → first ≡ range.address
+    → address ≡ transfer_address piece.address piece.size (k + 1) → (start ≤ address) × ((address - start) / 8 < beats_of range.size true) × ((address - start) / 8 < 65536)
+word_of_transfer range piece k start first address plannable listed last start_is first_is is =
+    let within = transfer_within range piece (k + 1) plannable listed (omega arith) (omega (arith, last)) in
+    let inside : (address - start) / 8 < beats_of range.size true = word_below range.size (address - start) (omega (arith, within.first, within.last)) in
+    (omega (arith, within.first), inside, omega (arith, inside, beats_of-le range.size true plannable.size))
+
+-- ---- a write of which some W beats stand in the box
+
+abbrev pub begun : ℕ → ℕ → List (Option ℕ) → ℕ → Piece → ℕ → Option Burst
+begun bus_bytes id bytes start piece k =
+    Some (WriteBurst (record { id = id; address = piece.address; len = piece.len; size = piece.size; burst = 1 }) (map (w_beat bus_bytes (given_at bytes start) piece) (range_with_len 1 k)))
+
+pub begun-write : (burst : Option Burst) (bus_bytes id : ℕ) (bytes : List (Option ℕ)) (start : ℕ) (piece : Piece) (k : ℕ) → burst ≡ begun bus_bytes id bytes start piece k → IsSome (aw_of burst)
+begun-write burst bus_bytes id bytes start piece k is = rw is refl
+
+pub begun-room : (burst : Option Burst) (bus_bytes id : ℕ) (bytes : List (Option ℕ)) (start : ℕ) (piece : Piece) (k : ℕ) → burst ≡ begun bus_bytes id bytes start piece k → k < 256 → length (w_beats_of burst) < 256
+begun-room burst bus_bytes id bytes start piece k is below = rw (is, length-map-range_with_len (w_beat bus_bytes (given_at bytes start) piece) 1 k) below
+
+pub begun-more : (burst after : Option Burst) (bus_bytes id : ℕ) (bytes : List (Option ℕ)) (start : ℕ) (piece : Piece) (k : ℕ) (beat : WBeat) → burst ≡ begun bus_bytes id bytes start piece k
+    → after ≡ with_w_beat beat burst → w_beat bus_bytes (given_at bytes start) piece (k + 1) ≡ beat → after ≡ begun bus_bytes id bytes start piece (k + 1)
+begun-more burst after bus_bytes id bytes start piece k beat is pushed same =
+    let next : 1 + k ≡ k + 1 = omega arith in
+    pushed ∙ rw (is, map-range_with_len_more (w_beat bus_bytes (given_at bytes start) piece) 1 k (k + 1) next, same) refl
+
+-- ---- the operand of an atomic
+
+same_numbers : (f g : ℕ → ℕ) (a n : ℕ) → ((i : ℕ) → i < a + n → f i ≡ g i) → map f (range_with_len a n) ≡ map g (range_with_len a n)
+same_numbers f g a zero same = refl
+same_numbers f g a (suc n) same = rw (same a (omega arith), same_numbers f g (a + 1) n (λ i below. same i (omega arith))) refl
+
+-- the number that one beat's lanes hold, where those without a mask bit count as zero, is that of the bytes that the request gives
+pub operand_made : (held : HeldMessage) → has_data held.operation ≡ true → held.size ≤ 3 → length held.beats ≡ 1
+    → operand_in (merged 0 (beat_at held 0).word (beat_at held 0).mask) held.address held.size ≡ operand_of (request_of held)
+operand_made held carries small single =
+    ap (λ (bytes : List ℕ). value bytes)
+    (same_numbers in_word (λ i. unwrap_or (given i) 0) 0 (2 ^ held.size) (λ i below. each i (omega (arith, below, pow_mono {i = held.size} {j = 3} small)))
+    ∙ sym (map-map (λ (byte : Option ℕ). unwrap_or byte 0) given (range_with_len 0 (2 ^ held.size))))
+  where
+    beat : MaskedWord
+    beat = beat_at held 0
+
+    in_word : ℕ → ℕ
+    in_word i = lane_byte (merged 0 beat.word beat.mask) (lane_of (held.address + i))
+
+    given : ℕ → Option ℕ
+    given i = if has_data held.operation then byte_given held.address held.beats i else None
+
+    there : slice_get held.beats 0 ≡ Some beat
+    there = slice_get-get_or held.beats 0 (record { word = 0; mask = 0 }) (omega (arith, single))
+
+    by_mask : (b : Bool) (byte zero_byte : ℕ) → zero_byte ≡ 0 → (if b then byte else zero_byte) ≡ unwrap_or (if b then Some byte else None) 0
+    by_mask true byte zero_byte none = refl
+    by_mask false byte zero_byte none = none
+
+    each : (i : ℕ) → i < 8 → in_word i ≡ unwrap_or (given i) 0
+    each i below =
+        let first : i / 8 ≡ 0 = omega arith in
+        lane_byte-merged 0 beat.word beat.mask (lane_of (held.address + i)) (omega arith)
+        ∙ by_mask (has_lane beat.mask (lane_of (held.address + i))) (lane_byte beat.word (lane_of (held.address + i))) (lane_byte 0 (lane_of (held.address + i))) (lane_byte-past 0 0 (lane_of (held.address + i)) (lit< tt) (omega arith))
+        ∙ rw (carries, first, there) refl

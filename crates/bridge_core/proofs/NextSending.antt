@@ -1,0 +1,101 @@
+-- What is known of the burst that goes next, and when one goes.
+use Rattle.std.proofs.Common.{◌≡◌, ℕ, Bool, true, false, is_some, get_or, Option, Some, None, refl, ap, sym, ◌∙◌, subst}
+use Rattle.std.specs.Prelude.{option_map, option_and_then}
+use Rattle.std.specs.List.{find}
+use Rattle.std.proofs.lemmas.Option.{option_and_then_some, same_Some, slice_get-get_or}
+use Rattle.bus_words.proofs.PlaceChanges.{all-find, find-passes}
+use Rattle.axi_beats.specs.Bursts.{Burst}
+use Rattle.burst_plan.specs.Pieces.{PlannedRange}
+use Rattle.burst_plan.specs.declared.Piece.{Piece}
+use Rattle.flight_table.specs.Laws.{IsSoundRequest}
+use Rattle.flight_table.specs.LiveRequests.{next_burst, planned}
+use Rattle.flight_table.specs.Order.{id_for}
+use Rattle.flight_table.proofs.Steps.{IsReady, ready_parts}
+use Rattle.bridge_core.specs.Configs.{table_limits_of}
+use Rattle.bridge_core.specs.Laws.{IsSoundRequestTable}
+use Rattle.bridge_core.specs.Requests.{BridgedRequest, RequestTable, flight_table_of, flights_of, may_send}
+use Rattle.bridge_core.specs.Sending.{Sending, burst_for, burst_of_piece, next_sending, sending_of}
+use Rattle.bridge_core.proofs.SendingLinks.{sound_requests}
+
+-- a request that may send, the ID and the burst with which it sends, and the piece of its plan that this is; true is a write
+pub record IsNext (table : RequestTable) (sending : Sending) : Type 0 where
+  pub range : PlannedRange
+  pub write : Bool
+  pub piece : Piece
+  pub found : find (may_send table) table.live ≡ Some sending.request
+  pub id : id_for (table_limits_of table.config) (flights_of table.live) sending.request.flight ≡ Some sending.id
+  pub of_request : burst_for sending.id sending.request ≡ Some sending.burst
+  pub plan : sending.request.flight.plan ≡ Some range
+  pub next : next_burst sending.request.flight ≡ Some (write, piece)
+  pub burst : sending.burst ≡ burst_of_piece sending.id sending.request range (write, piece)
+  pub ready : IsReady (flight_table_of table) sending.request.flight
+
+-- what a map gave came of what was there
+pub map_some : {A B P : Type 0} (f : A → B) (o : Option A) (y : B) → option_map f o ≡ Some y → ((x : A) → o ≡ Some x → f x ≡ y → P) → P
+map_some f None y is k = absurd (cc)
+map_some f (Some x) y is k = k x refl (same_Some (f x) y is)
+
+abbrev pub sending_with : BridgedRequest → ℕ → Burst → Sending
+sending_with request id burst = record { request = request; id = id; burst = burst }
+
+next_parts : (table : RequestTable) (request : BridgedRequest) (id : ℕ) (burst : Burst) → find (may_send table) table.live ≡ Some request
+    → id_for (table_limits_of table.config) (flights_of table.live) request.flight ≡ Some id → burst_for id request ≡ Some burst → IsNext table (sending_with request id burst)
+next_parts table request id burst found id_is is =
+    option_and_then_some (λ range. option_map (burst_of_piece id request range) (next_burst request.flight)) request.flight.plan burst is
+    (λ range plan made. map_some (burst_of_piece id request range) (next_burst request.flight) burst made
+    (λ piece next same. record {
+      range = range;
+      write = piece.0;
+      piece = piece.1;
+      found = found;
+      id = id_is;
+      of_request = is;
+      plan = plan;
+      next = next;
+      burst = sym same;
+      ready = ready_parts (flight_table_of table) request.flight (find-passes (may_send table) table.live request found);
+    }))
+
+pub next_found : (table : RequestTable) (sending : Sending) → next_sending table ≡ Some sending → IsNext table sending
+next_found table sending is =
+    option_and_then_some (sending_of table) (find (may_send table) table.live) sending is
+    (λ request found made. option_and_then_some (λ id. option_map (sending_with request id) (burst_for id request)) (id_for (table_limits_of table.config) (flights_of table.live) request.flight) sending made
+    (λ id id_is with_id. map_some (sending_with request id) (burst_for id request) sending with_id
+    (λ burst burst_is same. subst (IsNext table) same (next_parts table request id burst found id_is burst_is))))
+
+-- no request may send, so nothing goes
+pub next_sending-none : (table : RequestTable) → find (may_send table) table.live ≡ None → next_sending table ≡ None
+next_sending-none table none = rw none refl
+
+-- a request may send, so a burst goes
+abbrev IsPresent : {X : Type 0} → Option X → Type 0
+IsPresent {X = X} o = (x : X) × (o ≡ Some x)
+
+present : {X : Type 0} (o : Option X) → is_some o ≡ true → IsPresent o
+present None some = absurd (cc)
+present (Some x) some = (x, refl)
+
+planned_range : (table : RequestTable) (request : BridgedRequest) → IsSoundRequest (flight_table_of table).limits table.accepted request.flight
+    → IsReady (flight_table_of table) request.flight → (plan : Option PlannedRange) → request.flight.plan ≡ plan → IsPresent request.flight.plan
+planned_range table request sound ready None is = absurd (cc (sound.no_plan is, ready.undone))
+planned_range table request sound ready (Some range) is = (range, is)
+
+pub sends : (table : RequestTable) (request : BridgedRequest) (id : ℕ) (range : PlannedRange) (next : Bool × Piece) → find (may_send table) table.live ≡ Some request
+    → id_for (table_limits_of table.config) (flights_of table.live) request.flight ≡ Some id → request.flight.plan ≡ Some range → next_burst request.flight ≡ Some next
+    → next_sending table ≡ Some (sending_with request id (burst_of_piece id request range next))
+sends table request id range next found id_is plan next_is =
+    ap (option_and_then (sending_of table)) found
+    ∙ ap (λ o. option_and_then (λ i. option_map (sending_with request i) (burst_for i request)) o) id_is
+    ∙ ap (option_map (sending_with request id))
+    (ap (λ o. option_and_then (λ r. option_map (burst_of_piece id request r) (next_burst request.flight)) o) plan ∙ ap (option_map (burst_of_piece id request range)) next_is)
+
+pub next_sending-some : (table : RequestTable) (request : BridgedRequest) → IsSoundRequestTable table → find (may_send table) table.live ≡ Some request
+    → (sending : Sending) × (next_sending table ≡ Some sending)
+next_sending-some table request sound found =
+    let ready = ready_parts (flight_table_of table) request.flight (find-passes (may_send table) table.live request found) in
+    let each = all-find (λ (r : BridgedRequest). IsSoundRequest (flight_table_of table).limits table.accepted r.flight) (may_send table) table.live request (sound_requests table sound) found in
+    let (range, plan) = planned_range table request each ready request.flight.plan refl in
+    let (id, id_is) = present (id_for (table_limits_of table.config) (flights_of table.live) request.flight) ready.some in
+    let blank : Bool × Piece = (false, record { address = 0; len = 0; size = 0 }) in
+    let next = slice_get-get_or (planned request.flight) request.flight.sent blank ready.more in
+    (sending_with request id (burst_of_piece id request range (get_or (planned request.flight) request.flight.sent blank)), sends table request id range (get_or (planned request.flight) request.flight.sent blank) found id_is plan next)

@@ -1,0 +1,458 @@
+-- A live request stays served: a new one, one that sent a burst, and one whose burst was answered.
+use Rattle.std.proofs.Common.{◌≡◌, ℕ, zero, suc, ◌+◌, ◌==◌, ◌<◌, ◌≤◌, min, Bool, true, false, ◌&&◌, ◌||◌, not, List, [], ◌∷◌, length, drop, take, Option, Some, None, is_none, is_some, IsSome, refl, ap, sym, ◌∙◌, subst, arith}
+use Rattle.std.specs.Prelude.{if◌then◌else◌, option_map, slice_get}
+use Rattle.std.specs.List.{AllByRecursion, find}
+use Rattle.std.proofs.lemmas.Bool.{and_parts, eqb-true, leb-false, leb-true, lt-leb}
+use Rattle.std.proofs.lemmas.Option.{same_Some, slice_get_within}
+use Rattle.bus_words.specs.Places.{change_first}
+use Rattle.tl_messages.specs.Operations.{has_data, reply_has_data}
+use Rattle.tl_messages.specs.Requests.{HeldMessage, request_of}
+use Rattle.tl_messages.specs.declared.AtomicOp.TheVariants.{Min, Max, MinU, MaxU, Add, Xor, Or, And, Swap}
+use Rattle.tl_messages.specs.declared.Operation.{Operation}
+use Rattle.tl_messages.specs.declared.Operation.TheVariants.{PutFull, PutPartial, Atomic, Get, Intent}
+use Rattle.tl_checker.specs.Sound.{IsSound}
+use Rattle.axi_beats.specs.declared.RBeat.{RBeat}
+use Rattle.axi_beats.specs.declared.Resp.{Resp}
+use Rattle.burst_plan.specs.PageMap.{IsPageMap}
+use Rattle.burst_plan.specs.Pieces.{PlannedRange, pieces}
+use Rattle.burst_plan.specs.declared.Piece.{Piece}
+use Rattle.burst_plan.specs.declared.Region.{Region}
+use Rattle.flight_table.specs.Laws.{IsSoundRequest}
+use Rattle.flight_table.specs.LiveRequests.{LiveRequest, course, finished, is_atomic, is_settled, plan_for, planned, planned_writes, read_pieces, with_answered, with_write, write_pieces}
+use Rattle.flight_table.specs.declared.TableLimits.{TableLimits}
+use Rattle.flight_table.proofs.CourseLaws.{length_course}
+use Rattle.std.specs.Option.{option_flatten}
+use Rattle.data_unit.specs.Words.{operand_in}
+use Rattle.responses.specs.Gathered.{after_b, after_r, holds_number, reads_of}
+use Rattle.responses.specs.Gathered as gathered
+use Rattle.bridge_core.specs.Configs.{is_valid, port_of}
+use Rattle.bridge_core.specs.Laws.{IsOfMessage, IsPartWay, IsServed, answered_pieces, beats_in, came_of_next, outstanding}
+use Rattle.bridge_core.specs.Requests.{BridgedRequest, RequestTable, address_of, after_read, after_response, after_sending, newly_live, outline_in, range_of, settled, value_found}
+use Rattle.bridge_core.specs.declared.Config.{Config}
+use Rattle.bridge_core.proofs.AnswerLinks.{beats_in-next, read_at}
+use Rattle.bridge_core.proofs.HolderChanges.{part-empty, part-next}
+use Rattle.bridge_core.proofs.PlannedPieces.{HasPlan, atomic_plan, live_plan, plan_known, some_pieces}
+use Rattle.bridge_core.proofs.ResponseLinks.{part_way-zero}
+
+-- ---- where one entry of a list is changed
+
+pub all-change_found : {X : Type 0} (P : X → Type 0) (p : X → Bool) (f : X → X) (xs : List X) (x : X) → find p xs ≡ Some x → P (f x) → AllByRecursion P xs → AllByRecursion P (change_first p f xs)
+all-change_found P p f [] x found now all = tt
+all-change_found {X = X} P p f (y ∷ ys) x found now all = by_test (p y) found (λ later. all-change_found P p f ys x later now all.1)
+  where
+    by_test : (b : Bool) → (if b then Some y else find p ys) ≡ Some x → (find p ys ≡ Some x → AllByRecursion P (change_first p f ys)) → AllByRecursion P (if b then f y ∷ ys else y ∷ change_first p f ys)
+    by_test true here rest =
+        let same : x ≡ y = cc in
+        (rw same at now, all.1)
+    by_test false later rest = (all.0, rest later)
+
+-- ---- the bursts of a request
+
+is_not : (b : Bool) → not b ≡ true → b ≡ false
+is_not true is = absurd (cc (is))
+is_not false is = refl
+
+-- of an atomic only the reads are planned, and from then on its writes too
+planned_before : (flight : LiveRequest) → is_atomic flight ≡ true → flight.writing ≡ false → length (planned flight) ≡ length (read_pieces flight)
+planned_before flight atomic isnt = rw (atomic, isnt) (length_course (read_pieces flight) [] ∙ omega arith)
+
+planned_after : (flight : LiveRequest) → is_atomic flight ≡ true → flight.writing ≡ true → length (planned flight) ≡ length (read_pieces flight) + length (write_pieces flight)
+planned_after flight atomic is = rw (atomic, is) (length_course (read_pieces flight) (write_pieces flight))
+
+-- the old value is that of an atomic
+atomic_both : (operation : Operation) → gathered.is_atomic operation ≡ true → (reply_has_data operation && has_data operation) ≡ true
+atomic_both PutFull is = absurd (cc (is))
+atomic_both PutPartial is = absurd (cc (is))
+atomic_both (Atomic Min) is = refl
+atomic_both (Atomic Max) is = refl
+atomic_both (Atomic MinU) is = refl
+atomic_both (Atomic MaxU) is = refl
+atomic_both (Atomic Add) is = refl
+atomic_both (Atomic Xor) is = refl
+atomic_both (Atomic Or) is = refl
+atomic_both (Atomic And) is = refl
+atomic_both (Atomic Swap) is = refl
+atomic_both Get is = absurd (cc (is))
+atomic_both (Intent write) is = absurd (cc (is))
+
+found_in_atomic : (config : Config) (regions : List Region) (request : BridgedRequest) → IsOfMessage config regions request → is_some (value_found request) ≡ true → is_atomic request.flight ≡ true
+found_in_atomic config regions request of_message found = rw (of_message.operation) (by_test (gathered.is_atomic request.message.operation) refl found)
+  where
+    by_atomic : Bool → Option ℕ
+    by_atomic b =
+        if b && not request.gathering.denied && holds_number (outline_in request)
+        then option_map (λ word. operand_in word request.message.address request.message.size) (option_flatten (slice_get request.gathering.words 0))
+        else None
+
+    by_test : (b : Bool) → gathered.is_atomic request.message.operation ≡ b → is_some (by_atomic b) ≡ true → (reply_has_data request.message.operation && has_data request.message.operation) ≡ true
+    by_test true is found = atomic_both request.message.operation is
+    by_test false is found = absurd (cc (found))
+
+-- ---- an answer was counted, and the request is settled
+
+-- a request before it is settled: what is served of it already
+pub record IsCounted (config : Config) (regions : List Region) (request : BridgedRequest) : Type 0 where
+  pub pages : IsPageMap regions
+  pub message : IsSound (port_of config request.message.client) request.message
+  pub flight : IsOfMessage config regions request
+  pub live : request.flight.done ≡ false
+  pub writing : request.flight.writing ≡ true → (is_atomic request.flight ≡ true) × (length (read_pieces request.flight) ≤ request.flight.answered)
+  pub found : request.flight.writing ≡ true → is_settled request.flight ≡ false → IsSome (value_found request)
+  pub came : beats_in (answered_pieces request.flight) ≤ request.gathering.came
+  pub next : IsPartWay (came_of_next request) (outstanding request.flight)
+  pub answered : request.flight.answered ≤ length (planned request.flight)
+  pub sent : request.flight.sent ≤ length (planned request.flight)
+  pub has : HasPlan config request
+
+-- with nothing outstanding no beat of a further read came
+none_came : (flight : LiveRequest) (came : ℕ) → flight.sent ≤ flight.answered → IsPartWay came (outstanding flight) → came ≡ 0
+none_came flight came past part = subst (IsPartWay came) (part-empty (planned flight) flight.answered flight.sent past) part
+
+going_on : (config : Config) (regions : List Region) (request : BridgedRequest) → IsCounted config regions request → is_settled request.flight ≡ false → IsServed config regions request
+going_on config regions request counted going =
+    record {
+      pages = counted.pages;
+      message = counted.message;
+      flight = counted.flight;
+      done = counted.live ∙ sym going;
+      writing = counted.writing;
+      found = λ writing live. counted.found writing going;
+      failed = λ atomic isnt past.
+          let open_ones = leb-false (length (planned request.flight)) request.flight.answered going in
+          absurd (omega (arith, past, open_ones, planned_before request.flight atomic isnt));
+      came = counted.came;
+      next = counted.next;
+    }
+
+to_write : (config : Config) (regions : List Region) (request : BridgedRequest) → is_valid config ≡ true → IsCounted config regions request → is_settled request.flight ≡ true
+    → (not request.flight.writing && is_some (value_found request)) ≡ true → IsServed config regions (record request { flight = with_write request.flight })
+to_write config regions request valid counted settles test =
+    let parts = and_parts (not request.flight.writing) (is_some (value_found request)) test in
+    let isnt : request.flight.writing ≡ false = is_not request.flight.writing parts.0 in
+    let atomic : is_atomic request.flight ≡ true = found_in_atomic config regions request counted.flight parts.1 in
+    let plan = atomic_plan config regions request valid counted.message counted.flight counted.has atomic in
+    let all = leb-true (length (planned request.flight)) request.flight.answered settles in
+    let before = planned_before request.flight atomic isnt in
+    let after : length (planned (with_write request.flight)) ≡ length (read_pieces request.flight) + length (write_pieces request.flight) = planned_after (with_write request.flight) atomic refl in
+    let past : request.flight.answered < length (planned (with_write request.flight)) = omega (arith, after, plan.writes, before, counted.answered) in
+    let none : came_of_next request ≡ 0 = none_came request.flight (came_of_next request) (omega (arith, counted.sent, all)) counted.next in
+    record {
+      pages = counted.pages;
+      message = counted.message;
+      flight = record { client = counted.flight.client; source = counted.flight.source; operation = counted.flight.operation; plan = counted.flight.plan };
+      done = counted.live ∙ sym (lt-leb (length (planned (with_write request.flight))) request.flight.answered past);
+      writing = λ is. (atomic, omega (arith, before, all));
+      found = λ is live. parts.1;
+      failed = λ is none. absurd (cc (none));
+      came = counted.came;
+      next = subst (λ n. IsPartWay n (outstanding (with_write request.flight))) (sym none) (part_way-zero (outstanding (with_write request.flight)));
+    }
+
+to_end : (config : Config) (regions : List Region) (request : BridgedRequest) → IsCounted config regions request → is_settled request.flight ≡ true
+    → (not request.flight.writing && is_some (value_found request)) ≡ false → IsServed config regions (record request { flight = finished request.flight })
+to_end config regions request counted settles test =
+    record {
+      pages = counted.pages;
+      message = counted.message;
+      flight = record { client = counted.flight.client; source = counted.flight.source; operation = counted.flight.operation; plan = counted.flight.plan };
+      done = sym settles;
+      writing = counted.writing;
+      found = λ writing live. absurd (cc (live));
+      failed = λ atomic isnt past. no_value request.flight.writing (value_found request) isnt test;
+      came = counted.came;
+      next = counted.next;
+    }
+  where
+    no_value : (writing : Bool) (value : Option ℕ) → writing ≡ false → (not writing && is_some value) ≡ false → value ≡ None
+    no_value true value isnt test = absurd (cc (isnt))
+    no_value false None isnt test = refl
+    no_value false (Some n) isnt test = absurd (cc (test))
+
+pub settled_served : (config : Config) (regions : List Region) (request : BridgedRequest) → is_valid config ≡ true → IsCounted config regions request → IsServed config regions (settled request)
+settled_served config regions request valid counted = by_flag (is_settled request.flight) refl
+  where
+    by_value : (b : Bool) → (not request.flight.writing && is_some (value_found request)) ≡ b → is_settled request.flight ≡ true
+        → IsServed config regions (record request { flight = if b then with_write request.flight else finished request.flight })
+    by_value true test settles = to_write config regions request valid counted settles test
+    by_value false test settles = to_end config regions request counted settles test
+
+    by_flag : (b : Bool) → is_settled request.flight ≡ b
+        → IsServed config regions
+        (if b
+        then record request { flight = if not request.flight.writing && is_some (value_found request) then with_write request.flight else finished request.flight }
+        else request)
+    by_flag true settles = by_value (not request.flight.writing && is_some (value_found request)) refl settles
+    by_flag false going = going_on config regions request counted going
+
+-- ---- a new request
+
+-- what has a plan reads or writes
+has_course : (operation : Operation) (plan : Option PlannedRange) (range : PlannedRange) → plan_for operation plan ≡ Some range → (reply_has_data operation || has_data operation) ≡ true
+has_course PutFull plan range is = refl
+has_course PutPartial plan range is = refl
+has_course (Atomic op) plan range is = refl
+has_course Get plan range is = refl
+has_course (Intent write) plan range is = absurd (cc (is))
+
+some_planned : (reads writes : Bool) (parts : List Piece) → (reads || writes) ≡ true → 1 ≤ length parts
+    → 0 < length (course (if reads then parts else []) (if not (reads && writes) || false then (if writes then parts else []) else []))
+some_planned true true parts either some = rw (length_course parts []) (omega (arith, some))
+some_planned true false parts either some = rw (length_course parts []) (omega (arith, some))
+some_planned false true parts either some = rw (length_course [] parts) (omega (arith, some))
+some_planned false false parts either some = absurd (cc (either))
+
+none_planned : (reads writes : Bool) → length (course (if reads then [] else []) (if not (reads && writes) || false then (if writes then [] else []) else [])) ≡ 0
+none_planned true true = refl
+none_planned true false = refl
+none_planned false true = refl
+none_planned false false = refl
+
+-- an atomic has the plan of its range
+atomic_planned : (operation : Operation) (plan : Option PlannedRange) → (reply_has_data operation && has_data operation) ≡ true → plan_for operation plan ≡ plan
+atomic_planned PutFull plan atomic = refl
+atomic_planned PutPartial plan atomic = refl
+atomic_planned (Atomic op) plan atomic = refl
+atomic_planned Get plan atomic = refl
+atomic_planned (Intent write) plan atomic = absurd (cc (atomic))
+
+no_address : (f : ℕ → PlannedRange) (place : Option ℕ) → option_map f place ≡ None → is_none place ≡ true
+no_address f None none = refl
+no_address f (Some address) none = absurd (cc (none))
+
+-- a denied request has no old value
+denied_value : (atomic denied holds : Bool) (value : Option ℕ) → denied ≡ true → (if atomic && not denied && holds then value else None) ≡ None
+denied_value true true holds value is = refl
+denied_value false true holds value is = refl
+denied_value atomic false holds value is = absurd (cc (is))
+
+pub served_new : (table : RequestTable) (message : HeldMessage) → is_valid table.config ≡ true → IsPageMap table.regions → IsSound (port_of table.config message.client) message
+    → IsServed table.config table.regions (newly_live table message)
+served_new table message valid pages sound =
+    record {
+      pages = pages;
+      message = sound;
+      flight = record { client = refl; source = refl; operation = refl; plan = refl };
+      done = done_by plan refl;
+      writing = λ is. absurd (cc (is));
+      found = λ is live. absurd (cc (is));
+      failed = λ atomic isnt past. failed_by atomic past plan refl;
+      came = omega arith;
+      next = refl;
+    }
+  where
+    fresh : LiveRequest
+    fresh = (newly_live table message).flight
+
+    plan : Option PlannedRange
+    plan = plan_for message.operation (range_of table.config table.regions (request_of message))
+
+    some : (range : PlannedRange) → plan ≡ Some range → 1 ≤ length (pieces range)
+    some range is = some_pieces table.config message range (plan_known table.config table.regions message range valid pages sound is)
+
+    done_by : (p : Option PlannedRange) → plan ≡ p → is_none p ≡ is_settled (record fresh { plan = p })
+    done_by None is = rw (none_planned (reply_has_data message.operation) (has_data message.operation)) refl
+    done_by (Some range) is =
+        sym (lt-leb _ 0 (some_planned (reply_has_data message.operation) (has_data message.operation) (pieces range) (has_course message.operation (range_of table.config table.regions (request_of message)) range is) (some range is)))
+
+    failed_by : is_atomic fresh ≡ true → length (read_pieces fresh) ≤ 0 → (p : Option PlannedRange) → plan ≡ p → value_found (newly_live table message) ≡ None
+    failed_by atomic past None is =
+        let none : is_none (address_of table.regions (request_of message)) ≡ true = no_address _ _ (sym (atomic_planned message.operation (range_of table.config table.regions (request_of message)) atomic) ∙ is) in
+        denied_value _ _ _ _ none
+    failed_by atomic past (Some range) is =
+        let both = and_parts (reply_has_data message.operation) (has_data message.operation) atomic in
+        let reads : read_pieces fresh ≡ pieces range = rw (both.0, is) refl in
+        absurd (omega (arith, past, ap (λ (parts : List Piece). length parts) reads, some range is))
+
+-- ---- a burst was sent
+
+-- a part of a list begins with the entry at its place
+pub record BeginsWith {X : Type 0} (x : X) (xs : List X) : Type 0 where
+  pub rest : List X
+  pub is : xs ≡ x ∷ rest
+
+part_begins : {X : Type 0} (xs : List X) (from to : ℕ) (x : X) → slice_get xs from ≡ Some x → from < to → BeginsWith x (drop from (take to xs))
+part_begins [] from to x there within = absurd (cc (there))
+part_begins (y ∷ ys) zero zero x there within = absurd (omega (arith, within))
+part_begins (y ∷ ys) zero (suc to) x there within = let same : y ≡ x = cc in record { rest = take to ys; is = rw same refl }
+part_begins (y ∷ ys) (suc from) zero x there within = absurd (omega (arith, within))
+part_begins (y ∷ ys) (suc from) (suc to) x there within = part_begins ys from to x there (omega (arith, within))
+
+same_first : (came : ℕ) (burst : Bool × Piece) (rest more : List (Bool × Piece)) → IsPartWay came (burst ∷ rest) → IsPartWay came (burst ∷ more)
+same_first came (true, piece) rest more part = part
+same_first came (false, piece) rest more part = part
+
+part_way_more : (bursts : List (Bool × Piece)) (from to came : ℕ) → IsPartWay came (drop from (take to bursts)) → IsPartWay came (drop from (take (to + 1) bursts))
+part_way_more bursts from to came part = by_part (drop from (take to bursts)) refl part
+  where
+    by_part : (parts : List (Bool × Piece)) → drop from (take to bursts) ≡ parts → IsPartWay came parts → IsPartWay came (drop from (take (to + 1) bursts))
+    by_part [] is none = subst (λ n. IsPartWay n (drop from (take (to + 1) bursts))) (sym none) (part_way-zero (drop from (take (to + 1) bursts)))
+    by_part (burst ∷ rest) is part =
+        let next = part-next bursts from to burst rest is in
+        let begins = part_begins bursts from (to + 1) burst next.at (omega (arith, next.within)) in
+        subst (IsPartWay came) (sym begins.is) (same_first came burst rest begins.rest part)
+
+pub served_sent : (config : Config) (regions : List Region) (id : ℕ) (request : BridgedRequest) → IsServed config regions request → IsServed config regions (after_sending id request)
+served_sent config regions id request served =
+    record {
+      pages = served.pages;
+      message = served.message;
+      flight = record { client = served.flight.client; source = served.flight.source; operation = served.flight.operation; plan = served.flight.plan };
+      done = served.done;
+      writing = served.writing;
+      found = served.found;
+      failed = served.failed;
+      came = served.came;
+      next = part_way_more (planned request.flight) request.flight.answered request.flight.sent (came_of_next request) served.next;
+    }
+
+-- ---- a burst was answered by a B
+
+-- a burst of a course that is a write stands past its reads
+write_past : (reads writes : List Piece) (k : ℕ) (piece : Piece) → slice_get (course reads writes) k ≡ Some (true, piece) → length reads ≤ k
+write_past [] writes k piece found = omega arith
+write_past (p ∷ reads) writes zero piece found =
+    let sides : false ≡ true = ap (λ (burst : Bool × Piece). burst.0) (same_Some (false, p) (true, piece) found) in
+    absurd (cc (sides))
+write_past (p ∷ reads) writes (suc k) piece found = omega (arith, write_past reads writes k piece found)
+
+take_past : (parts : List Piece) (k : ℕ) → length parts ≤ k → take (k + 1) parts ≡ take k parts
+take_past [] zero past = refl
+take_past [] (suc k) past = let next : suc k + 1 ≡ suc (k + 1) = omega arith in rw next refl
+take_past (p ∷ parts) zero past = absurd (omega (arith, past))
+take_past (p ∷ parts) (suc k) past =
+    let next : suc k + 1 ≡ suc (k + 1) = omega arith in
+    rw next (ap (λ (rest : List Piece). p ∷ rest) (take_past parts k (omega (arith, past))))
+
+-- with the B counted, before it is settled
+abbrev after_its_b : Resp → BridgedRequest → BridgedRequest
+after_its_b resp request = record request { flight = with_answered request.flight; gathering = after_b resp request.gathering }
+
+response_counted : (config : Config) (regions : List Region) (limits : TableLimits) (accepted : ℕ) (resp : Resp) (request : BridgedRequest) (piece : Piece) → is_valid config ≡ true → IsPageMap regions
+    → IsServed config regions request → IsSoundRequest limits accepted request.flight → request.flight.answered < request.flight.sent → request.flight.done ≡ false
+    → slice_get (planned request.flight) request.flight.answered ≡ Some (true, piece) → IsCounted config regions (after_its_b resp request)
+response_counted config regions limits accepted resp request piece valid pages served sound within live burst =
+    let flight = request.flight in
+    let past = write_past (read_pieces flight) (planned_writes flight) flight.answered piece burst in
+    let has = live_plan config regions request valid pages served.message served.flight sound.no_plan live in
+    let same : take (flight.answered + 1) (read_pieces flight) ≡ take flight.answered (read_pieces flight) = take_past (read_pieces flight) flight.answered past in
+    let begins = part_begins (planned flight) flight.answered flight.sent (true, piece) burst within in
+    let none : came_of_next request ≡ 0 = subst (IsPartWay (came_of_next request)) begins.is served.next in
+    let still : came_of_next (after_its_b resp request) ≡ 0 = rw same none in
+    record {
+      pages = served.pages;
+      message = served.message;
+      flight = record { client = served.flight.client; source = served.flight.source; operation = served.flight.operation; plan = served.flight.plan };
+      live = live;
+      writing = λ is. ((served.writing is).0, omega (arith, past));
+      found = λ is going.
+          let plan = atomic_plan config regions request valid served.message served.flight has (served.writing is).0 in
+          let all = planned_after flight (served.writing is).0 is in
+          let open_ones = leb-false (length (planned flight)) (flight.answered + 1) going in
+          absurd (omega (arith, open_ones, all, plan.reads, plan.writes, past));
+      came = rw same served.came;
+      next = subst (λ n. IsPartWay n (outstanding (with_answered flight))) (sym still) (part_way-zero (outstanding (with_answered flight)));
+      answered = omega (arith, within, sound.sent);
+      sent = sound.sent;
+      has = record { range = has.range; is = has.is; plan = has.plan };
+    }
+
+pub served_response : (config : Config) (regions : List Region) (limits : TableLimits) (accepted : ℕ) (resp : Resp) (request : BridgedRequest) (piece : Piece) → is_valid config ≡ true → IsPageMap regions
+    → IsServed config regions request → IsSoundRequest limits accepted request.flight → request.flight.answered < request.flight.sent → request.flight.done ≡ false
+    → slice_get (planned request.flight) request.flight.answered ≡ Some (true, piece) → IsServed config regions (after_response resp request)
+served_response config regions limits accepted resp request piece valid pages served sound within live burst =
+    settled_served config regions (after_its_b resp request) valid (response_counted config regions limits accepted resp request piece valid pages served sound within live burst)
+
+-- ---- a beat of a burst came by an R
+
+-- with the R counted, before it is settled: the last of its burst, and another
+abbrev after_last_r : ℕ → RBeat → BridgedRequest → BridgedRequest
+after_last_r bus_bytes r request =
+    record request { flight = with_answered request.flight; gathering = after_r bus_bytes (outline_in request) r request.gathering.came request.gathering }
+
+abbrev after_more_r : ℕ → RBeat → BridgedRequest → BridgedRequest
+after_more_r bus_bytes r request = record request { gathering = after_r bus_bytes (outline_in request) r request.gathering.came request.gathering }
+
+-- the read that an R belongs to, and how many of its beats came before
+pub record IsReading (request : BridgedRequest) (piece : Piece) (count : ℕ) : Type 0 where
+  pub within : request.flight.answered < request.flight.sent
+  pub live : request.flight.done ≡ false
+  pub burst : slice_get (planned request.flight) request.flight.answered ≡ Some (false, piece)
+  pub came : request.gathering.came ≡ beats_in (answered_pieces request.flight) + count
+  pub few : count ≤ piece.len
+
+-- no write is planned yet
+not_writing : (config : Config) (regions : List Region) (request : BridgedRequest) (piece : Piece) (count : ℕ) → IsServed config regions request → IsReading request piece count → request.flight.writing ≡ true → ⊥
+not_writing config regions request piece count served reading is =
+    let read = read_at (read_pieces request.flight) (planned_writes request.flight) request.flight.answered piece reading.burst in
+    omega (arith, slice_get_within (read_pieces request.flight) request.flight.answered piece read, (served.writing is).1)
+
+last_counted : (config : Config) (regions : List Region) (limits : TableLimits) (accepted : ℕ) (r : RBeat) (request : BridgedRequest) (piece : Piece) (count : ℕ) → is_valid config ≡ true → IsPageMap regions
+    → IsServed config regions request → IsSoundRequest limits accepted request.flight → IsReading request piece count → count ≡ piece.len
+    → request.gathering.came < reads_of config.axi_bytes (outline_in request) → IsCounted config regions (after_last_r config.axi_bytes r request)
+last_counted config regions limits accepted r request piece count valid pages served sound reading last place =
+    let flight = request.flight in
+    let answered = after_last_r config.axi_bytes r request in
+    let has = live_plan config regions request valid pages served.message served.flight sound.no_plan reading.live in
+    let read = read_at (read_pieces flight) (planned_writes flight) flight.answered piece reading.burst in
+    let more : beats_in (take (flight.answered + 1) (read_pieces flight)) ≡ beats_in (answered_pieces flight) + (piece.len + 1) = beats_in-next (read_pieces flight) flight.answered piece read in
+    let all : min (request.gathering.came + 1) (reads_of config.axi_bytes (outline_in request)) ≡ beats_in (take (flight.answered + 1) (read_pieces flight)) = omega (arith, place, more, reading.came, last) in
+    let none : came_of_next answered ≡ 0 = omega (arith, all) in
+    record {
+      pages = served.pages;
+      message = served.message;
+      flight = record { client = served.flight.client; source = served.flight.source; operation = served.flight.operation; plan = served.flight.plan };
+      live = reading.live;
+      writing = λ is. absurd (not_writing config regions request piece count served reading is);
+      found = λ is going. absurd (not_writing config regions request piece count served reading is);
+      came = omega (arith, all);
+      next = subst (λ n. IsPartWay n (outstanding answered.flight)) (sym none) (part_way-zero (outstanding answered.flight));
+      answered = omega (arith, reading.within, sound.sent);
+      sent = sound.sent;
+      has = record { range = has.range; is = has.is; plan = has.plan };
+    }
+
+more_counted : (config : Config) (regions : List Region) (limits : TableLimits) (accepted : ℕ) (r : RBeat) (request : BridgedRequest) (piece : Piece) (count : ℕ) → is_valid config ≡ true → IsPageMap regions
+    → IsServed config regions request → IsSoundRequest limits accepted request.flight → IsReading request piece count → count < piece.len
+    → request.gathering.came < reads_of config.axi_bytes (outline_in request) → IsCounted config regions (after_more_r config.axi_bytes r request)
+more_counted config regions limits accepted r request piece count valid pages served sound reading more place =
+    let flight = request.flight in
+    let answered = after_more_r config.axi_bytes r request in
+    let has = live_plan config regions request valid pages served.message served.flight sound.no_plan reading.live in
+    let begins = part_begins (planned flight) flight.answered flight.sent (false, piece) reading.burst reading.within in
+    let counted : min (request.gathering.came + 1) (reads_of config.axi_bytes (outline_in request)) ≡ beats_in (answered_pieces flight) + (count + 1) = omega (arith, place, reading.came) in
+    let below : came_of_next answered ≤ piece.len = omega (arith, counted, more) in
+    record {
+      pages = served.pages;
+      message = served.message;
+      flight = record { client = served.flight.client; source = served.flight.source; operation = served.flight.operation; plan = served.flight.plan };
+      live = reading.live;
+      writing = λ is. absurd (not_writing config regions request piece count served reading is);
+      found = λ is going. absurd (not_writing config regions request piece count served reading is);
+      came = omega (arith, counted);
+      next = subst (IsPartWay (came_of_next answered)) (sym begins.is) below;
+      answered = omega (arith, reading.within, sound.sent);
+      sent = sound.sent;
+      has = record { range = has.range; is = has.is; plan = has.plan };
+    }
+
+pub served_read : (config : Config) (regions : List Region) (limits : TableLimits) (accepted : ℕ) (r : RBeat) (request : BridgedRequest) (piece : Piece) (count : ℕ) → is_valid config ≡ true → IsPageMap regions
+    → IsServed config regions request → IsSoundRequest limits accepted request.flight → IsReading request piece count → r.last ≡ (count == piece.len)
+    → request.gathering.came < reads_of config.axi_bytes (outline_in request) → IsServed config regions (after_read config.axi_bytes r request)
+served_read config regions limits accepted r request piece count valid pages served sound reading last place = by_last r.last refl
+  where
+    below : (count == piece.len) ≡ false → count < piece.len
+    below isnt = grind (arith, isnt, reading.few)
+
+    by_last : (b : Bool) → r.last ≡ b
+        → IsServed config regions
+        (settled
+        (record request {
+          flight = if b then with_answered request.flight else request.flight;
+          gathering = after_r config.axi_bytes (outline_in request) r request.gathering.came request.gathering;
+        }))
+    by_last true is =
+        settled_served config regions (after_last_r config.axi_bytes r request) valid
+        (last_counted config regions limits accepted r request piece count valid pages served sound reading (eqb-true count piece.len (sym last ∙ is)) place)
+    by_last false is =
+        settled_served config regions (after_more_r config.axi_bytes r request) valid
+        (more_counted config regions limits accepted r request piece count valid pages served sound reading (below (sym last ∙ is)) place)

@@ -1,0 +1,14 @@
+-- A request may send exactly where a burst goes.
+use Rattle.std.proofs.Common.{◌∙◌, Option, ℕ, ap}
+use Rattle.std.specs.Prelude.{is_some}
+use Rattle.bridge_core.specs.Bridge.{StockedBridge, burst_to_send}
+use Rattle.bridge_core.proofs.BridgeSteps.{state_in}
+use Rattle.bridge_core.proofs.Pumps.{ready_sends}
+use Rattle.bridge_core.proofs.bridge.Bridge.can_pump.Goals as goal
+
+pub returns : goal.returns
+returns c =
+    let i = c.self.inside in
+    c.is_some.ensures ∙ ap (λ (key : Option ℕ). is_some key) c.next_ready.ensures.key
+    ∙ ready_sends (state_in i.ports.items i.requests i.monitor.open_bursts) c.flight.result.now c.flight.ensures.laws c.flight.ensures.table
+    ∙ ap (λ (b : StockedBridge). is_some (burst_to_send b.state)) c.self.view_is

@@ -1,0 +1,10 @@
+use Rattle.std.proofs.Common.{arith}
+use Rattle.std.proofs.lemmas.List.FromFn.{map-range_with_len_more}
+use Rattle.tl_checker.specs.Ports.{opening_port}
+use Rattle.bridge_core.specs.Configs.{port_of}
+use Rattle.bridge_core.proofs.ports.opening_ports.Goals as goal
+
+pub loop-client-preserved : goal.loop-client-preserved
+loop-client-preserved c =
+    let more = map-range_with_len_more (λ client. opening_port (port_of c.args.config.now client)) 0 c.loop-client.client c.loop-client.client (omega arith) in
+    cc (c.in_ok-push.ensures.items, c.in_ok-new.ensures, c.level_of-level.ensures, c.loop-client.invariant, more)

@@ -1,0 +1,14 @@
+-- The entry at the place is the first of its number.
+use Rattle.std.proofs.Common.{◌≡◌, List, subst}
+use Rattle.std.specs.Prelude.{Some, position}
+use Rattle.responses.specs.Gathered.{after_b}
+use Rattle.bridge_core.specs.Inside.{HeldRequest, is_held}
+use Rattle.bridge_core.proofs.HeldPlaces.{changed_at}
+use Rattle.bridge_core.proofs.requests.respond.Goals as goal
+
+pub returns-clause-items : goal.returns-clause-items
+returns-clause-items c =
+    let live = c.args.live.now.items in
+    let place : position (is_held c.args.number) live ≡ Some c.place_of-place.result = subst (λ (l : List HeldRequest). position (is_held c.args.number) l ≡ Some c.place_of-place.result) c.deref.ensures.value c.place_of-place.ensures in
+    rw c.on_b.ensures
+    (changed_at (is_held c.args.number) (λ (held : HeldRequest). record held { gathering = after_b c.args.resp held.gathering }) live c.place_of-place.result c.index_mut.result.now place c.index_mut.ensures.value)

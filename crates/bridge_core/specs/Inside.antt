@@ -1,0 +1,164 @@
+-- How a bridge keeps its live requests: their places in the order in a table, and beside it, in the same order, what each asks and was told.
+use Rattle.std.specs.Prelude.{ℕ, ◌≡◌, ◌+◌, ◌%◌, ◌^◌, ◌<◌, ◌≤◌, ◌==◌, Bool, true, false, ◌&&◌, not, List, [], ◌∷◌, map, find, length, Option, Some, None, suc, ⊤, unwrap_or, if◌then◌else◌, nat_le, slice_get, Result, Ok, Err}
+use Rattle.std.specs.List.{AllByRecursion, range_with_len}
+use Rattle.tl_messages.specs.Operations.{beats_of, has_data}
+use Rattle.tl_messages.specs.Requests.{HeldMessage, request_of}
+use Rattle.tl_messages.specs.declared.AtomicOp.{AtomicOp}
+use Rattle.tl_messages.specs.declared.Operation.TheVariants.{Atomic}
+use Rattle.axi_beats.specs.declared.RBeat.{RBeat}
+use Rattle.burst_plan.specs.Pieces.{PlannedRange, pieces}
+use Rattle.burst_plan.specs.declared.Piece.{Piece}
+use Rattle.burst_plan.specs.declared.Region.{Region}
+use Rattle.flight_table.specs.LiveRequests.{LiveRequest, finished, is_atomic, is_settled, planned, with_answered, with_write}
+use Rattle.flight_table.specs.Laws.{IsSound}
+use Rattle.flight_table.specs.Tables.{KeyedTable, has_room, is_busy, request_at, requests_of}
+use Rattle.responses.specs.Gathered.{Gathering, old_value, outline_of, reads_of}
+use Rattle.axi_checker.specs.OpenBursts.{OpenBursts}
+use Rattle.tl_checker.specs.Ports.{PortState, opening_port}
+use Rattle.tl_checker.specs.declared.Progress.{Progress}
+use Rattle.tl_checker.specs.declared.Progress.TheVariants.{More, Whole}
+use Rattle.tl_checker.specs.declared.TlRule.{TlRule}
+use Rattle.bridge_core.specs.Bridge.{StockedBridge}
+use Rattle.bridge_core.specs.Configs.{port_of, table_limits_of}
+use Rattle.bridge_core.specs.Laws.{answered_pieces, beats_in}
+use Rattle.bridge_core.specs.Requests.{BridgedRequest, RequestTable, flight_table_of, outline_in}
+use Rattle.bridge_core.specs.Sending.{bytes_written}
+use Rattle.bridge_core.specs.declared.Config.{Config}
+use Rattle.bridge_core.specs.declared.Offered.{Offered}
+use Rattle.bridge_core.specs.declared.Offered.TheVariants.{Exhausted, NotReady}
+
+-- what is kept beside the table
+pub record HeldRequest : Type 0 where
+  pub number : ℕ
+  pub message : HeldMessage
+  pub bus_bytes : ℕ
+  pub gathering : Gathering
+
+abbrev pub bridged : LiveRequest → HeldRequest → BridgedRequest
+bridged flight held = record { flight = flight; message = held.message; gathering = held.gathering }
+
+-- the old value of an atomic, if it was found, and the bytes that are to be written
+abbrev pub value_held : HeldRequest → Option ℕ
+value_held held = old_value (outline_of (request_of held.message)) held.gathering
+
+abbrev pub bytes_held : HeldRequest → List (Option ℕ)
+bytes_held held = bytes_written (request_of held.message) held.message.operation (unwrap_or (value_held held) 0)
+
+-- a piece of a plan can be filled: the message has data and all its beats, of which an atomic has one, over a range of the same bytes in the
+-- same lanes
+pub record CanFill (held : HeldRequest) (range : PlannedRange) (piece : Piece) : Type 0 where
+  pub listed : (k : ℕ) × (slice_get (pieces range) k ≡ Some piece)
+  pub carries : has_data held.message.operation ≡ true
+  pub beats : length held.message.beats ≡ beats_of held.message.size true
+  pub size : held.message.size ≡ range.size
+  pub lanes : held.message.address % 8 ≡ range.address % 8
+  pub aligned : held.message.address % 2 ^ held.message.size ≡ 0
+  pub atomic_size : (op : AtomicOp) → held.message.operation ≡ Atomic op → held.message.size ≤ 3
+
+-- both together, place by place
+abbrev pub together : List LiveRequest → List HeldRequest → List BridgedRequest
+together [] helds = []
+together (flight ∷ flights) [] = []
+together (flight ∷ flights) (held ∷ helds) = bridged flight held ∷ together flights helds
+
+abbrev pub numbers_of : List LiveRequest → List ℕ
+numbers_of flights = map (λ flight. flight.number) flights
+
+abbrev pub numbers_held : List HeldRequest → List ℕ
+numbers_held helds = map (λ held. held.number) helds
+
+-- whether it is kept for this number
+abbrev pub is_held : ℕ → HeldRequest → Bool
+is_held number held = held.number == number
+
+-- a request that isn't done, and whose old value can be found only where it is an atomic
+pub record IsUndone (found : Bool) (flight : LiveRequest) : Type 0 where
+  pub live : flight.done ≡ false
+  pub atomic : found ≡ true → is_atomic flight ≡ true
+
+-- where all planned answers came, by whether the old value of an atomic is found
+abbrev pub settled_flight : Bool → LiveRequest → LiveRequest
+settled_flight found flight =
+    if is_settled flight then (if not flight.writing && found then with_write flight else finished flight) else flight
+
+-- after a whole answer to one of its bursts
+abbrev pub answered_flight : Bool → LiveRequest → LiveRequest
+answered_flight found flight = settled_flight found (with_answered flight)
+
+-- a request whose next unanswered burst is a write, or a read
+pub record AwaitsAnswer (write : Bool) (request : BridgedRequest) : Type 0 where
+  pub piece : Piece
+  pub live : request.flight.done ≡ false
+  pub unanswered : request.flight.answered < request.flight.sent
+  pub next : slice_get (planned request.flight) request.flight.answered ≡ Some (write, piece)
+
+-- a request to which a read beat belongs: it is the next of the first unanswered burst
+pub record AwaitsBeat (bus_bytes : ℕ) (r : RBeat) (request : BridgedRequest) : Type 0 where
+  pub awaits : AwaitsAnswer false request
+  pub beats : ℕ
+  pub came : request.gathering.came ≡ beats_in (answered_pieces request.flight) + beats
+  pub within : beats ≤ awaits.piece.len
+  pub last : r.last ≡ (beats == awaits.piece.len)
+  pub place : request.gathering.came < reads_of bus_bytes (outline_in request)
+
+-- ---- the table
+
+abbrev pub table_kept : Config → List Region → KeyedTable → List HeldRequest → RequestTable
+table_kept config regions flight helds =
+    record { config = config; regions = regions; accepted = flight.accepted; live = together (requests_of flight.entries) helds }
+
+-- both sides have the same numbers, over the bus of the limits; and so has what is spare
+pub record IsKept (config : Config) (flight : KeyedTable) (helds spare : List HeldRequest) : Type 0 where
+  pub limits : flight.limits ≡ table_limits_of config
+  pub numbers : numbers_of (requests_of flight.entries) ≡ numbers_held helds
+  pub buses : AllByRecursion (λ held. held.bus_bytes ≡ config.axi_bytes) helds
+  pub spare_buses : AllByRecursion (λ held. held.bus_bytes ≡ config.axi_bytes) spare
+  pub all : length helds + length spare ≡ 64
+
+-- a key and a number are those of the first request that passes a test
+pub record IsFirstAt (test : LiveRequest → Bool) (flight : KeyedTable) (key number : ℕ) : Type 0 where
+  pub request : LiveRequest
+  pub named : request_at key flight ≡ Some request
+  pub first : find test (requests_of flight.entries) ≡ Some request
+  pub number_is : request.number ≡ number
+  pub laws : IsSound flight
+
+-- ---- ports
+
+-- ports of so many clients from a number on, on which no beat has come
+abbrev pub ports_from : Config → ℕ → ℕ → List PortState
+ports_from config first count = map (λ client. opening_port (port_of config client)) (range_with_len first count)
+
+-- a port for each client from a number on, within the limits, on which no whole request stands
+abbrev pub ArePortsFrom : Config → ℕ → List PortState → Type 0
+ArePortsFrom config first [] = ⊤
+ArePortsFrom config first (port ∷ ports) = (port.limits ≡ port_of config first) × (port.whole ≡ None) × ArePortsFrom config (suc first) ports
+
+pub record ArePorts (config : Config) (ports : List PortState) : Type 0 where
+  pub count : length ports ≡ config.clients
+  pub each : ArePortsFrom config 0 ports
+
+-- a port whose whole request the table can accept
+pub record CanAccept (table : RequestTable) (client : ℕ) (port : PortState) : Type 0 where
+  pub message : HeldMessage
+  pub whole : port.whole ≡ Some message
+  pub limits : port.limits ≡ port_of table.config client
+  pub there : client < table.config.clients
+  pub room : has_room (flight_table_of table) client ≡ true
+  pub free : is_busy (flight_table_of table) client message.source ≡ false
+  pub number : table.accepted < 2 ^ 48
+
+-- why a request of a client can't be accepted now, if it can't
+abbrev pub no_place : RequestTable → ℕ → Option Offered
+no_place table client =
+    if has_room (flight_table_of table) client then (if nat_le (2 ^ 48) table.accepted then Some Exhausted else None) else Some NotReady
+
+-- why a beat of which a port says this has to wait
+abbrev pub held_back : RequestTable → ℕ → Result Progress TlRule → Option Offered
+held_back table client (Err rule) = None
+held_back table client (Ok More) = None
+held_back table client (Ok Whole) = no_place table client
+
+abbrev pub bridge_kept : List PortState → RequestTable → OpenBursts → ℕ → StockedBridge
+bridge_kept ports requests open_bursts stock =
+    record { state = record { fronts = map (λ port. port.front) ports; requests = requests; open_bursts = open_bursts }; stock = stock }

@@ -1,0 +1,55 @@
+-- The burst that goes next (this project's profile: that of the ready request of the smallest number).
+use Rattle.std.specs.Prelude.{ℕ, ◌^◌, Bool, true, false, List, [], map, Option, Some, find, unwrap_or, option_map, option_and_then}
+use Rattle.tl_messages.specs.Requests.{WholeRequest, request_of}
+use Rattle.tl_messages.specs.declared.Operation.{Operation}
+use Rattle.tl_messages.specs.declared.Operation.TheVariants.{PutFull, PutPartial, Atomic, Get, Intent}
+use Rattle.axi_beats.specs.Bursts.{Burst}
+use Rattle.data_unit.specs.Atomics.{atomic_result}
+use Rattle.data_unit.specs.Words.{value, bytes_of}
+use Rattle.burst_plan.specs.Pieces.{PlannedRange}
+use Rattle.burst_plan.specs.PlannedBursts.{write_of, read_of}
+use Rattle.burst_plan.specs.declared.Piece.{Piece}
+use Rattle.flight_table.specs.LiveRequests.{next_burst}
+use Rattle.flight_table.specs.Order.{id_for}
+use Rattle.bridge_core.specs.Configs.{table_limits_of}
+use Rattle.bridge_core.specs.Requests.{BridgedRequest, RequestTable, flights_of, may_send, value_found}
+
+-- the number of a request's bytes, where those that aren't given count as zero
+abbrev pub operand_of : WholeRequest → ℕ
+operand_of q = value (map (λ byte. unwrap_or byte 0) q.bytes)
+
+-- the bytes that a request writes: those that it gives, or an atomic's result from the old value
+abbrev pub bytes_written : WholeRequest → Operation → ℕ → List (Option ℕ)
+bytes_written q PutFull old = q.bytes
+bytes_written q PutPartial old = q.bytes
+bytes_written q (Atomic op) old = map Some (bytes_of (2 ^ q.size) (atomic_result op (2 ^ q.size) old (operand_of q)))
+bytes_written q Get old = []
+bytes_written q (Intent write) old = []
+
+abbrev pub bytes_to_write : BridgedRequest → List (Option ℕ)
+bytes_to_write request = bytes_written (request_of request.message) request.message.operation (unwrap_or (value_found request) 0)
+
+-- a piece of a range as a burst; true is a write
+abbrev pub burst_of_piece : ℕ → BridgedRequest → PlannedRange → Bool × Piece → Burst
+burst_of_piece id request range (true, piece) = write_of range.bus_bytes id (bytes_to_write request) range.address piece
+burst_of_piece id request range (false, piece) = read_of id piece
+
+-- the next burst of a request, under an ID
+abbrev pub burst_for : ℕ → BridgedRequest → Option Burst
+burst_for id request =
+    option_and_then (λ range. option_map (burst_of_piece id request range) (next_burst request.flight)) request.flight.plan
+
+-- a request, and the ID under which its next burst goes
+pub record Sending : Type 0 where
+  pub request : BridgedRequest
+  pub id : ℕ
+  pub burst : Burst
+
+abbrev pub sending_of : RequestTable → BridgedRequest → Option Sending
+sending_of table request =
+    option_and_then (λ id. option_map (λ burst. record { request = request; id = id; burst = burst }) (burst_for id request))
+    (id_for (table_limits_of table.config) (flights_of table.live) request.flight)
+
+-- the ready request of the smallest number, with its next burst
+abbrev pub next_sending : RequestTable → Option Sending
+next_sending table = option_and_then (sending_of table) (find (may_send table) table.live)

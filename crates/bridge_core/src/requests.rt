@@ -1,0 +1,340 @@
+//! The live requests of the bridge.
+ghost use Rattle.std.specs.Prelude.{◌≡◌, ◌+◌, ◌<◌, ◌≤◌, ◌^◌, ◌%◌, [], ◌∷◌, ◌++◌, true, false, length, find, position, IfOk, IfSome, IsSome, IsSomeAnd, IsTrue, IsFalse, None, Some, is_some, option_map};
+ghost use Rattle.std.specs.List.{AllByRecursion};
+ghost use Rattle.std.specs.Vec.{vec_capacity, vec_len};
+ghost use Rattle.bus_words.specs.Places.{change_first, without_first};
+ghost use Rattle.tl_messages.specs.Requests.{request_of};
+ghost use Rattle.tl_checker.specs.Ports.{opening_port};
+ghost use Rattle.burst_plan.specs.PageMap.{IsPageMap};
+ghost use Rattle.flight_table.specs.Tables.{change_key, has_room, in_flight, is_busy, is_done_of, request_at, requests_of, table_of};
+ghost use Rattle.flight_table.specs.Order.{holds_id, is_ready};
+ghost use Rattle.flight_table.specs.Laws.{IsSound};
+ghost use Rattle.flight_table.specs.Work.{work};
+ghost use Rattle.responses.specs.Gathered.{after_b, after_r, gathered, outline_of, reads_of};
+ghost use Rattle.responses.specs.RightReplies.{ShowsReply};
+ghost use Rattle.axi_beats.specs.Transfers.{IsBusWidth};
+ghost use Rattle.bridge_core.specs.Bridge.{opening_requests};
+ghost use Rattle.bridge_core.specs.Configs.{is_valid, port_of};
+ghost use Rattle.bridge_core.specs.Inside.{AwaitsAnswer, AwaitsBeat, HeldRequest, IsFirstAt, IsUndone, answered_flight, is_held, settled_flight};
+ghost use Rattle.bridge_core.specs.Laws.{IsSoundRequestTable};
+ghost use Rattle.bridge_core.specs.Requests.{BridgedRequest, first_done, flight_table_of, holder, may_send, outline_in, range_of, reply_beats, with_read, with_request, with_response, with_sent_burst, without_done};
+ghost use Rattle.bridge_core.specs.Sending.{burst_for, next_sending};
+
+use crate::Config;
+use crate::bursts::set_read;
+use crate::held::Held;
+use axi_beats::{BBeat, BurstBox, RBeat, Resp};
+use burst_plan::{PageMap, Plan};
+use flight_table::{Flight, Key};
+use std::alloc::{AllocError, Global};
+use std::marker::Model;
+use tl_checker::Port;
+use tl_messages::{ReplyBox, Request};
+
+/// How many requests can be live at once.
+const ROOM: usize = 64;
+
+/// The live requests: their places in the order of bursts, and beside it, in the same order, what each asks and was told.
+#[derive(Drop)]
+pub(crate) struct RequestTable {
+    config: Config,
+    map: PageMap,
+    flight: Flight,
+    live: Vec<Held>,
+    /// What is kept for no request, to be used again.
+    spare: Vec<Held>,
+}
+
+impl Model for RequestTable {
+    ghost use Rattle.std.specs.Prelude.{◌≤◌};
+    ghost use Rattle.std.specs.Vec.{vec_capacity};
+    ghost use Rattle.bridge_core.specs.Inside.{IsKept, table_kept};
+    ghost use Rattle.bridge_core.specs.Laws.{IsSoundRequestTable};
+    ghost use Rattle.bridge_core.specs.Requests.{RequestTable};
+
+    ghost Value = { RequestTable };
+
+    ghost view = { λ t. table_kept t.config t.map t.flight t.live.items };
+
+    ghost invariant = { λ t. IsSoundRequestTable (table_kept t.config t.map t.flight t.live.items)
+        × IsKept t.config t.flight t.live.items t.spare.items
+        × (64 ≤ vec_capacity t.live) × (64 ≤ vec_capacity t.spare) };
+}
+
+impl RequestTable {
+    /// No live requests, none accepted, with the room for 64.
+    pub(crate) fn new(alloc: Global, config: Config, map: PageMap) -> Result<Self, AllocError>
+        requires config { is_valid config ≡ true }
+        ensures { IfOk result (λ table. table ≡ opening_requests config map) }
+    {
+        let flight = Flight::new(
+            alloc,
+            config.clients,
+            config.quota,
+            config.ids,
+            config.depth,
+        )?;
+        let live = Vec::with_capacity(alloc, ROOM)?;
+        let spare = spare_room(alloc, config.axi_bytes)?;
+        Ok(RequestTable {
+            config,
+            map,
+            flight,
+            live,
+            spare,
+        })
+    }
+
+    /// The limits.
+    pub(crate) fn config(&self) -> &Config
+        ensures { result.now ≡ self.now.config }
+    {
+        &self.config
+    }
+
+    /// The places of the live requests in the order of bursts.
+    pub(crate) fn flight(&self) -> &Flight
+        ensures table { table_of result.now ≡ flight_table_of self.now }
+        ensures laws { IsSoundRequestTable self.now }
+    {
+        &self.flight
+    }
+
+    /// Accepts the request that stands whole on a client's port, and answers its number. No byte of it is copied.
+    pub(crate) fn accept(&mut self, port: &mut Port) -> u64
+        requires whole { IsSome port.old.whole }
+        requires client { port.old.limits.client < self.old.config.clients }
+        requires limits { port.old.limits ≡ port_of self.old.config port.old.limits.client }
+        requires room { has_room (flight_table_of self.old) port.old.limits.client ≡ true }
+        requires source { IfSome port.old.whole (λ message. is_busy (flight_table_of self.old) port.old.limits.client message.source ≡ false) }
+        requires number { self.old.accepted < 2 ^ 48 }
+        ensures number { result ≡ self.old.accepted }
+        ensures table { IfSome port.old.whole (λ message. self.new ≡ with_request message self.old) }
+        ensures port { port.new ≡ opening_port port.old.limits }
+        ensures laws { IsSoundRequestTable self.new }
+    {
+        let (room, gather) = self.spare.pop().unwrap().into_parts();
+        let request = port.take_whole(room);
+        let range = range_of(&self.config, &self.map, &request);
+        let number = self.flight.accept(request.client(), &request, range);
+        push(
+            &mut self.live,
+            Held::begin(number, request, gather, range.is_none()),
+        );
+        number
+    }
+
+    /// Puts the next burst of the ready request of the smallest number into a box.
+    pub(crate) fn send(&mut self, mut burst: BurstBox) -> BurstBox
+        requires { IsSome (find (may_send self.old) self.old.live) }
+        ensures burst { result ≡ option_map (λ sending. sending.burst) (next_sending self.old) }
+        ensures table { IfSome (next_sending self.old) (λ sending. self.new ≡ with_sent_burst sending.request.flight.number sending.id self.old) }
+        ensures laws { IsSoundRequestTable self.new }
+    {
+        let (key, number) = sending(&self.flight);
+        let piece = self.flight.next_piece(key);
+        let is_write = self.flight.next_is_write(key);
+        let plan = self.flight.plan(key).unwrap();
+        let id = self.flight.sent(key);
+        if is_write {
+            held_at(&self.live, number).fill(&mut burst, id, &plan, piece);
+        } else {
+            set_read(&mut burst, id, piece);
+        }
+        burst
+    }
+
+    /// Takes the response to the first unanswered write of the request that holds its ID.
+    pub(crate) fn on_b(&mut self, beat: &BBeat)
+        requires { IsSomeAnd (holder beat.now.id self.old.live) (AwaitsAnswer true) }
+        ensures table { self.new ≡ with_response beat.now.id beat.now.resp self.old }
+        ensures laws { IsSoundRequestTable self.new }
+    {
+        let (key, number) = serving(&self.flight, beat.id);
+        respond(&mut self.live, number, beat.resp);
+        let found = held_at(&self.live, number).old_value().is_some();
+        answer(&mut self.flight, key, found);
+    }
+
+    /// Takes the next beat of the first unanswered read of the request that holds its ID.
+    pub(crate) fn on_r(&mut self, beat: &RBeat)
+        requires { IsSomeAnd (holder beat.now.id self.old.live) (AwaitsBeat self.old.config.axi_bytes beat.now) }
+        ensures table { self.new ≡ with_read beat.now self.old }
+        ensures laws { IsSoundRequestTable self.new }
+    {
+        let (key, number) = serving(&self.flight, beat.id);
+        read(&mut self.live, number, beat);
+        if !beat.last {
+            return;
+        }
+        let found = held_at(&self.live, number).old_value().is_some();
+        answer(&mut self.flight, key, found);
+    }
+
+    /// Takes out the first live request of a client that is done: its reply's beats are put into a box, and its number is
+    /// answered.
+    pub(crate) fn take(&mut self, client: u8, reply: &mut ReplyBox) -> Option<u64>
+        ensures number { result ≡ option_map (λ request. request.flight.number) (first_done self.old.live client) }
+        ensures shown { IfSome (first_done self.old.live client) (λ request. reply.new ≡ reply_beats request) }
+        ensures right { IfSome (first_done self.old.live client) (λ request. ShowsReply (request_of request.message) (gathered (outline_in request) request.gathering) reply.new) }
+        ensures table { IsSome result → self.new ≡ without_done client self.old }
+        ensures kept { result ≡ None → (self.new ≡ self.old) × (reply.new ≡ reply.old) }
+        ensures laws { IsSoundRequestTable self.new }
+    {
+        let (key, number) = finished_of(&self.flight, client)?;
+        let held = take_out(&mut self.live, number);
+        held.reply_into(reply);
+        push(&mut self.spare, held);
+        self.flight.release(key);
+        Some(number)
+    }
+}
+
+/// The room for 64 live requests.
+fn spare_room(alloc: Global, bus_bytes: u8) -> Result<Vec<Held>, AllocError>
+    requires { IsBusWidth bus_bytes }
+    ensures { IfOk result (λ spare. (vec_len spare ≡ 64) × (64 ≤ vec_capacity spare) × AllByRecursion (λ held. held.bus_bytes ≡ bus_bytes) spare.items) }
+{
+    let mut spare = Vec::with_capacity(alloc, ROOM)?;
+    for _ in 0..ROOM {
+        push(&mut spare, Held::new(alloc, bus_bytes)?);
+    }
+    Ok(spare)
+}
+
+/// Appends an item for which there is room.
+fn push<T>(items: &mut Vec<T>, item: T)
+    requires { vec_len items.old < vec_capacity items.old }
+    ensures items { items.new.items ≡ items.old.items ++ item ∷ [] }
+    ensures len { vec_len items.new ≡ vec_len items.old + 1 }
+    ensures capacity { vec_capacity items.old ≤ vec_capacity items.new }
+{
+    items.push(item).unwrap();
+}
+
+/// The range on the AXI side of a request that its port took, with the way it is cut into bursts; none where it is corrupt
+/// or its region doesn't permit it.
+fn range_of(config: &Config, map: &PageMap, request: &Request) -> Option<Plan>
+    requires config { is_valid config.now ≡ true }
+    requires aligned { request.now.address % 2 ^ request.now.size ≡ 0 }
+    ensures range { result ≡ range_of config.now map.now (request_of request.now) }
+    ensures map { IsPageMap map.now }
+{
+    let address = map.translate(request.operation(), request.address());
+    if request.corrupt() {
+        return None;
+    }
+    let address = address?;
+    Some(Plan::new_of(address, request.size(), config.max_len, config.axi_bytes))
+}
+
+fn find_place(live: &[Held], number: u64) -> Option<usize>
+    ensures { result ≡ position (is_held number) live.now }
+{
+    live.iter().position(|held| held.number() == number)
+}
+
+/// The place of what is kept for a number.
+fn place_of(live: &[Held], number: u64) -> usize
+    requires { IsSome (find (is_held number) live.now) }
+    ensures { position (is_held number) live.now ≡ Some result }
+{
+    find_place(live, number).unwrap()
+}
+
+/// What is kept for a number.
+fn held_at(live: &[Held], number: u64) -> &Held
+    requires { IsSome (find (is_held number) live.now) }
+    ensures { find (is_held number) live.now ≡ Some result.now }
+{
+    &live[place_of(live, number)]
+}
+
+/// Takes the response to a write of the request of a number.
+fn respond(live: &mut Vec<Held>, number: u64, resp: Resp)
+    requires { IsSome (find (is_held number) live.old.items) }
+    ensures items { live.new.items ≡ change_first (is_held number) (λ held. record held { gathering = after_b resp held.gathering }) live.old.items }
+    ensures capacity { vec_capacity live.new ≡ vec_capacity live.old }
+{
+    let place = place_of(live, number);
+    live[place].on_b(resp);
+}
+
+/// Takes the next beat of the read of the request of a number.
+fn read(live: &mut Vec<Held>, number: u64, beat: &RBeat)
+    requires { IsSomeAnd (find (is_held number) live.old.items) (λ held. held.gathering.came < reads_of held.bus_bytes (outline_of (request_of held.message))) }
+    ensures items { live.new.items ≡ change_first (is_held number) (λ held. record held {
+      gathering = after_r held.bus_bytes (outline_of (request_of held.message)) beat.now held.gathering.came held.gathering;
+    }) live.old.items }
+    ensures capacity { vec_capacity live.new ≡ vec_capacity live.old }
+{
+    let place = place_of(live, number);
+    live[place].on_r(beat);
+}
+
+/// Takes out what is kept for a number.
+fn take_out(live: &mut Vec<Held>, number: u64) -> Held
+    requires { IsSome (find (is_held number) live.old.items) }
+    ensures held { find (is_held number) live.old.items ≡ Some result }
+    ensures items { live.new.items ≡ without_first (is_held number) live.old.items }
+    ensures capacity { vec_capacity live.new ≡ vec_capacity live.old }
+{
+    let place = place_of(live, number);
+    live.remove(place)
+}
+
+/// Where all that is planned was answered, an atomic that found its old value plans its write, and every other request is
+/// done.
+fn settle(flight: &mut Flight, key: Key, found: bool)
+    requires live { IsSomeAnd (request_at key flight.old) (IsUndone found) }
+    requires laws { IsSound flight.old }
+    ensures laws { IsSound flight.new }
+    ensures state { flight.new ≡ change_key key (settled_flight found) flight.old }
+{
+    if !flight.is_settled(key) {
+        return;
+    }
+    if flight.awaits_write(key) && found {
+        flight.plan_write(key);
+        return;
+    }
+    flight.finished(key);
+}
+
+/// Counts a whole answer to the burst of a request that was sent first of those that are unanswered.
+fn answer(flight: &mut Flight, key: Key, found: bool)
+    requires live { IsSomeAnd (request_at key flight.old) (IsUndone found) }
+    requires unanswered { IsSomeAnd (request_at key flight.old) (λ request. request.answered < request.sent) }
+    ensures state { flight.new ≡ change_key key (answered_flight found) flight.old }
+    ensures laws { IsSound flight.new }
+{
+    flight.answered(key);
+    settle(flight, key, found);
+}
+
+/// The key and the number of the live request that holds an ID.
+fn serving(flight: &Flight, id: u8) -> (Key, u64)
+    requires { IsSome (find (holds_id id) (requests_of flight.now.entries)) }
+    ensures { IsFirstAt (holds_id id) flight.now result.0 result.1 }
+{
+    let key = flight.of_id(id).unwrap();
+    (key, flight.number(key))
+}
+
+/// The key and the number of the live request that sends next.
+fn sending(flight: &Flight) -> (Key, u64)
+    requires { IsSome (find (is_ready (table_of flight.now)) (requests_of flight.now.entries)) }
+    ensures { IsFirstAt (is_ready (table_of flight.now)) flight.now result.0 result.1 }
+{
+    let key = flight.next_ready().unwrap();
+    (key, flight.number(key))
+}
+
+/// The key and the number of the first live request of a client that is done.
+fn finished_of(flight: &Flight, client: u8) -> Option<(Key, u64)>
+    ensures some { IfSome result (λ found. IsFirstAt (is_done_of client) flight.now found.0 found.1) }
+    ensures none { result ≡ None → find (is_done_of client) (requests_of flight.now.entries) ≡ None }
+{
+    let key = flight.oldest_done(client)?;
+    Some((key, flight.number(key)))
+}
