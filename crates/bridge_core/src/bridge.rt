@@ -130,7 +130,7 @@ impl Bridge {
         ensures sent { IsSome result → self.new ≡ record { state = after_pump self.old.state; stock = self.old.stock - 1 } }
         ensures kept { result ≡ None → self.new ≡ self.old }
 
-        // It is legal, and breaks no rule on the memory's port.
+        // It is legal.
         ensures legal { IfSome (burst_to_send self.old.state) (IsLegal self.old.state.requests.config.axi_bytes) }
         ensures laws { IsSoundBridge self.new.state }
     {
