@@ -1,12 +1,13 @@
 -- A monitor's parts after an accepted beat.
-use Rattle.std.proofs.Common.{◌≡◌, ℕ, ◌<◌, ◌≤◌, List, length, sym, subst, arith}
+use Rattle.std.proofs.Common.{◌≡◌, ℕ, ◌*◌, ◌<◌, ◌≤◌, List, length, mul-le-mul, sym, subst, arith}
 use Rattle.std.specs.Prelude.{None}
 use Rattle.axi_beats.specs.Bursts.{Burst}
 use Rattle.axi_beats.specs.declared.AwBeat.{AwBeat}
 use Rattle.axi_beats.specs.declared.ArBeat.{ArBeat}
-use Rattle.axi_checker.specs.Monitors.{IsSoundMonitor, MonitorState, monitor_state}
+use Rattle.axi_checker.specs.Monitors.{IsSoundMonitor, MonitorState, id_of_read, monitor_state}
 use Rattle.axi_checker.specs.OpenBursts.{AxiBeat, OnAr, OnAw, OpenRead, OpenWrite, open_after, write_to_fill}
 use Rattle.axi_checker.specs.Rules.{axi_fault, burst_fault, open_with_burst}
+use Rattle.axi_checker.proofs.Few.{length-few}
 use Rattle.axi_checker.proofs.Taking.{within-open_with_burst}
 use Rattle.axi_checker.proofs.WithinLimits.{room_for_read, room_for_write, within-open_after}
 
@@ -17,6 +18,8 @@ pub sound-open_after : (old now : MonitorState) (beat : AxiBeat) (writes : List 
 sound-open_after old now beat writes reads old_writes old_reads new_writes new_reads sound same none is_writes is_reads more_writes more_reads =
     record {
       bus = sound.bus;
+      most_ids = sound.most_ids;
+      most_depth = sound.most_depth;
       within = rw (is_writes, is_reads) (within-open_after old.port old.open_bursts beat accepted sound.within);
       write_room = omega (arith, sound.write_room);
       read_room = omega (arith, sound.read_room);
@@ -43,6 +46,8 @@ pub sound-open_with_burst : (old now : MonitorState) (burst : Burst) (writes : L
 sound-open_with_burst old now burst writes reads old_writes old_reads new_writes new_reads sound same ready none is_writes is_reads more_writes more_reads =
     record {
       bus = sound.bus;
+      most_ids = sound.most_ids;
+      most_depth = sound.most_depth;
       within = rw (is_writes, is_reads) (within-open_with_burst old.port old.open_bursts burst filled accepted sound.within);
       write_room = omega (arith, sound.write_room);
       read_room = omega (arith, sound.read_room);
@@ -53,3 +58,10 @@ sound-open_with_burst old now burst writes reads old_writes old_reads new_writes
 
     accepted : burst_fault old.port old.open_bursts burst ≡ None
     accepted = subst (λ (m : MonitorState). burst_fault m.port m.open_bursts burst ≡ None) (sym same) none
+
+-- its limits bound how many reads are outstanding
+pub few_reads : (state : MonitorState) (room_of_writes room_of_reads : ℕ) → IsSoundMonitor state room_of_writes room_of_reads → length state.open_bursts.reads ≤ 64
+few_reads state room_of_writes room_of_reads sound =
+    let few = length-few id_of_read state.port.ids state.port.depth state.open_bursts.reads sound.within.reads in
+    let limits : state.port.ids * state.port.depth ≤ 16 * 4 = mul-le-mul sound.most_ids sound.most_depth in
+    omega (arith, few, limits)

@@ -105,8 +105,7 @@ impl PortLimits {
 
     /// How many bursts may be outstanding on each side.
     pub(crate) fn room(self) -> usize
-        ensures count { result ≡ self.ids * self.depth }
-        ensures bound { result ≤ 65536 }
+        ensures { result ≡ self.ids * self.depth }
     {
         usize::from(self.ids) * usize::from(self.depth)
     }

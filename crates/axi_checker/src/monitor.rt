@@ -187,8 +187,6 @@ impl Monitor {
     pub fn answered_reads(&self) -> u64
         ensures { result ≡ sum_by (λ read. read.came) self.now.open_bursts.reads }
     {
-        // The limits bound how many reads are outstanding.
-        let _room = self.limits.room();
         beats_came(&self.reads)
     }
 

@@ -103,9 +103,9 @@ fn entry_at<T: Copy>(items: &[T], place: Option<usize>) -> Option<(usize, T)>
     }
 }
 
-/// How many R beats came of some reads, of which there are at most 65,536.
+/// How many R beats came of some reads, of which there are at most 64.
 pub(crate) fn beats_came(reads: &[OpenRead]) -> u64
-    requires { length reads.now ≤ 65536 }
+    requires { length reads.now ≤ 64 }
     ensures { result ≡ sum_by (λ read. read.came) reads.now }
 {
     let mut came = 0;

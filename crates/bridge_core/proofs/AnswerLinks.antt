@@ -218,17 +218,13 @@ beats_in-next (p ∷ pieces) (suc k) piece found =
     rw (next, sum_by-cons (λ (q : Piece). q.len + 1) p (take k pieces), sum_by-cons (λ (q : Piece). q.len + 1) p (take (k + 1) pieces)) (omega (arith, rest))
 
 -- a request that reads has a plan
-pub record HasPlan (flight : LiveRequest) : Type 0 where
-  pub range : PlannedRange
-  pub is : flight.plan ≡ Some range
-
-pub reader_plan : (flight : LiveRequest) (k : ℕ) (piece : Piece) → slice_get (read_pieces flight) k ≡ Some piece → HasPlan flight
+reader_plan : (flight : LiveRequest) (k : ℕ) (piece : Piece) → slice_get (read_pieces flight) k ≡ Some piece → (range : PlannedRange) × (flight.plan ≡ Some range)
 reader_plan flight k piece found = by_plan flight.plan refl (reply_has_data flight.operation) found
   where
-    by_plan : (plan : Option PlannedRange) → flight.plan ≡ plan → (reads : Bool) → slice_get (if reads then pieces_planned plan else []) k ≡ Some piece → HasPlan flight
+    by_plan : (plan : Option PlannedRange) → flight.plan ≡ plan → (reads : Bool) → slice_get (if reads then pieces_planned plan else []) k ≡ Some piece → (range : PlannedRange) × (flight.plan ≡ Some range)
     by_plan None is true found = absurd (cc (found))
     by_plan None is false found = absurd (cc (found))
-    by_plan (Some range) is reads found = record { range = range; is = is }
+    by_plan (Some range) is reads found = (range, is)
 
 -- the request that holds the ID of an R, and its oldest outstanding burst: the read that the R belongs to
 pub record IsReader (state : BridgeState) (r : RBeat) (request : BridgedRequest) (piece : Piece) (rest : List (Bool × Piece)) : Type 0 where
@@ -249,7 +245,7 @@ pub record FindsReader (state : BridgeState) (r : RBeat) : Type 0 where
   pub rest : List (Bool × Piece)
   pub reader : IsReader state r request piece rest
 
-reader_known : (state : BridgeState) (r : RBeat) (request : BridgedRequest) (piece : Piece) (rest : List (Bool × Piece)) → IsSoundBridge state → IsHolder state.requests r.id request
+pub reader_known : (state : BridgeState) (r : RBeat) (request : BridgedRequest) (piece : Piece) (rest : List (Bool × Piece)) → IsSoundBridge state → IsHolder state.requests r.id request
     → outstanding request.flight ≡ (false, piece) ∷ rest → AreOf false rest → find (read_of_id r.id) state.open_bursts.reads ≡ Some (open_read r.id (came_of_next request) piece)
     → r.last ≡ (came_of_next request == piece.len) → IsReader state r request piece rest
 reader_known state r request piece rest sound known first alike found last =
@@ -258,8 +254,8 @@ reader_known state r request piece rest sound known first alike found last =
     let next = part-next (planned flight) flight.answered flight.sent (false, piece) rest first in
     let read = read_at reads (planned_writes flight) flight.answered piece next.at in
     let few : came_of_next request ≤ piece.len = subst (IsPartWay (came_of_next request)) first known.served.next in
-    let plan = reader_plan flight flight.answered piece read in
-    let counted = reads_counted state.requests.config state.requests.regions request plan.range sound.requests.config known.served.pages known.served plan.is in
+    let (range, planned_so) = reader_plan flight flight.answered piece read in
+    let counted = reads_counted state.requests.config state.requests.regions request range sound.requests.config known.served.pages known.served planned_so in
     let within = sum_by-take-le (λ (p : Piece). p.len + 1) reads (flight.answered + 1) in
     let more = beats_in-next reads flight.answered piece read in
     record {

@@ -21,7 +21,7 @@ use Rattle.bridge_core.specs.Laws.{IsServed, IsSoundRequestTable}
 use Rattle.bridge_core.specs.Requests.{BridgedRequest, RequestTable, address_of, flight_table_of, newly_live, range_at, range_of}
 use Rattle.bridge_core.specs.Requests as requests
 use Rattle.bridge_core.specs.declared.Config.{Config}
-use Rattle.bridge_core.proofs.ServedTables.{new_are_served}
+use Rattle.bridge_core.proofs.ServedRequests.{served_new}
 use Rattle.bridge_core.proofs.TableSteps.{table_seen}
 use Rattle.bridge_core.proofs.Together.{together_append}
 
@@ -164,7 +164,7 @@ joined config regions old new helds spare rest room held message range kept soun
     table = rw (live, ap (λ (t : FlightTable). t.accepted) joins.table) refl
 
     served : AllByRecursion (IsServed config regions) (requests.with_request message before).live
-    served = new_are_served before message sound joins.pages joins.of_port
+    served = all-append (IsServed config regions) before.live (newly_live before message) sound.served (served_new before message sound.config joins.pages joins.of_port)
 
     sound_new : IsSoundRequestTable (table_kept config regions new (helds ++ held ∷ []))
     sound_new =

@@ -22,7 +22,6 @@ pub mod SendingLinks
 pub mod SentBursts
 pub mod SentLinks
 pub mod ServedRequests
-pub mod ServedTables
 pub mod Serving
 pub mod TableSteps
 pub mod TakenRequests

@@ -16,7 +16,7 @@ use Rattle.tl_checker.specs.declared.TlRule.{TlRule}
 use Rattle.tl_checker.proofs.BeatRules.{first_none}
 use Rattle.axi_checker.specs.OpenBursts.{OpenBursts}
 use Rattle.flight_table.specs.Tables.{has_room, is_busy}
-use Rattle.bridge_core.specs.Bridge.{BridgeState, front_of, message_with, offered, offered_after, verdict_on, with_front}
+use Rattle.bridge_core.specs.Bridge.{BridgeState, StockedBridge, completed, front_of, message_with, offered, offered_after, refuses_beat, verdict_on, with_front}
 use Rattle.bridge_core.specs.Configs.{port_of}
 use Rattle.bridge_core.specs.Inside.{held_back}
 use Rattle.bridge_core.specs.Laws.{IsFreeFront, IsSoundBridge, IsSoundRequestTable}
@@ -124,3 +124,37 @@ sound_accepted state client message sound own requests =
       linked = linked_accepted state.requests.live (newly_live state.requests message) state.open_bursts refl sound.linked;
       filled = sound.filled;
     }
+
+-- ---- a beat that is refused
+
+abbrev Keeps : BridgeState → BridgeState × Offered → Type 0
+Keeps state made = refuses_beat made.1 ≡ true → made.0 ≡ state
+
+completed_kept : (state : BridgeState) (client : ℕ) (message : HeldMessage) → Keeps state (completed state client message)
+completed_kept state client message = by_room (has_room (flight_table_of state.requests) client) (nat_le (2 ^ 48) state.requests.accepted)
+  where
+    becomes : BridgeState
+    becomes = record (with_front client None state) { requests = with_request message state.requests }
+
+    by_room : (room full : Bool) → Keeps state (if room then (if full then (state, offer.Exhausted) else (becomes, offer.Accepted state.requests.accepted)) else (state, offer.NotReady))
+    by_room true true = λ refused. refl
+    by_room true false = λ refused. absurd (cc (refused))
+    by_room false full = λ refused. refl
+
+offered_kept : (state : BridgeState) (client : ℕ) (beat : ABeat) → Keeps state (offered state client beat)
+offered_kept state client beat = by_client (nat_le state.requests.config.clients client)
+  where
+    by_verdict : (verdict : Result Progress TlRule) → Keeps state (offered_after verdict state client beat)
+    by_verdict (Err rule) = λ refused. refl
+    by_verdict (Ok More) = λ refused. absurd (cc (refused))
+    by_verdict (Ok Whole) = completed_kept state client (message_with state client beat)
+
+    by_client : (b : Bool) → Keeps state (if b then (state, offer.NoClient) else offered_after (verdict_on state client beat) state client beat)
+    by_client true = λ refused. refl
+    by_client false = by_verdict (verdict_on state client beat)
+
+-- changes nothing
+pub refused_kept : (old new : StockedBridge) (client : ℕ) (beat : ABeat) (answer : Offered) → answer ≡ (offered old.state client beat).1 → new ≡ record old { state = (offered old.state client beat).0 }
+    → refuses_beat answer ≡ true → new ≡ old
+refused_kept old new client beat answer same is refused =
+    is ∙ ap (λ (state : BridgeState). record old { state = state }) (offered_kept old.state client beat (sym (ap refuses_beat same) ∙ refused))

@@ -33,7 +33,7 @@ opening_fronts config first (suc count) = ap (λ (fronts : List (Option HeldMess
 abbrev no_front : Option HeldMessage
 no_front = None
 
-nothing_begun : (count client : ℕ) → option_flatten (slice_get (replicate count no_front) client) ≡ None
+pub nothing_begun : (count client : ℕ) → option_flatten (slice_get (replicate count no_front) client) ≡ None
 nothing_begun zero client = refl
 nothing_begun (suc count) zero = refl
 nothing_begun (suc count) (suc client) = nothing_begun count client

@@ -86,10 +86,10 @@ pub record HasRange (config : Config) (message : HeldMessage) (range : PlannedRa
   pub is : range ≡ range_at config (request_of message) address
   pub aligned : message.size ≤ 12 → address % 2 ^ message.size ≡ message.address % 2 ^ message.size
 
-leads_there : (regions : List Region) (q : WholeRequest) (address : ℕ) → IsPageMap regions → translated_address regions q ≡ Some address → LeadsTo regions q.operation q.address address
+pub leads_there : (regions : List Region) (q : WholeRequest) (address : ℕ) → IsPageMap regions → translated_address regions q ≡ Some address → LeadsTo regions q.operation q.address address
 leads_there regions q address map is = subst (λ (place : Option ℕ). IfSome place (LeadsTo regions q.operation q.address)) is (translated-LeadsTo regions q.operation q.address map.in_range)
 
-uncorrupt_address : (corrupt : Bool) (place : Option ℕ) (address : ℕ) → (if corrupt then None else place) ≡ Some address → place ≡ Some address
+pub uncorrupt_address : (corrupt : Bool) (place : Option ℕ) (address : ℕ) → (if corrupt then None else place) ≡ Some address → place ≡ Some address
 uncorrupt_address true place address is = absurd (cc (is))
 uncorrupt_address false place address is = is
 

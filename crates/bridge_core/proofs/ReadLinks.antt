@@ -40,7 +40,7 @@ after_read-last bus_bytes r request is = ap (λ (last : Bool). settled (with_fla
 pub after_read-more : (bus_bytes : ℕ) (r : RBeat) (request : BridgedRequest) → r.last ≡ false → after_read bus_bytes r request ≡ settled (counted_by bus_bytes r request)
 after_read-more bus_bytes r request is = ap (λ (last : Bool). settled (with_flag bus_bytes r request last)) is
 
-after_read-other : (bus_bytes : ℕ) (r : RBeat) (other : ℕ) (request : BridgedRequest) → holds other request ≡ false → holds other (after_read bus_bytes r request) ≡ false
+pub after_read-other : (bus_bytes : ℕ) (r : RBeat) (other : ℕ) (request : BridgedRequest) → holds other request ≡ false → holds other (after_read bus_bytes r request) ≡ false
 after_read-other bus_bytes r other request fails = by_flag r.last
   where
     by_flag : (last : Bool) → holds other (settled (with_flag bus_bytes r request last)) ≡ false

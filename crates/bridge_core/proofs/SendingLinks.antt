@@ -20,7 +20,7 @@ linked-same id live after open_bursts same linked =
     }
 
 -- an entry at the end that fails a test is never found by it
-find-append-fails : {X : Type 0} (q : X → Bool) (xs : List X) (x : X) → q x ≡ false → find q (xs ++ x ∷ []) ≡ find q xs
+pub find-append-fails : {X : Type 0} (q : X → Bool) (xs : List X) (x : X) → q x ≡ false → find q (xs ++ x ∷ []) ≡ find q xs
 find-append-fails q [] x fails = rw fails refl
 find-append-fails {X = X} q (y ∷ ys) x fails = by_test (q y) (find-append-fails q ys x fails)
   where
@@ -29,7 +29,7 @@ find-append-fails {X = X} q (y ∷ ys) x fails = by_test (q y) (find-append-fail
     by_test false rest = rest
 
 -- a request without an ID holds none
-no_holder : (id : ℕ) (request : BridgedRequest) → request.flight.id ≡ None → holds id request ≡ false
+pub no_holder : (id : ℕ) (request : BridgedRequest) → request.flight.id ≡ None → holds id request ≡ false
 no_holder id request none = rw none refl
 
 -- an accepted request holds no ID
@@ -40,7 +40,7 @@ linked_accepted live request open_bursts none linked id =
 -- ---- a reply is taken
 
 -- an entry taken out that fails a test isn't missed by it
-find-without_first : {X : Type 0} (P : X → Type 0) (q p : X → Bool) (xs : List X) → ((x : X) → P x → p x ≡ true → q x ≡ false) → AllByRecursion P xs → find q (without_first p xs) ≡ find q xs
+pub find-without_first : {X : Type 0} (P : X → Type 0) (q p : X → Bool) (xs : List X) → ((x : X) → P x → p x ≡ true → q x ≡ false) → AllByRecursion P xs → find q (without_first p xs) ≡ find q xs
 find-without_first P q p [] fails all = refl
 find-without_first {X = X} P q p (x ∷ xs) fails all = by_test (p x) refl (find-without_first P q p xs fails all.1)
   where
@@ -62,7 +62,7 @@ pub sound_requests : (table : RequestTable) → IsSoundRequestTable table
     → AllByRecursion (λ (request : BridgedRequest). IsSoundRequest (flight_table_of table).limits table.accepted request.flight) table.live
 sound_requests table sound = all-flights (IsSoundRequest (flight_table_of table).limits table.accepted) table.live sound.flights.requests
 
-and_second : (a b : Bool) → (a && b) ≡ true → b ≡ true
+pub and_second : (a b : Bool) → (a && b) ≡ true → b ≡ true
 and_second true b both = both
 and_second false b both = absurd (cc)
 

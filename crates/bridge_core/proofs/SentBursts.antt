@@ -67,7 +67,7 @@ given_are_bytes held =
 no_bytes : AreBytes []
 no_bytes k d within = absurd (omega (arith, within))
 
-written_are_bytes : (held : HeldMessage) (operation : Operation) (old : ℕ) → AreBytes (bytes_written (request_of held) operation old)
+pub written_are_bytes : (held : HeldMessage) (operation : Operation) (old : ℕ) → AreBytes (bytes_written (request_of held) operation old)
 written_are_bytes held PutFull old = given_are_bytes held
 written_are_bytes held PutPartial old = given_are_bytes held
 written_are_bytes held (Atomic op) old =
@@ -156,7 +156,7 @@ plannable config regions request range valid map_of served plan =
 
 -- ---- a burst of its course is one of its plan's
 
-abbrev IsListed : List Piece → Piece → Type 0
+abbrev pub IsListed : List Piece → Piece → Type 0
 IsListed parts piece = (k : ℕ) × (slice_get parts k ≡ Some piece)
 
 abbrev as_writes : List Piece → List (Bool × Piece)

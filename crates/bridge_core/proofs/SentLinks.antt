@@ -31,7 +31,7 @@ use Rattle.bridge_core.proofs.SendingLinks.{sound_requests}
 -- ---- searches, where one entry is changed
 
 -- a change lets a test find the changed entry that found the entry before, or none
-find-changed : {X : Type 0} (q p : X → Bool) (f : X → X) (xs : List X) (x : X) → find p xs ≡ Some x → q (f x) ≡ true → (find q xs ≡ None) ⊎ (find q xs ≡ Some x)
+pub find-changed : {X : Type 0} (q p : X → Bool) (f : X → X) (xs : List X) (x : X) → find p xs ≡ Some x → q (f x) ≡ true → (find q xs ≡ None) ⊎ (find q xs ≡ Some x)
     → find q (change_first p f xs) ≡ Some (f x)
 find-changed q p f [] x found passes was = absurd (cc (found))
 find-changed {X = X} q p f (y ∷ ys) x found passes was = by_test (p y) refl found was (λ later still. find-changed q p f ys x later passes still)
@@ -53,7 +53,7 @@ find-changed {X = X} q p f (y ∷ ys) x found passes was = by_test (p y) refl fo
     by_test false is later was rest = other (q y) refl is later was (rest later)
 
 -- a change of an entry that fails a test, before it and after it, isn't seen by it
-find-unchanged : {X : Type 0} (q p : X → Bool) (f : X → X) (xs : List X) (x : X) → find p xs ≡ Some x → q x ≡ false → q (f x) ≡ false → find q (change_first p f xs) ≡ find q xs
+pub find-unchanged : {X : Type 0} (q p : X → Bool) (f : X → X) (xs : List X) (x : X) → find p xs ≡ Some x → q x ≡ false → q (f x) ≡ false → find q (change_first p f xs) ≡ find q xs
 find-unchanged q p f [] x found fails still = refl
 find-unchanged {X = X} q p f (y ∷ ys) x found fails still = by_test (p y) found (λ later. find-unchanged q p f ys x later fails still)
   where
@@ -98,7 +98,7 @@ find-alone {X = X} p q (y ∷ ys) x found passes few = by_test (p y) found (λ l
 
 -- ---- searches among live requests
 
-numbers : (P : ℕ → Type 0) (live : List BridgedRequest) → AllByRecursion P (map (λ (flight : LiveRequest). flight.number) (flights_of live)) → AllByRecursion (λ (r : BridgedRequest). P r.flight.number) live
+pub numbers : (P : ℕ → Type 0) (live : List BridgedRequest) → AllByRecursion P (map (λ (flight : LiveRequest). flight.number) (flights_of live)) → AllByRecursion (λ (r : BridgedRequest). P r.flight.number) live
 numbers P [] all = tt
 numbers P (r ∷ live) all = (all.0, numbers P live all.1)
 
@@ -106,7 +106,7 @@ other_number : (n m : ℕ) → n < m → (n == m) ≡ false
 other_number n m below = grind (arith, below)
 
 -- a live request is found by its number
-found_by_number : (p : BridgedRequest → Bool) (live : List BridgedRequest) (request : BridgedRequest) → AreRising (map (λ (flight : LiveRequest). flight.number) (flights_of live))
+pub found_by_number : (p : BridgedRequest → Bool) (live : List BridgedRequest) (request : BridgedRequest) → AreRising (map (λ (flight : LiveRequest). flight.number) (flights_of live))
     → find p live ≡ Some request → find (is_numbered request.flight.number) live ≡ Some request
 found_by_number p [] request rising found = absurd (cc (found))
 found_by_number p (r ∷ live) request rising found = by_test (p r) found (λ later. found_by_number p live request rising.1 later)
@@ -173,7 +173,7 @@ part_way-append came [] burst way = subst (λ n. IsPartWay n (burst ∷ [])) (sy
 part_way-append came ((true, piece) ∷ bursts) burst way = way
 part_way-append came ((false, piece) ∷ bursts) burst way = way
 
-outstanding_sent : (id : ℕ) (request : BridgedRequest) (burst : Bool × Piece) → request.flight.answered ≤ request.flight.sent → next_burst request.flight ≡ Some burst
+pub outstanding_sent : (id : ℕ) (request : BridgedRequest) (burst : Bool × Piece) → request.flight.answered ≤ request.flight.sent → next_burst request.flight ≡ Some burst
     → outstanding (after_sending id request).flight ≡ outstanding request.flight ++ burst ∷ []
 outstanding_sent id request burst below next = drop_take_more (planned request.flight) request.flight.answered request.flight.sent burst below next
 
@@ -276,7 +276,7 @@ none_taken xs a s none below =
     let first : a ≡ 0 = omega arith in
     rw (first, none) refl
 
-none_sent : (limits : TableLimits) (accepted : ℕ) (flight : LiveRequest) → IsSoundRequest limits accepted flight → flight.done ≡ false → flight.id ≡ None → flight.sent ≡ 0
+pub none_sent : (limits : TableLimits) (accepted : ℕ) (flight : LiveRequest) → IsSoundRequest limits accepted flight → flight.done ≡ false → flight.id ≡ None → flight.sent ≡ 0
 none_sent limits accepted flight sound undone none =
     elim (cases_lt 0 flight.sent) [
       | inl some ↦ let held = sound.holds undone some in absurd (grind (arith, none, held))
@@ -309,6 +309,16 @@ taken_by table sending sound next = by_id sending.request.flight.id refl
         held_by sending.id table.live sending.request
         (find-alone (may_send table) (holds sending.id) table.live sending.request next.found passes (omega (arith, sound.flights.one_holder sending.id, holders_counted (holds_id sending.id) table.live)))
 
+-- it holds no other ID
+pub holds_no_other : (table : RequestTable) (sending : Sending) (j : ℕ) → IsNext table sending → (sending.id == j) ≡ false → holds j sending.request ≡ false
+holds_no_other table sending j next other = by_id sending.request.flight.id refl
+  where
+    by_id : (own : Option ℕ) → sending.request.flight.id ≡ own → holds j sending.request ≡ false
+    by_id None none = rw none refl
+    by_id (Some held) some =
+        let same : held ≡ sending.id = same_Some held sending.id (ap (λ (o : Option ℕ). option_or o (free_id (table_limits_of table.config).ids (flights_of table.live))) (sym some) ∙ next.id) in
+        rw (some, same) other
+
 pub linked_sent : (state : BridgeState) (sending : Sending) → IsSoundBridge state → next_sending state.requests ≡ Some sending → AreLinked (after_sent state sending).requests.live (after_sent state sending).open_bursts
 linked_sent state sending sound is id = by_test (sending.id == id) refl
   where
@@ -337,16 +347,10 @@ linked_sent state sending sound is id = by_test (sending.id == id) refl
         (find-changed (holds sending.id) (is_numbered sending.request.flight.number) (after_sending sending.id) state.requests.live sending.request by_number (same_number sending.id) taken.held)
         (outstanding_sent sending.id sending.request (next.write, next.piece) each.answered next.next)
 
-    another : (j : ℕ) → (sending.id == j) ≡ false → (own_id : Option ℕ) → sending.request.flight.id ≡ own_id → holds j sending.request ≡ false
-    another j other None none = rw none refl
-    another j other (Some held) some =
-        let same : held ≡ sending.id = same_Some held sending.id (ap (λ (o : Option ℕ). option_or o (free_id limits.ids (flights_of state.requests.live))) (sym some) ∙ next.id) in
-        rw (some, same) other
-
     other_id : (j : ℕ) → (sending.id == j) ≡ false → IsLinked j after (open_with_burst state.open_bursts (burst_of_piece sending.id sending.request next.range (next.write, next.piece)))
     other_id j other =
         linked-other sending.id j state.requests.live after sending.request state.open_bursts next.range (next.write, next.piece) (sound.linked j) other
-        (find-unchanged (holds j) (is_numbered sending.request.flight.number) (after_sending sending.id) state.requests.live sending.request by_number (another j other sending.request.flight.id refl) other)
+        (find-unchanged (holds j) (is_numbered sending.request.flight.number) (after_sending sending.id) state.requests.live sending.request by_number (holds_no_other state.requests sending j next other) other)
 
     by_test : (b : Bool) → (sending.id == id) ≡ b → IsLinked id after (open_with_burst state.open_bursts sending.burst)
     by_test true same =

@@ -53,14 +53,14 @@ is_not true is = absurd (cc (is))
 is_not false is = refl
 
 -- of an atomic only the reads are planned, and from then on its writes too
-planned_before : (flight : LiveRequest) → is_atomic flight ≡ true → flight.writing ≡ false → length (planned flight) ≡ length (read_pieces flight)
+pub planned_before : (flight : LiveRequest) → is_atomic flight ≡ true → flight.writing ≡ false → length (planned flight) ≡ length (read_pieces flight)
 planned_before flight atomic isnt = rw (atomic, isnt) (length_course (read_pieces flight) [] ∙ omega arith)
 
-planned_after : (flight : LiveRequest) → is_atomic flight ≡ true → flight.writing ≡ true → length (planned flight) ≡ length (read_pieces flight) + length (write_pieces flight)
+pub planned_after : (flight : LiveRequest) → is_atomic flight ≡ true → flight.writing ≡ true → length (planned flight) ≡ length (read_pieces flight) + length (write_pieces flight)
 planned_after flight atomic is = rw (atomic, is) (length_course (read_pieces flight) (write_pieces flight))
 
 -- the old value is that of an atomic
-atomic_both : (operation : Operation) → gathered.is_atomic operation ≡ true → (reply_has_data operation && has_data operation) ≡ true
+pub atomic_both : (operation : Operation) → gathered.is_atomic operation ≡ true → (reply_has_data operation && has_data operation) ≡ true
 atomic_both PutFull is = absurd (cc (is))
 atomic_both PutPartial is = absurd (cc (is))
 atomic_both (Atomic Min) is = refl
@@ -308,14 +308,14 @@ served_sent config regions id request served =
 -- ---- a burst was answered by a B
 
 -- a burst of a course that is a write stands past its reads
-write_past : (reads writes : List Piece) (k : ℕ) (piece : Piece) → slice_get (course reads writes) k ≡ Some (true, piece) → length reads ≤ k
+pub write_past : (reads writes : List Piece) (k : ℕ) (piece : Piece) → slice_get (course reads writes) k ≡ Some (true, piece) → length reads ≤ k
 write_past [] writes k piece found = omega arith
 write_past (p ∷ reads) writes zero piece found =
     let sides : false ≡ true = ap (λ (burst : Bool × Piece). burst.0) (same_Some (false, p) (true, piece) found) in
     absurd (cc (sides))
 write_past (p ∷ reads) writes (suc k) piece found = omega (arith, write_past reads writes k piece found)
 
-take_past : (parts : List Piece) (k : ℕ) → length parts ≤ k → take (k + 1) parts ≡ take k parts
+pub take_past : (parts : List Piece) (k : ℕ) → length parts ≤ k → take (k + 1) parts ≡ take k parts
 take_past [] zero past = refl
 take_past [] (suc k) past = let next : suc k + 1 ≡ suc (k + 1) = omega arith in rw next refl
 take_past (p ∷ parts) zero past = absurd (omega (arith, past))
@@ -381,7 +381,7 @@ pub record IsReading (request : BridgedRequest) (piece : Piece) (count : ℕ) : 
   pub few : count ≤ piece.len
 
 -- no write is planned yet
-not_writing : (config : Config) (regions : List Region) (request : BridgedRequest) (piece : Piece) (count : ℕ) → IsServed config regions request → IsReading request piece count → request.flight.writing ≡ true → ⊥
+pub not_writing : (config : Config) (regions : List Region) (request : BridgedRequest) (piece : Piece) (count : ℕ) → IsServed config regions request → IsReading request piece count → request.flight.writing ≡ true → ⊥
 not_writing config regions request piece count served reading is =
     let read = read_at (read_pieces request.flight) (planned_writes request.flight) request.flight.answered piece reading.burst in
     omega (arith, slice_get_within (read_pieces request.flight) request.flight.answered piece read, (served.writing is).1)

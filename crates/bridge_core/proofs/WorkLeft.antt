@@ -77,7 +77,7 @@ sum_open_reads id came ((false, piece) ∷ bursts) =
 
 -- ---- what came of a request's next read is among its work
 
-first_dropped : {X : Type 0} (xs : List X) (k : ℕ) (x : X) → slice_get xs k ≡ Some x → drop k xs ≡ x ∷ drop (suc k) xs
+pub first_dropped : {X : Type 0} (xs : List X) (k : ℕ) (x : X) → slice_get xs k ≡ Some x → drop k xs ≡ x ∷ drop (suc k) xs
 first_dropped [] k x there = absurd (cc (there))
 first_dropped {X = X} (y ∷ ys) zero x there = ap (λ (z : X). z ∷ ys) (same_Some y x there)
 first_dropped (y ∷ ys) (suc k) x there = first_dropped ys k x there
@@ -92,7 +92,7 @@ first_of_dropped (y ∷ ys) (suc a) zero x rest is = absurd (cc (is))
 first_of_dropped (y ∷ ys) zero (suc s) x rest is = let same : y ≡ x = cc (is) in ap Some same
 first_of_dropped (y ∷ ys) (suc a) (suc s) x rest is = first_of_dropped ys a s x rest is
 
-in_whole_course : (b : Bool) (reads writes : List Piece) (k : ℕ) (burst : Bool × Piece) → slice_get (course reads (if b then writes else [])) k ≡ Some burst → slice_get (course reads writes) k ≡ Some burst
+pub in_whole_course : (b : Bool) (reads writes : List Piece) (k : ℕ) (burst : Bool × Piece) → slice_get (course reads (if b then writes else [])) k ≡ Some burst → slice_get (course reads writes) k ≡ Some burst
 in_whole_course true reads writes k burst there = there
 in_whole_course false [] writes k burst there = absurd (cc (there))
 in_whole_course false (r ∷ reads) writes zero burst there = there

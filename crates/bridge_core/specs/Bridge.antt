@@ -1,5 +1,5 @@
 -- The bridge's state, and what each call makes of it (this project's profile).
-use Rattle.std.specs.Prelude.{ℕ, ◌-◌, ◌*◌, ◌^◌, List, [], replicate, Option, Some, None, Result, Ok, Err, if◌then◌else◌, nat_le, slice_get, slice_set, option_map, sum_by}
+use Rattle.std.specs.Prelude.{ℕ, ◌-◌, ◌*◌, ◌^◌, Bool, true, false, List, [], replicate, Option, Some, None, Result, Ok, Err, if◌then◌else◌, nat_le, slice_get, slice_set, option_map, sum_by}
 use Rattle.std.specs.Option.{option_flatten}
 use Rattle.tl_messages.specs.Requests.{HeldMessage}
 use Rattle.tl_messages.specs.declared.ABeat.{ABeat}
@@ -89,6 +89,15 @@ offered_after (Ok Whole) state client beat = completed state client (message_wit
 abbrev pub offered : BridgeState → ℕ → ABeat → BridgeState × Offered
 offered state client beat =
     if nat_le state.requests.config.clients client then (state, offer.NoClient) else offered_after (verdict_on state client beat) state client beat
+
+-- whether an answer refuses its beat
+abbrev pub refuses_beat : Offered → Bool
+refuses_beat offer.NoClient = true
+refuses_beat (offer.Refused rule) = true
+refuses_beat offer.NotReady = true
+refuses_beat offer.Exhausted = true
+refuses_beat offer.More = false
+refuses_beat (offer.Accepted number) = false
 
 -- ---- pump
 

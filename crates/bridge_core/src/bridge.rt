@@ -1,5 +1,5 @@
 //! The bridge.
-ghost use Rattle.std.specs.Prelude.{◌≡◌, ◌+◌, ◌-◌, ◌*◌, ◌<◌, ◌≤◌, true, false, None, Some, Ok, Err, IfOk, IfSome, IsErr, IsOk, IsSome, IsSomeAnd, MatchOption, is_some, option_map, slice_get};
+ghost use Rattle.std.specs.Prelude.{◌≡◌, ◌+◌, ◌-◌, ◌*◌, ◌^◌, ◌<◌, ◌≤◌, true, false, None, Some, Ok, Err, IfOk, IfSome, IsErr, IsOk, IsSome, IsSomeAnd, MatchOption, is_some, option_map, slice_get};
 ghost use Rattle.std.specs.Vec.{vec_capacity, vec_len};
 ghost use Rattle.axi_beats.specs.Bursts.{IsLegal};
 ghost use Rattle.responses.specs.Gathered.{gathered};
@@ -50,10 +50,12 @@ impl Model for Bridge {
 }
 
 impl Bridge {
-    ghost use Rattle.bridge_core.specs.Bridge.{after_b_beat, after_pump, after_r_beat, after_take, b_fault, boxes_of, burst_to_send, in_flight, offered, opening_bridge, r_fault, reply_taken, taken, work_left};
-    ghost use Rattle.bridge_core.specs.Configs.{is_valid};
+    ghost use Rattle.axi_checker.specs.Rules.{burst_fault};
+    ghost use Rattle.flight_table.specs.Work as flight_work;
+    ghost use Rattle.bridge_core.specs.Bridge.{after_b_beat, after_pump, after_r_beat, after_take, b_fault, boxes_of, burst_to_send, in_flight, offered, opening_bridge, r_fault, refuses_beat, reply_taken, taken, work_left};
+    ghost use Rattle.bridge_core.specs.Configs.{axi_port_of, is_valid};
     ghost use Rattle.bridge_core.specs.Laws.{IsSoundBridge};
-    ghost use Rattle.bridge_core.specs.Requests.{first_done, outline_in, reply_beats};
+    ghost use Rattle.bridge_core.specs.Requests.{first_done, flight_table_of, outline_in, reply_beats};
 
     /// A bridge with these limits and this page map, on which no beat has come, with a box for each burst that may be
     /// outstanding on a side of the memory's port.
@@ -64,6 +66,7 @@ impl Bridge {
         ensures ok { IfOk result (λ bridge. bridge ≡ opening_bridge config map) }
         ensures valid { IsOk result → is_valid config ≡ true }
         ensures err { is_valid config ≡ true → IsErr result → result ≡ Err BridgeFault.NoMemory }
+        ensures laws { IfOk result (λ bridge. IsSoundBridge bridge.state) }
     {
         if !config.is_valid() {
             return Err(BridgeFault::BadConfig);
@@ -76,7 +79,8 @@ impl Bridge {
 
     fn opening(alloc: Global, config: Config, map: PageMap) -> Result<Self, AllocError>
         requires { is_valid config ≡ true }
-        ensures { IfOk result (λ bridge. bridge ≡ opening_bridge config map) }
+        ensures state { IfOk result (λ bridge. bridge ≡ opening_bridge config map) }
+        ensures laws { IfOk result (λ bridge. IsSoundBridge bridge.state) }
     {
         let ports = opening_ports(alloc, &config)?;
         let monitor = Monitor::new(alloc, config.ids, config.depth, config.axi_bytes)?;
@@ -97,6 +101,7 @@ impl Bridge {
     pub fn offer(&mut self, client: u8, beat: &ABeat) -> Offered
         ensures answer { result ≡ (offered self.old.state client beat.now).1 }
         ensures state { self.new ≡ record self.old { state = (offered self.old.state client beat.now).0 } }
+        ensures kept { refuses_beat result ≡ true → self.new ≡ self.old }
         ensures laws { IsSoundBridge self.new.state }
     {
         if client >= self.requests.config().clients {
@@ -130,8 +135,9 @@ impl Bridge {
         ensures sent { IsSome result → self.new ≡ record { state = after_pump self.old.state; stock = self.old.stock - 1 } }
         ensures kept { result ≡ None → self.new ≡ self.old }
 
-        // It is legal.
+        // It is legal, and breaks no rule on the memory's port.
         ensures legal { IfSome (burst_to_send self.old.state) (IsLegal self.old.state.requests.config.axi_bytes) }
+        ensures unbroken { IfSome (burst_to_send self.old.state) (λ burst. burst_fault (axi_port_of self.old.state.requests.config) self.old.state.open_bursts burst ≡ None) }
         ensures laws { IsSoundBridge self.new.state }
     {
         if !self.can_pump() {
@@ -222,6 +228,15 @@ impl Bridge {
         ensures { result ≡ work_left self.now.state }
     {
         self.requests.flight().work() - 2 * self.monitor.answered_reads()
+    }
+
+    /// The work of the bursts that aren't sent yet: to send each, to perform its beats, to answer it. A fresh atomic counts
+    /// its write from the start.
+    pub fn unsent_work(&self) -> u64
+        ensures work { result ≡ flight_work.unsent (flight_table_of self.now.state.requests) }
+        ensures most { result ≤ 2 ^ 33 }
+    {
+        self.requests.flight().unsent_work()
     }
 }
 

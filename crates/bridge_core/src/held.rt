@@ -80,12 +80,6 @@ impl Held {
         self.number
     }
 
-    pub(crate) fn request(&self) -> &Request
-        ensures { result.now ≡ self.now.message }
-    {
-        &self.request
-    }
-
     /// Takes the response to one of its writes.
     pub(crate) fn on_b(&mut self, resp: Resp)
         ensures { self.new ≡ record self.old { gathering = after_b resp self.old.gathering } }

@@ -9,9 +9,9 @@ use Rattle.burst_plan.specs.Pieces.{IsPlannable, PlannedRange, pieces}
 use Rattle.burst_plan.specs.PlannedTransfers.{burst_beats, burst_count, piece_at}
 use Rattle.burst_plan.specs.declared.Piece.{Piece}
 use Rattle.burst_plan.proofs.PieceLaws.{divides_evenly, piece_listed, pieces_are}
-use Rattle.flight_table.specs.LiveRequests.{LiveRequest, course, is_atomic, next_burst, pieces_planned, planned, planned_writes, read_pieces, write_pieces}
+use Rattle.flight_table.specs.LiveRequests.{LiveRequest, course, is_atomic, next_burst, pieces_planned, planned, planned_writes, read_pieces, whole_course, write_pieces}
 use Rattle.tl_messages.specs.Operations.{has_data, reply_has_data}
-use Rattle.flight_table.specs.Work.{answers_of_burst, beats_of_burst, work_of}
+use Rattle.flight_table.specs.Work.{answers_of_burst, beats_of_burst}
 
 pub in_reads : (reads writes : List Piece) (k : ℕ) (piece : Piece) → slice_get reads k ≡ Some piece → slice_get (course reads writes) k ≡ Some (false, piece)
 in_reads [] writes k piece found = absurd (cc)
@@ -157,11 +157,11 @@ alike-if beats true parts same = same
 alike-if beats false parts same = tt
 
 -- the work that the code counts
-pub work_is : (request : LiveRequest) (reads writes beats sent answered : ℕ) → request.done ≡ false → reads ≡ length (read_pieces request) → writes ≡ length (write_pieces request)
-    → sent ≡ request.sent → answered ≡ request.answered → AreAlike beats (pieces_planned request.plan)
-    → reads + writes - sent + (reads + writes - answered) * beats + ((reads - answered) * beats + (reads + writes - answered - (reads - answered))) ≡ work_of request
-work_is request reads writes beats sent answered undone reads_is writes_is sent_is answered_is same =
-    rw (undone, reads_is, writes_is, sent_is, answered_is)
+pub work_is : (request : LiveRequest) (reads writes beats sent answered : ℕ) → reads ≡ length (read_pieces request) → writes ≡ length (write_pieces request) → AreAlike beats (pieces_planned request.plan)
+    → reads + writes - sent + (reads + writes - answered) * beats + ((reads - answered) * beats + (reads + writes - answered - (reads - answered)))
+    ≡ length (drop sent (whole_course request)) + sum_by beats_of_burst (drop answered (whole_course request)) + sum_by answers_of_burst (drop answered (whole_course request))
+work_is request reads writes beats sent answered reads_is writes_is same =
+    rw (reads_is, writes_is)
     (sym
-    (work_left beats request.sent request.answered (read_pieces request) (write_pieces request) (alike-if beats (reply_has_data request.operation) (pieces_planned request.plan) same)
+    (work_left beats sent answered (read_pieces request) (write_pieces request) (alike-if beats (reply_has_data request.operation) (pieces_planned request.plan) same)
     (alike-if beats (has_data request.operation) (pieces_planned request.plan) same)))

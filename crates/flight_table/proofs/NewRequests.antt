@@ -78,6 +78,7 @@ sound_new table r sound new =
           depth = s.depth;
           id = s.id;
           holds = s.holds;
+          unsent = s.unsent;
           freed = s.freed;
           no_plan = s.no_plan;
         }
@@ -92,6 +93,7 @@ sound_new table r sound new =
           depth = omega (arith, new.sent);
           id = rw new.id tt;
           holds = λ undone sent. absurd (omega (arith, sent, new.sent));
+          unsent = λ unsent. new.id;
           freed = λ done. new.id;
           no_plan = new.no_plan;
         }

@@ -98,6 +98,7 @@ step_sent table r id sound ready is =
             depth = omega (arith, parts.depth, sound.answered);
             id = takes.below;
             holds = λ undone sent. refl;
+            unsent = λ none. absurd (omega (arith, none));
             freed = λ done. absurd (cc (done, parts.undone));
             no_plan = sound.no_plan;
           };
@@ -126,6 +127,7 @@ step_progressed table r answered writing sound order later within more =
             depth = omega (arith, sound.depth, later);
             id = sound.id;
             holds = sound.holds;
+            unsent = sound.unsent;
             freed = sound.freed;
             no_plan = sound.no_plan;
           };
@@ -176,6 +178,7 @@ step_finished table r sound =
             depth = sound.depth;
             id = tt;
             holds = λ undone sent. absurd (cc (undone));
+            unsent = λ none. refl;
             freed = λ done. refl;
             no_plan = λ none. refl;
           };

@@ -17,7 +17,7 @@ pub record AreLimits (limits : TableLimits) : Type 0 where
   pub some_depth : 1 ≤ limits.depth
   pub most_depth : limits.depth ≤ 4
 
--- a request keeps to the limits; one that isn't done holds an ID once it sent a burst, and one that is done holds none
+-- a request keeps to the limits; one that isn't done holds an ID once it sent a burst and not before, and one that is done holds none
 pub record IsSoundRequest (limits : TableLimits) (accepted : ℕ) (request : LiveRequest) : Type 0 where
   pub number : request.number < accepted
   pub client : request.client < limits.clients
@@ -26,6 +26,7 @@ pub record IsSoundRequest (limits : TableLimits) (accepted : ℕ) (request : Liv
   pub depth : request.sent ≤ request.answered + limits.depth
   pub id : IfSome request.id (λ id. id < limits.ids)
   pub holds : request.done ≡ false → 0 < request.sent → IsSome request.id
+  pub unsent : request.sent ≡ 0 → request.id ≡ None
   pub freed : request.done ≡ true → request.id ≡ None
   pub no_plan : request.plan ≡ None → request.done ≡ true
 

@@ -1,7 +1,7 @@
 -- The work that is left (this project's profile): bursts to send, beats to perform, answers to come.
-use Rattle.std.specs.Prelude.{ℕ, ◌+◌, Bool, length, drop, sum_by, if◌then◌else◌}
+use Rattle.std.specs.Prelude.{ℕ, ◌+◌, Bool, true, ◌&&◌, not, List, length, drop, map, sum_by, if◌then◌else◌}
 use Rattle.burst_plan.specs.declared.Piece.{Piece}
-use Rattle.flight_table.specs.LiveRequests.{LiveRequest, whole_course}
+use Rattle.flight_table.specs.LiveRequests.{LiveRequest, is_atomic, whole_course, write_pieces}
 use Rattle.flight_table.specs.Tables.{FlightTable}
 
 -- the beats of a burst, and its answers: one for a write, one for each beat of a read
@@ -21,3 +21,20 @@ work_of request =
 
 abbrev pub work : FlightTable → ℕ
 work table = sum_by work_of table.live
+
+-- the work of bursts of which none was sent: to send each, to perform its beats, to answer it
+abbrev pub work_of_bursts : List (Bool × Piece) → ℕ
+work_of_bursts bursts = length bursts + sum_by beats_of_burst bursts + sum_by answers_of_burst bursts
+
+-- the work of the bursts that a request has still to send
+abbrev pub unsent_work : LiveRequest → ℕ
+unsent_work request = if request.done then 0 else work_of_bursts (drop request.sent (whole_course request))
+
+-- the work that a request spared: that of the write of an atomic that is done and whose write was never planned, since its read failed
+abbrev pub spared_work : LiveRequest → ℕ
+spared_work request =
+    if is_atomic request && request.done && not request.writing then work_of_bursts (map (λ piece. (true, piece)) (write_pieces request)) else 0
+
+-- the unsent work of all live requests
+abbrev pub unsent : FlightTable → ℕ
+unsent table = sum_by unsent_work table.live

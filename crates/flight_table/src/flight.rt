@@ -5,7 +5,7 @@ ghost use Rattle.flight_table.specs.LiveRequests.{finished, flight_for, awaits_w
 ghost use Rattle.flight_table.specs.Laws.{IsSound};
 ghost use Rattle.flight_table.specs.Order.{IsSmallestReady, holder_of, holders, holds_id, id_for, is_ready, next_ready};
 ghost use Rattle.flight_table.specs.Tables.{change_key, change_number, flight_of, has_number, has_room, in_flight, is_busy, is_done_of, key_where, oldest_done, request_at, request_named, table_of, with_entry, with_request, without_key, without_number};
-ghost use Rattle.flight_table.specs.Work.{work};
+ghost use Rattle.flight_table.specs.Work.{unsent, work};
 
 use crate::TableLimits;
 use crate::live::{Key, Live};
@@ -299,6 +299,15 @@ impl Flight {
         ensures { result ≡ work (table_of self.now) }
     {
         self.live.work()
+    }
+
+    /// The work of the bursts that aren't sent: to send each, to perform its beats, to answer it. A fresh atomic counts its
+    /// write from the start.
+    pub fn unsent_work(&self) -> u64
+        ensures work { result ≡ unsent (table_of self.now) }
+        ensures most { result ≤ 2 ^ 33 }
+    {
+        self.live.unsent_work()
     }
 
     /// How many requests hold back a live one.

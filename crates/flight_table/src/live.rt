@@ -1,5 +1,5 @@
 //! The live requests, and their keys by rising number.
-ghost use Rattle.std.specs.Prelude.{◌≡◌, ◌==◌, ◌&&◌, ◌||◌, not, ◌<◌, ◌≤◌, [], ◌∷◌, ◌++◌, Some, None, IfOk, IsSome, is_some, length, filter, find, nat_lt, position, sum_by};
+ghost use Rattle.std.specs.Prelude.{◌≡◌, ◌==◌, ◌&&◌, ◌||◌, not, ◌<◌, ◌≤◌, ◌^◌, [], ◌∷◌, ◌++◌, Some, None, IfOk, IsSome, is_some, length, filter, find, nat_lt, position, sum_by};
 ghost use Rattle.std.specs.List.{list_any};
 ghost use Rattle.std.specs.Option.{option_or};
 ghost use Rattle.std.specs.Vec.{vec_len, vec_capacity};
@@ -9,13 +9,13 @@ ghost use Rattle.flight_table.specs.LiveRequests.{LiveRequest, next_burst, unans
 ghost use Rattle.flight_table.specs.Order.{free_id, holds_back, holds_id, may_send};
 ghost use Rattle.flight_table.specs.Tables.{change_entry, has_key, has_number, has_source, is_done_of, is_of, is_undone, key_in, request_in, requests_of};
 ghost use Rattle.flight_table.specs.Laws.{HaveOwnKeys};
-ghost use Rattle.flight_table.specs.Work.{work_of};
+ghost use Rattle.flight_table.specs.Work.{unsent_work, work_of};
 
 use crate::TableLimits;
 use crate::request::LiveRequest;
 use crate::scans::{
     count_holders, count_of, count_undone, first_done, first_ready, free_id, has_source, of_id,
-    of_number, stored, work,
+    of_number, stored, unsent_work, work,
 };
 use slab::Slab;
 use std::alloc::{AllocError, Global};
@@ -230,5 +230,13 @@ impl Live {
         ensures { result ≡ sum_by work_of (requests_of self.now) }
     {
         work(&self.requests, &self.order)
+    }
+
+    /// The work of the unsent bursts of all requests.
+    pub(crate) fn unsent_work(&self) -> u64
+        ensures work { result ≡ sum_by unsent_work (requests_of self.now) }
+        ensures most { result ≤ 2 ^ 33 }
+    {
+        unsent_work(&self.requests, &self.order)
     }
 }

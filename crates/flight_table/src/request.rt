@@ -1,11 +1,11 @@
 //! One live request.
-ghost use Rattle.std.specs.Prelude.{◌≡◌, ◌↔◌, ◌+◌, ◌<◌, ◌≤◌, IsTrue, Some, is_some, length, slice_get};
-ghost use Rattle.flight_table.specs.LiveRequests.{awaits_write, finished, flight_for, is_atomic, is_settled, next_burst, pieces_planned, plan_for, planned, read_pieces, unanswered, with_answered, with_sent, with_write, write_pieces};
+ghost use Rattle.std.specs.Prelude.{◌≡◌, ◌↔◌, ◌+◌, ◌<◌, ◌≤◌, IsTrue, Some, drop, is_some, length, slice_get, sum_by};
+ghost use Rattle.flight_table.specs.LiveRequests.{awaits_write, finished, flight_for, is_atomic, is_settled, next_burst, pieces_planned, plan_for, planned, read_pieces, unanswered, whole_course, with_answered, with_sent, with_write, write_pieces};
 ghost use Rattle.flight_table.specs.Order.{HaveCommonAddress, conflict, holds_back, holds_id, share_bytes};
 ghost use Rattle.std.specs.List.{AllByRecursion};
 ghost use Rattle.burst_plan.specs.Pieces.{range_end};
 ghost use Rattle.flight_table.specs.Tables.{has_source, is_done_of, is_of};
-ghost use Rattle.flight_table.specs.Work.{work_of};
+ghost use Rattle.flight_table.specs.Work.{answers_of_burst, beats_of_burst, unsent_work, work_of};
 
 use burst_plan::{Piece, Plan};
 use std::marker::Model;
@@ -331,8 +331,24 @@ impl LiveRequest {
         u64::from(self.piece(0).len) + 1
     }
 
+    /// The bursts to send and the beats and answers to come, where so many bursts were sent and so many answered; the write
+    /// of an atomic counts from the start.
+    fn work_after(&self, sent: u32, answered: u32) -> u64
+        ensures work { result ≡ length (drop sent (whole_course self.now)) + sum_by beats_of_burst (drop answered (whole_course self.now))
+            + sum_by answers_of_burst (drop answered (whole_course self.now)) }
+        ensures bound { result ≤ 100000000 }
+    {
+        let reads = self.reads();
+        let course = reads + self.writes();
+        let beats = self.piece_beats();
+        let unsent = u64::from(course.saturating_sub(sent));
+        let unread = u64::from(reads.saturating_sub(answered));
+        let unanswered = u64::from(course.saturating_sub(answered));
+        unsent + unanswered * beats + (unread * beats + (unanswered - unread))
+    }
+
     /// The bursts to send, beats to perform and answers to come, as though no beat of an unanswered burst was performed or
-    /// answered; the write of an atomic counts from the start.
+    /// answered.
     pub(crate) fn work(&self) -> u64
         ensures work { result ≡ work_of self.now }
         ensures bound { result ≤ 100000000 }
@@ -340,12 +356,17 @@ impl LiveRequest {
         if self.done {
             return 0;
         }
-        let reads = self.reads();
-        let course = reads + self.writes();
-        let beats = self.piece_beats();
-        let unsent = u64::from(course.saturating_sub(self.sent));
-        let unread = u64::from(reads.saturating_sub(self.answered));
-        let unanswered = u64::from(course.saturating_sub(self.answered));
-        unsent + unanswered * beats + (unread * beats + (unanswered - unread))
+        self.work_after(self.sent, self.answered)
+    }
+
+    /// The work of the bursts that aren't sent.
+    pub(crate) fn unsent_work(&self) -> u64
+        ensures work { result ≡ unsent_work self.now }
+        ensures bound { result ≤ 100000000 }
+    {
+        if self.done {
+            return 0;
+        }
+        self.work_after(self.sent, self.sent)
     }
 }

@@ -1,11 +1,11 @@
 //! Scans of the live requests in the order of their keys.
-ghost use Rattle.std.specs.Prelude.{◌≡◌, ℕ, ◌<◌, ◌≤◌, Bool, IfSome, position, ◌==◌, ◌&&◌, ◌||◌, not, is_some, filter, find, length, map, nat_lt, sum_by};
+ghost use Rattle.std.specs.Prelude.{◌≡◌, ℕ, ◌^◌, ◌<◌, ◌≤◌, Bool, IfSome, position, ◌==◌, ◌&&◌, ◌||◌, not, is_some, filter, find, length, map, nat_lt, sum_by};
 ghost use Rattle.std.specs.List.{list_any};
 ghost use Rattle.flight_table.specs.Inside.{requests_in, sends_by, stored};
 ghost use Rattle.flight_table.specs.LiveRequests.{next_burst, unanswered};
 ghost use Rattle.flight_table.specs.Order.{free_id, holds_back, holds_id, is_free, is_held, may_send};
 ghost use Rattle.flight_table.specs.Tables.{has_number, has_source, is_done_of, is_of, is_undone};
-ghost use Rattle.flight_table.specs.Work.{work_of};
+ghost use Rattle.flight_table.specs.Work.{unsent_work, work_of};
 
 use crate::TableLimits;
 use crate::live::Key;
@@ -227,6 +227,19 @@ pub(crate) fn work(requests: &Slab<LiveRequest>, order: &[Key]) -> u64
     let mut work = 0;
     for key in order {
         work += stored(requests, *key).work();
+    }
+    work
+}
+
+/// The work of the unsent bursts of all requests, of which there are at most 64.
+pub(crate) fn unsent_work(requests: &Slab<LiveRequest>, order: &[Key]) -> u64
+    requires { length order.now ≤ 64 }
+    ensures work { result ≡ sum_by (λ k. unsent_work (stored requests.now k)) order.now }
+    ensures most { result ≤ 2 ^ 33 }
+{
+    let mut work = 0;
+    for key in order {
+        work += stored(requests, *key).unsent_work();
     }
     work
 }

@@ -35,13 +35,14 @@ enum Step {
     OfId(u8, Option<u64>),
     HeldBy(u64, u8),
     Work(u64),
+    Unsent(u64),
     InFlight(u16),
     Accepted(u64),
 }
 
 use Step::{
     Accept, Accepted, Answer, Finish, HeldBy, Idle, InFlight, OfId, OldestDone, PlanWrite, Release,
-    Send, Work,
+    Send, Unsent, Work,
 };
 
 fn plan_of(address: u32, size: u8, max_len: u16, bus_bytes: u8) -> Option<Plan> {
@@ -169,6 +170,7 @@ fn carries(flight: &mut Flight, request: &mut Request, step: Step) -> bool {
         OfId(id, number) => of_id(flight, id) == number,
         HeldBy(number, count) => held_by(flight, number) == Some(count),
         Work(work) => flight.work() == work,
+        Unsent(work) => flight.unsent_work() == work,
         InFlight(count) => flight.in_flight() == count,
         Accepted(count) => flight.accepted() == count,
     }
@@ -357,8 +359,10 @@ fn bursts_get_ids_and_leave_work(rt: HostRuntime) -> Result<(), Fail> {
     let by_depth = [
         Accept(planned(get(0, 12, 0, 0x1000), 0x11000, 256, 4), Some(0)),
         Work(2052),
+        Unsent(2052),
         Send(0, false, 0x11000, 255, 0),
         Send(0, false, 0x11400, 255, 0),
+        Unsent(1026),
         Idle,
         Answer(0),
         Send(0, false, 0x11800, 255, 0),
@@ -378,12 +382,16 @@ fn an_atomic_writes_after_its_read(rt: HostRuntime) -> Result<(), Fail> {
         Work(6),
         Accept(planned(add(1, 3, 0, 0x8000), 0x10000, 16, 8), Some(1)),
         Work(12),
+        Unsent(12),
         Send(0, false, 0x10000, 0, 0),
+        Unsent(9),
         Idle,
         Answer(0),
         Work(9),
         PlanWrite(0),
+        Unsent(9),
         Send(0, true, 0x10000, 0, 0),
+        Unsent(6),
         Idle,
         Answer(0),
         Finish(0),
@@ -392,6 +400,7 @@ fn an_atomic_writes_after_its_read(rt: HostRuntime) -> Result<(), Fail> {
         Work(3),
         Finish(1),
         Work(0),
+        Unsent(0),
         Accept(planned(add(1, 3, 1, 0), 0x10000, 256, 4), Some(2)),
         Work(9),
         Send(2, false, 0x10000, 1, 0),

@@ -360,7 +360,7 @@ state_seen state start seen answers width are =
     ∙ gathered_seen state.bus_bytes state.outline start seen answers width (record { gathered = refl; granted = are.granted; aligned = are.aligned; lane = are.lane; tell = are.tell; came = are.came })
 
 -- a denied request gives no bytes
-no_bytes : (outline : Outline) (g : Gathering) → g.denied ≡ true → ◌≡◌ {A = Reply} (gathered outline g) (record { denied = true; bytes = [] })
+pub no_bytes : (outline : Outline) (g : Gathering) → g.denied ≡ true → ◌≡◌ {A = Reply} (gathered outline g) (record { denied = true; bytes = [] })
 no_bytes outline g denied = by_data (reply_has_data outline.operation)
   where
     by_data : (b : Bool)

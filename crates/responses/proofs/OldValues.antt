@@ -90,14 +90,14 @@ all_given : (f : ℕ → ℕ) (a n : ℕ) → map (λ byte. unwrap_or byte 0) (m
 all_given f a zero = refl
 all_given f a (suc n) = ap (λ (rest : List ℕ). f a ∷ rest) (all_given f (a + 1) n)
 
-number_given : (f : ℕ → ℕ) (a n : ℕ) → number_of (map (λ i. Some (f i)) (range_with_len a n)) ≡ Some (value (map f (range_with_len a n)))
+pub number_given : (f : ℕ → ℕ) (a n : ℕ) → number_of (map (λ i. Some (f i)) (range_with_len a n)) ≡ Some (value (map f (range_with_len a n)))
 number_given f a n = rw (none_is_none f a n) (ap (λ (bytes : List ℕ). Some (value bytes)) (all_given f a n))
 
-number_none : (a n : ℕ) → 0 < n → number_of (map {B = Option ℕ} (λ i. None) (range_with_len a n)) ≡ None
+pub number_none : (a n : ℕ) → 0 < n → number_of (map {B = Option ℕ} (λ i. None) (range_with_len a n)) ≡ None
 number_none a zero some = absurd (omega arith)
 number_none a (suc n) some = refl
 
-map_same : (f g : ℕ → Option ℕ) (a n : ℕ) → ((i : ℕ) → a ≤ i → i < a + n → f i ≡ g i) → map f (range_with_len a n) ≡ map g (range_with_len a n)
+pub map_same : (f g : ℕ → Option ℕ) (a n : ℕ) → ((i : ℕ) → a ≤ i → i < a + n → f i ≡ g i) → map f (range_with_len a n) ≡ map g (range_with_len a n)
 map_same f g a zero same = refl
 map_same f g a (suc n) same = rw (same a (omega arith) (omega arith), map_same f g (a + 1) n (λ i low high. same i (omega arith) (omega arith))) refl
 

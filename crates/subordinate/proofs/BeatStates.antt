@@ -9,7 +9,8 @@ use Rattle.std.proofs.lemmas.Option.{slice_get-get_or, slice_get-map}
 use Rattle.std.specs.List.{AllByRecursion, list_any, enumerate_from}
 use Rattle.std.specs.Prelude.{Some, None, filter, filter_map, flat_map, option_map, sum_by, if◌then◌else◌, slice_get, slice_set, take}
 use Rattle.subordinate.specs.FreeMemory.{Pending, is_waiting, performed_waiting_in, waiting_in}
-use Rattle.subordinate.specs.Inside.{IsPerformed, count_waiting, waiting_places}
+use Rattle.subordinate.specs.Inside.{count_waiting, waiting_places}
+use Rattle.subordinate.specs.Laws.{IsPerformed}
 use Rattle.subordinate.specs.declared.BeatState.{BeatState}
 use Rattle.subordinate.specs.declared.BeatState.TheVariants.{Waiting, Written, Captured}
 
@@ -89,12 +90,12 @@ waiting_in-is pending = waiting_in-places pending.serial 0 pending.beats
 pub length-waiting_in : (pending : Pending) → length (waiting_in pending) ≡ count_waiting pending.beats
 length-waiting_in pending = ap (λ (beats : List (ℕ × ℕ)). length beats) (waiting_in-is pending) ∙ length-map (waiting_places 0 pending.beats) (λ place. (pending.serial, place)) ∙ length-waiting_places 0 pending.beats
 
-slice_get-append-before : {X : Type 0} (xs ys : List X) (k : ℕ) → k < length xs → slice_get (xs ++ ys) k ≡ slice_get xs k
+pub slice_get-append-before : {X : Type 0} (xs ys : List X) (k : ℕ) → k < length xs → slice_get (xs ++ ys) k ≡ slice_get xs k
 slice_get-append-before [] ys k within = absurd (omega (arith, within))
 slice_get-append-before (x ∷ xs) ys zero within = refl
 slice_get-append-before (x ∷ xs) ys (suc k) within = slice_get-append-before xs ys k (omega (arith, within))
 
-slice_get-append-after : {X : Type 0} (xs ys : List X) (k : ℕ) → length xs ≤ k → slice_get (xs ++ ys) k ≡ slice_get ys (k - length xs)
+pub slice_get-append-after : {X : Type 0} (xs ys : List X) (k : ℕ) → length xs ≤ k → slice_get (xs ++ ys) k ≡ slice_get ys (k - length xs)
 slice_get-append-after [] ys k past =
     let same : k ≡ k - 0 = omega arith in
     ap (slice_get ys) same

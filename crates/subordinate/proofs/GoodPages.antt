@@ -8,9 +8,7 @@ use Rattle.axi_beats.specs.Bursts.{Burst, WriteBurst, ReadBurst}
 use Rattle.axi_beats.specs.declared.WBeat.{WBeat}
 use Rattle.subordinate.specs.Effects.{HasGoodPages, IsWholePage}
 use Rattle.subordinate.specs.Faults.{device_fault, is_good, lists_page, rules_of_pages, rules_of_words, standing_of_listed}
-use Rattle.subordinate.specs.FreeMemory.{FreeMemory, Pending, beat_at, has_serial, memory_after, memory_with, opening, performed, performed_beat, performed_in, with_performed}
-use Rattle.subordinate.specs.declared.BeatState.{BeatState}
-use Rattle.subordinate.specs.declared.BeatState.TheVariants.{Waiting, Written, Captured}
+use Rattle.subordinate.specs.FreeMemory.{FreeMemory, memory_after, memory_with, opening}
 use Rattle.subordinate.specs.InsidePages.{KeepsGoodPages}
 use Rattle.subordinate.specs.Pages.{Memory, byte_at_address, holds_address, is_listed_good, opening_memory, word_at, zero_page, zero_words}
 use Rattle.subordinate.specs.declared.DeviceFault.{DeviceFault}
@@ -134,19 +132,5 @@ kept_whole state (WriteBurst aw data_beats) beat whole = by_data (slice_get data
     by_data (Some w) = whole-bytes_written state.bus_bytes state.memory aw (beat + 1) w whole
 
 -- every beat that is performed keeps it so
-pub has_good_pages-with_performed : (state : FreeMemory) (pending : Pending) (beat : ℕ) → HasGoodPages state → HasGoodPages (with_performed state pending beat)
-has_good_pages-with_performed state pending beat pages =
-    record { exactly = λ address. kept_bytes state pending.burst beat address ∙ pages.exactly address; whole = kept_whole state pending.burst beat pages.whole }
-
-pub has_good_pages-performed : (state : FreeMemory) (serial beat : ℕ) → HasGoodPages state → HasGoodPages (performed state serial beat).0
-has_good_pages-performed state serial beat pages = by_burst (find (has_serial serial) state.pending)
-  where
-    by_beat : (pending : Pending) (is : Option BeatState) → HasGoodPages (performed_beat state pending beat is).0
-    by_beat pending None = pages
-    by_beat pending (Some Waiting) = has_good_pages-with_performed state pending beat pages
-    by_beat pending (Some Written) = pages
-    by_beat pending (Some (Captured payload resp)) = pages
-
-    by_burst : (found : Option Pending) → HasGoodPages (performed_in state beat found).0
-    by_burst None = pages
-    by_burst (Some pending) = by_beat pending (beat_at pending beat)
+pub keeps_good_pages-after : (state : FreeMemory) (burst : Burst) (beat : ℕ) → HasGoodPages state → KeepsGoodPages (record { faults = state.faults; memory = memory_after state burst beat })
+keeps_good_pages-after state burst beat pages = record { exactly = λ address. kept_bytes state burst beat address ∙ pages.exactly address; whole = kept_whole state burst beat pages.whole }

@@ -22,7 +22,8 @@ use Rattle.subordinate.specs.Faults.{standing_at, write_response}
 use Rattle.subordinate.specs.FreeMemory.{FreeMemory, Pending, b_of, beat_at, gives_last, has_serial, is_read_of, is_waiting, is_write_of, newly_pending, open_bursts_of, open_read_in, open_write_in, pending_after_r, r_of, r_with, start_of}
 use Rattle.subordinate.specs.declared.BeatState.{BeatState}
 use Rattle.subordinate.specs.declared.BeatState.TheVariants.{Waiting, Written, Captured}
-use Rattle.subordinate.specs.Inside.{RisesWithin, captured_at, is_beside, no_burst, queue_of, queue_of_burst, with_answer}
+use Rattle.subordinate.specs.Inside.{captured_at, is_beside, no_burst, with_answer}
+use Rattle.subordinate.specs.Laws.{RisesWithin, queue_of, queue_of_burst}
 use Rattle.axi_checker.specs.Rules.{AxiPortLimits, burst_fault, id_of, outstanding_beside}
 use Rattle.axi_checker.specs.declared.AxiRule.{AxiRule}
 

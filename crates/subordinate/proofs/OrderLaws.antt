@@ -14,7 +14,8 @@ use Rattle.subordinate.specs.declared.BeatState.{BeatState}
 use Rattle.subordinate.specs.declared.BeatState.TheVariants.{Waiting, Written, Captured}
 use Rattle.subordinate.proofs.OpenBursts.{pending_after_r-last, pending_after_r-more}
 use Rattle.subordinate.specs.FreeMemory.{FreeMemory, Pending, beat_after, beat_at, gives_last, has_serial, performed, performed_beat, performed_in, with_beat, is_read_of, is_write_of, newly_pending, pending_after_r, reads_as, transfers_in, writes_as}
-use Rattle.subordinate.specs.Inside.{IsSoundPending, RisesWithin, burst_in, captured_at, with_answer}
+use Rattle.subordinate.specs.Inside.{burst_in, captured_at, with_answer}
+use Rattle.subordinate.specs.Laws.{IsSoundPending, RisesWithin}
 use Rattle.subordinate.specs.Order.{AnswersNextBeat, AnswersOldestWrite, OwesAfterOthers, OwesTheSame, beats_owed, reads_owed, reads_owed_by, writes_owed, writes_owed_by}
 
 -- ---- a burst is sent

@@ -5,6 +5,7 @@ use Rattle.std.proofs.lemmas.List.{append-nil, length-append, length-set, map-ap
 use Rattle.std.specs.List.{AllByRecursion, remove}
 use Rattle.std.specs.Prelude.{Option, Some, None, IfSome, IsSome, filter, find, position, slice_get, take}
 use Rattle.axi_beats.specs.Bursts.{Burst, IsLegal, ReadBurst, WriteBurst}
+use Rattle.axi_beats.specs.Transfers.{IsBusWidth}
 use Rattle.axi_checker.proofs.Few.{few-append, few-change_first, few-without_first, length-few}
 use Rattle.axi_checker.specs.Monitors.{HasFewOfEach}
 use Rattle.axi_checker.specs.Rules.{id_of, outstanding_beside}
@@ -14,9 +15,14 @@ use Rattle.std.proofs.lemmas.Bool.{eqb-true}
 use Rattle.std.proofs.lemmas.Option.{slice_get-get_or}
 use Rattle.bus_words.specs.Places.{change_first}
 use Rattle.subordinate.specs.Device.{DeviceState, after_r}
-use Rattle.subordinate.specs.FreeMemory.{FreeMemory, Pending, beat_after, beat_at, gives_last, has_serial, is_read_of, is_waiting, memory_after, newly_pending, open_bursts_of, performed, transfers_in, with_beat}
-use Rattle.subordinate.specs.Inside.{HasRoom, IsPerformed, IsSoundMemory, IsSoundPending, RisesWithin, after_closing, after_counting, after_performing, burst_in, captured_at, device_state, is_beside, memory_over, queue_of, queue_of_burst, with_answer}
-use Rattle.subordinate.specs.InsidePages.{PagesState}
+use Rattle.subordinate.specs.FreeMemory.{FreeMemory, Pending, beat_after, beat_at, gives_last, has_serial, is_read_of, is_waiting, memory_after, newly_pending, open_bursts_of, opening, performed, transfers_in, with_beat, with_burst}
+use Rattle.subordinate.specs.Effects.{HasGoodPages}
+use Rattle.subordinate.specs.Faults.{device_fault}
+use Rattle.subordinate.specs.Inside.{HasRoom, after_closing, after_counting, after_performing, burst_in, captured_at, device_state, is_beside, memory_of, memory_over, with_answer}
+use Rattle.subordinate.specs.InsidePages.{KeepsGoodPages, PagesState}
+use Rattle.subordinate.specs.Laws.{IsBeatOf, IsPerformed, IsSoundMemory, IsSoundPending, RisesWithin, queue_of, queue_of_burst}
+use Rattle.subordinate.specs.declared.PageKind.{PageKind}
+use Rattle.subordinate.proofs.GoodPages.{has_good_pages-kept, has_good_pages-opening, keeps_good_pages-after}
 use Rattle.subordinate.specs.declared.BeatState.{BeatState}
 use Rattle.subordinate.specs.declared.BeatState.TheVariants.{Waiting, Written, Captured}
 use Rattle.subordinate.proofs.OpenBursts.{all-at, count_in_queue, known_beside, pending_after_r-last, pending_after_r-more, position-serial, rises-append, rises-change_first, rises-without_first, serial_at}
@@ -50,11 +56,12 @@ performed-more (suc n) (beat ∷ beats) state all there performed =
     let rest = performed-more n beats state all.1 there performed in
     ((all.0, rest.0), omega (arith, rest.1))
 
-pub sound-with_beat : (bus_bytes beat : ℕ) (state : BeatState) (p : Pending) → IsSoundPending bus_bytes p → is_waiting state ≡ false → IsSoundPending bus_bytes (with_beat beat state p)
-sound-with_beat bus_bytes beat state p sound performed =
+pub sound-with_beat : (bus_bytes beat : ℕ) (state : BeatState) (p : Pending) → IsSoundPending bus_bytes p → is_waiting state ≡ false → IsBeatOf p.burst state → IsSoundPending bus_bytes (with_beat beat state p)
+sound-with_beat bus_bytes beat state p sound performed of_burst =
     record {
       legal = sound.legal;
       whole = length-set p.beats beat state ∙ sound.whole;
+      beats = all-set (IsBeatOf p.burst) p.beats beat state sound.beats of_burst;
       answered = performed-set p.answered beat p.beats state sound.answered performed;
       most = omega (arith, sound.most, length-set p.beats beat state);
     }
@@ -63,22 +70,39 @@ pub sound-with_answer : (bus_bytes : ℕ) (state : BeatState) (p : Pending) → 
 sound-with_answer bus_bytes state p sound there performed =
     let more = performed-more p.answered p.beats state sound.answered there performed in
     let next : suc p.answered ≡ p.answered + 1 = omega arith in
-    record { legal = sound.legal; whole = sound.whole; answered = subst (λ (n : ℕ). AllByRecursion IsPerformed (take n p.beats)) next more.0; most = omega (arith, more.1) }
+    record { legal = sound.legal; whole = sound.whole; beats = sound.beats; answered = subst (λ (n : ℕ). AllByRecursion IsPerformed (take n p.beats)) next more.0; most = omega (arith, more.1) }
+
+-- a beat that waits is one of any burst
+all_waiting : (burst : Burst) (n : ℕ) → AllByRecursion (IsBeatOf burst) (replicate n Waiting)
+all_waiting burst zero = tt
+all_waiting (WriteBurst aw ws) (suc n) = (tt, all_waiting (WriteBurst aw ws) n)
+all_waiting (ReadBurst ar) (suc n) = (tt, all_waiting (ReadBurst ar) n)
 
 sound-newly : (bus_bytes serial : ℕ) (burst : Burst) → IsLegal bus_bytes burst → IsSoundPending bus_bytes (newly_pending serial burst)
-sound-newly bus_bytes serial burst legal = record { legal = legal; whole = length-replicate (transfers_in burst) Waiting; answered = tt; most = omega arith }
+sound-newly bus_bytes serial burst legal =
+    record { legal = legal; whole = length-replicate (transfers_in burst) Waiting; beats = all_waiting burst (transfers_in burst); answered = tt; most = omega arith }
 
 -- ---- all of them
 
+-- other bursts leave the pages as they are
+kept_pages : (memory : FreeMemory) (pending : List Pending) (sent : ℕ) → HasGoodPages memory → HasGoodPages (record memory { pending = pending; sent = sent })
+kept_pages memory pending sent pages = record { exactly = pages.exactly; whole = pages.whole }
+
+-- a memory that nothing was sent to
+pub sound-opening : (bus_bytes : ℕ) (pages : List (ℕ × PageKind)) (bad_words : List ℕ) → IsBusWidth bus_bytes → device_fault pages bad_words ≡ None → IsSoundMemory (opening bus_bytes pages bad_words)
+sound-opening bus_bytes pages bad_words width fine =
+    record { bus = width; rising = omega arith; few = record { known = tt; few = λ id. omega arith }; each = tt; pages = has_good_pages-opening bus_bytes pages bad_words fine }
+
 -- a burst that was sent
-pub sound-append : (bus_bytes sent : ℕ) (pending : List Pending) (burst : Burst) → IsSoundMemory bus_bytes pending sent → IsLegal bus_bytes burst → id_of burst < 16
-    → length (filter (is_beside burst) pending) < 4 → IsSoundMemory bus_bytes (pending ++ newly_pending sent burst ∷ []) (sent + 1)
-sound-append bus_bytes sent pending burst sound legal known fewer =
+pub sound-append : (memory : FreeMemory) (burst : Burst) → IsSoundMemory memory → IsLegal memory.bus_bytes burst → id_of burst < 16
+    → length (filter (is_beside burst) memory.pending) < 4 → IsSoundMemory (with_burst memory burst)
+sound-append memory burst sound legal known fewer =
     record {
       bus = sound.bus;
-      rising = rises-append 0 sent pending (newly_pending sent burst) sound.rising refl;
-      few = few-append queue_of 32 4 pending (newly_pending sent burst) sound.few (queue_below burst known) (omega (arith, count_in_queue burst pending, fewer));
-      each = all-append (IsSoundPending bus_bytes) pending (newly_pending sent burst) sound.each (sound-newly bus_bytes sent burst legal);
+      rising = rises-append 0 memory.sent memory.pending (newly_pending memory.sent burst) sound.rising refl;
+      few = few-append queue_of 32 4 memory.pending (newly_pending memory.sent burst) sound.few (queue_below burst known) (omega (arith, count_in_queue burst memory.pending, fewer));
+      each = all-append (IsSoundPending memory.bus_bytes) memory.pending (newly_pending memory.sent burst) sound.each (sound-newly memory.bus_bytes memory.sent burst legal);
+      pages = kept_pages memory _ _ sound.pages;
     }
   where
     queue_below : (burst : Burst) → id_of burst < 16 → queue_of_burst burst < 32
@@ -86,39 +110,42 @@ sound-append bus_bytes sent pending burst sound legal known fewer =
     queue_below (ReadBurst ar) known = omega (arith, known)
 
 -- there is room for one more
-pub room-append : (bus_bytes sent : ℕ) (pending : List Pending) (burst : Burst) → IsSoundMemory bus_bytes pending sent → IsLegal bus_bytes burst → id_of burst < 16
-    → length (filter (is_beside burst) pending) < 4 → length pending < 128
-room-append bus_bytes sent pending burst sound legal known fewer =
-    let more = sound-append bus_bytes sent pending burst sound legal known fewer in
-    omega (arith, length-few queue_of 32 4 _ more.few, length-append pending (newly_pending sent burst ∷ []))
+room-append : (memory : FreeMemory) (burst : Burst) → IsSoundMemory memory → IsLegal memory.bus_bytes burst → id_of burst < 16
+    → length (filter (is_beside burst) memory.pending) < 4 → length memory.pending < 128
+room-append memory burst sound legal known fewer =
+    let more = sound-append memory burst sound legal known fewer in
+    omega (arith, length-few queue_of 32 4 _ more.few, length-append memory.pending (newly_pending memory.sent burst ∷ []))
 
 -- the burst at a place, by its serial
-pub first-serial : (bus_bytes sent : ℕ) (pending : List Pending) (k : ℕ) → IsSoundMemory bus_bytes pending sent → k < length pending → IsFirst (has_serial (serial_at pending k)) pending k
-first-serial bus_bytes sent pending k sound within = record { within = within; first = position-serial 0 sent pending k sound.rising within }
+first-serial : (memory : FreeMemory) (k : ℕ) → IsSoundMemory memory → k < length memory.pending → IsFirst (has_serial (serial_at memory.pending k)) memory.pending k
+first-serial memory k sound within = record { within = within; first = position-serial 0 memory.sent memory.pending k sound.rising within }
 
 -- a burst that closed
-pub sound-remove : (bus_bytes sent : ℕ) (pending : List Pending) (k : ℕ) → IsSoundMemory bus_bytes pending sent → k < length pending → IsSoundMemory bus_bytes (remove pending k) sent
-sound-remove bus_bytes sent pending k sound within =
-    let test = has_serial (serial_at pending k) in
-    subst (λ (left : List Pending). IsSoundMemory bus_bytes left sent) (without_first-first test pending k (first-serial bus_bytes sent pending k sound within))
+pub sound-remove : (memory : FreeMemory) (k : ℕ) → IsSoundMemory memory → k < length memory.pending → IsSoundMemory (record memory { pending = remove memory.pending k })
+sound-remove memory k sound within =
+    let test = has_serial (serial_at memory.pending k) in
+    subst (λ (left : List Pending). IsSoundMemory (record memory { pending = left })) (without_first-first test memory.pending k (first-serial memory k sound within))
     (record {
       bus = sound.bus;
-      rising = rises-without_first 0 sent test pending sound.rising;
-      few = few-without_first queue_of 32 4 test pending sound.few;
-      each = all-without_first (IsSoundPending bus_bytes) test pending sound.each;
+      rising = rises-without_first 0 memory.sent test memory.pending sound.rising;
+      few = few-without_first queue_of 32 4 test memory.pending sound.few;
+      each = all-without_first (IsSoundPending memory.bus_bytes) test memory.pending sound.each;
+      pages = kept_pages memory _ _ sound.pages;
     })
 
--- a burst that changed, and kept its serial and its burst
-pub sound-set : (bus_bytes sent : ℕ) (pending : List Pending) (k : ℕ) (change : Pending → Pending) (d : Pending) → ((p : Pending) → (change p).serial ≡ p.serial) → ((p : Pending) → (change p).burst ≡ p.burst)
-    → IsSoundMemory bus_bytes pending sent → k < length pending → IsSoundPending bus_bytes (change (get_or pending k d)) → IsSoundMemory bus_bytes (set pending k (change (get_or pending k d))) sent
-sound-set bus_bytes sent pending k change d same_serial same_burst sound within new =
-    let test = has_serial (serial_at pending k) in
-    let becomes = change_first-first test change pending k d (first-serial bus_bytes sent pending k sound within) in
+-- a burst that changed, and kept its serial and its burst, over pages that are good
+sound-set : (memory : FreeMemory) (pages : PagesState) (k : ℕ) (change : Pending → Pending) (d : Pending) → ((p : Pending) → (change p).serial ≡ p.serial) → ((p : Pending) → (change p).burst ≡ p.burst)
+    → IsSoundMemory memory → k < length memory.pending → IsSoundPending memory.bus_bytes (change (get_or memory.pending k d)) → KeepsGoodPages pages
+    → IsSoundMemory (memory_of memory.bus_bytes pages (set memory.pending k (change (get_or memory.pending k d))) memory.sent)
+sound-set memory pages k change d same_serial same_burst sound within new good =
+    let test = has_serial (serial_at memory.pending k) in
+    let becomes = change_first-first test change memory.pending k d (first-serial memory k sound within) in
     record {
       bus = sound.bus;
-      rising = subst (λ (ps : List Pending). RisesWithin 0 sent ps) becomes (rises-change_first 0 sent test change pending same_serial sound.rising);
-      few = subst (λ (ps : List Pending). HasFewOfEach queue_of 32 4 ps) becomes (few-change_first queue_of 32 4 test change pending (λ p. ap queue_of_burst (same_burst p)) sound.few);
-      each = all-set (IsSoundPending bus_bytes) pending k _ sound.each new;
+      rising = subst (λ (ps : List Pending). RisesWithin 0 memory.sent ps) becomes (rises-change_first 0 memory.sent test change memory.pending same_serial sound.rising);
+      few = subst (λ (ps : List Pending). HasFewOfEach queue_of 32 4 ps) becomes (few-change_first queue_of 32 4 test change memory.pending (λ p. ap queue_of_burst (same_burst p)) sound.few);
+      each = all-set (IsSoundPending memory.bus_bytes) memory.pending k _ sound.each new;
+      pages = has_good_pages-kept _ good;
     }
 
 -- ---- the device
@@ -159,6 +186,11 @@ pub beat_after-performed : (memory : FreeMemory) (burst : Burst) (beat : ℕ) �
 beat_after-performed memory (WriteBurst aw ws) beat = refl
 beat_after-performed memory (ReadBurst ar) beat = refl
 
+-- and is one of its burst
+pub beat_after-of : (memory : FreeMemory) (burst : Burst) (beat : ℕ) → IsBeatOf burst (beat_after memory burst beat)
+beat_after-of memory (WriteBurst aw ws) beat = tt
+beat_after-of memory (ReadBurst ar) beat = tt
+
 captured-performed : (state : Option BeatState) → IsSome (captured_at state) → (beat : BeatState) × (state ≡ Some beat) × (is_waiting beat ≡ false)
 captured-performed None captured = absurd (cc)
 captured-performed (Some Waiting) captured = absurd (cc)
@@ -166,22 +198,28 @@ captured-performed (Some Written) captured = absurd (cc)
 captured-performed (Some (Captured payload resp)) captured = (Captured payload resp, refl, refl)
 
 -- an R of the open read at a place
-pub sound-answered : (bus_bytes sent : ℕ) (pending : List Pending) (k : ℕ) (p : Pending) → IsSoundMemory bus_bytes pending sent → k < length pending → p ≡ get_or pending k p
-    → IfSome (slice_get pending k) (λ q. IsSome (captured_at (beat_at q q.answered))) → IsSoundMemory bus_bytes (set pending k (with_answer p)) sent
-sound-answered bus_bytes sent pending k p sound within is captured =
-    let here : slice_get pending k ≡ Some p = slice_get-get_or pending k p within ∙ ap Some (sym is) in
+pub sound-answered : (memory : FreeMemory) (k : ℕ) (p : Pending) → IsSoundMemory memory → k < length memory.pending → p ≡ get_or memory.pending k p
+    → IfSome (slice_get memory.pending k) (λ q. IsSome (captured_at (beat_at q q.answered))) → IsSoundMemory (record memory { pending = set memory.pending k (with_answer p) })
+sound-answered memory k p sound within is captured =
+    let here : slice_get memory.pending k ≡ Some p = slice_get-get_or memory.pending k p within ∙ ap Some (sym is) in
     let beat = captured-performed (beat_at p p.answered) (subst (λ (found : Option Pending). IfSome found (λ q. IsSome (captured_at (beat_at q q.answered)))) here captured) in
-    let new = sound-with_answer bus_bytes beat.0 p (all-at (IsSoundPending bus_bytes) pending k p sound.each within is) beat.1 beat.2 in
-    subst (λ (q : Pending). IsSoundMemory bus_bytes (set pending k (with_answer q)) sent) (sym is)
-    (sound-set bus_bytes sent pending k with_answer p (λ q. refl) (λ q. refl) sound within (subst (λ (q : Pending). IsSoundPending bus_bytes (with_answer q)) is new))
+    let new = sound-with_answer memory.bus_bytes beat.0 p (all-at (IsSoundPending memory.bus_bytes) memory.pending k p sound.each within is) beat.1 beat.2 in
+    let same : PagesState = record { faults = memory.faults; memory = memory.memory } in
+    subst (λ (q : Pending). IsSoundMemory (record memory { pending = set memory.pending k (with_answer q) })) (sym is)
+    (sound-set memory same k with_answer p (λ q. refl) (λ q. refl) sound within (subst (λ (q : Pending). IsSoundPending memory.bus_bytes (with_answer q)) is new)
+    (record { exactly = sound.pages.exactly; whole = sound.pages.whole }))
 
 -- a beat of the open burst at a place
-pub sound-performed : (bus_bytes sent : ℕ) (pending : List Pending) (k beat : ℕ) (state : BeatState) (p : Pending) → IsSoundMemory bus_bytes pending sent → k < length pending → p ≡ get_or pending k p
-    → is_waiting state ≡ false → IsSoundMemory bus_bytes (set pending k (with_beat beat state p)) sent
-sound-performed bus_bytes sent pending k beat state p sound within is performed =
-    let new = sound-with_beat bus_bytes beat state p (all-at (IsSoundPending bus_bytes) pending k p sound.each within is) performed in
-    subst (λ (q : Pending). IsSoundMemory bus_bytes (set pending k (with_beat beat state q)) sent) (sym is)
-    (sound-set bus_bytes sent pending k (with_beat beat state) p (λ q. refl) (λ q. refl) sound within (subst (λ (q : Pending). IsSoundPending bus_bytes (with_beat beat state q)) is new))
+pub sound-performed : (memory : FreeMemory) (pages : PagesState) (k beat : ℕ) (state : BeatState) (p : Pending) → IsSoundMemory memory → k < length memory.pending → p ≡ get_or memory.pending k p
+    → state ≡ beat_after memory p.burst beat → pages ≡ record { faults = memory.faults; memory = memory_after memory p.burst beat }
+    → IsSoundMemory (memory_of memory.bus_bytes pages (set memory.pending k (with_beat beat state p)) memory.sent)
+sound-performed memory pages k beat state p sound within is became becomes =
+    let performed : is_waiting state ≡ false = ap is_waiting became ∙ beat_after-performed memory p.burst beat in
+    let of_burst : IsBeatOf p.burst state = subst (IsBeatOf p.burst) (sym became) (beat_after-of memory p.burst beat) in
+    let new = sound-with_beat memory.bus_bytes beat state p (all-at (IsSoundPending memory.bus_bytes) memory.pending k p sound.each within is) performed of_burst in
+    let good : KeepsGoodPages pages = subst KeepsGoodPages (sym becomes) (keeps_good_pages-after memory p.burst beat sound.pages) in
+    subst (λ (q : Pending). IsSoundMemory (memory_of memory.bus_bytes pages (set memory.pending k (with_beat beat state q)) memory.sent)) (sym is)
+    (sound-set memory pages k (with_beat beat state) p (λ q. refl) (λ q. refl) sound within (subst (λ (q : Pending). IsSoundPending memory.bus_bytes (with_beat beat state q)) is new) good)
 
 pub counting : (bus_bytes : ℕ) (pages : PagesState) (pending : List Pending) (sent : ℕ) (closed : List (Option Burst)) (test : Pending → Bool) (k : ℕ) (p : Pending) → position test pending ≡ Some k
     → p ≡ get_or pending k p → device_state bus_bytes pages (set pending k (with_answer p)) sent closed ≡ after_counting test (device_state bus_bytes pages pending sent closed)
@@ -206,13 +244,13 @@ performing-serial device serial beat p found waits =
     rw (found, waits, same) refl
 
 -- a burst that is sent: there is room for it, and it joins the others
-pub sending : (memory : FreeMemory) (held : Option Burst) → IsSome held → IsSoundMemory memory.bus_bytes memory.pending memory.sent → IfSome held (IsLegal memory.bus_bytes)
+pub sending : (memory : FreeMemory) (held : Option Burst) → IsSome held → IsSoundMemory memory → IfSome held (IsLegal memory.bus_bytes)
     → IfSome held (λ burst. (id_of burst < 16) × (outstanding_beside (open_bursts_of memory) burst < 4))
-    → (length memory.pending < 128) × IsSoundMemory memory.bus_bytes (memory.pending ++ newly_pending memory.sent (burst_in held) ∷ []) (memory.sent + 1)
+    → (length memory.pending < 128) × IsSoundMemory (with_burst memory (burst_in held))
 sending memory None full sound legal room = absurd (cc)
 sending memory (Some burst) full sound legal room =
     let fewer : length (filter (is_beside burst) memory.pending) < 4 = omega (arith, known_beside memory burst, room.1) in
-    (room-append memory.bus_bytes memory.sent memory.pending burst sound legal room.0 fewer, sound-append memory.bus_bytes memory.sent memory.pending burst sound legal room.0 fewer)
+    (room-append memory burst sound legal room.0 fewer, sound-append memory burst sound legal room.0 fewer)
 
 -- room for those that are open and closed after one was sent
 pub room-send : (open_bursts closed spare open_after spare_after room_of_open room_of_closed room_of_spare new_open new_spare : ℕ) → HasRoom open_bursts closed spare room_of_open room_of_closed room_of_spare

@@ -1,12 +1,9 @@
--- How the parts of a device make its state, and what stays true of them.
-use Rattle.std.specs.Prelude.{◌≡◌, ℕ, ◌+◌, ◌*◌, ◌≤◌, Bool, false, List, [], ◌∷◌, ◌++◌, length, map, filter, find, take, Option, None, Some, option_map, option_to_list, if◌then◌else◌}
-use Rattle.std.specs.List.{AllByRecursion}
-use Rattle.axi_beats.specs.Bursts.{Burst, ReadBurst, WriteBurst, IsLegal}
-use Rattle.axi_beats.specs.Transfers.{IsBusWidth}
-use Rattle.axi_checker.specs.Monitors.{HasFewOfEach}
+-- How the parts of a device make its state, and what stays true of their room.
+use Rattle.std.specs.Prelude.{◌≡◌, ℕ, ◌+◌, ◌≤◌, Bool, List, [], ◌∷◌, ◌++◌, length, map, filter, find, Option, None, Some, option_map, option_to_list, if◌then◌else◌}
+use Rattle.axi_beats.specs.Bursts.{Burst, ReadBurst, WriteBurst}
 use Rattle.bus_words.specs.Places.{change_first, without_first}
 use Rattle.subordinate.specs.Device.{DeviceState}
-use Rattle.subordinate.specs.FreeMemory.{FreeMemory, Pending, beat_after, is_read_of, is_waiting, is_write_of, memory_after, transfers_in, with_beat}
+use Rattle.subordinate.specs.FreeMemory.{FreeMemory, Pending, beat_after, is_read_of, is_waiting, is_write_of, memory_after, with_beat}
 use Rattle.subordinate.specs.InsidePages.{PagesState}
 use Rattle.subordinate.specs.declared.BeatState.{BeatState}
 use Rattle.subordinate.specs.declared.BeatState.TheVariants.{Waiting, Written, Captured}
@@ -29,29 +26,6 @@ pending_of serial held beats answered = record { serial = serial; burst = burst_
 abbrev pub count_waiting : List BeatState → ℕ
 count_waiting beats = length (filter is_waiting beats)
 
-abbrev pub IsPerformed : BeatState → Type 0
-IsPerformed beat = is_waiting beat ≡ false
-
--- an open burst: legal, with a state of each of its beats, and of a read the beats that were answered are performed
-pub record IsSoundPending (bus_bytes : ℕ) (pending : Pending) : Type 0 where
-  pub legal : IsLegal bus_bytes pending.burst
-  pub whole : length pending.beats ≡ transfers_in pending.burst
-  pub answered : AllByRecursion IsPerformed (take pending.answered pending.beats)
-  pub most : pending.answered ≤ length pending.beats
-
--- the ID and the side of a burst as one number: the writes of an ID i are queue 2 i, its reads queue 2 i + 1
-abbrev pub queue_of_burst : Burst → ℕ
-queue_of_burst (WriteBurst aw data_beats) = 2 * aw.id
-queue_of_burst (ReadBurst ar) = 2 * ar.id + 1
-
-abbrev pub queue_of : Pending → ℕ
-queue_of pending = queue_of_burst pending.burst
-
--- serials rise, from `low` on and below `top`
-abbrev pub RisesWithin : ℕ → ℕ → List Pending → Type 0
-RisesWithin low top [] = low ≤ top
-RisesWithin low top (pending ∷ later) = (low ≤ pending.serial) × RisesWithin (pending.serial + 1) top later
-
 -- a memory of its parts
 abbrev pub memory_of : ℕ → PagesState → List Pending → ℕ → FreeMemory
 memory_of bus_bytes pages pending sent = record { bus_bytes = bus_bytes; faults = pages.faults; memory = pages.memory; pending = pending; sent = sent }
@@ -62,13 +36,6 @@ memory_over bus_bytes pages = memory_of bus_bytes pages [] 0
 
 abbrev pub device_state : ℕ → PagesState → List Pending → ℕ → List (Option Burst) → DeviceState
 device_state bus_bytes pages pending sent closed = record { memory = memory_of bus_bytes pages pending sent; closed = map burst_in closed }
-
--- what the open bursts of a device keep to: each ID has at most four on each side
-pub record IsSoundMemory (bus_bytes : ℕ) (pending : List Pending) (sent : ℕ) : Type 0 where
-  pub bus : IsBusWidth bus_bytes
-  pub rising : RisesWithin 0 sent pending
-  pub few : HasFewOfEach queue_of 32 4 pending
-  pub each : AllByRecursion (IsSoundPending bus_bytes) pending
 
 -- the room of a device: 128 bursts may be open or closed, and the beats of those that aren't open are kept to be used again
 pub record HasRoom (open_bursts closed spare room_of_open room_of_closed room_of_spare : ℕ) : Type 0 where

@@ -4,5 +4,6 @@ pub mod Faults
 pub mod FreeMemory
 pub mod Inside
 pub mod InsidePages
+pub mod Laws
 pub mod Order
 pub mod Pages

@@ -6,8 +6,8 @@ ghost use Rattle.axi_beats.specs.Bursts.{IsLegal};
 ghost use Rattle.axi_beats.specs.Transfers.{IsBusWidth};
 ghost use Rattle.axi_checker.specs.Rules.{id_of, outstanding_beside};
 ghost use Rattle.subordinate.specs.FreeMemory.{Pending, beat_after, beat_at, has_serial, is_read_of, is_write_of, memory_after, open_bursts_of, transfers_in};
-ghost use Rattle.subordinate.specs.Effects.{HasGoodPages};
-ghost use Rattle.subordinate.specs.Inside.{IsSoundPending, RisesWithin, after_closing, after_counting, after_performing, captured_at, is_beside, memory_over};
+ghost use Rattle.subordinate.specs.Inside.{after_closing, after_counting, after_performing, captured_at, is_beside, memory_over};
+ghost use Rattle.subordinate.specs.Laws.{IsSoundMemory, IsSoundPending};
 
 use crate::beats::Beats;
 use crate::open_burst::OpenBurst;
@@ -50,22 +50,23 @@ impl Model for Device {
     ghost use Rattle.std.specs.List.{AllByRecursion};
     ghost use Rattle.std.specs.Vec.{vec_capacity, vec_len};
     ghost use Rattle.subordinate.specs.Device.{DeviceState};
-    ghost use Rattle.subordinate.specs.Inside.{HasRoom, IsSoundMemory, device_state};
+    ghost use Rattle.subordinate.specs.Inside.{HasRoom, device_state, memory_of};
+    ghost use Rattle.subordinate.specs.Laws.{IsSoundMemory};
 
     ghost Value = { DeviceState };
 
     ghost view = { λ d. device_state d.bus_bytes d.pages d.open.items d.sent d.closed.items };
 
-    ghost invariant = { λ d. IsSoundMemory d.bus_bytes d.open.items d.sent
+    ghost invariant = { λ d. IsSoundMemory (memory_of d.bus_bytes d.pages d.open.items d.sent)
         × HasRoom (vec_len d.open) (vec_len d.closed) (vec_len d.spare) (vec_capacity d.open) (vec_capacity d.closed) (vec_capacity d.spare)
         × AllByRecursion IsSome d.closed.items };
 }
 
 impl Device {
     ghost use Rattle.subordinate.specs.Device.{after_b, after_r, after_take, open_burst, opening_device};
-    ghost use Rattle.subordinate.specs.Effects.{HasEffectAt, HasGoodPages};
+    ghost use Rattle.subordinate.specs.Effects.{HasEffectAt};
     ghost use Rattle.subordinate.specs.Faults.{device_fault};
-    ghost use Rattle.subordinate.specs.FreeMemory.{b_of, performed, performed_waiting, r_of, send_fault, waiting_beats, with_burst};
+    ghost use Rattle.subordinate.specs.FreeMemory.{b_of, performed, performed_waiting, r_of, send_fault, waiting_beats, with_burst, work_open};
     ghost use Rattle.subordinate.specs.Order.{AnswersNextBeat, AnswersOldestWrite, OwesAfterOthers, OwesTheSame};
     ghost use Rattle.subordinate.specs.Pages.{byte_at_address};
     ghost use Rattle.subordinate.specs.declared.DeviceFault.TheVariants.{NoMemory};
@@ -87,7 +88,7 @@ impl Device {
         ensures state { MatchOption (device_fault pages.now bad.now)
             (MatchResult result (λ device. device ≡ opening_device bus_bytes pages.now bad.now) (λ fault. fault ≡ NoMemory))
             (λ fault. result ≡ Err fault) }
-        ensures good_pages { IfOk result (λ device. HasGoodPages device.memory) }
+        ensures laws { IfOk result (λ device. IsSoundMemory device.memory) }
     {
         if let Some(fault) = device_fault(pages, bad) {
             return Err(fault);
@@ -108,7 +109,8 @@ impl Device {
         requires fine { device_fault pages.now bad.now ≡ None }
         requires pages { length pages.now ≤ 64 }
         requires bad { length bad.now ≤ 64 }
-        ensures { IfOk result (λ device. device ≡ opening_device bus_bytes pages.now bad.now) }
+        ensures state { IfOk result (λ device. device ≡ opening_device bus_bytes pages.now bad.now) }
+        ensures laws { IfOk result (λ device. IsSoundMemory device.memory) }
     {
         let pages = Pages::new(alloc, pages, bad)?;
         let open = Vec::with_capacity(alloc, MOST_OPEN)?;
@@ -160,6 +162,18 @@ impl Device {
         count
     }
 
+    /// The work left in open bursts: unperformed beats, and answers to come.
+    pub fn work_left(&self) -> u64
+        ensures work { result ≡ work_open self.now.memory }
+        ensures most { result ≤ 65536 }
+    {
+        let mut work = 0;
+        for burst in self.open.iter() {
+            work += u64::from(burst.work_left());
+        }
+        work
+    }
+
     /// Serial and beat of a beat that isn't performed, counted among these from 0 by rising serial and beat.
     pub fn pending_at(&self, k: u32) -> (u64, u16)
         requires { k < length (waiting_beats self.now.memory) }
@@ -198,6 +212,7 @@ impl Device {
         ensures first { result ≡ option_map Some (slice_get self.old.closed 0) }
         ensures rest { self.new ≡ after_take self.old }
         ensures kept { IsNone result → self.new ≡ self.old }
+        ensures laws { IsSoundMemory self.new.memory }
     {
         if self.closed.is_empty() {
             return None;
@@ -220,6 +235,7 @@ impl Device {
 
         // Its answers are owed after those of all bursts of its ID before it.
         ensures order { IsOk result → IfSome burst (λ b. OwesAfterOthers self.old.memory.sent b self.old.memory.pending self.new.memory.pending) }
+        ensures laws { IsSoundMemory self.new.memory }
     {
         if let Some(rule) = self.send_fault(&burst) {
             return Err(SendRefused { rule, burst });
@@ -238,11 +254,11 @@ impl Device {
         ensures state { self.new ≡ record self.old { memory = (performed self.old.memory serial beat).0 } }
 
         // By addresses: just the strobed bytes of good pages are set, or each byte is captured in its lane.
-        ensures effect { result ≡ Performed.Done → HasGoodPages self.old.memory → HasEffectAt serial beat self.old.memory self.new.memory }
-        ensures good_pages { HasGoodPages self.old.memory → HasGoodPages self.new.memory }
+        ensures effect { result ≡ Performed.Done → HasEffectAt serial beat self.old.memory self.new.memory }
 
         // No answer is given, and the order of those to come stays.
         ensures order { OwesTheSame self.old.memory.pending self.new.memory.pending }
+        ensures laws { IsSoundMemory self.new.memory }
     {
         let Some(place) = self.place_of(serial) else {
             return Performed::NoSuch;
@@ -265,6 +281,7 @@ impl Device {
 
         // Write responses of one ID come in the order of its addresses.
         ensures order { IsSome result → AnswersOldestWrite id self.old.memory.pending self.new.memory.pending }
+        ensures laws { IsSoundMemory self.new.memory }
     {
         let place = self.oldest_write(id)?;
         if !self.open_at(place).all_performed() {
@@ -283,6 +300,7 @@ impl Device {
 
         // Read data of one ID come in the order of its addresses, each as its beat captured it.
         ensures order { IfSome result (λ beat. AnswersNextBeat id beat self.old.memory.pending self.new.memory.pending) }
+        ensures laws { IsSoundMemory self.new.memory }
     {
         let place = self.oldest_read(id)?;
         let (payload, resp) = self.open_at(place).captured()?;
@@ -335,7 +353,8 @@ impl Device {
 
     /// The place of the open burst with this serial.
     fn place_of(&self, serial: u64) -> Option<usize>
-        ensures { result ≡ position (has_serial serial) self.now.memory.pending }
+        ensures place { result ≡ position (has_serial serial) self.now.memory.pending }
+        ensures laws { IsSoundMemory self.now.memory }
     {
         self.open
             .binary_search_by_key(&serial, |burst| burst.serial())
@@ -344,14 +363,16 @@ impl Device {
 
     /// The place of the oldest open write of an ID.
     fn oldest_write(&self, id: u8) -> Option<usize>
-        ensures { result ≡ position (is_write_of id) self.now.memory.pending }
+        ensures place { result ≡ position (is_write_of id) self.now.memory.pending }
+        ensures laws { IsSoundMemory self.now.memory }
     {
         self.open.iter().position(|burst| burst.is_write_of(id))
     }
 
     /// The place of the oldest open read of an ID.
     fn oldest_read(&self, id: u8) -> Option<usize>
-        ensures { result ≡ position (is_read_of id) self.now.memory.pending }
+        ensures place { result ≡ position (is_read_of id) self.now.memory.pending }
+        ensures laws { IsSoundMemory self.now.memory }
     {
         self.open.iter().position(|burst| burst.is_read_of(id))
     }
@@ -362,8 +383,6 @@ impl Device {
         ensures found { (test : Pending → Bool) → position test self.now.memory.pending ≡ Some place → find test self.now.memory.pending ≡ Some result.now }
         ensures here { slice_get self.now.memory.pending place ≡ Some result.now }
         ensures sound { IsSoundPending self.now.memory.bus_bytes result.now }
-        ensures width { IsBusWidth self.now.memory.bus_bytes }
-        ensures rising { RisesWithin 0 self.now.memory.sent self.now.memory.pending }
     {
         &self.open[place]
     }
@@ -372,7 +391,8 @@ impl Device {
     fn perform_at(&mut self, place: usize, beat: u16)
         requires here { place < length self.old.memory.pending }
         requires waits { IfSome (slice_get self.old.memory.pending place) (λ pending. slice_get pending.beats beat ≡ Some BeatState.Waiting) }
-        ensures { (test : Pending → Bool) → position test self.old.memory.pending ≡ Some place → self.new ≡ after_performing test beat self.old }
+        ensures state { (test : Pending → Bool) → position test self.old.memory.pending ≡ Some place → self.new ≡ after_performing test beat self.old }
+        ensures laws { IsSoundMemory self.new.memory }
     {
         let becomes = carried_out(
             &mut self.pages,
@@ -387,7 +407,8 @@ impl Device {
     fn count_answer(&mut self, place: usize)
         requires captured { IfSome (slice_get self.old.memory.pending place) (λ pending. IsSome (captured_at (beat_at pending pending.answered))) }
         requires here { place < length self.old.memory.pending }
-        ensures { (test : Pending → Bool) → position test self.old.memory.pending ≡ Some place → self.new ≡ after_counting test self.old }
+        ensures state { (test : Pending → Bool) → position test self.old.memory.pending ≡ Some place → self.new ≡ after_counting test self.old }
+        ensures laws { IsSoundMemory self.new.memory }
     {
         self.open[place].count_answer();
     }
@@ -395,7 +416,8 @@ impl Device {
     /// Closes the open burst at a place: its box waits to be taken back.
     fn close(&mut self, place: usize)
         requires { place < length self.old.memory.pending }
-        ensures { (test : Pending → Bool) → position test self.old.memory.pending ≡ Some place → self.new ≡ after_closing test self.old }
+        ensures state { (test : Pending → Bool) → position test self.old.memory.pending ≡ Some place → self.new ≡ after_closing test self.old }
+        ensures laws { IsSoundMemory self.new.memory }
     {
         let (burst, beats) = self.open.remove(place).into_parts();
         push(&mut self.spare, beats);
@@ -456,7 +478,6 @@ fn carried_out(pages: &mut Pages, bus_bytes: u8, burst: &BurstBox, beat: u16) ->
     requires beat { IfSome burst.now (λ b. beat < transfers_in b) }
     ensures beat { IfSome burst.now (λ b. result ≡ beat_after (memory_over bus_bytes pages.old) b beat) }
     ensures bytes { IfSome burst.now (λ b. pages.new ≡ record pages.old { memory = memory_after (memory_over bus_bytes pages.old) b beat }) }
-    ensures good_pages { HasGoodPages (memory_over bus_bytes pages.old) }
 {
     if burst.is_write() {
         pages.write(bus_bytes, burst.aw(), beat + 1, burst.w(beat));

@@ -408,8 +408,11 @@ fn room_for_all(rt: HostRuntime) -> Result<(), Fail> {
         );
     }
     assert_eq!(rt; (device.sent(), device.pending()), (128, 32768));
+    // The beats, an answer for each write, and one for each beat of a read.
+    assert_eq!(rt; device.work_left(), 32768 + 64 + 64 * 256);
     assert_eq!(rt; device.perform(127, 255), Performed::Done);
     assert_eq!(rt; (device.pending(), device.performed_waiting()), (32767, 1));
+    assert_eq!(rt; device.work_left(), 32767 + 64 + 64 * 256);
     Ok(())
 }
 

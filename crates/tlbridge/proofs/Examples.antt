@@ -1,6 +1,8 @@
 -- Worked scripts, by the definitions alone.
 use Rattle.std.specs.Prelude.{◌≡◌, false, List, [], ◌∷◌, ◌++◌, ℕ, Ok, Err, refl, codes, flat_map, replicate}
-use Rattle.world_run.specs.declared.SetupFault.TheVariants.{BadConfig}
+use Rattle.world_run.specs.declared.SetupFault.TheVariants.{BadConfig, Map, Device}
+use Rattle.burst_plan.specs.declared.MapFault.TheVariants.{RegionOverlap}
+use Rattle.subordinate.specs.declared.DeviceFault.TheVariants.{BadWord}
 use Rattle.tlbridge.specs.Run.{Opening, run_reading}
 use Rattle.tlbridge.specs.Scripts.{TextResult, text_of}
 use Rattle.tlbridge.specs.declared.faults.TextFault.TheVariants.{Script, Setup}
@@ -32,3 +34,15 @@ long_lines = refl
 -- one line too many
 too_many_lines : (run_result (codes "config 1 1 1 1 1 12 h" ++ 10 ∷ replicate 65536 10)).result ≡ Err (Script 65537 0)
 too_many_lines = refl
+
+-- the bus: a ninth word that is no number or a width, a tenth word, and a width that `max_len` doesn't allow
+bus : run_result (codes "config 1 1 1 1 1 12 h x") ∷ run_result (codes "config 1 1 1 1 1 12 h 256") ∷ run_result (codes "config 1 1 1 1 1 12 h 8 8") ∷ run_result (codes "config 1 1 1 1 1 12 h 4") ∷ run_result (codes "config 1 1 1 1 2 12 h 4") ∷ []
+    ≡ record { output = []; result = Err (Script 1 9) } ∷ record { output = []; result = Err (Script 1 9) } ∷ record { output = []; result = Err (Script 1 10) }
+    ∷ record { output = []; result = Err (Setup BadConfig) } ∷ record { output = []; result = Ok false } ∷ []
+bus = refl
+
+-- a bad word of a page that answers with an error, regions that overlap, and a second field of `bad`
+lists : (run_result (text (set_up ++ codes "page 20 1 slverr" ∷ codes "bad 10008" ∷ codes "bad 20000" ∷ []))).result ∷ (run_result (text (set_up ++ codes "region 3 1 20 g---" ∷ []))).result
+    ∷ (run_result (text (set_up ++ codes "bad 10008 8" ∷ []))).result ∷ []
+    ≡ Err (Setup (Device (BadWord 1))) ∷ Err (Setup (Map (RegionOverlap 1))) ∷ Err (Script 4 3) ∷ []
+lists = refl

@@ -3,12 +3,12 @@ mod PageLists
 mod PlainLines
 mod Numbers
 mod TraceTexts
-mod FirstSetups
 mod Parts
 mod WordParts
 mod ScriptLines
 mod Endings
 mod Progress
 mod LineRooms
+mod Openings
 mod ClientTables
 mod ConfigLines

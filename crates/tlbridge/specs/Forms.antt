@@ -50,6 +50,10 @@ permissions_field _ = false
 abbrev pub count_field : Field
 count_field word = is_dec_to 64 word && nat_le 1 (digits_value 10 word)
 
+-- the kind of a page
+abbrev pub kind_field : Field
+kind_field word = bytes_eq word (codes "good") || bytes_eq word (codes "slverr")
+
 -- `0` or `1`, as it stands
 abbrev pub flag_field : Field
 flag_field word = bytes_eq word (codes "0") || bytes_eq word (codes "1")

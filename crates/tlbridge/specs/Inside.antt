@@ -1,14 +1,11 @@
--- What the state of `tlbridge run` is in a clause, and what it keeps.
-use Rattle.std.specs.Prelude.{◌≡◌, ◌<◌, ◌≤◌, ◌+◌, ◌^◌, ⊤, Bool, true, [], length, Result, Ok, Err}
-use Rattle.std.specs.List.{list_all}
-use Rattle.subordinate.specs.Pages.{is_listed_good}
-use Rattle.world_run.specs.Setups.{SetupLists, lists_of}
+-- What the state of `tlbridge run` is in a clause, and what a line may add to it.
+use Rattle.std.specs.Prelude.{◌≡◌, ◌<◌, ◌≤◌, ◌+◌, ◌^◌, ⊤, Bool, true, length, Result, Ok, Err}
+use Rattle.world_run.specs.Setups.{lists_of}
 use Rattle.tlbridge.specs.Run as run
-use Rattle.subordinate.specs.declared.PageKind.TheVariants.{Good}
 use Rattle.tlbridge.specs.declared.faults.TextFault.{TextFault}
 use Rattle.tlbridge.specs.declared.faults.TextFault.TheVariants.{Script, Setup, Read, Write, NoMemory}
 use Rattle.tlbridge.specs.declared.setup_lines.SetupLine.{SetupLine}
-use Rattle.tlbridge.specs.declared.setup_lines.SetupLine.TheVariants.{Config, Region, Pages}
+use Rattle.tlbridge.specs.declared.setup_lines.SetupLine.TheVariants.{Config, Region, Pages, BadWord}
 use Rattle.tlbridge.specs.declared.run.Stage.{Stage}
 use Rattle.tlbridge.specs.declared.run.Stage.TheVariants.{Opening, SettingUp, Running}
 
@@ -17,22 +14,12 @@ stage_of Opening = run.Opening
 stage_of (SettingUp setup) = run.SettingUp (lists_of setup)
 stage_of (Running world) = run.Running world
 
--- a set-up that the first world takes: a bus of eight bytes, good pages alone, no bad words
-pub record IsFirstSetup (setup : SetupLists) : Type 0 where
-  pub bus : setup.config.axi_bytes ≡ 8
-  pub good : list_all is_listed_good setup.pages ≡ true
-  pub no_bad_words : setup.bad_words ≡ []
-
-abbrev pub IsFirstStage : run.Stage → Type 0
-IsFirstStage run.Opening = ⊤
-IsFirstStage (run.SettingUp setup) = IsFirstSetup setup
-IsFirstStage (run.Running world) = ⊤
-
 -- a set-up line that a stage has room for: `line_in` gives no other
 abbrev pub HasRoom : run.Stage → SetupLine → Type 0
-HasRoom run.Opening (Config config) = config.axi_bytes ≡ 8
+HasRoom run.Opening (Config config) = ⊤
 HasRoom (run.SettingUp setup) (Region region) = length setup.regions < 16
-HasRoom (run.SettingUp setup) (Pages first count kind) = (length setup.pages + count ≤ 64) × (first + count ≤ 2 ^ 32) × (kind ≡ Good)
+HasRoom (run.SettingUp setup) (Pages first count kind) = (length setup.pages + count ≤ 64) × (first + count ≤ 2 ^ 32)
+HasRoom (run.SettingUp setup) (BadWord address) = length setup.bad_words < 64
 HasRoom stage line = ⊥
 
 -- what a script's commands work on was made where there was none, or why it wasn't; memory is asked for only while nothing was written

@@ -1,6 +1,5 @@
 pub mod Check
 pub mod ClientPorts
-pub mod FirstPath
 pub mod Forms
 pub mod Inside
 pub mod InsidePorts

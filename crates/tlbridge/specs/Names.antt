@@ -50,6 +50,14 @@ held_text (Some burst) = burst_text burst
 abbrev pub reply_text : ℕ → List DBeat → List ℕ
 reply_text client beats = flat_map (d_text client) beats
 
+-- the line of a drain, by its number of steps
+abbrev pub drained_text : ℕ → List ℕ
+drained_text steps = answer_line (codes "drained" ∷ decimal steps ∷ [])
+
+-- the line of the work left
+abbrev pub work_text : ℕ → List ℕ
+work_text work = answer_line (codes "work" ∷ decimal work ∷ [])
+
 -- the line of a byte of memory
 abbrev pub mem_text : Option ℕ → List ℕ
 mem_text None = answer_line (codes "mem" ∷ codes "--" ∷ [])

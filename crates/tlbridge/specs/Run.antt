@@ -1,17 +1,16 @@
 -- `tlbridge run`: what each line of its script does (this project's profile).
-use Rattle.std.specs.Prelude.{ℕ, Bool, true, false, ◌||◌, not, List, [], ◌∷◌, ◌++◌, length, Option, Some, None, Result, Ok, Err, if◌then◌else◌, nat_le}
+use Rattle.std.specs.Prelude.{ℕ, Bool, true, false, not, List, [], ◌∷◌, ◌++◌, length, Option, Some, None, Result, Ok, Err, if◌then◌else◌, nat_le}
 use Rattle.tl_messages.specs.Lines.{a_text}
 use Rattle.world_run.specs.Setups.{SetupLists, setup_fault}
-use Rattle.world_run.specs.World.{WorldState, Outcome, opening_world, next, byte_of}
+use Rattle.world_run.specs.World.{WorldState, Outcome, opening_world, next, byte_of, drained, work_left}
 use Rattle.world_run.specs.declared.SetupFault.{SetupFault}
 use Rattle.world_run.specs.declared.Step.{Step}
 use Rattle.world_run.specs.declared.Step.TheVariants as step
-use Rattle.tlbridge.specs.FirstPath.{is_for_later, most_regions}
 use Rattle.tlbridge.specs.Forms.{read_as, told_as, form_of, byte_field, short_field, address_field}
 use Rattle.tlbridge.specs.OfferLines.{offer_line}
-use Rattle.tlbridge.specs.Names.{answer_text, held_text, reply_text, mem_text}
+use Rattle.tlbridge.specs.Names.{answer_text, held_text, reply_text, drained_text, mem_text, work_text}
 use Rattle.tlbridge.specs.Scripts.{LineStep, Reading}
-use Rattle.tlbridge.specs.SetupLines.{config_line, region_line, page_line, too_many_pages, with_config, with_line}
+use Rattle.tlbridge.specs.SetupLines.{config_line, region_line, page_line, bad_line, too_many_pages, with_config, with_line}
 use Rattle.tlbridge.specs.Words.{is_dec_to, word_at, dec_at, hex_at}
 use Rattle.tlbridge.specs.declared.faults.TextFault.{TextFault}
 use Rattle.tlbridge.specs.declared.faults.TextFault.TheVariants.{Script, Setup as SetupRefused}
@@ -20,7 +19,7 @@ use Rattle.tlbridge.specs.declared.forms.Form.TheVariants as form
 use Rattle.tlbridge.specs.declared.run_lines.RunLine.{RunLine}
 use Rattle.tlbridge.specs.declared.run_lines.RunLine.TheVariants.{Setup as SetupForm, Command as CommandForm}
 use Rattle.tlbridge.specs.declared.run_lines.Command.{Command}
-use Rattle.tlbridge.specs.declared.run_lines.Command.TheVariants.{Event, Mem}
+use Rattle.tlbridge.specs.declared.run_lines.Command.TheVariants.{Event, Drain, Mem, Work}
 use Rattle.tlbridge.specs.declared.setup_lines.SetupLine.{SetupLine}
 use Rattle.tlbridge.specs.declared.setup_lines.SetupLine.TheVariants.{Config}
 
@@ -50,10 +49,10 @@ abbrev pub is_config_form : Form → Bool
 is_config_form form.Config = true
 is_config_form _ = false
 
--- whether a set-up has no room for one line more of this form; it takes one `config` line, so many regions, 64 pages and 64 bad words
+-- whether a set-up has no room for one line more of this form; it takes one `config` line, 16 regions, 64 pages and 64 bad words
 abbrev pub has_no_room : SetupLists → Form → List (List ℕ) → Bool
 has_no_room setup form.Config words = true
-has_no_room setup form.Region words = nat_le most_regions (length setup.regions)
+has_no_room setup form.Region words = nat_le 16 (length setup.regions)
 has_no_room setup form.Page words = too_many_pages (length setup.pages) words
 has_no_room setup form.BadWord words = nat_le 64 (length setup.bad_words)
 has_no_room setup _ words = false
@@ -85,24 +84,23 @@ abbrev pub line_of_form : Form → List (List ℕ) → Result RunLine ℕ
 line_of_form form.Config words = told_as (λ config. SetupForm (Config config)) (config_line words)
 line_of_form form.Region words = told_as SetupForm (region_line words)
 line_of_form form.Page words = told_as SetupForm (page_line words)
+line_of_form form.BadWord words = told_as SetupForm (bad_line words)
 line_of_form form.Offer words = told_as (λ offer. event (step.Offer offer.0 offer.1)) (offer_line words)
 line_of_form form.Pump words = told_as event (read_as [] words step.Pump)
 line_of_form form.Perform words = told_as event (perform_line words)
 line_of_form form.AnswerB words = told_as (λ id. event (step.AnswerB id)) (byte_line words)
 line_of_form form.AnswerR words = told_as (λ id. event (step.AnswerR id)) (byte_line words)
 line_of_form form.Take words = told_as (λ client. event (step.Take client)) (byte_line words)
+line_of_form form.Drain words = told_as CommandForm (read_as [] words Drain)
 line_of_form form.Mem words = told_as (λ address. CommandForm (Mem address)) (mem_line words)
--- these can't stand yet
-line_of_form form.BadWord words = Err 1
-line_of_form form.Drain words = Err 1
-line_of_form form.Work words = Err 1
+line_of_form form.Work words = told_as CommandForm (read_as [] words Work)
 -- this is one of `tlbridge check`
 line_of_form form.Free words = Err 1
 
 -- what the words of a line of this form say, if there is such a form and it may stand here, or the first wrong word
 abbrev pub line_as : Stage → List (List ℕ) → Option Form → Result RunLine ℕ
 line_as stage words None = Err 1
-line_as stage words (Some form) = if is_for_later form || is_misplaced stage form words then Err 1 else line_of_form form words
+line_as stage words (Some form) = if is_misplaced stage form words then Err 1 else line_of_form form words
 
 abbrev pub line_in : Stage → List (List ℕ) → Result RunLine ℕ
 line_in stage words = line_as stage words (form_of (word_at words 1))
@@ -144,7 +142,9 @@ event_text s outcome = before_answer s ++ (answer_text outcome.answer ++ after_a
 -- what a command writes, and the world after it
 abbrev pub commanded : WorldState → Command → List ℕ × WorldState
 commanded world (Event s) = (event_text s (next world s), (next world s).state)
+commanded world Drain = (drained_text (drained world).0, (drained world).1)
 commanded world (Mem address) = (mem_text (byte_of world address), world)
+commanded world Work = (work_text (work_left world), world)
 
 abbrev pub command_step : Result WorldState TextFault → Command → LineStep Stage
 command_step (Err fault) command = Err fault

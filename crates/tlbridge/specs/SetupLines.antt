@@ -1,5 +1,5 @@
 -- The set-up lines of a script (this project's profile).
-use Rattle.std.specs.Prelude.{ℕ, ◌+◌, ◌^◌, ◌==◌, Bool, ◌&&◌, ◌||◌, not, List, [], ◌∷◌, ◌++◌, map, if◌then◌else◌, nat_lt, nat_le, codes, Result, slice_get, unwrap_or}
+use Rattle.std.specs.Prelude.{ℕ, ◌+◌, ◌^◌, ◌==◌, Bool, ◌&&◌, ◌||◌, not, List, [], ◌∷◌, ◌++◌, map, length, if◌then◌else◌, nat_lt, nat_le, codes, Result, slice_get, unwrap_or}
 use Rattle.std.specs.List.{range_with_len}
 use Rattle.std.specs.Str.{bytes_eq}
 use Rattle.tl_checker.specs.declared.Level.{Level}
@@ -9,17 +9,27 @@ use Rattle.bridge_core.specs.declared.Config.{Config as Limits}
 use Rattle.subordinate.specs.declared.PageKind.{PageKind}
 use Rattle.subordinate.specs.declared.PageKind.TheVariants.{Good, SlaveError}
 use Rattle.world_run.specs.Setups.{SetupLists}
-use Rattle.tlbridge.specs.FirstPath.{kind_field}
-use Rattle.tlbridge.specs.Forms.{Field, byte_field, short_field, long_field, address_field, levels_field, permissions_field, count_field, read_as}
+use Rattle.tlbridge.specs.Forms.{Field, byte_field, short_field, long_field, address_field, levels_field, permissions_field, count_field, kind_field, read_as}
 use Rattle.tlbridge.specs.Words.{word_at, dec_at, hex_at}
 use Rattle.tlbridge.specs.declared.setup_lines.SetupLine.{SetupLine}
-use Rattle.tlbridge.specs.declared.setup_lines.SetupLine.TheVariants.{Config, Region, Pages}
+use Rattle.tlbridge.specs.declared.setup_lines.SetupLine.TheVariants.{Config, Region, Pages, BadWord}
 
--- ---- config CLIENTS QUOTA IDS DEPTH MAXLEN MAXSIZE LEVELS
+-- ---- config CLIENTS QUOTA IDS DEPTH MAXLEN MAXSIZE LEVELS, and the bytes of the bus where they aren't 8
+
+-- whether there is a ninth word
+abbrev pub names_bus : List (List ℕ) → Bool
+names_bus words = nat_le 9 (length words)
+
+abbrev pub bus_fields : List (List ℕ) → List Field
+bus_fields words = if names_bus words then byte_field ∷ [] else []
+
+-- the bytes of the bus
+abbrev pub bus_in : List (List ℕ) → ℕ
+bus_in words = if names_bus words then dec_at words 9 else 8
 
 abbrev pub config_fields : List (List ℕ) → List Field
 config_fields words =
-    byte_field ∷ byte_field ∷ byte_field ∷ byte_field ∷ short_field ∷ byte_field ∷ levels_field (dec_at words 2) ∷ []
+    byte_field ∷ byte_field ∷ byte_field ∷ byte_field ∷ short_field ∷ byte_field ∷ levels_field (dec_at words 2) ∷ bus_fields words
 
 abbrev pub level_of : ℕ → Level
 level_of letter = if letter == 104 then Uh else Ul
@@ -31,7 +41,7 @@ level_at letters place = level_of (unwrap_or (slice_get letters place) 108)
 abbrev pub levels_in : List ℕ → List Level
 levels_in letters = map (level_at letters) (range_with_len 0 8)
 
--- the limits that a `config` line gives; the bus has 8 bytes
+-- the limits that a `config` line gives
 abbrev pub config_in : List (List ℕ) → Limits
 config_in words =
     record {
@@ -42,7 +52,7 @@ config_in words =
       max_len = dec_at words 6;
       max_size = dec_at words 7;
       levels = levels_in (word_at words 8);
-      axi_bytes = 8;
+      axi_bytes = bus_in words;
     }
 
 abbrev pub config_line : List (List ℕ) → Result Limits ℕ
@@ -86,6 +96,13 @@ kind_in word = if bytes_eq word (codes "good") then Good else SlaveError
 abbrev pub page_line : List (List ℕ) → Result SetupLine ℕ
 page_line words = read_as page_fields words (Pages (hex_at words 2) (dec_at words 3) (kind_in (word_at words 4)))
 
+-- ---- bad ADDRESS
+
+abbrev pub bad_line : List (List ℕ) → Result SetupLine ℕ
+bad_line words = read_as (address_field ∷ []) words (BadWord (hex_at words 2))
+
+-- ---- a set-up
+
 -- pages that follow each other
 abbrev pub pages_from : ℕ → ℕ → PageKind → List (ℕ × PageKind)
 pages_from first count kind = map (λ page. (page, kind)) (range_with_len first count)
@@ -97,8 +114,6 @@ too_many_pages held words =
     || count_field (word_at words 3)
     && (nat_lt 64 (held + dec_at words 3) || address_field (word_at words 2) && nat_lt (2 ^ 32) (hex_at words 2 + dec_at words 3))
 
--- ---- a set-up
-
 -- a set-up of a `config` line alone
 abbrev pub with_config : Limits → SetupLists
 with_config config = record { config = config; regions = []; pages = []; bad_words = [] }
@@ -108,3 +123,4 @@ abbrev pub with_line : SetupLists → SetupLine → SetupLists
 with_line setup (Config config) = record setup { config = config }
 with_line setup (Region region) = record setup { regions = setup.regions ++ region ∷ [] }
 with_line setup (Pages first count kind) = record setup { pages = setup.pages ++ pages_from first count kind }
+with_line setup (BadWord address) = record setup { bad_words = setup.bad_words ++ address ∷ [] }

@@ -4,7 +4,7 @@ use std::test::Fail;
 use world_run::SetupFault;
 
 /// Whole scripts that are judged to their end: whether something was refused, and the trace.
-const JUDGED: [(&str, bool, &str); 8] = [
+const JUDGED: [(&str, bool, &str); 9] = [
     (
         "config 1 1 1 1 1 12 h\na 0 4 0 3 0 8 ff 0 0\na 0 4 0 3 0 8 ff 0 0\nfree 0 0\na 0 4 0 3 0 c ff 0 0\nfree 0 7\n",
         true,
@@ -40,6 +40,11 @@ const JUDGED: [(&str, bool, &str); 8] = [
         true,
         "A 0 5 0 3 0 00000008 ff 0000000000000000 0\n= whole\nA 1 5 0 3 0 00000008 ff 0000000000000000 0\n= refused 2 LEVEL\n",
     ),
+    (
+        "config 1 1 1 1 2 12 h 4\na 0 4 0 12 0 1000 ff 0 0\n",
+        false,
+        "A 0 4 0 12 0 00001000 ff 0000000000000000 0\n= whole\n",
+    ),
     ("config 1 1 1 1 1 12 h", false, ""),
 ];
 
@@ -56,7 +61,7 @@ fn judged_scripts(rt: HostRuntime) -> Result<(), Fail> {
 }
 
 /// Scripts with a fault, its line and word, and the trace before it.
-const FAULTY: [(&str, u32, u32, &str); 19] = [
+const FAULTY: [(&str, u32, u32, &str); 24] = [
     ("", 1, 1, ""),
     ("\n# config\n", 3, 1, ""),
     ("free 0 0\n", 1, 1, ""),
@@ -64,7 +69,12 @@ const FAULTY: [(&str, u32, u32, &str); 19] = [
     ("region x", 1, 1, ""),
     ("config 1 1 1 1 1 12 h\nregion 0 4 10 gpah", 2, 1, ""),
     ("config 1 1 1 1 1 12 h\npage 10 4 good", 2, 1, ""),
+    ("config 1 1 1 1 1 12 h\nbad 10000", 2, 1, ""),
     ("config 1 1 1 1 1 12 h\npump", 2, 1, ""),
+    ("config 1 1 1 1 1 12 h\ndrain", 2, 1, ""),
+    ("config 1 1 1 1 1 12 h\nwork", 2, 1, ""),
+    ("config 1 1 1 1 1 12 h -", 1, 9, ""),
+    ("config 1 1 1 1 1 12 h 8 8", 1, 10, ""),
     ("config 1 1 1 1 1 12 h\nmem 0", 2, 1, ""),
     ("config 1 1 1 1 1 12 h\nfrob", 2, 1, ""),
     ("config 1 1 1 1 1 12 h\nfree 0", 2, 3, ""),
@@ -90,11 +100,12 @@ const FAULTY: [(&str, u32, u32, &str); 19] = [
 ];
 
 /// Scripts whose limits are refused.
-const BAD_CONFIGS: [&str; 4] = [
+const BAD_CONFIGS: [&str; 5] = [
     "config 1 1 1 1 3 12 h",
     "config 1 1 1 1 1 13 h\nfree 0 0\nfree x",
     "config 1 0 1 1 1 12 h\na 0 4 0 3 0 8 ff 0 0",
     "config 1 1 1 1 1 2 h\n\n",
+    "config 1 1 1 1 1 12 h 4",
 ];
 
 #[test]

@@ -6,6 +6,8 @@ mod check_lines;
 #[cfg(test)]
 mod check_tests;
 mod client_ports;
+#[cfg(test)]
+mod example_tests;
 mod faults;
 mod forms;
 mod lines;

@@ -3,9 +3,8 @@ ghost use Rattle.std.specs.Prelude.{◌≡◌, ◌≤◌, ◌+◌, ◌++◌, ◌
 ghost use Rattle.std.specs.Io.KnownBytes.{Appends};
 ghost use Rattle.world_run.specs.Setups.{lists_of};
 ghost use Rattle.world_run.specs.World.{next};
-ghost use Rattle.tlbridge.specs.FirstPath.{is_for_later};
 ghost use Rattle.tlbridge.specs.Inside.{HasRoom, OpensAs};
-ghost use Rattle.tlbridge.specs.Run.{Opening, Running, SettingUp, command_step, event_text, has_no_room, is_misplaced, is_setup_form, line_in, nothing_written, run_reading, with_setup_line, world_at};
+ghost use Rattle.tlbridge.specs.Run.{Opening, Running, SettingUp, before_answer, command_step, commanded, event_text, has_no_room, is_misplaced, is_setup_form, line_in, nothing_written, run_reading, with_setup_line, world_at};
 ghost use Rattle.tlbridge.specs.Scripts.{EndsAs, text_of, text_before_failure};
 ghost use Rattle.tlbridge.specs.SetupLines.{pages_from, too_many_pages, with_line};
 ghost use Rattle.tlbridge.specs.Steps.{TakesStep};
@@ -15,7 +14,7 @@ use crate::forms::Form;
 use crate::run_lines::{Command, RunLine, line_of_form};
 use crate::scripts::{Script, read_script};
 use crate::setup_lines::{SetupLine, page_count};
-use crate::trace::{answer_line, burst_lines, mem_line, reply_lines};
+use crate::trace::{answer_line, burst_lines, drained_line, mem_line, reply_lines, work_line};
 use crate::words::Words;
 use std::alloc::Global;
 use std::io;
@@ -24,9 +23,6 @@ use std::marker::Model;
 use subordinate::PageKind;
 use tl_messages::{ReplyBox, a_line};
 use world_run::{Answer, Setup, SetupFault, Step, World};
-
-/// The most regions of a set-up, so far.
-const MOST_REGIONS: usize = 1;
 
 /// The most pages of a set-up.
 const MOST_PAGES: usize = 64;
@@ -51,13 +47,11 @@ struct RunScript {
 
 impl Model for RunScript {
     ghost use Rattle.tlbridge.specs.Run.{Stage as ScriptStage};
-    ghost use Rattle.tlbridge.specs.Inside.{stage_of, IsFirstStage};
+    ghost use Rattle.tlbridge.specs.Inside.{stage_of};
 
     ghost Value = { ScriptStage };
 
     ghost view = { λ s. stage_of s.stage };
-
-    ghost invariant = { λ s. IsFirstStage (stage_of s.stage) };
 }
 
 /// Whether so many pages more have room, and numbers to 2^32 - 1, where the words of their line tell.
@@ -84,7 +78,7 @@ fn has_no_room(setup: &Setup, form: Form, words: &Words<'_>) -> bool
 {
     match form {
         Form::Config => true,
-        Form::Region => setup.regions.len() >= MOST_REGIONS,
+        Form::Region => setup.regions.is_full(),
         Form::Page => too_many_pages(setup.pages.len(), words),
         Form::BadWord => setup.bad_words.is_full(),
         _ => false,
@@ -98,12 +92,6 @@ fn is_setup_form(form: Form) -> bool
         form,
         Form::Config | Form::Region | Form::Page | Form::BadWord
     )
-}
-
-fn is_for_later(form: Form) -> bool
-    ensures { result ≡ is_for_later form }
-{
-    matches!(form, Form::BadWord | Form::Drain | Form::Work)
 }
 
 fn add_pages(setup: &mut Setup, first: u32, count: u8, kind: PageKind)
@@ -128,10 +116,22 @@ fn add(setup: &mut Setup, line: SetupLine)
         SetupLine::Config(config) => setup.config = config,
         SetupLine::Region(region) => setup.regions.push(region),
         SetupLine::Pages(first, count, kind) => add_pages(setup, first, count, kind),
+        SetupLine::BadWord(address) => setup.bad_words.push(address),
     }
 }
 
-/// Writes what an event gave: the beat that was offered, the answer, and the burst that was sent or the reply.
+/// Writes what stands before an event's answer: the beat that was offered.
+fn offered_beat<W: Write>(step: &Step, writer: &mut W) -> io::Result<()>
+    ensures { OnOk result (Appends (W.contents writer.old) (W.contents writer.new) (before_answer step.now)) }
+{
+    match step {
+        Step::Offer(client, beat) => a_line(*client, beat, writer),
+        _ => Ok(()),
+    }
+}
+
+/// Carries out an event and writes what it gave: the beat that was offered, the answer, and the burst that was sent or
+/// the reply.
 fn event<W: Write>(
     world: &mut World,
     reply: &mut ReplyBox,
@@ -141,15 +141,31 @@ fn event<W: Write>(
     ensures text { OnOk result (Appends (W.contents writer.old) (W.contents writer.new) (event_text step.now (next world.old step.now))) }
     ensures state { OnOk result (world.new ≡ (next world.old step.now).state) }
 {
-    if let Step::Offer(client, beat) = step {
-        a_line(*client, beat, writer)?;
-    }
+    offered_beat(step, writer)?;
     let answer = world.step(step, reply);
     answer_line(&answer, writer)?;
     match (step, answer) {
         (Step::Pump, Answer::Sent(_)) => burst_lines(world.last_burst(), writer),
         (Step::Take(client), Answer::Reply(_)) => reply_lines(*client, reply.as_slice(), writer),
         _ => Ok(()),
+    }
+}
+
+/// Carries out a command and writes its text.
+fn command<W: Write>(
+    world: &mut World,
+    reply: &mut ReplyBox,
+    command: &Command,
+    writer: &mut W,
+) -> io::Result<()>
+    ensures text { OnOk result (Appends (W.contents writer.old) (W.contents writer.new) (commanded world.old command.now).0) }
+    ensures state { OnOk result (world.new ≡ (commanded world.old command.now).1) }
+{
+    match command {
+        Command::Event(step) => event(world, reply, step, writer),
+        Command::Drain => drained_line(world.drain(), writer),
+        Command::Mem(address) => mem_line(world.byte(*address), writer),
+        Command::Work => work_line(world.work_left(), writer),
     }
 }
 
@@ -170,7 +186,7 @@ impl RunScript {
         let Some(form) = Form::named(words.at(1)) else {
             return Err(1);
         };
-        if is_for_later(form) || self.is_misplaced(form, words) {
+        if self.is_misplaced(form, words) {
             return Err(1);
         }
         line_of_form(form, words)
@@ -218,20 +234,16 @@ impl RunScript {
         &mut self,
         alloc: Global,
         number: u32,
-        command: Command,
+        asked: &Command,
         writer: &mut W,
     ) -> Result<(), TextFault>
-        ensures { TakesStep (command_step (world_at self.old number) command) nothing_written self.old self.new (W.contents writer.old) (W.contents writer.new) result }
+        ensures { TakesStep (command_step (world_at self.old number) asked.now) nothing_written self.old self.new (W.contents writer.old) (W.contents writer.new) result }
     {
         self.open_world(alloc, number)?;
         let Stage::Running(world) = &mut self.stage else {
             unreachable!();
         };
-        let written = match command {
-            Command::Event(step) => event(world, &mut self.reply, &step, writer),
-            Command::Mem(address) => mem_line(world.byte(address), writer),
-        };
-        written.map_err(|_| TextFault::Write)
+        command(world, &mut self.reply, asked, writer).map_err(|_| TextFault::Write)
     }
 }
 
@@ -255,7 +267,7 @@ impl Script for RunScript {
                 self.set_up(line);
                 Ok(())
             }
-            Ok(RunLine::Command(command)) => self.carry_out(alloc, number, command, writer),
+            Ok(RunLine::Command(command)) => self.carry_out(alloc, number, &command, writer),
         }
     }
 

@@ -1,12 +1,11 @@
 //! The lines of `tlbridge run`.
 ghost use Rattle.std.specs.Prelude.{◌≡◌, []};
 ghost use Rattle.tlbridge.specs.Forms.{read_as};
-ghost use Rattle.world_run.specs.declared.Step.TheVariants.{Pump};
 ghost use Rattle.tlbridge.specs.Run.{line_of_form, perform_line, byte_line, mem_line};
 
 use crate::forms::Form;
 use crate::offer_lines::offer_line;
-use crate::setup_lines::{SetupLine, config_line, page_line, region_line};
+use crate::setup_lines::{SetupLine, bad_line, config_line, page_line, region_line};
 use crate::words::Words;
 use world_run::Step;
 
@@ -15,8 +14,12 @@ use world_run::Step;
 pub enum Command {
     /// One event of the world.
     Event(Step),
+    /// All that can happen without the clients happens.
+    Drain,
     /// Show the byte at an address.
     Mem(u32),
+    /// Show the work that is left.
+    Work,
 }
 
 /// What a line says.
@@ -56,33 +59,37 @@ fn mem(words: &Words<'_>) -> Result<u32, u32>
     Ok(address)
 }
 
-fn pump(words: &Words<'_>) -> Result<Step, u32>
-    ensures { result ≡ read_as [] words.now Pump }
+/// A line without fields: `pump`, `drain` or `work`.
+fn bare(words: &Words<'_>, command: Command) -> Result<Command, u32>
+    ensures { result ≡ read_as [] words.now command }
 {
     words.end(1)?;
-    Ok(Step::Pump)
+    Ok(command)
 }
 
 /// What a line of this form says, or its first wrong word.
 pub fn line_of_form(form: Form, words: &Words<'_>) -> Result<RunLine, u32>
     ensures { result ≡ line_of_form form words.now }
 {
-    let event = match form {
+    let command = match form {
         Form::Config => return Ok(RunLine::Setup(SetupLine::Config(config_line(words)?))),
         Form::Region => return Ok(RunLine::Setup(region_line(words)?)),
         Form::Page => return Ok(RunLine::Setup(page_line(words)?)),
+        Form::BadWord => return Ok(RunLine::Setup(bad_line(words)?)),
         Form::Offer => {
             let (client, beat) = offer_line(words)?;
-            Step::Offer(client, beat)
+            Command::Event(Step::Offer(client, beat))
         }
-        Form::Pump => pump(words)?,
-        Form::Perform => perform(words)?,
-        Form::AnswerB => Step::AnswerB(one_byte(words)?),
-        Form::AnswerR => Step::AnswerR(one_byte(words)?),
-        Form::Take => Step::Take(one_byte(words)?),
-        Form::Mem => return Ok(RunLine::Command(Command::Mem(mem(words)?))),
-        // These can't stand yet, and `free` is a line of `check`.
-        Form::BadWord | Form::Drain | Form::Work | Form::Free => return Err(1),
+        Form::Pump => bare(words, Command::Event(Step::Pump))?,
+        Form::Perform => Command::Event(perform(words)?),
+        Form::AnswerB => Command::Event(Step::AnswerB(one_byte(words)?)),
+        Form::AnswerR => Command::Event(Step::AnswerR(one_byte(words)?)),
+        Form::Take => Command::Event(Step::Take(one_byte(words)?)),
+        Form::Drain => bare(words, Command::Drain)?,
+        Form::Mem => Command::Mem(mem(words)?),
+        Form::Work => bare(words, Command::Work)?,
+        // It is a line of `check`.
+        Form::Free => return Err(1),
     };
-    Ok(RunLine::Command(Command::Event(event)))
+    Ok(RunLine::Command(command))
 }

@@ -1,9 +1,8 @@
 //! The set-up lines of a script.
 ghost use Rattle.std.specs.Prelude.{◌≡◌, ◌==◌, ◌||◌, not, false};
 ghost use Rattle.std.specs.List.{list_all};
-ghost use Rattle.tlbridge.specs.Forms.{Reads, levels_field, permissions_field, count_field};
-ghost use Rattle.tlbridge.specs.FirstPath.{kind_field};
-ghost use Rattle.tlbridge.specs.SetupLines.{config_line, region_line, page_line, kind_in, level_at, levels_in, permissions_in};
+ghost use Rattle.tlbridge.specs.Forms.{Reads, levels_field, permissions_field, count_field, first_wrong, kind_field, unless_wrong};
+ghost use Rattle.tlbridge.specs.SetupLines.{config_line, region_line, page_line, bad_line, bus_fields, bus_in, kind_in, level_at, levels_in, permissions_in};
 ghost use Rattle.tlbridge.specs.Words.{word_at, dec_at, hex_at};
 
 use crate::words::Words;
@@ -21,6 +20,8 @@ pub enum SetupLine {
     Region(Region),
     /// Pages that follow each other: the first, how many, and what they are.
     Pages(u32, u8, PageKind),
+    /// A bad word, by its address.
+    BadWord(u32),
 }
 
 fn level_at(letters: &[u8], place: usize) -> Level
@@ -63,7 +64,19 @@ fn levels(words: &Words<'_>, clients: u8) -> Result<[Level; 8], u32>
     ])
 }
 
-/// `config CLIENTS QUOTA IDS DEPTH MAXLEN MAXSIZE LEVELS`.
+/// The bytes of the bus, where there is a ninth word; 8 where there is none.
+fn bus_bytes(words: &Words<'_>) -> Result<u8, u32>
+    ensures { result ≡ unless_wrong (bus_in words.now) (first_wrong (bus_fields words.now) words.now 9) }
+{
+    if words.end(8).is_ok() {
+        return Ok(8);
+    }
+    let bytes = words.byte(9)?;
+    words.end(9)?;
+    Ok(bytes)
+}
+
+/// `config CLIENTS QUOTA IDS DEPTH MAXLEN MAXSIZE LEVELS`, and the bytes of the bus where they aren't 8.
 pub fn config_line(words: &Words<'_>) -> Result<Config, u32>
     ensures { result ≡ config_line words.now }
 {
@@ -74,7 +87,7 @@ pub fn config_line(words: &Words<'_>) -> Result<Config, u32>
     let max_len = words.short(6)?;
     let max_size = words.byte(7)?;
     let levels = levels(words, clients)?;
-    words.end(8)?;
+    let axi_bytes = bus_bytes(words)?;
     Ok(Config {
         clients,
         quota,
@@ -83,7 +96,7 @@ pub fn config_line(words: &Words<'_>) -> Result<Config, u32>
         max_len,
         max_size,
         levels,
-        axi_bytes: 8,
+        axi_bytes,
     })
 }
 
@@ -149,6 +162,7 @@ fn page_kind(words: &Words<'_>) -> Result<PageKind, u32>
 {
     match words.at(4) {
         "good" => Ok(PageKind::Good),
+        "slverr" => Ok(PageKind::SlaveError),
         _ => Err(4),
     }
 }
@@ -162,4 +176,13 @@ pub fn page_line(words: &Words<'_>) -> Result<SetupLine, u32>
     let kind = page_kind(words)?;
     words.end(4)?;
     Ok(SetupLine::Pages(first, count, kind))
+}
+
+/// `bad ADDRESS`.
+pub fn bad_line(words: &Words<'_>) -> Result<SetupLine, u32>
+    ensures { result ≡ bad_line words.now }
+{
+    let address = words.address(2)?;
+    words.end(2)?;
+    Ok(SetupLine::BadWord(address))
 }

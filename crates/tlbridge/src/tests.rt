@@ -202,20 +202,22 @@ fn each_write_fails_in_turn(rt: HostRuntime) -> Result<(), Fail> {
 }
 
 /// Whole scripts and what they end with; none of them writes anything.
-const SILENT: [(&str, u32, u32); 9] = [
+const SILENT: [(&str, u32, u32); 11] = [
     ("", 1, 1),
     ("\r", 2, 1),
     ("# config\n\n  \nregion 0 4 10 gpah", 4, 1),
     ("config 9 4 16 2 16 12 hhhhhhhhh", 1, 8),
     ("config 1 4 16 2 65536 12 h", 1, 6),
-    ("config 1 4 16 2 16 12 h 8", 1, 9),
+    ("config 1 4 16 2 16 12 h 256", 1, 9),
+    ("config 1 4 16 2 16 12 x 256", 1, 8),
+    ("config 1 4 16 2 16 12 h 8 8", 1, 10),
     ("config 1 4 16 2 16 12 x", 1, 8),
     ("config 1 4 16 2 16 12 h\nconfig 1 4 16 2 16 12 h", 2, 1),
     ("config 1 1 1 1 1 12 h\r\r\n", 1, 0),
 ];
 
 /// Lines after a set-up, and the word at fault.
-const FAULTY: [(&str, u32); 27] = [
+const FAULTY: [(&str, u32); 30] = [
     ("a 0 0 0 3 5 8 zz 0 0", 8),
     ("a 0 0 0 3 5 8 100 0 0", 8),
     ("a 256 0 0 3 5 8 ff 0 0", 2),
@@ -231,11 +233,14 @@ const FAULTY: [(&str, u32); 27] = [
     ("b x", 2),
     ("frob", 1),
     ("free 0 0", 1),
-    ("region 8 1 20 gpah", 1),
-    ("bad x", 1),
-    ("drain x", 1),
-    ("work", 1),
-    ("page 20 1 slverr", 4),
+    ("region 8 1 20 gpha", 5),
+    ("bad x", 2),
+    ("bad 100000000", 2),
+    ("bad 10008 8", 3),
+    ("drain x", 2),
+    ("work 0", 2),
+    ("page 20 1 slverr x", 5),
+    ("page 20 1 bad", 4),
     ("page 20 0 good", 3),
     ("page 20 65 good", 3),
     ("page 20 61 good x", 1),
@@ -278,7 +283,7 @@ const CARRIED_OUT: [(&str, u32, &str); 7] = [
     (
         "  a 2  4 0 3 0 8 FF 0 0 \na 1 4 0 3 0 8 ff 0 1\nx",
         6,
-        "A 2 4 0 3 0 00000008 ff 0000000000000000 0\n= noclient\nA 1 4 0 3 0 00000008 ff 0000000000000000 1\n= notready\n",
+        "A 2 4 0 3 0 00000008 ff 0000000000000000 0\n= noclient\nA 1 4 0 3 0 00000008 ff 0000000000000000 1\n= refused 8 CORRUPT\n",
     ),
     (
         "a 0 4 0 3 5 8 ff 0 0\npump\npump\nr 0\ndo 0 0\ndo 0 0\nr 0\ntake 0\npage 20 1 good\n",
@@ -305,11 +310,32 @@ fn traces_of_scripts(rt: HostRuntime) -> Result<(), Fail> {
 }
 
 /// Set-ups alone, and what they end with.
-const SET_UPS: [(&str, Result<bool, TextFault>); 8] = [
+const SET_UPS: [(&str, Result<bool, TextFault>); 14] = [
     ("config 1 1 1 1 1 12 h", Ok(false)),
     (
         "config 1 1 1 1 3 12 h",
         Err(TextFault::Setup(SetupFault::BadConfig)),
+    ),
+    ("config 1 1 1 1 2 12 h 4", Ok(false)),
+    (
+        "config 1 1 1 1 1 12 h 4",
+        Err(TextFault::Setup(SetupFault::BadConfig)),
+    ),
+    (
+        "config 1 1 1 1 16 12 h 16",
+        Err(TextFault::Setup(SetupFault::BadConfig)),
+    ),
+    (
+        "config 1 1 1 1 1 12 h\nregion 0 4 10 gpah\nregion 4 1 10 g---\npage 10 1 good\npage 11 1 slverr\nbad 10ff8",
+        Ok(false),
+    ),
+    (
+        "config 1 1 1 1 1 12 h\nregion 0 4 10 gpah\nregion 3 1 20 gpah",
+        Err(TextFault::Setup(SetupFault::Map(MapFault::RegionOverlap(1)))),
+    ),
+    (
+        "config 1 1 1 1 1 12 h\npage 10 1 good\npage 11 1 slverr\nbad 10008\nbad 11000",
+        Err(TextFault::Setup(SetupFault::Device(DeviceFault::BadWord(1)))),
     ),
     (
         "config 1 1 1 1 1 12 h\nregion 0 0 10 gpah",
@@ -346,6 +372,33 @@ fn set_ups(rt: HostRuntime) -> Result<(), Fail> {
         let ending = run_text(alloc, &mut reader, &mut output);
         assert_eq!(rt; ending, wanted, "{script}");
         assert!(rt; output.is_empty(), "{script}");
+    }
+    Ok(())
+}
+
+/// Lines that add to a set-up, how many of them have room, and one line more.
+const FULL: [(&str, u32, &str); 3] = [
+    ("region 0 1 10 gpah", 16, "region"),
+    ("page 10 1 slverr", 64, "page 10 x"),
+    ("bad 10000", 64, "bad x y"),
+];
+
+#[test]
+fn lists_that_are_full(rt: HostRuntime) -> Result<(), Fail> {
+    let alloc = rt.alloc();
+    for (line, most, more) in FULL {
+        let mut input = joined(alloc, b"config 1 1 1 1 1 12 h", b"\n")?;
+        for _ in 0..most {
+            input.extend_from_slice(line.as_bytes())?;
+            input.push(b'\n')?;
+        }
+        let mut output = Vec::new(alloc);
+        let ending = run_text(alloc, &mut input.as_slice(), &mut output);
+        assert!(rt; matches!(ending, Err(TextFault::Setup(_))), "{line}");
+        input.extend_from_slice(more.as_bytes())?;
+        let ending = run_text(alloc, &mut input.as_slice(), &mut output);
+        assert_eq!(rt; ending, script_fault(most.saturating_add(2), 1), "{more}");
+        assert!(rt; output.is_empty(), "{more}");
     }
     Ok(())
 }

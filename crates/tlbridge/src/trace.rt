@@ -1,7 +1,7 @@
 //! The lines of a trace. A fault of the writer is answered as it is.
 ghost use Rattle.std.specs.Prelude.{◌≡◌, OnOk, flat_map};
 ghost use Rattle.std.specs.Io.KnownBytes.{Appends};
-ghost use Rattle.tlbridge.specs.Names.{answer_text, refused_text, held_text, reply_text, mem_text};
+ghost use Rattle.tlbridge.specs.Names.{answer_text, refused_text, held_text, reply_text, drained_text, mem_text, work_text};
 ghost use Rattle.axi_beats.specs.Boxes.{w_beats_of};
 ghost use Rattle.axi_beats.specs.Lines.{w_text};
 
@@ -86,4 +86,18 @@ pub fn mem_line<W: Write>(byte: Option<u8>, writer: &mut W) -> io::Result<()>
         Some(byte) => writeln!(writer, "= mem {byte:02x}"),
         None => writeln!(writer, "= mem --"),
     }
+}
+
+/// Writes the line of a drain.
+pub fn drained_line<W: Write>(steps: u64, writer: &mut W) -> io::Result<()>
+    ensures { OnOk result (Appends (W.contents writer.old) (W.contents writer.new) (drained_text steps)) }
+{
+    writeln!(writer, "= drained {steps}")
+}
+
+/// Writes the line of the work left.
+pub fn work_line<W: Write>(work: u64, writer: &mut W) -> io::Result<()>
+    ensures { OnOk result (Appends (W.contents writer.old) (W.contents writer.new) (work_text work)) }
+{
+    writeln!(writer, "= work {work}")
 }

@@ -1,209 +1,214 @@
--- A B and an R keep what holds of reached states.
-use Rattle.std.proofs.Common.{◌≡◌, ℕ, ◌+◌, ◌==◌, ◌<◌, true, false, List, [], ◌∷◌, ◌++◌, Option, Some, None, ◌⊎◌, inl, inr, refl, sym, subst, ◌∙◌, ap}
-use Rattle.std.proofs.lemmas.Bool.{cases_Bool}
-use Rattle.bus_words.specs.Lanes.{lane_byte}
-use Rattle.tl_messages.specs.Requests.{HeldMessage, WholeRequest, request_of}
-use Rattle.tl_messages.specs.declared.Operation.TheVariants.{PutFull, Get}
+-- What goes from the memory to the bridge, and the boxes that close. It knows the contracts of both parts' calls, for give_b and give_r;
+-- what an answer says is hidden.
+use Rattle.std.proofs.Common.{◌≡◌, ℕ, ◌+◌, ◌<◌, ◌≤◌, Bool, true, false, List, [], ◌∷◌, ◌++◌, length, Option, Some, None, refl, ap, sym, ◌∙◌, subst, arith}
+use Rattle.std.specs.Prelude.{IfSome, IsSome, find, if◌then◌else◌, option_map, option_to_list, MatchOption, Result, Ok, Err}
+use Rattle.std.specs.List.{AllByRecursion, list_any}
+use Rattle.std.proofs.lemmas.Option.{same_Some, slice_get_within}
+use Rattle.bus_words.proofs.PlaceChanges.{all-find}
 use Rattle.axi_beats.specs.Bursts.{Burst}
 use Rattle.axi_beats.specs.declared.BBeat.{BBeat}
 use Rattle.axi_beats.specs.declared.RBeat.{RBeat}
-use Rattle.axi_beats.specs.declared.Resp.{Resp}
-use Rattle.responses.specs.Shown.{Reply}
+use Rattle.axi_checker.specs.declared.AxiRule.{AxiRule}
+use Rattle.bridge_core.specs.Bridge.{BridgeState, StockedBridge, after_b_beat, after_r_beat, b_fault, boxes_of, r_fault}
+use Rattle.bridge_core.specs.Laws.{IsSoundBridge}
+use Rattle.subordinate.specs.Device.{DeviceState, after_b, after_r, closed_by_b, closed_by_last, closed_by_r}
 use Rattle.subordinate.specs.Faults.{standing_at, write_response}
-use Rattle.subordinate.specs.FreeMemory.{FreeMemory, writes_as, reads_as, b_of, r_of, after_b_of, after_r_of}
+use Rattle.subordinate.specs.FreeMemory.{FreeMemory, Pending, after_b_of, after_r_of, b_from, b_of, beat_at, gives_last, is_read_of, is_waiting, is_write_of, pending_after_r, r_from, r_of, r_with, start_of}
+use Rattle.subordinate.specs.Laws.{IsSoundMemory, IsSoundPending}
 use Rattle.subordinate.specs.declared.BeatState.{BeatState}
-use Rattle.subordinate.specs.declared.BeatState.TheVariants.{Waiting, Written, Captured}
-use Rattle.world_run.specs.Headline.{bytes_of_all}
-use Rattle.world_run.specs.Meaning.{Bytes, meaning}
-use Rattle.world_run.specs.Setups.{SetupLists, faults_of}
-use Rattle.world_run.specs.World.{WorldState, Carried, burst_of, with_reply, reply_of_b, reply_of_r, answered_b, answered_r}
-use Rattle.world_run.specs.Carrying.{IsFirstSetup, Shows, IsPerformed, Stage, Unsent, Waits, IsDone, Answered, IsLast, IsCarrying, Holds}
-use Rattle.world_run.proofs.Holding.{IsPlaced, shows_bytes, holds_with, burst_of-put, burst_of-get, meaning-placed_put, meaning-placed_get}
-use Rattle.world_run.proofs.OneWord.{eight_given-same}
-use Rattle.world_run.proofs.Performing.{only}
-use Rattle.world_run.proofs.Sending.{is_placed}
-use Rattle.world_run.proofs.WordBeats.{word_burst}
-use Rattle.world_run.proofs.WordMemory.{ShowsBytes}
+use Rattle.subordinate.specs.declared.BeatState.TheVariants.{Captured, Waiting, Written}
+use Rattle.world_run.specs.Inside.{ArePaired}
+use Rattle.world_run.specs.Laws.{Agree}
+use Rattle.world_run.proofs.Agreeing.{agree_after_b, agree_after_r}
+use Rattle.world_run.proofs.Outstanding.{HasBeatsToCome}
+use Rattle.world_run.proofs.Passing.{world_of}
+use Rattle.world_run.proofs.Sums.{length_without}
+use Rattle.world_run.proofs.TakesAll.{takes_all}
 
--- ---- answers of a memory
+-- ---- whose answer it is
 
--- a memory with nothing open gives no B
-b_of-none : (memory : FreeMemory) (id : ℕ) → memory.pending ≡ [] → b_of memory id ≡ None
-b_of-none memory id nothing = rw nothing refl
+-- the write that a B answers
+pub record AnswersWrite (memory : FreeMemory) (id : ℕ) (b : BBeat) : Type 0 where
+  pub pending : Pending
+  pub found : find (is_write_of id) memory.pending ≡ Some pending
+  pub own : b.id ≡ id
 
--- nor an R
-r_of-none : (memory : FreeMemory) (id : ℕ) → memory.pending ≡ [] → r_of memory id ≡ None
-r_of-none memory id nothing = rw nothing refl
+pub b_answers : (memory : FreeMemory) (id : ℕ) (b : BBeat) → b_of memory id ≡ Some b → AnswersWrite memory id b
+b_answers memory id b is = by_found (find (is_write_of id) memory.pending) refl is
+  where
+    by_found : (found : Option Pending) → find (is_write_of id) memory.pending ≡ found → b_from memory.faults id found ≡ Some b → AnswersWrite memory id b
+    by_found None same is = absurd (cc (is))
+    by_found (Some pending) same is = by_test (list_any is_waiting pending.beats) is
+      where
+        answer : BBeat
+        answer = record { id = id; resp = write_response (standing_at memory.faults (start_of pending.burst)) }
 
--- a write whose beat waits gives no B
-b_of-waiting : (memory : FreeMemory) (id serial : ℕ) (burst : Burst) → memory.pending ≡ only serial burst Waiting ∷ [] → b_of memory id ≡ None
-b_of-waiting memory id serial burst one = elim (cases_Bool (writes_as id burst)) [ inl here ↦ rw (one, here) refl | inr not_here ↦ rw (one, not_here) refl ]
+        by_test : (waits : Bool) → (if waits then None else Some answer) ≡ Some b → AnswersWrite memory id b
+        by_test true is = absurd (cc (is))
+        by_test false is = record { pending = pending; found = same; own = ap (λ (x : BBeat). x.id) (sym (same_Some answer b is)) }
 
--- nor does a waiting read give an R
-r_of-waiting : (memory : FreeMemory) (id serial : ℕ) (burst : Burst) → memory.pending ≡ only serial burst Waiting ∷ [] → r_of memory id ≡ None
-r_of-waiting memory id serial burst one = elim (cases_Bool (reads_as id burst)) [ inl here ↦ rw (one, here) refl | inr not_here ↦ rw (one, not_here) refl ]
+-- the read that an R answers, by its next beat
+pub record AnswersRead (memory : FreeMemory) (id : ℕ) (r : RBeat) : Type 0 where
+  pub pending : Pending
+  pub found : find (is_read_of id) memory.pending ≡ Some pending
+  pub next : beat_at pending pending.answered ≡ Some (Captured r.payload r.resp)
+  pub own : r.id ≡ id
+  pub last : r.last ≡ gives_last pending
 
--- a read gives no B
-b_of-read : (memory : FreeMemory) (id serial address word : ℕ) (beat : BeatState) → memory.pending ≡ only serial (word_burst false address word) beat ∷ [] → b_of memory id ≡ None
-b_of-read memory id serial address word beat one = rw one refl
+r_answers_with : (memory : FreeMemory) (id : ℕ) (r : RBeat) (pending : Pending) (beat : Option BeatState) → find (is_read_of id) memory.pending ≡ Some pending → beat_at pending pending.answered ≡ beat
+    → r_with id pending beat ≡ Some r → AnswersRead memory id r
+r_answers_with memory id r pending None found at is = absurd (cc (is))
+r_answers_with memory id r pending (Some Waiting) found at is = absurd (cc (is))
+r_answers_with memory id r pending (Some Written) found at is = absurd (cc (is))
+r_answers_with memory id r pending (Some (Captured payload resp)) found at is =
+    let same : record { id = id; payload = payload; resp = resp; last = gives_last pending } ≡ r = same_Some (record { id = id; payload = payload; resp = resp; last = gives_last pending }) r is in
+    record {
+      pending = pending;
+      found = found;
+      next = at ∙ ap (λ (x : RBeat). Some (Captured x.payload x.resp)) same;
+      own = sym (ap (λ (x : RBeat). x.id) same);
+      last = sym (ap (λ (x : RBeat). x.last) same);
+    }
 
--- a write gives no R
-r_of-write : (memory : FreeMemory) (id serial address word : ℕ) (beat : BeatState) → memory.pending ≡ only serial (word_burst true address word) beat ∷ [] → r_of memory id ≡ None
-r_of-write memory id serial address word beat one = rw one refl
+pub r_answers : (memory : FreeMemory) (id : ℕ) (r : RBeat) → r_of memory id ≡ Some r → AnswersRead memory id r
+r_answers memory id r is = by_found (find (is_read_of id) memory.pending) refl is
+  where
+    by_found : (found : Option Pending) → find (is_read_of id) memory.pending ≡ found → r_from id found ≡ Some r → AnswersRead memory id r
+    by_found None same is = absurd (cc (is))
+    by_found (Some pending) same is = r_answers_with memory id r pending (beat_at pending pending.answered) same refl is
 
--- where an answer comes nothing stays open
-record GivesB (memory : FreeMemory) (id : ℕ) : Type 0 where
-  b : BBeat
-  gives : b_of memory id ≡ Some b
-  closes : (after_b_of memory id).pending ≡ []
+-- ---- the bridge takes it
 
--- the same of an R, with its payload
-record GivesR (memory : FreeMemory) (id payload : ℕ) : Type 0 where
-  r : RBeat
-  same : r.payload ≡ payload
-  gives : r_of memory id ≡ Some r
-  closes : (after_r_of memory id).pending ≡ []
+pub never_faults : (fault : Option AxiRule) (result : Result Unit AxiRule) (rule : AxiRule) → fault ≡ None → result ≡ Err rule → MatchOption fault (result ≡ Ok tt) (λ rule. result ≡ Err rule) → ⊥
+never_faults None result rule none is answer = absurd (cc (is, answer))
+never_faults (Some other) result rule none is answer = absurd (cc (none))
 
--- a write whose beat was performed gives its B
-b_of-write : (memory : FreeMemory) (id serial address word : ℕ) → memory.pending ≡ only serial (word_burst true address word) Written ∷ []
-    → (b_of memory id ≡ None) ⊎ GivesB memory id
-b_of-write memory id serial address word one =
-    elim (cases_Bool (0 == id)) [
-      | inl here ↦ inr (record { b = record { id = id; resp = write_response (standing_at memory.faults address) }; gives = rw (one, here) refl; closes = rw (one, here) refl })
-      | inr not_here ↦ inl (rw (one, not_here) refl)
-    ]
+pub b_taken : (bridge : BridgeState) (memory : FreeMemory) (id : ℕ) (b : BBeat) → Agree bridge memory → b_of memory id ≡ Some b → b_fault bridge b ≡ None
+b_taken bridge memory id b agree is = subst (λ (o : Option BBeat). IfSome o (λ x. b_fault bridge x ≡ None)) is ((takes_all (world_of bridge memory) agree).b id)
 
--- a read whose beat was performed gives its R
-r_of-read : (memory : FreeMemory) (id serial address word payload : ℕ) (resp : Resp) → memory.pending ≡ only serial (word_burst false address word) (Captured payload resp) ∷ []
-    → (r_of memory id ≡ None) ⊎ GivesR memory id payload
-r_of-read memory id serial address word payload resp one =
-    elim (cases_Bool (0 == id)) [
-      | inl here ↦ inr (record { r = record { id = id; payload = payload; resp = resp; last = true }; same = refl; gives = rw (one, here) refl; closes = rw (one, here) refl })
-      | inr not_here ↦ inl (rw (one, not_here) refl)
-    ]
+pub r_taken : (bridge : BridgeState) (memory : FreeMemory) (id : ℕ) (r : RBeat) → Agree bridge memory → r_of memory id ≡ Some r → r_fault bridge r ≡ None
+r_taken bridge memory id r agree is = subst (λ (o : Option RBeat). IfSome o (λ x. r_fault bridge x ≡ None)) is ((takes_all (world_of bridge memory) agree).r id)
 
--- ---- what the answers tell
+-- ---- the box that closes
 
--- an answered request's memory has nothing open, and shows the bytes after it
-answered_keeps : (setup : SetupLists) (past : List WholeRequest) (state : WorldState) (carried : Carried) (reply : Reply) (memory : FreeMemory) → Holds setup past state → (last : IsLast setup past state carried)
-    → carried.sent ≡ true → memory.faults ≡ state.memory.faults → memory.bus_bytes ≡ state.memory.bus_bytes → memory.pending ≡ []
-    → reply ≡ (meaning (faults_of setup) setup.regions (request_of carried.message) (bytes_of_all setup last.before)).reply
-    → ShowsBytes (faults_of setup) memory.memory (bytes_of_all setup (last.before ++ request_of carried.message ∷ []))
-    → Holds setup past (record state { live = Some (with_reply reply carried); memory = memory; last_sent = None })
-answered_keeps setup past state carried reply memory holds last sent faults bus nothing meant shows =
-    holds_with setup past state (Some (with_reply reply carried)) memory None holds faults bus
+-- at most one box closes, and then a burst was open, which isn't any more
+pub record ClosesOne (old new : List Pending) (closed : List Burst) : Type 0 where
+  pub most : length closed ≤ 1
+  pub fewer : length new + length closed ≡ length old
+
+b_closes : (memory : FreeMemory) (id : ℕ) (found : Option Pending) → find (is_write_of id) memory.pending ≡ found → IsSome found → ClosesOne memory.pending (after_b_of memory id).pending (closed_by_b memory id)
+b_closes memory id None same some = absurd (cc (some))
+b_closes memory id (Some pending) same some =
+    let closed : closed_by_b memory id ≡ pending.burst ∷ [] = ap (λ (o : Option Pending). option_to_list (option_map (λ (p : Pending). p.burst) o)) same in
+    rw closed (record { most = omega arith; fewer = length_without (is_write_of id) memory.pending pending same })
+
+length_after_r : (id : ℕ) (pending : List Pending) (p : Pending) → find (is_read_of id) pending ≡ Some p → length (pending_after_r id pending) + length (closed_by_last (Some p)) ≡ length pending
+length_after_r id [] p found = absurd (cc (found))
+length_after_r id (q ∷ qs) p found = by_test (is_read_of id q) found (λ later. length_after_r id qs p later)
+  where
+    by_test : (here : Bool) → (if here then Some q else find (is_read_of id) qs) ≡ Some p
+        → (find (is_read_of id) qs ≡ Some p → length (pending_after_r id qs) + length (closed_by_last (Some p)) ≡ length qs)
+        → length (if here then (if gives_last q then qs else record q { answered = q.answered + 1 } ∷ qs) else q ∷ pending_after_r id qs) + length (closed_by_last (Some p)) ≡ length (q ∷ qs)
+    by_test false found later = omega (arith, later found)
+    by_test true found later = rw (← same_Some q p found) (by_last (gives_last q))
+      where
+        by_last : (last : Bool) → length (if last then qs else record q { answered = q.answered + 1 } ∷ qs) + length (if last then q.burst ∷ [] else []) ≡ length (q ∷ qs)
+        by_last true = omega arith
+        by_last false = omega arith
+
+few_closed : (p : Pending) → length (closed_by_last (Some p)) ≤ 1
+few_closed p = by_last (gives_last p)
+  where
+    by_last : (last : Bool) → length (if last then p.burst ∷ [] else []) ≤ 1
+    by_last true = omega arith
+    by_last false = omega arith
+
+r_closes : (memory : FreeMemory) (id : ℕ) (pending : Pending) → find (is_read_of id) memory.pending ≡ Some pending → ClosesOne memory.pending (after_r_of memory id).pending (closed_by_r memory id)
+r_closes memory id pending found =
+    let closed : closed_by_r memory id ≡ closed_by_last (Some pending) = ap closed_by_last found in
+    rw closed (record { most = few_closed pending; fewer = length_after_r id memory.pending pending found })
+
+-- the next beat of a read is there to come
+pub to_come : (bus_bytes : ℕ) (memory : FreeMemory) (id : ℕ) (r : RBeat) → AllByRecursion (IsSoundPending bus_bytes) memory.pending → AnswersRead memory id r → HasBeatsToCome (find (is_read_of id) memory.pending)
+to_come bus_bytes memory id r sound answers =
+    let each = all-find (IsSoundPending bus_bytes) (is_read_of id) memory.pending answers.pending sound answers.found in
+    let within : answers.pending.answered < length answers.pending.beats = slice_get_within answers.pending.beats answers.pending.answered (Captured r.payload r.resp) answers.next in
+    subst HasBeatsToCome (sym answers.found) (omega (arith, within, each.whole))
+
+-- ---- both, after an answer
+
+-- what an answer makes of the two, the box given back
+pub record IsAnswered (bridge new : StockedBridge) (device after : DeviceState) (closed : List Burst) : Type 0 where
+  pub stock : new.stock ≡ bridge.stock + length closed
+  pub none_closed : after.closed ≡ []
+
+boxes_again : (bridge new : StockedBridge) (device after : DeviceState) (closed : List Burst) → ArePaired bridge device → IsAnswered bridge new device after closed → ClosesOne device.memory.pending after.memory.pending closed
+    → new.state.requests.config ≡ bridge.state.requests.config → new.stock + length after.memory.pending ≡ boxes_of new.state.requests.config
+boxes_again bridge new device after closed paired answered closes same = omega (arith, paired.boxes, answered.stock, closes.fewer, ap boxes_of same)
+
+pub paired_after_b : (bridge new : StockedBridge) (device after : DeviceState) (id : ℕ) (b : BBeat) → ArePaired bridge device → b_of device.memory id ≡ Some b → new.state ≡ after_b_beat bridge.state b
+    → after.memory ≡ after_b_of device.memory id → IsAnswered bridge new device after (closed_by_b device.memory id) → IsSoundBridge new.state → IsSoundMemory after.memory → ArePaired new after
+paired_after_b bridge new device after id b paired is state_is memory_is answered bridge_laws memory_laws =
+    let answers = b_answers device.memory id b is in
+    let memory_named : after.memory ≡ after_b_of device.memory b.id = memory_is ∙ ap (after_b_of device.memory) (sym answers.own) in
+    let agree = agree_after_b bridge.state device.memory b paired.agree (subst IsSoundBridge state_is bridge_laws) (subst IsSoundMemory memory_named memory_laws) in
+    let closes = b_closes device.memory id (Some answers.pending) answers.found refl in
+    record {
+      agree = subst (λ (s : BridgeState). Agree s after.memory) (sym state_is) (subst (λ (m : FreeMemory). Agree (after_b_beat bridge.state b) m) (sym memory_named) agree);
+      none_closed = answered.none_closed;
+      boxes =
+          boxes_again bridge new device after (closed_by_b device.memory id) paired answered
+          (subst (λ (m : FreeMemory). ClosesOne device.memory.pending m.pending (closed_by_b device.memory id)) (sym memory_is) closes) (ap (λ (s : BridgeState). s.requests.config) state_is);
+    }
+
+pub paired_after_r : (bridge new : StockedBridge) (device after : DeviceState) (id : ℕ) (r : RBeat) → ArePaired bridge device → r_of device.memory id ≡ Some r → new.state ≡ after_r_beat bridge.state r
+    → after.memory ≡ after_r_of device.memory id → IsAnswered bridge new device after (closed_by_r device.memory id) → IsSoundBridge new.state → IsSoundMemory after.memory → ArePaired new after
+paired_after_r bridge new device after id r paired is state_is memory_is answered bridge_laws memory_laws =
+    let answers = r_answers device.memory id r is in
+    let memory_named : after.memory ≡ after_r_of device.memory r.id = memory_is ∙ ap (after_r_of device.memory) (sym answers.own) in
+    let waits = to_come device.memory.bus_bytes device.memory id r paired.agree.memory_laws.each answers in
+    let agree =
+    agree_after_r bridge.state device.memory r paired.agree (subst (λ (n : ℕ). HasBeatsToCome (find (is_read_of n) device.memory.pending)) (sym answers.own) waits) (subst IsSoundBridge state_is bridge_laws)
+    (subst IsSoundMemory memory_named memory_laws) in
+    let closes = r_closes device.memory id answers.pending answers.found in
+    record {
+      agree = subst (λ (s : BridgeState). Agree s after.memory) (sym state_is) (subst (λ (m : FreeMemory). Agree (after_r_beat bridge.state r) m) (sym memory_named) agree);
+      none_closed = answered.none_closed;
+      boxes =
+          boxes_again bridge new device after (closed_by_r device.memory id) paired answered
+          (subst (λ (m : FreeMemory). ClosesOne device.memory.pending m.pending (closed_by_r device.memory id)) (sym memory_is) closes) (ap (λ (s : BridgeState). s.requests.config) state_is);
+    }
+
+-- ---- the box goes back into stock
+
+-- where nothing waited before, what closed is all that waits
+closed_alone : (waiting closed all : List Burst) → waiting ≡ [] → all ≡ waiting ++ closed → length all ≡ length closed
+closed_alone waiting closed all none is = ap length is ∙ ap (λ (w : List Burst). length (w ++ closed)) none
+
+pub paired_back_b : (bridge mid new : StockedBridge) (device opened after : DeviceState) (id : ℕ) (b : BBeat) → ArePaired bridge device → b_of device.memory id ≡ Some b → opened ≡ after_b device id
+    → mid ≡ record bridge { state = after_b_beat bridge.state b } → after ≡ record opened { closed = [] } → new ≡ record mid { stock = mid.stock + length opened.closed } → IsSoundBridge mid.state
+    → IsSoundMemory opened.memory → ArePaired new after
+paired_back_b bridge mid new device opened after id b paired is opened_is mid_is after_is new_is bridge_laws memory_laws =
+    let state : new.state ≡ mid.state = ap (λ (s : StockedBridge). s.state) new_is in
+    let memory : after.memory ≡ opened.memory = ap (λ (d : DeviceState). d.memory) after_is in
+    let count = closed_alone device.closed (closed_by_b device.memory id) opened.closed paired.none_closed (ap (λ (d : DeviceState). d.closed) opened_is) in
+    paired_after_b bridge new device after id b paired is (state ∙ ap (λ (s : StockedBridge). s.state) mid_is) (memory ∙ ap (λ (d : DeviceState). d.memory) opened_is)
     (record {
-      before = last.before;
-      word = last.word;
-      last = last.last;
-      number = last.number;
-      message = last.message;
-      place = last.place;
-      aligned = last.aligned;
-      good = last.good;
-      stage = Answered reply sent refl nothing meant (record { whole = shows.whole; at = shows.at });
+      stock = omega (arith, ap (λ (s : StockedBridge). s.stock) new_is, ap (λ (s : StockedBridge). s.stock) mid_is, count);
+      none_closed = ap (λ (d : DeviceState). d.closed) after_is;
     })
+    (subst IsSoundBridge (sym state) bridge_laws) (subst IsSoundMemory (sym memory) memory_laws)
 
--- the B of a full Put tells that it is acknowledged
-reply_of_b-put : (setup : SetupLists) (held : HeldMessage) (word address : ℕ) (m : Bytes) (b : BBeat) → IsPlaced setup held word address → held.operation ≡ PutFull
-    → reply_of_b b ≡ (meaning (faults_of setup) setup.regions (request_of held) m).reply
-reply_of_b-put setup held word address m b placed put = sym (ap (λ effect. effect.reply) (meaning-placed_put setup held word address m placed put))
-
--- the R of a Get tells the bytes at its address
-reply_of_r-get : (setup : SetupLists) (held : HeldMessage) (word address : ℕ) (m : Bytes) (r : RBeat) → IsFirstSetup setup → IsPlaced setup held word address → held.operation ≡ Get
-    → ((lane : ℕ) → lane < 8 → lane_byte r.payload lane ≡ m (address + lane)) → reply_of_r r ≡ (meaning (faults_of setup) setup.regions (request_of held) m).reply
-reply_of_r-get setup held word address m r first placed get lanes =
-    ap (λ (bytes : List (Option ℕ)). record { denied = false; bytes = bytes })
-    (eight_given-same (λ lane. Some (lane_byte r.payload lane)) (λ lane. m (address + lane)) (λ lane below. ap (λ (byte : ℕ). Some byte) (lanes lane below)))
-    ∙ sym (ap (λ effect. effect.reply) (meaning-placed_get setup held word address m first placed get))
-
--- the B of a full Put whose beat was performed
-put_b : (setup : SetupLists) (past : List WholeRequest) (state : WorldState) (carried : Carried) (id serial : ℕ) (becomes : BeatState) → Holds setup past state → state.live ≡ Some carried
-    → (last : IsLast setup past state carried) → carried.sent ≡ true → carried.message.operation ≡ PutFull
-    → state.memory.pending ≡ only serial (word_burst true carried.address last.word) becomes ∷ []
-    → IsPerformed (bytes_of_all setup last.before) carried.address (word_burst true carried.address last.word) becomes
-    → Shows setup state (bytes_of_all setup (last.before ++ request_of carried.message ∷ [])) → Holds setup past (answered_b state id (b_of state.memory id)).state
-put_b setup past state carried id serial Waiting holds same last sent put waiting was shows = absurd was
-put_b setup past state carried id serial (Captured payload resp) holds same last sent put waiting was shows = absurd was
-put_b setup past state carried id serial Written holds same last sent put waiting was shows =
-    elim (b_of-write state.memory id serial carried.address last.word waiting) [
-      | inl none ↦ rw none holds
-      | inr gives ↦
-          subst (λ answer. Holds setup past (answered_b state id answer).state) (sym gives.gives)
-          (rw same
-          (answered_keeps setup past state carried (reply_of_b gives.b) (after_b_of state.memory id) holds last sent refl refl gives.closes
-          (reply_of_b-put setup carried.message last.word carried.address (bytes_of_all setup last.before) gives.b (is_placed setup past state carried last) put)
-          (shows_bytes setup state (bytes_of_all setup (last.before ++ request_of carried.message ∷ [])) shows)))
-    ]
-
--- the R of a Get whose beat was performed
-get_r : (setup : SetupLists) (past : List WholeRequest) (state : WorldState) (carried : Carried) (id serial : ℕ) (becomes : BeatState) → IsFirstSetup setup → Holds setup past state
-    → state.live ≡ Some carried → (last : IsLast setup past state carried) → carried.sent ≡ true → carried.message.operation ≡ Get
-    → state.memory.pending ≡ only serial (word_burst false carried.address last.word) becomes ∷ []
-    → IsPerformed (bytes_of_all setup last.before) carried.address (word_burst false carried.address last.word) becomes
-    → Shows setup state (bytes_of_all setup (last.before ++ request_of carried.message ∷ [])) → Holds setup past (answered_r state id (r_of state.memory id)).state
-get_r setup past state carried id serial Waiting first holds same last sent get waiting was shows = absurd was
-get_r setup past state carried id serial Written first holds same last sent get waiting was shows = absurd was
-get_r setup past state carried id serial (Captured payload resp) first holds same last sent get waiting was shows =
-    elim (r_of-read state.memory id serial carried.address last.word payload resp waiting) [
-      | inl none ↦ rw none holds
-      | inr gives ↦
-          subst (λ answer. Holds setup past (answered_r state id answer).state) (sym gives.gives)
-          (rw same
-          (answered_keeps setup past state carried (reply_of_r gives.r) (after_r_of state.memory id) holds last sent refl refl gives.closes
-          (reply_of_r-get setup carried.message last.word carried.address (bytes_of_all setup last.before) gives.r first (is_placed setup past state carried last) get
-          (λ lane below. ap (λ word. lane_byte word lane) gives.same ∙ was.1 lane below))
-          (shows_bytes setup state (bytes_of_all setup (last.before ++ request_of carried.message ∷ [])) shows)))
-    ]
-
--- a request whose beat was performed, at a B
-done_b : (setup : SetupLists) (past : List WholeRequest) (state : WorldState) (carried : Carried) (id serial : ℕ) (becomes : BeatState) → Holds setup past state → state.live ≡ Some carried
-    → (last : IsLast setup past state carried) → carried.sent ≡ true → state.memory.pending ≡ only serial (burst_of carried) becomes ∷ []
-    → IsPerformed (bytes_of_all setup last.before) carried.address (burst_of carried) becomes → Shows setup state (bytes_of_all setup (last.before ++ request_of carried.message ∷ []))
-    → (carried.message.operation ≡ PutFull) ⊎ (carried.message.operation ≡ Get) → Holds setup past (answered_b state id (b_of state.memory id)).state
-done_b setup past state carried id serial becomes holds same last sent waiting was shows (inl put) =
-    let burst = burst_of-put carried last.word last.message put in
-    put_b setup past state carried id serial becomes holds same last sent put (waiting ∙ ap (λ b. only serial b becomes ∷ []) burst)
-    (subst (λ b. IsPerformed (bytes_of_all setup last.before) carried.address b becomes) burst was) shows
-done_b setup past state carried id serial becomes holds same last sent waiting was shows (inr get) =
-    let burst = burst_of-get carried last.word get in
-    rw (b_of-read state.memory id serial carried.address last.word becomes (waiting ∙ ap (λ b. only serial b becomes ∷ []) burst)) holds
-
--- a request whose beat was performed, at an R
-done_r : (setup : SetupLists) (past : List WholeRequest) (state : WorldState) (carried : Carried) (id serial : ℕ) (becomes : BeatState) → IsFirstSetup setup → Holds setup past state
-    → state.live ≡ Some carried → (last : IsLast setup past state carried) → carried.sent ≡ true → state.memory.pending ≡ only serial (burst_of carried) becomes ∷ []
-    → IsPerformed (bytes_of_all setup last.before) carried.address (burst_of carried) becomes → Shows setup state (bytes_of_all setup (last.before ++ request_of carried.message ∷ []))
-    → (carried.message.operation ≡ PutFull) ⊎ (carried.message.operation ≡ Get) → Holds setup past (answered_r state id (r_of state.memory id)).state
-done_r setup past state carried id serial becomes first holds same last sent waiting was shows (inl put) =
-    let burst = burst_of-put carried last.word last.message put in
-    rw (r_of-write state.memory id serial carried.address last.word becomes (waiting ∙ ap (λ b. only serial b becomes ∷ []) burst)) holds
-done_r setup past state carried id serial becomes first holds same last sent waiting was shows (inr get) =
-    let burst = burst_of-get carried last.word get in
-    get_r setup past state carried id serial becomes first holds same last sent get (waiting ∙ ap (λ b. only serial b becomes ∷ []) burst)
-    (subst (λ b. IsPerformed (bytes_of_all setup last.before) carried.address b becomes) burst was) shows
-
--- ---- the events
-
--- the B
-pub answered_b_keeps : (setup : SetupLists) (past : List WholeRequest) (state : WorldState) (live : Option Carried) (id : ℕ) → IsFirstSetup setup → Holds setup past state → state.live ≡ live
-    → IsCarrying setup past state live → Holds setup past (answered_b state id (b_of state.memory id)).state
-answered_b_keeps setup past state None id first holds same carrying = rw (b_of-none state.memory id carrying.0) holds
-answered_b_keeps setup past state (Some carried) id first holds same last = by_stage last.stage
-  where
-    by_stage : Stage setup last.before state carried → Holds setup past (answered_b state id (b_of state.memory id)).state
-    by_stage (Unsent not_sent no_reply nothing shows) = rw (b_of-none state.memory id nothing) holds
-    by_stage (Waits serial sent no_reply waiting shows) = rw (b_of-waiting state.memory id serial (burst_of carried) waiting) holds
-    by_stage (IsDone serial becomes sent no_reply waiting was shows) = done_b setup past state carried id serial becomes holds same last sent waiting was shows last.message.operation
-    by_stage (Answered reply sent replied nothing meant shows) = rw (b_of-none state.memory id nothing) holds
-
--- the R
-pub answered_r_keeps : (setup : SetupLists) (past : List WholeRequest) (state : WorldState) (live : Option Carried) (id : ℕ) → IsFirstSetup setup → Holds setup past state → state.live ≡ live
-    → IsCarrying setup past state live → Holds setup past (answered_r state id (r_of state.memory id)).state
-answered_r_keeps setup past state None id first holds same carrying = rw (r_of-none state.memory id carrying.0) holds
-answered_r_keeps setup past state (Some carried) id first holds same last = by_stage last.stage
-  where
-    by_stage : Stage setup last.before state carried → Holds setup past (answered_r state id (r_of state.memory id)).state
-    by_stage (Unsent not_sent no_reply nothing shows) = rw (r_of-none state.memory id nothing) holds
-    by_stage (Waits serial sent no_reply waiting shows) = rw (r_of-waiting state.memory id serial (burst_of carried) waiting) holds
-    by_stage (IsDone serial becomes sent no_reply waiting was shows) = done_r setup past state carried id serial becomes first holds same last sent waiting was shows last.message.operation
-    by_stage (Answered reply sent replied nothing meant shows) = rw (r_of-none state.memory id nothing) holds
+pub paired_back_r : (bridge mid new : StockedBridge) (device opened after : DeviceState) (id : ℕ) (r : RBeat) → ArePaired bridge device → r_of device.memory id ≡ Some r → opened ≡ after_r device id
+    → mid ≡ record bridge { state = after_r_beat bridge.state r } → after ≡ record opened { closed = [] } → new ≡ record mid { stock = mid.stock + length opened.closed } → IsSoundBridge mid.state
+    → IsSoundMemory opened.memory → ArePaired new after
+paired_back_r bridge mid new device opened after id r paired is opened_is mid_is after_is new_is bridge_laws memory_laws =
+    let state : new.state ≡ mid.state = ap (λ (s : StockedBridge). s.state) new_is in
+    let memory : after.memory ≡ opened.memory = ap (λ (d : DeviceState). d.memory) after_is in
+    let count = closed_alone device.closed (closed_by_r device.memory id) opened.closed paired.none_closed (ap (λ (d : DeviceState). d.closed) opened_is) in
+    paired_after_r bridge new device after id r paired is (state ∙ ap (λ (s : StockedBridge). s.state) mid_is) (memory ∙ ap (λ (d : DeviceState). d.memory) opened_is)
+    (record {
+      stock = omega (arith, ap (λ (s : StockedBridge). s.stock) new_is, ap (λ (s : StockedBridge). s.stock) mid_is, count);
+      none_closed = ap (λ (d : DeviceState). d.closed) after_is;
+    })
+    (subst IsSoundBridge (sym state) bridge_laws) (subst IsSoundMemory (sym memory) memory_laws)

@@ -1,13 +1,14 @@
--- A run's record with one event more: the record of a run is that of the run with the event at its end.
+-- A run's record with one event more: the record of a run is that of the run with the event at its end. It knows the lists of a record, for
+-- the loop of run; what an event does is hidden.
 use Rattle.std.proofs.Common.{◌≡◌, ℕ, ◌+◌, ◌≤◌, true, List, [], ◌∷◌, ◌++◌, map, length, take, Option, Some, None, Result, Ok, Err, option_to_list, refl, sym, ap, ◌∙◌, subst, arith, zero, suc, flat_map, if◌then◌else◌, length-append}
 use Rattle.std.specs.Prelude.{slice_get, IfSome, OnOk}
 use Rattle.std.proofs.lemmas.List.{append-nil, append_assoc, map-append, take_all}
 use Rattle.tl_messages.specs.declared.DBeat.{DBeat}
 use Rattle.axi_beats.specs.declared.WBeat.{WBeat}
-use Rattle.world_run.specs.Carrying.{IsFirstSetup}
+use Rattle.world_run.specs.Laws.{IsSoundWorld, AreSoundAlong}
 use Rattle.world_run.specs.Runs.{handed_at, piece_of, handed_of, AreCutFrom, sent_beats, IsRunOf}
-use Rattle.world_run.specs.Setups.{SetupLists, setup_fault}
-use Rattle.world_run.specs.World.{WorldState, Outcome, next, opening_world, leaves_all, is_reply}
+use Rattle.world_run.specs.Setups.{SetupLists}
+use Rattle.world_run.specs.World.{WorldState, Outcome, next, after, opening_world, leaves_all, is_reply}
 use Rattle.world_run.specs.declared.Answer.{Answer}
 use Rattle.world_run.specs.declared.Answer.TheVariants.{Sent, Reply}
 use Rattle.world_run.specs.declared.Handed.{Handed}
@@ -55,12 +56,13 @@ tells_burst state step =
     each_way TellsBurst state
     (record {
       quiet = λ step answer quiet. record { sends = λ serial is. absurd (quiet_tells answer serial quiet is); sends_none = λ never. refl };
-      accepts = λ client beat address is. record { sends = λ serial is. absurd (cc); sends_none = λ never. refl };
-      sends = λ burst is. record { sends = λ serial is. refl; sends_none = λ never. absurd (never state.memory.sent refl) };
-      performs = λ serial beat memory. record { sends = λ serial is. absurd (cc); sends_none = λ never. refl };
+      begins = λ client beat is. record { sends = λ serial told. absurd (cc); sends_none = λ never. refl };
+      accepts = λ client beat is. record { sends = λ serial is. absurd (cc); sends_none = λ never. refl };
+      sends = λ sending is. record { sends = λ serial told. refl; sends_none = λ never. absurd (never state.memory.sent refl) };
+      performs = λ serial beat memory is. record { sends = λ serial is. absurd (cc); sends_none = λ never. refl };
       gives_b = λ id b is. record { sends = λ serial is. absurd (cc); sends_none = λ never. refl };
       gives_r = λ id r is. record { sends = λ serial is. absurd (cc); sends_none = λ never. refl };
-      hands_out = λ client carried reply is own replied. record { sends = λ serial is. absurd (cc); sends_none = λ never. refl };
+      hands_out = λ client request known is. record { sends = λ serial is. absurd (cc); sends_none = λ never. refl };
     })
     step
 
@@ -131,16 +133,31 @@ module _ {setup : SetupLists} {before : List Step} {answers : List Answer} {repl
       cc (map-append (piece_of (d_beats ++ reply)) replies (last ∷ []), handed_of-append 0 replies d_beats reply ran.cut, piece_of-last last d_beats reply refl refl, handed_is, given) in
       grows (cc (told, gives)) (rw (handed, longer) cut) (rw (handed, longer) pieces) (rw no_burst (sym (append-nil sent))) becomes
 
+-- ---- the laws along the steps
+
+-- where they hold at each state so far, and at the next one
+pub sound_next : (state : WorldState) (steps : List Step) (step : Step) → AreSoundAlong state steps → IsSoundWorld (after state (steps ++ step ∷ [])) → AreSoundAlong state (steps ++ step ∷ [])
+sound_next state [] step along last = (along, last)
+sound_next state (first ∷ steps) step along last = (along.0, sound_next (next state first).state steps step along.1 last)
+
+-- where the record is that of the steps so far and one more, and they hold of its world
+pub sound_after : {setup : SetupLists} (before : List Step) (step : Step) {answers : List Answer} {replies : List Handed} {d_beats : List DBeat} {sent : List SentBeat} {world : WorldState}
+    → IsRunOf setup (before ++ step ∷ []) answers replies d_beats sent world → AreSoundAlong (opening_world setup) before → IsSoundWorld world
+    → AreSoundAlong (opening_world setup) (before ++ step ∷ [])
+sound_after {setup = setup} before step ran along last = sound_next (opening_world setup) before step along (subst IsSoundWorld ran.world_kept last)
+
 -- ---- a set-up that made a world
 
 -- it wasn't refused
-not_refused : {A E : Type 0} (fault : Option E) (made : A) → IfSome fault (λ e. Ok made ≡ Err e) → fault ≡ None
+pub not_refused : {A E : Type 0} (fault : Option E) (made : A) → IfSome fault (λ e. Ok made ≡ Err e) → fault ≡ None
 not_refused None made refused = refl
 not_refused (Some e) made refused = absurd (cc)
 
-pub first_setup : {A : Type 0} (setup : SetupLists) (made : A) → IfSome (setup_fault setup) (λ fault. Ok made ≡ Err fault) → setup.config.axi_bytes ≡ 8 → setup.bad_words ≡ []
-    → IsFirstSetup setup
-first_setup setup made refused bus no_bad_words = record { fault = not_refused (setup_fault setup) made refused; bus = bus; no_bad_words = no_bad_words }
+-- so whatever is answered later
+pub refused_later : {A B E : Type 0} (fault : Option E) (made : A) (later : Result B E) → IfSome fault (λ e. Ok made ≡ Err e) → IfSome fault (λ e. later ≡ Err e)
+refused_later fault made later refused = subst (λ none. IfSome none (λ e. later ≡ Err e)) (sym (not_refused fault made refused)) tt
+
+-- ---- all steps
 
 -- the record of all steps taken is that of the run
 pub ran_whole : {setup : SetupLists} (steps : List Step) (n : ℕ) {answers : List Answer} {replies : List Handed} {d_beats : List DBeat} {sent : List SentBeat} {world : WorldState}

@@ -1,20 +1,26 @@
--- What a run's answers tell: one answer for each event, the numbers and the requests that were accepted, and who took which reply.
-use Rattle.std.proofs.Common.{◌≡◌, ℕ, suc, true, List, [], ◌∷◌, ◌++◌, map, length, refl, ap, ◌∙◌}
-use Rattle.std.specs.Prelude.{zip, ◌==◌}
-use Rattle.std.specs.List.{cons_option, range_with_len}
-use Rattle.std.proofs.lemmas.Bool.{cond_both, false≢true}
-use Rattle.tl_messages.specs.Requests.{request_of, message_of}
+-- What a run's answers tell: one answer for each event, the numbers of the requests that were accepted, what their beats spell, and who
+-- took which reply. It knows the bridge; the memory plays no part.
+use Rattle.std.proofs.Common.{◌≡◌, ℕ, suc, true, List, [], ◌∷◌, ◌++◌, map, length, Option, Some, None, option_to_list, refl, sym, subst, ap, ap₂, ◌∙◌}
+use Rattle.std.specs.Prelude.{zip}
+use Rattle.std.specs.List.{AllByRecursion, cons_option, range_with_len}
+use Rattle.std.proofs.lemmas.Bool.{false≢true}
+use Rattle.tl_messages.specs.Requests.{request_of}
+use Rattle.tl_messages.specs.declared.ABeat.{ABeat}
 use Rattle.tl_messages.specs.declared.DBeat.{DBeat}
-use Rattle.world_run.specs.Carrying.{accepted_at}
-use Rattle.world_run.proofs.Events.{EachWay, each_way}
-use Rattle.world_run.proofs.Keeping.{accepted_along}
-use Rattle.world_run.specs.Runs.{Heard, heard_nothing, with_heard, HandedReply, messages_from, requests_of, accepted_numbers, accepted_in, answers_of, whose, replies_told, handed_at, handed_by, handed_in}
+use Rattle.tl_checker.specs.Requests.{Spells}
+use Rattle.bridge_core.specs.Bridge.{BridgeState, message_with}
+use Rattle.bridge_core.specs.Configs.{port_of}
+use Rattle.bridge_core.specs.declared.Config.{Config}
+use Rattle.world_run.specs.Headline.{IsSpelled}
+use Rattle.world_run.specs.Runs.{Heard, heard_nothing, HandedReply, AcceptedMessage, messages_from, messages_in, requests_of, accepted_numbers, accepted_in, answers_of, whose, replies_told, handed_at, handed_by, handed_in}
 use Rattle.world_run.specs.Setups.{SetupLists}
 use Rattle.world_run.specs.World.{WorldState, Outcome, opening_world, outcomes, next, leaves_all}
 use Rattle.world_run.specs.declared.Answer.{Answer}
-use Rattle.world_run.specs.declared.Answer.TheVariants.{More, Accepted, Reply}
+use Rattle.world_run.specs.declared.Answer.TheVariants.{Accepted, Reply}
 use Rattle.world_run.specs.declared.Step.{Step}
 use Rattle.world_run.specs.declared.Step.TheVariants.{Offer, Take}
+use Rattle.world_run.proofs.AcceptedRequests.{IsHeard, accepted_at_step, heard_after, heard_at_first, heard_next, message_at, messages_from-next, quiet_message, quiet_request, request_at, whole_heard}
+use Rattle.world_run.proofs.Events.{EachWay, IsAccepted, each_way}
 
 -- ---- one answer for each event
 
@@ -42,27 +48,36 @@ told_by (step ∷ steps) (outcome ∷ results) = told_at step outcome.answer out
 pub told_in : (state : WorldState) (steps : List Step) → map whose (handed_in state steps) ≡ replies_told (zip steps (answers_of state steps))
 told_in state steps = told_by steps (outcomes state steps)
 
--- ---- the requests that were accepted
+-- ---- the requests that were accepted, where the fronts are what was heard
 
--- nothing was heard of any client
-abbrev pub IsSilent : Heard → Type 0
-IsSilent heard = (client : ℕ) → heard client ≡ []
+-- the messages of a run, after what was heard before it
+abbrev pub messages_along : Heard → WorldState → List Step → List AcceptedMessage
+messages_along heard state steps = messages_from heard (zip steps (answers_of state steps))
 
--- a client of which nothing is heard once more leaves it so
-pub still_silent : (heard : Heard) (client : ℕ) → IsSilent heard → IsSilent (with_heard client [] heard)
-still_silent heard client silent other = cond_both (other == client) [] (heard other) (λ beats. beats ≡ []) (λ own. refl) (λ else. silent other)
+-- how many messages, and requests, a list has with the first before it
+one_counted : {A B : Type 0} (a : Option A) (b : Option B) (xs : List A) (ys : List B) → length (option_to_list a) ≡ length (option_to_list b) → length xs ≡ length ys
+    → length (cons_option a xs) ≡ length (cons_option b ys)
+one_counted None None xs ys here rest = rest
+one_counted None (Some y) xs ys here rest = absurd (cc)
+one_counted (Some x) None xs ys here rest = absurd (cc)
+one_counted (Some x) (Some y) xs ys here rest = ap suc rest
 
--- an answer that leaves all as it is accepts nothing
-pub quiet_accepts : (step : Step) (answer : Answer) → leaves_all answer ≡ true → accepted_at step answer ≡ []
-quiet_accepts (Offer client beat) (Accepted number) still = absurd (false≢true still)
-quiet_accepts _ _ still = refl
+-- each message that is completed is a request
+request_for : (bridge : BridgeState) (heard : Heard) (step : Step) (answer : Answer) → length (option_to_list (request_at bridge step answer)) ≡ length (option_to_list (message_at heard step answer))
+request_for bridge heard (Offer client beat) (Accepted number) = refl
+request_for bridge heard _ _ = refl
 
--- an answer that leaves all as it is completes no message
-pub quiet_messages : (heard : Heard) (step : Step) (answer : Answer) (rest : List (Step × Answer)) → leaves_all answer ≡ true
-    → messages_from heard ((step, answer) ∷ rest) ≡ messages_from heard rest
-quiet_messages heard (Offer client beat) More rest still = absurd (false≢true still)
-quiet_messages heard (Offer client beat) (Accepted number) rest still = absurd (false≢true still)
-quiet_messages heard _ _ rest still = refl
+-- each accepted message has its request
+pub as_many_along : (config : Config) (state : WorldState) (heard : Heard) (steps : List Step) → IsHeard config state.bridge heard
+    → length (requests_of (messages_along heard state steps)) ≡ length (messages_along heard state steps)
+as_many_along config state heard [] is = refl
+as_many_along config state heard (step ∷ steps) is =
+    let answer = (next state step).answer in
+    let later = zip steps (answers_of (next state step).state steps) in
+    ap length (accepted_at_step config state.bridge heard step answer later is)
+    ∙ one_counted (request_at state.bridge step answer) (message_at heard step answer) _ _ (request_for state.bridge heard step answer)
+    (as_many_along config (next state step).state (heard_after heard step answer) steps (heard_next config state heard step is))
+    ∙ ap length (sym (messages_from-next heard step answer later))
 
 -- an answer that leaves all as it is gives no number
 quiet_numbers : (answer : Answer) (answers : List Answer) → leaves_all answer ≡ true → accepted_numbers (answer ∷ answers) ≡ accepted_numbers answers
@@ -70,65 +85,72 @@ quiet_numbers (Accepted number) answers still = absurd (false≢true still)
 quiet_numbers _ answers still = refl
 
 -- the answers number the requests that a run accepts on from those accepted before it
-pub numbered_along : (state : WorldState) (steps : List Step) → accepted_numbers (answers_of state steps) ≡ range_with_len state.accepted (length (accepted_along state steps))
-numbered_along state [] = refl
-numbered_along state (step ∷ steps) = each_way Goes state ways step (numbered_along (next state step).state steps)
+pub numbered_along : (config : Config) (state : WorldState) (heard : Heard) (steps : List Step) → IsHeard config state.bridge heard
+    → accepted_numbers (answers_of state steps) ≡ range_with_len state.bridge.requests.accepted (length (requests_of (messages_along heard state steps)))
+numbered_along config state heard [] is = refl
+numbered_along config state heard (step ∷ steps) is =
+    each_way Goes state ways step (numbered_along config (next state step).state (heard_after heard step (next state step).answer) steps (heard_next config state heard step is))
+    ∙ ap (λ requests. range_with_len state.bridge.requests.accepted (length requests)) (sym (accepted_at_step config state.bridge heard step (next state step).answer _ is))
   where
     Goes : Step → Outcome → Type 0
     Goes event outcome =
-        accepted_numbers (answers_of outcome.state steps) ≡ range_with_len outcome.state.accepted (length (accepted_along outcome.state steps))
+        accepted_numbers (answers_of outcome.state steps)
+        ≡ range_with_len outcome.state.bridge.requests.accepted (length (requests_of (messages_along (heard_after heard event outcome.answer) outcome.state steps)))
         → accepted_numbers (outcome.answer ∷ answers_of outcome.state steps)
-        ≡ range_with_len state.accepted (length (accepted_at event outcome.answer ++ accepted_along outcome.state steps))
+        ≡ range_with_len state.bridge.requests.accepted
+        (length (cons_option (request_at state.bridge event outcome.answer) (requests_of (messages_along (heard_after heard event outcome.answer) outcome.state steps))))
 
     ways : EachWay Goes state
     ways =
         record {
-          quiet = λ event answer still told. rw (quiet_accepts event answer still) (quiet_numbers answer _ still ∙ told);
-          accepts = λ client beat address is told. ap (λ numbers. state.accepted ∷ numbers) told;
-          sends = λ burst is told. told;
-          performs = λ serial beat memory told. told;
-          gives_b = λ id b is told. told;
-          gives_r = λ id r is told. told;
-          hands_out = λ client carried reply is own replied told. told;
+          quiet = λ event answer still rest. rw (quiet_request state.bridge event answer still) (quiet_numbers answer _ still ∙ rest);
+          begins = λ client beat taken rest. rest;
+          accepts = λ client beat accepted rest. ap (λ numbers. state.bridge.requests.accepted ∷ numbers) rest;
+          sends = λ sending sent rest. rest;
+          performs = λ serial beat memory done rest. rest;
+          gives_b = λ id b given rest. rest;
+          gives_r = λ id r given rest. rest;
+          hands_out = λ client request known first rest. rest;
         }
 
--- the requests of a run's messages are those that it accepts event by event, where nothing was heard before
-pub accepted_is_along : (state : WorldState) (steps : List Step) (heard : Heard) → IsSilent heard
-    → requests_of (messages_from heard (zip steps (answers_of state steps))) ≡ accepted_along state steps
-accepted_is_along state [] heard silent = refl
-accepted_is_along state (step ∷ steps) heard silent = each_way Goes state ways step (accepted_is_along (next state step).state steps)
+-- ---- what the beats of an accepted request spell
+
+-- a message that is completed spells the request that the bridge makes of it
+pub spelled_at : (config : Config) (state : WorldState) (heard : Heard) (client : ℕ) (beat : ABeat) → IsHeard config state.bridge heard → IsAccepted state.bridge client beat
+    → Spells (port_of config client) (heard client ++ beat ∷ []) (request_of (message_with state.bridge client beat))
+spelled_at config state heard client beat is accepted = (whole_heard is client beat accepted.taken).spells
+
+-- each accepted message of a run spells its request
+pub spelled_along : (setup : SetupLists) (state : WorldState) (heard : Heard) (steps : List Step) → IsHeard setup.config state.bridge heard
+    → AllByRecursion (IsSpelled setup) (zip (messages_along heard state steps) (requests_of (messages_along heard state steps)))
+spelled_along setup state heard [] is = tt
+spelled_along setup state heard (step ∷ steps) is =
+    let answer = (next state step).answer in
+    let later = zip steps (answers_of (next state step).state steps) in
+    subst (λ pairs. AllByRecursion (IsSpelled setup) pairs)
+    (ap₂ zip (sym (messages_from-next heard step answer later)) (sym (accepted_at_step setup.config state.bridge heard step answer later is)))
+    (each_way Goes state ways step (spelled_along setup (next state step).state (heard_after heard step answer) steps (heard_next setup.config state heard step is)))
   where
     Goes : Step → Outcome → Type 0
     Goes event outcome =
-        ((later : Heard) → IsSilent later → requests_of (messages_from later (zip steps (answers_of outcome.state steps))) ≡ accepted_along outcome.state steps)
-        → requests_of (messages_from heard ((event, outcome.answer) ∷ zip steps (answers_of outcome.state steps)))
-        ≡ accepted_at event outcome.answer ++ accepted_along outcome.state steps
+        AllByRecursion (IsSpelled setup)
+        (zip (messages_along (heard_after heard event outcome.answer) outcome.state steps) (requests_of (messages_along (heard_after heard event outcome.answer) outcome.state steps)))
+        → AllByRecursion (IsSpelled setup)
+        (zip (cons_option (message_at heard event outcome.answer) (messages_along (heard_after heard event outcome.answer) outcome.state steps))
+        (cons_option (request_at state.bridge event outcome.answer) (requests_of (messages_along (heard_after heard event outcome.answer) outcome.state steps))))
 
     ways : EachWay Goes state
     ways =
         record {
-          quiet = λ event answer still rest. rw (quiet_accepts event answer still) (ap requests_of (quiet_messages heard event answer _ still) ∙ rest heard silent);
-          accepts = λ client beat address is rest.
-              rw (silent client) (ap (λ requests. request_of (message_of client beat []) ∷ requests) (rest (with_heard client [] heard) (still_silent heard client silent)));
-          sends = λ burst is rest. rest heard silent;
-          performs = λ serial beat memory rest. rest heard silent;
-          gives_b = λ id b is rest. rest heard silent;
-          gives_r = λ id r is rest. rest heard silent;
-          hands_out = λ client carried reply is own replied rest. rest heard silent;
+          quiet = λ event answer still rest. rw (quiet_request state.bridge event answer still, quiet_message heard event answer still) rest;
+          begins = λ client beat taken rest. rest;
+          accepts = λ client beat accepted rest. (spelled_at setup.config state heard client beat is accepted, rest);
+          sends = λ sending sent rest. rest;
+          performs = λ serial beat memory done rest. rest;
+          gives_b = λ id b given rest. rest;
+          gives_r = λ id r given rest. rest;
+          hands_out = λ client request known first rest. rest;
         }
-
--- nothing is heard before a run begins
-pub silent_at_first : IsSilent heard_nothing
-silent_at_first client = refl
-
--- the accepted requests of a run are those that it accepts event by event
-pub accepted_in_is_along : (state : WorldState) (steps : List Step) → accepted_in steps (answers_of state steps) ≡ accepted_along state steps
-accepted_in_is_along state steps = accepted_is_along state steps heard_nothing silent_at_first
-
--- the answers number the requests of a run's messages, where nothing was heard before
-pub numbered_from : (state : WorldState) (steps : List Step) (heard : Heard) → IsSilent heard
-    → accepted_numbers (answers_of state steps) ≡ range_with_len state.accepted (length (requests_of (messages_from heard (zip steps (answers_of state steps)))))
-numbered_from state steps heard silent = rw (accepted_is_along state steps heard silent) (numbered_along state steps)
 
 -- ---- the fields of the main statement
 
@@ -139,7 +161,17 @@ answered setup steps = length-answers_of (opening_world setup) steps
 -- the accepted requests have the numbers from 0
 pub numbered : (setup : SetupLists) (steps : List Step)
     → accepted_numbers (answers_of (opening_world setup) steps) ≡ range_with_len 0 (length (accepted_in steps (answers_of (opening_world setup) steps)))
-numbered setup steps = numbered_from (opening_world setup) steps heard_nothing silent_at_first
+numbered setup steps = numbered_along setup.config (opening_world setup) heard_nothing steps (heard_at_first setup)
+
+-- each accepted message spells its request
+pub spelled : (setup : SetupLists) (steps : List Step)
+    → AllByRecursion (IsSpelled setup) (zip (messages_in steps (answers_of (opening_world setup) steps)) (accepted_in steps (answers_of (opening_world setup) steps)))
+spelled setup steps = spelled_along setup (opening_world setup) heard_nothing steps (heard_at_first setup)
+
+-- and has it
+pub as_many : (setup : SetupLists) (steps : List Step)
+    → length (accepted_in steps (answers_of (opening_world setup) steps)) ≡ length (messages_in steps (answers_of (opening_world setup) steps))
+as_many setup steps = as_many_along setup.config (opening_world setup) heard_nothing steps (heard_at_first setup)
 
 -- replies went as the answers tell
 pub told : (setup : SetupLists) (steps : List Step)

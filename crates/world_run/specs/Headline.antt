@@ -7,10 +7,9 @@ use Rattle.tl_messages.specs.Requests.{WholeRequest}
 use Rattle.tl_checker.specs.Requests.{Spells}
 use Rattle.axi_beats.specs.Bursts.{Burst, is_legal}
 use Rattle.axi_checker.specs.OpenBursts.{nothing_open}
-use Rattle.axi_checker.specs.Rules.{AxiPortLimits, first_axi_fault}
+use Rattle.axi_checker.specs.Rules.{first_axi_fault}
 use Rattle.responses.specs.Shown.{Reply, shown}
-use Rattle.bridge_core.specs.Configs.{port_of}
-use Rattle.bridge_core.specs.declared.Config.{Config}
+use Rattle.bridge_core.specs.Configs.{axi_port_of, port_of}
 use Rattle.subordinate.specs.Faults.{standing_at, is_good}
 use Rattle.world_run.specs.Meaning.{Bytes, zeros, replies_in_order, bytes_after_all}
 use Rattle.world_run.specs.Runs.{AcceptedMessage, HandedReply, messages_in, accepted_in, accepted_numbers, whose, replies_told, sent_beats, pumps_told, axi_history}
@@ -44,10 +43,6 @@ IsSpelled setup (message, request) = Spells (port_of setup.config message.client
 abbrev pub byte_shown : SetupLists → Bytes → ℕ → Option ℕ
 byte_shown setup bytes address = if is_good (standing_at (faults_of setup) address) then Some (bytes address) else None
 
--- what the AXI4 port of a set-up allows
-abbrev pub axi_port_of : Config → AxiPortLimits
-axi_port_of config = record { bus_bytes = config.axi_bytes; ids = config.ids; depth = config.depth }
-
 -- the beats sent are those of whole legal bursts, one for each answer Sent, and no beat, sent or answered, broke a rule at its place
 pub record IsLegalTraffic (setup : SetupLists) (answers : List Answer) (sent : List SentBeat) : Type 0 where
   pub bursts : List Burst
@@ -64,7 +59,7 @@ pub record IsOneAtATime (setup : SetupLists) (steps : List Step) (answers : List
   pub spelled : AllByRecursion (IsSpelled setup) (zip (messages_in steps answers) (accepted_in steps answers))
   pub as_many : length (accepted_in steps answers) ≡ length (messages_in steps answers)
   pub told : map whose handed ≡ replies_told (zip steps answers)
-  -- the sentence
+  -- the sentence: each reply is that of its request carried out in its turn, none is handed out twice, and the quiet memory is as all leave it
   pub replies : AllByRecursion (IsReplyTo (accepted_in steps answers) (replies_of setup (accepted_in steps answers))) handed
   pub once : IsDistinct nat_eq (map (λ reply. reply.number) handed)
   pub memory : IsQuiet world → (address : ℕ) → byte_of world address ≡ byte_shown setup (bytes_of_all setup (accepted_in steps answers)) address

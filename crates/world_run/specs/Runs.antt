@@ -1,4 +1,5 @@
--- What a run shows from outside: the requests that were accepted, the replies handed out, the beats sent.
+-- What a run shows from outside: the requests that were accepted, the replies handed out, the beats sent. It knows events and answers, and the
+-- states only by what they hand out.
 use Rattle.std.specs.Prelude.{ℕ, ◌+◌, ◌==◌, ◌≡◌, List, [], ◌∷◌, ◌++◌, map, zip, length, Option, Some, None, if◌then◌else◌, option_map, slice_range, flat_map}
 use Rattle.std.specs.List.{cons_option}
 use Rattle.tl_messages.specs.Requests.{WholeRequest, held_of, request_of}

@@ -1,4 +1,5 @@
--- A set-up as lists: the bridge's limits, its regions, and the memory's pages and bad words.
+-- A set-up as lists: the bridge's limits, its regions, and the memory's pages and bad words. It knows why each part refuses its own, and which
+-- of several faults is told.
 use Rattle.std.specs.Prelude.{ℕ, List, Option, Some, None, if◌then◌else◌, option_map}
 use Rattle.std.specs.Option.{option_or}
 use Rattle.burst_plan.specs.PageMap.{region_fault}

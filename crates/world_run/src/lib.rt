@@ -1,6 +1,8 @@
 //! Bridge and memory as one world, one event at a time.
 #![tactic(auto)]
 
+mod choices;
+mod parts;
 mod runs;
 mod setups;
 #[cfg(test)]

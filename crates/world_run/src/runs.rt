@@ -1,11 +1,11 @@
 //! A whole run: a list of events, and what they gave.
-ghost use Rattle.std.specs.Prelude.{◌≡◌, ◌⊎◌, ◌++◌, ◌∷◌, List, [], length, map, flat_map, option_to_list, Some, IfSome, IfOk, IfErr, OnOk, IsTrue};
-ghost use Rattle.std.specs.List.{list_all};
+ghost use Rattle.std.specs.Prelude.{◌≡◌, ◌⊎◌, ◌++◌, ◌∷◌, List, [], length, map, flat_map, option_to_list, Some, IfSome, IfOk, IfErr, OnOk};
 ghost use Rattle.axi_beats.specs.Boxes.{w_beats_of};
-ghost use Rattle.subordinate.specs.Pages.{is_listed_good};
 ghost use Rattle.world_run.specs.Headline.{IsOneAtATime};
+ghost use Rattle.world_run.specs.Laws.{AreSoundAlong, IsSoundWorld};
 ghost use Rattle.world_run.specs.Runs.{handed_of, sent_beats, IsRunOf};
 ghost use Rattle.world_run.specs.Setups.{SetupLists, lists_of, setup_fault};
+ghost use Rattle.world_run.specs.World.{opening_world};
 ghost use Rattle.world_run.specs.declared.SentBeat.TheVariants.{W};
 ghost use Rattle.world_run.specs.declared.SetupFault.TheVariants.{NoMemory};
 ghost use Rattle.world_run.specs.declared.Step.{Step};
@@ -96,6 +96,7 @@ fn keep_reply(
 fn one_step(ran: &mut RunRecord, step: &Step, reply: &mut ReplyBox) -> Result<(), SetupFault>
     ensures want { IfErr result (λ fault. fault ≡ NoMemory) }
     ensures grows { OnOk result ((setup : SetupLists) (before : List Step) → IsRunOf setup before ran.old.answers.items ran.old.replies.items ran.old.d_beats.items ran.old.sent.items ran.old.world → IsRunOf setup (before ++ step.now ∷ []) ran.new.answers.items ran.new.replies.items ran.new.d_beats.items ran.new.sent.items ran.new.world) }
+    ensures laws { OnOk result (IsSoundWorld ran.new.world) }
 {
     let answer = ran.world.step(step, reply);
     put(&mut ran.answers, answer)?;
@@ -116,12 +117,14 @@ fn one_step(ran: &mut RunRecord, step: &Step, reply: &mut ReplyBox) -> Result<()
 /// A refused set-up is answered before the first step. The one other error is that memory was refused, at the start or at
 /// any step; the record of the steps before it is then dropped.
 pub fn run(alloc: Global, setup: &Setup, steps: &[Step]) -> Result<RunRecord, SetupFault>
-    requires bus { setup.now.config.axi_bytes ≡ 8 }
-    requires good { IsTrue (list_all is_listed_good setup.now.pages.items) }
-    requires no_bad_words { setup.now.bad_words.items ≡ [] }
     ensures refused { IfSome (setup_fault (lists_of setup.now)) (λ fault. result ≡ Err fault) }
     ensures want { IfErr result (λ fault. (setup_fault (lists_of setup.now) ≡ Some fault) ⊎ (fault ≡ NoMemory)) }
     ensures shows { IfOk result (λ ran. IsRunOf (lists_of setup.now) steps.now ran.answers.items ran.replies.items ran.d_beats.items ran.sent.items ran.world) }
+    ensures laws { IfOk result (λ ran. AreSoundAlong (opening_world (lists_of setup.now)) steps.now) }
+
+    // For every list of steps: the replies handed out are those of the accepted requests carried out whole, one at a time, in
+    // order of acceptance, each at most once; once nothing is in flight the memory is theirs too; every burst sent obeys the
+    // AXI4 rules.
     ensures one_at_a_time { IfOk result (λ ran. IsOneAtATime (lists_of setup.now) steps.now ran.answers.items (handed_of ran.replies.items ran.d_beats.items) ran.sent.items ran.world) }
 {
     let world = match World::new(alloc, setup) {
@@ -142,7 +145,9 @@ pub fn run(alloc: Global, setup: &Setup, steps: &[Step]) -> Result<RunRecord, Se
         world,
     };
     for step in steps {
-        one_step(&mut ran, step, &mut reply)?;
+        let Ok(()) = one_step(&mut ran, step, &mut reply) else {
+            return Err(SetupFault::NoMemory);
+        };
     }
     Ok(ran)
 }

@@ -1,14 +1,23 @@
-ghost use Rattle.std.specs.Prelude.{◌≡◌, [], IsTrue};
-ghost use Rattle.std.specs.List.{list_all};
-ghost use Rattle.subordinate.specs.Pages.{is_listed_good};
+mod atomics;
+mod choices;
+mod errors;
+mod narrow;
+mod offers;
+mod order;
+mod refusals;
+mod requests;
+mod runs;
+mod script;
 
 use super::*;
 use axi_beats::Resp;
+use std::alloc::{AllocError, Global};
 use std::test::Fail;
 use tl_checker::Level;
 use tl_messages::{DBeat, ReplyBox};
 
-const CONFIG: Config = Config {
+/// Two clients, four live requests of each, 16 IDs, two bursts unanswered.
+const USUAL: Config = Config {
     clients: 2,
     quota: 4,
     ids: 16,
@@ -19,291 +28,390 @@ const CONFIG: Config = Config {
     axi_bytes: 8,
 };
 
-/// A region that permits everything.
-fn region(tl_page: u32, pages: u32, axi_page: u32) -> Region {
-    Region {
-        tl_page,
-        pages,
-        axi_page,
-        get: true,
-        put: true,
-        atomic: true,
-        hint: true,
+/// Leads TileLink pages 0 to 3 to AXI pages 0x10 to 0x13.
+const FOUR_PAGES: Region = Region {
+    tl_page: 0,
+    pages: 4,
+    axi_page: 0x10,
+    get: true,
+    put: true,
+    atomic: true,
+    hint: true,
+};
+
+/// Leads TileLink page 8 to AXI page 0x10 too.
+const ALIAS: Region = Region {
+    tl_page: 8,
+    pages: 1,
+    ..FOUR_PAGES
+};
+
+/// The lists that a set-up is made of.
+#[derive(Clone, Copy)]
+struct Lists {
+    config: Config,
+    regions: &'static [Region],
+    pages: &'static [(u32, PageKind)],
+    bad_words: &'static [u32],
+}
+
+/// The usual limits, four pages, and a good page behind each.
+const PLAIN: Lists = Lists {
+    config: USUAL,
+    regions: &[FOUR_PAGES],
+    pages: &[
+        (0x10, PageKind::Good),
+        (0x11, PageKind::Good),
+        (0x12, PageKind::Good),
+        (0x13, PageKind::Good),
+    ],
+    bad_words: &[],
+};
+
+/// The set-up of some lists, where these aren't too long.
+fn set_up(lists: Lists) -> Option<Setup> {
+    let mut setup = Setup::new(lists.config);
+    if setup.regions.try_extend_from_slice(lists.regions).is_err() {
+        return None;
     }
+    if setup.pages.try_extend_from_slice(lists.pages).is_err() {
+        return None;
+    }
+    if setup
+        .bad_words
+        .try_extend_from_slice(lists.bad_words)
+        .is_err()
+    {
+        return None;
+    }
+    Some(setup)
 }
 
-/// Two clients, a region of four pages, and the good pages that it leads to.
-fn set_up() -> Setup
-    ensures bus { result.config.axi_bytes ≡ 8 }
-    ensures good { IsTrue (list_all is_listed_good result.pages.items) }
-    ensures no_bad_words { result.bad_words.items ≡ [] }
-{
-    let mut setup = Setup::new(CONFIG);
-    setup
-        .pages
-        .try_extend_from_slice(&[
-            (0x10, PageKind::Good),
-            (0x11, PageKind::Good),
-            (0x12, PageKind::Good),
-            (0x13, PageKind::Good),
-        ])
-        .unwrap();
-    setup
-        .regions
-        .try_extend_from_slice(&[region(0, 4, 0x10)])
-        .unwrap();
-    setup
+/// Something done to a world, or seen of it, and the answer that it has to give.
+#[derive(Clone, Copy)]
+enum Event {
+    /// A step.
+    Does(Step, Answer),
+    /// A client offers so many beats with the fields of this one; each byte of the first is 1, of the second 2, and so
+    /// on. All but the last are answered More.
+    OfferAll(u8, ABeat, u8, Answer),
+    /// A Pump sends a read under this serial.
+    Read(u64, ArBeat),
+    /// A Pump sends a write under this serial.
+    Write(u64, AwBeat),
+    /// The payload and the strobes of a W beat of the write that went last.
+    Data(u8, u64, u8),
+    /// Whether the world shows no burst.
+    NoBurst(bool),
+    /// So many beats of the burst with a serial are performed, from the first on.
+    PerformAll(u64, u16),
+    /// The memory gives so many Rs of an ID whose payload is zero, the last of which has last set.
+    ZeroReads(u8, u16),
+    /// The reply that was taken last: how many beats, and what the first has but its payload.
+    Reply(u16, DBeat),
+    /// A beat of that reply: its payload, and whether it is corrupt.
+    Shows(u16, u64, bool),
+    /// A byte of memory.
+    Byte(u32, Option<u8>),
+    /// The eight bytes of memory from an address on.
+    Word(u32, u64),
+    Work(u64),
+    InFlight(u16),
+    FirstDone(u8, bool),
+    /// How many steps bridge and memory can make.
+    Choices(u32),
+    /// One of these steps.
+    Choose(u32, Step),
+    /// A drain, and how many steps it makes.
+    Drain(u64),
 }
 
-/// A beat of eight bytes.
-fn word_beat(opcode: u8, address: u32, payload: u64) -> ABeat {
+use Event::{
+    Byte, Choices, Choose, Data, Does, Drain, FirstDone, InFlight, NoBurst, OfferAll, PerformAll,
+    Read, Reply, Shows, Word, Work, Write, ZeroReads,
+};
+
+/// The fields of an A beat, in the order of a trace's line; it isn't corrupt.
+const fn a(
+    opcode: u8,
+    param: u8,
+    size: u8,
+    source: u8,
+    address: u32,
+    mask: u8,
+    payload: u64,
+) -> ABeat {
     ABeat {
         opcode,
-        param: 0,
-        size: 3,
-        source: 5,
+        param,
+        size,
+        source,
         address,
-        mask: 0xff,
+        mask,
         payload,
         corrupt: false,
     }
 }
 
-/// The one beat of the reply to such a beat.
-fn reply_beat(opcode: u8, payload: u64) -> DBeat {
+/// A Get of at least eight bytes.
+const fn get(size: u8, source: u8, address: u32) -> ABeat {
+    a(4, 0, size, source, address, 0xff, 0)
+}
+
+/// A beat of a PutFullData of at least eight bytes.
+const fn put(size: u8, source: u8, address: u32, payload: u64) -> ABeat {
+    a(0, 0, size, source, address, 0xff, payload)
+}
+
+/// A D beat of this opcode, size and source, and whether it is denied.
+const fn d(opcode: u8, size: u8, source: u8, denied: bool) -> DBeat {
     DBeat {
         opcode,
         param: 0,
-        size: 3,
-        source: 5,
-        denied: false,
-        payload,
+        size,
+        source,
+        denied,
+        payload: 0,
         corrupt: false,
     }
 }
 
-const PUT: u64 = 0x1122334455667788;
-
-const B: BBeat = BBeat {
-    id: 0,
-    resp: Resp::Okay,
-};
-
-const R: RBeat = RBeat {
-    id: 0,
-    payload: PUT,
-    resp: Resp::Okay,
-    last: true,
-};
-
-const AW: AwBeat = AwBeat {
-    id: 0,
-    address: 0x10008,
-    len: 0,
-    size: 3,
-    burst: 1,
-};
-
-const W: WBeat = WBeat {
-    payload: PUT,
-    strobes: 0xff,
-    last: true,
-};
-
-const AR: ArBeat = ArBeat {
-    id: 0,
-    address: 0x10008,
-    len: 0,
-    size: 3,
-    burst: 1,
-};
-
-/// A reply of one beat to client 0.
-fn handed(number: u64, first: usize) -> Handed {
-    Handed {
-        client: 0,
-        number,
-        first,
-        beats: 1,
+/// An INCR read.
+const fn ar(id: u8, address: u32, len: u8, size: u8) -> ArBeat {
+    ArBeat {
+        id,
+        address,
+        len,
+        size,
+        burst: 1,
     }
 }
 
-#[test]
-fn puts_and_gets(rt: HostRuntime) -> Result<(), Fail> {
-    let mut world = World::new(rt.alloc(), &set_up()).expect(&rt, "memory");
-    let mut reply = ReplyBox::new(rt.alloc())?;
-    assert_eq!(rt; world.byte(0x10000), Some(0));
-    assert_eq!(rt; world.byte(0x14000), None);
-    let put = word_beat(0, 0x08, PUT);
-    let get = word_beat(4, 0x08, 0);
-    // Each step, its answer, and then the requests in flight and the work left.
-    for (step, answer, in_flight, work_left) in [
-        (Step::Offer(2, put), Answer::NoClient, 0, 0),
-        (Step::Offer(1, put), Answer::NotReady, 0, 0),
-        (Step::Pump, Answer::Idle, 0, 0),
-        (Step::Offer(0, put), Answer::Accepted(0), 1, 3),
-        (Step::Offer(0, get), Answer::NotReady, 1, 3),
-        (Step::Perform(0, 0), Answer::NoSuch, 1, 3),
-        (Step::Pump, Answer::Sent(0), 1, 2),
-        (Step::Pump, Answer::Idle, 1, 2),
-        (Step::AnswerB(0), Answer::Nothing, 1, 2),
-        (Step::Perform(0, 0), Answer::Done, 1, 1),
-        (Step::Perform(0, 0), Answer::Already, 1, 1),
-        (Step::AnswerR(0), Answer::Nothing, 1, 1),
-        (Step::Take(0), Answer::Nothing, 1, 1),
-        (Step::AnswerB(0), Answer::B(B), 0, 0),
-        (Step::Take(2), Answer::NoClient, 0, 0),
-        (Step::Take(1), Answer::Nothing, 0, 0),
-        (Step::Take(0), Answer::Reply(0), 0, 0),
-        (Step::Take(0), Answer::Nothing, 0, 0),
-        (Step::Offer(0, get), Answer::Accepted(1), 1, 3),
-        (Step::Offer(0, get), Answer::NotReady, 1, 3),
-        (Step::Pump, Answer::Sent(1), 1, 2),
-        (Step::Perform(1, 0), Answer::Done, 1, 1),
-        (Step::AnswerR(0), Answer::R(R), 0, 0),
-        (Step::Take(0), Answer::Reply(1), 0, 0),
-    ] {
-        assert_eq!(rt; world.step(&step, &mut reply), answer, "{step:?}");
-        assert_eq!(rt; world.in_flight(), in_flight, "{step:?}");
-        assert_eq!(rt; world.work_left(), work_left, "{step:?}");
+/// An INCR write.
+const fn aw(id: u8, address: u32, len: u8, size: u8) -> AwBeat {
+    AwBeat {
+        id,
+        address,
+        len,
+        size,
+        burst: 1,
     }
-    assert_eq!(rt; reply.as_slice(), [reply_beat(1, PUT)].as_slice());
-    assert_eq!(rt; world.byte(0x10008), Some(0x88));
-    assert_eq!(rt; world.byte(0x1000f), Some(0x11));
-    Ok(())
 }
 
-#[test]
-fn runs_no_steps(rt: HostRuntime) {
-    let ran = run(rt.alloc(), &set_up(), &[]).expect(&rt, "memory");
-    assert!(rt; ran.answers.is_empty());
-    assert!(rt; ran.replies.is_empty());
-    assert!(rt; ran.d_beats.is_empty());
-    assert!(rt; ran.sent.is_empty());
-    assert_eq!(rt; ran.world.byte(0x10000), Some(0));
-    assert_eq!(rt; ran.world.in_flight(), 0);
+const fn offer(client: u8, beat: ABeat, answer: Answer) -> Event {
+    Does(Step::Offer(client, beat), answer)
 }
 
-#[test]
-fn runs_a_put_and_a_get(rt: HostRuntime) {
-    let get = Step::Offer(0, word_beat(4, 0x08, 0));
-    let steps = [
-        Step::Offer(0, word_beat(0, 0x08, PUT)),
-        Step::Pump,
-        Step::Perform(0, 0),
-        Step::AnswerB(0),
-        Step::Take(0),
-        Step::Take(0),
-        get,
-        get,
-        Step::Pump,
-        Step::Perform(1, 0),
-        Step::AnswerR(0),
-        Step::Take(0),
-    ];
-    let ran = run(rt.alloc(), &set_up(), &steps).expect(&rt, "memory");
-    let answers = [
-        Answer::Accepted(0),
-        Answer::Sent(0),
-        Answer::Done,
-        Answer::B(B),
-        Answer::Reply(0),
-        Answer::Nothing,
-        Answer::Accepted(1),
-        Answer::NotReady,
-        Answer::Sent(1),
-        Answer::Done,
-        Answer::R(R),
-        Answer::Reply(1),
-    ];
-    assert_eq!(rt; ran.answers.as_slice(), answers.as_slice());
-    let replies = [handed(0, 0), handed(1, 1)];
-    assert_eq!(rt; ran.replies.as_slice(), replies.as_slice());
-    let d_beats = [reply_beat(0, 0), reply_beat(1, PUT)];
-    assert_eq!(rt; ran.d_beats.as_slice(), d_beats.as_slice());
-    let sent = [SentBeat::Aw(AW), SentBeat::W(W), SentBeat::Ar(AR)];
-    assert_eq!(rt; ran.sent.as_slice(), sent.as_slice());
-    assert_eq!(rt; ran.world.byte(0x10008), Some(0x88));
-    assert_eq!(rt; ran.world.byte(0x1000f), Some(0x11));
-    assert_eq!(rt; ran.world.in_flight(), 0);
+/// Nothing is ready.
+const fn idle() -> Event {
+    Does(Step::Pump, Answer::Idle)
 }
 
-#[test]
-fn takes_eight_bytes_alone(rt: HostRuntime) -> Result<(), Fail> {
-    let mut world = World::new(rt.alloc(), &set_up()).expect(&rt, "memory");
-    let mut reply = ReplyBox::new(rt.alloc())?;
-    let get = word_beat(4, 0x08, 0);
-    for beat in [
-        ABeat { opcode: 1, ..get },
-        ABeat { opcode: 6, ..get },
-        ABeat { param: 1, ..get },
-        ABeat { size: 2, ..get },
-        ABeat { size: 4, ..get },
-        ABeat { mask: 0x7f, ..get },
-        ABeat {
-            corrupt: true,
-            ..get
-        },
-        ABeat {
-            address: 0x0c,
-            ..get
-        },
-        ABeat {
-            address: 0x4000,
-            ..get
-        },
-    ] {
-        assert_eq!(rt;
-            world.step(&Step::Offer(0, beat), &mut reply),
-            Answer::NotReady,
-            "{beat:?}"
-        );
+const fn perform(serial: u64, beat: u16) -> Event {
+    Does(Step::Perform(serial, beat), Answer::Done)
+}
+
+/// The B of an ID comes.
+const fn b(id: u8, resp: Resp) -> Event {
+    Does(Step::AnswerB(id), Answer::B(BBeat { id, resp }))
+}
+
+/// An R of an ID comes, and it is the last of its burst.
+const fn last_r(id: u8, payload: u64, resp: Resp) -> Event {
+    let beat = RBeat {
+        id,
+        payload,
+        resp,
+        last: true,
+    };
+    Does(Step::AnswerR(id), Answer::R(beat))
+}
+
+/// An R of an ID comes, with OKAY, and it isn't the last of its burst.
+const fn r(id: u8, payload: u64) -> Event {
+    let beat = RBeat {
+        id,
+        payload,
+        resp: Resp::Okay,
+        last: false,
+    };
+    Does(Step::AnswerR(id), Answer::R(beat))
+}
+
+const fn take(client: u8, number: u64) -> Event {
+    Does(Step::Take(client), Answer::Reply(number))
+}
+
+const fn take_none(client: u8) -> Event {
+    Does(Step::Take(client), Answer::Nothing)
+}
+
+/// A world, and the reply that was taken last.
+#[derive(Drop)]
+struct Bench {
+    world: World,
+    reply: ReplyBox,
+}
+
+fn fresh(alloc: Global, lists: Lists) -> Result<Option<Bench>, AllocError> {
+    let Some(setup) = set_up(lists) else {
+        return Ok(None);
+    };
+    let Ok(world) = World::new(alloc, &setup) else {
+        return Ok(None);
+    };
+    let reply = ReplyBox::new(alloc)?;
+    Ok(Some(Bench { world, reply }))
+}
+
+/// Whether all of so many beats are taken, and the last is answered so.
+fn offers_all(bench: &mut Bench, client: u8, first: ABeat, count: u8, answer: Answer) -> bool {
+    for k in 0..count {
+        let payload = u64::from(k)
+            .wrapping_add(1)
+            .wrapping_mul(0x0101010101010101);
+        let step = Step::Offer(client, ABeat { payload, ..first });
+        let wanted = if k < count - 1 { Answer::More } else { answer };
+        if bench.world.step(&step, &mut bench.reply) != wanted {
+            return false;
+        }
     }
-    assert_eq!(rt;
-        world.step(&Step::Offer(0, get), &mut reply),
-        Answer::Accepted(0)
-    );
-    Ok(())
+    true
 }
 
-#[test]
-fn shows_the_last_burst(rt: HostRuntime) -> Result<(), Fail> {
-    let mut world = World::new(rt.alloc(), &set_up()).expect(&rt, "memory");
-    let mut reply = ReplyBox::new(rt.alloc())?;
-    assert!(rt; world.last_burst().is_empty());
-    let offer = Step::Offer(0, word_beat(0, 0x08, PUT));
-    assert_eq!(rt; world.step(&offer, &mut reply), Answer::Accepted(0));
-    assert_eq!(rt; world.step(&Step::Pump, &mut reply), Answer::Sent(0));
-    assert!(rt; world.last_burst().is_write());
-    assert_eq!(rt; world.step(&Step::Perform(0, 0), &mut reply), Answer::Done);
-    assert!(rt; world.last_burst().is_empty());
-    Ok(())
+/// Whether a Pump sends a burst under this serial.
+fn sends(bench: &mut Bench, serial: u64) -> bool {
+    bench.world.step(&Step::Pump, &mut bench.reply) == Answer::Sent(serial)
 }
 
-#[test]
-fn refuses_set_ups(rt: HostRuntime) {
-    let overlap = [region(0, 4, 0x10), region(3, 1, 0x20)];
-    let empty = [region(0, 0, 0x10)];
-    let range = [region(0xfffff, 2, 0x10)];
-    for (regions, fault) in [
-        (
-            overlap.as_slice(),
-            Some(SetupFault::Map(MapFault::RegionOverlap(1))),
-        ),
-        (
-            empty.as_slice(),
-            Some(SetupFault::Map(MapFault::RegionEmpty(0))),
-        ),
-        (
-            range.as_slice(),
-            Some(SetupFault::Map(MapFault::RegionRange(0))),
-        ),
-        (&[], None),
-    ] {
-        let mut setup = set_up();
-        setup.regions.clear();
-        setup.regions.try_extend_from_slice(regions).unwrap();
-        assert_eq!(rt; setup_fault(&setup), fault);
-        assert_eq!(rt; World::new(rt.alloc(), &setup).err(), fault);
+fn shows_read(world: &World, ar: ArBeat) -> bool {
+    let burst = world.last_burst();
+    !burst.is_empty() && !burst.is_write() && burst.ar() == ar
+}
+
+fn shows_write(world: &World, aw: AwBeat) -> bool {
+    let burst = world.last_burst();
+    burst.is_write() && burst.aw() == aw && burst.w_beats() == u16::from(aw.len) + 1
+}
+
+/// Whether W beat `k` is this; it is the last just where it should be.
+fn shows_data(world: &World, k: u8, payload: u64, strobes: u8) -> bool {
+    let burst = world.last_burst();
+    if !burst.is_write() || u16::from(k) >= burst.w_beats() {
+        return false;
+    }
+    let last = k == burst.aw().len;
+    let w = WBeat {
+        payload,
+        strobes,
+        last,
+    };
+    burst.w(u16::from(k)) == w
+}
+
+fn performs_all(bench: &mut Bench, serial: u64, beats: u16) -> bool {
+    for beat in 0..beats {
+        let step = Step::Perform(serial, beat);
+        if bench.world.step(&step, &mut bench.reply) != Answer::Done {
+            return false;
+        }
+    }
+    true
+}
+
+fn reads_zeros(bench: &mut Bench, id: u8, beats: u16) -> bool {
+    for k in 0..beats {
+        let beat = RBeat {
+            id,
+            payload: 0,
+            resp: Resp::Okay,
+            last: k == beats - 1,
+        };
+        if bench.world.step(&Step::AnswerR(id), &mut bench.reply) != Answer::R(beat) {
+            return false;
+        }
+    }
+    true
+}
+
+/// Whether the reply has so many beats, the first of which is this but for what it shows.
+fn replied(reply: &ReplyBox, beats: u16, first: DBeat) -> bool {
+    if reply.beats() != beats || beats == 0 {
+        return false;
+    }
+    let found = reply.beat(0);
+    let expected = DBeat {
+        payload: found.payload,
+        corrupt: found.corrupt,
+        ..first
+    };
+    found == expected
+}
+
+fn shows(reply: &ReplyBox, k: u16, payload: u64, corrupt: bool) -> bool {
+    if k >= reply.beats() {
+        return false;
+    }
+    let beat = reply.beat(k);
+    (beat.payload, beat.corrupt) == (payload, corrupt)
+}
+
+/// Whether the eight bytes from an address on are those of a word, the least significant first.
+fn holds_word(world: &World, address: u32, word: u64) -> bool {
+    let mut rest = word;
+    for k in 0..8u32 {
+        if world.byte(address.wrapping_add(k)) != Some((rest % 256) as u8) {
+            return false;
+        }
+        rest /= 256;
+    }
+    true
+}
+
+fn chooses(world: &World, k: u32, step: Step) -> bool {
+    k < world.choices() && world.choose(k) == step
+}
+
+/// Whether the answer is the one that the event has to give.
+fn carries(bench: &mut Bench, event: Event) -> bool {
+    match event {
+        Does(step, answer) => bench.world.step(&step, &mut bench.reply) == answer,
+        OfferAll(client, beat, count, answer) => offers_all(bench, client, beat, count, answer),
+        Read(serial, ar) => sends(bench, serial) && shows_read(&bench.world, ar),
+        Write(serial, aw) => sends(bench, serial) && shows_write(&bench.world, aw),
+        Data(k, payload, strobes) => shows_data(&bench.world, k, payload, strobes),
+        NoBurst(empty) => bench.world.last_burst().is_empty() == empty,
+        PerformAll(serial, beats) => performs_all(bench, serial, beats),
+        ZeroReads(id, beats) => reads_zeros(bench, id, beats),
+        Reply(beats, first) => replied(&bench.reply, beats, first),
+        Shows(k, payload, corrupt) => shows(&bench.reply, k, payload, corrupt),
+        Byte(address, byte) => bench.world.byte(address) == byte,
+        Word(address, word) => holds_word(&bench.world, address, word),
+        Work(work) => bench.world.work_left() == work,
+        InFlight(count) => bench.world.in_flight() == count,
+        FirstDone(client, done) => bench.world.first_done(client) == done,
+        Choices(count) => bench.world.choices() == count,
+        Choose(k, step) => chooses(&bench.world, k, step),
+        Drain(made) => bench.world.drain() == made,
+    }
+}
+
+/// How many of the events gave their answers before one didn't.
+fn carried_by(bench: &mut Bench, events: &[Event]) -> usize {
+    let mut done = 0usize;
+    for event in events {
+        if !carries(bench, *event) {
+            return done;
+        }
+        done = done.saturating_add(1);
+    }
+    done
+}
+
+/// The same on a fresh world.
+fn carried(alloc: Global, lists: Lists, events: &[Event]) -> Result<usize, AllocError> {
+    match fresh(alloc, lists)? {
+        Some(mut bench) => Ok(carried_by(&mut bench, events)),
+        None => Ok(0),
     }
 }

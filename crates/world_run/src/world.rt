@@ -1,186 +1,85 @@
-//! The first world: it carries one request of eight bytes of client 0 at a time.
-ghost use Rattle.std.specs.Prelude.{◌≡◌, ◌≤◌, ◌⊎◌, ◌^◌, ◌∷◌, true, [], Some, option_map, IfSome, IfOk, IfErr, IsTrue, if◌then◌else◌};
-ghost use Rattle.std.specs.List.{list_all};
-ghost use Rattle.subordinate.specs.Pages.{is_listed_good};
+//! The world: a bridge and a memory, one event at a time.
+ghost use Rattle.std.specs.Prelude.{◌≡◌, ◌+◌, ◌≤◌, ◌<◌, ◌⊎◌, length, map, None, Some, option_map, slice_get, IfErr, IfOk, IfSome, IsTrue, if◌then◌else◌};
+ghost use Rattle.world_run.specs.Laws.{IsSoundWorld, TakeAll};
+ghost use Rattle.world_run.specs.InOrder.{IsForeseen, KeepsOrder};
+ghost use Rattle.world_run.specs.Serial.{Order};
 ghost use Rattle.world_run.specs.Setups.{lists_of, setup_fault};
-ghost use Rattle.tl_messages.specs.Operations.{operation_of};
-ghost use Rattle.tl_messages.specs.Requests.{begun, request_of};
-ghost use Rattle.responses.specs.Shown.{shown};
-ghost use Rattle.world_run.specs.World.{is_of_eight_bytes, burst_of, with_reply};
-ghost use Rattle.world_run.specs.Carrying.{IsWordMessage};
-ghost use Rattle.world_run.specs.Inside.{carried_of, reply_known, IsReplyFor};
 ghost use Rattle.world_run.specs.declared.SetupFault.TheVariants.{NoMemory};
 ghost use Rattle.world_run.specs.declared.Step.TheVariants.{Offer, Pump, Perform, AnswerB, AnswerR, Take};
 
+use crate::parts::{give_b, give_r, send};
 use crate::{Answer, Setup, SetupFault, Step, setup_fault};
-use axi_beats::{ArBeat, AwBeat, BurstBox, WBeat};
-use bridge_core::Config;
+use axi_beats::BurstBox;
+use bridge_core::{Bridge, Offered, Taken};
 use burst_plan::PageMap;
-use std::alloc::Global;
+use std::alloc::{AllocError, Global};
 use std::marker::Model;
 use subordinate::{Device, Performed};
-use tl_messages::{ABeat, DBeat, Operation, ReplyBox};
+use tl_messages::{ABeat, ReplyBox};
 
-/// How many requests a world accepts at most: their numbers are below 2^48.
-const MAX_ACCEPTED: u64 = 1 << 48;
-
-/// The reply to a request, once it is known.
-#[derive(Clone, Copy)]
-enum Known {
-    Acknowledged,
-    Word(u64),
-}
-
-/// The request that is carried: its number, its beat, its AXI address, whether its burst was sent, and its reply.
-#[derive(Clone, Copy)]
-struct Held {
-    number: u64,
-    beat: ABeat,
-    place: u32,
-    is_sent: bool,
-    reply: Option<Known>,
-}
-
-/// Bridge and memory as one world, one event at a time. All room is taken by `new`; no other call takes memory.
-///
-/// So far it carries one request at a time: a Get or a full Put of eight bytes, of client 0.
+/// Bridge and memory as one world, one event at a time: each burst that the bridge sends goes to the memory, and each
+/// answer of the memory goes to the bridge. All room is taken by `new`; no other call takes memory.
 #[derive(Drop)]
 pub struct World {
-    config: Config,
-    map: PageMap,
-    device: Device,
-    stock: Option<BurstBox>,
+    pub(crate) bridge: Bridge,
+    pub(crate) device: Device,
     empty: BurstBox,
-    held: Option<Held>,
-    accepted: u64,
     last_sent: Option<u64>,
 }
 
 impl Model for World {
     ghost use Rattle.world_run.specs.World.{WorldState};
+    ghost use Rattle.std.specs.Prelude.{◌≡◌, None};
+    ghost use Rattle.world_run.specs.Inside.{world_state, ArePaired};
 
     ghost Value = { WorldState };
 
-    ghost use Rattle.world_run.specs.Inside.{world_state, IsSoundWorld};
+    ghost view = { λ w. world_state w.bridge w.device w.last_sent };
 
-    ghost view = { λ w. world_state w.config w.map w.device w.held w.accepted w.last_sent };
-
-    ghost invariant = { λ w. IsSoundWorld (world_state w.config w.map w.device w.held w.accepted w.last_sent) w.device w.stock w.empty };
-}
-
-fn is_of_eight_bytes(beat: &ABeat) -> bool
-    ensures { result ≡ is_of_eight_bytes beat.now }
-{
-    (beat.opcode == 0 || beat.opcode == 4)
-        && beat.param == 0
-        && beat.size == 3
-        && beat.mask == 0xff
-        && !beat.corrupt
-        && beat.address.is_multiple_of(8)
-}
-
-/// Puts the burst of a request into a box.
-fn fill(burst: &mut BurstBox, held: &Held)
-    ensures { burst.new ≡ Some (burst_of (carried_of held.now)) }
-{
-    let operation = Operation::named(held.beat.opcode, held.beat.param).unwrap_or(Operation::Get);
-    if operation.has_data() {
-        let beat = WBeat {
-            payload: held.beat.payload,
-            strobes: 0xff,
-            last: true,
-        };
-        burst.set_write(
-            AwBeat {
-                id: 0,
-                address: held.place,
-                len: 0,
-                size: 3,
-                burst: 1,
-            },
-            &[beat],
-        );
-    } else {
-        burst.set_read(ArBeat {
-            id: 0,
-            address: held.place,
-            len: 0,
-            size: 3,
-            burst: 1,
-        });
-    }
-}
-
-fn answered(held: Option<Held>, known: Known) -> Option<Held>
-    ensures { option_map carried_of result ≡ option_map (with_reply (reply_known known)) (option_map carried_of held) }
-{
-    let held = held?;
-    Some(Held {
-        reply: Some(known),
-        ..held
-    })
-}
-
-/// The one beat of the reply to a request of eight bytes.
-fn beat_of(beat: &ABeat, known: Known) -> DBeat
-    requires word { IsWordMessage (begun 0 beat.now) beat.now.payload }
-    requires fits { IsReplyFor (operation_of beat.now.opcode beat.now.param) known }
-    ensures { shown (request_of (begun 0 beat.now)) (reply_known known) ≡ result ∷ [] }
-{
-    let (opcode, payload) = match known {
-        Known::Acknowledged => (0, 0),
-        Known::Word(payload) => (1, payload),
-    };
-    DBeat {
-        opcode,
-        param: 0,
-        size: beat.size,
-        source: beat.source,
-        denied: false,
-        payload,
-        corrupt: false,
-    }
+    ghost invariant = { λ w. ArePaired w.bridge w.device × (w.empty ≡ None) };
 }
 
 impl World {
-    ghost use Rattle.world_run.specs.World.{byte_of, in_flight, is_reply, leaves_all, next, opening_world, place_offered, work_left};
+    ghost use Rattle.bridge_core.specs.Requests.{first_done};
+    ghost use Rattle.std.specs.Prelude.{is_some};
+    ghost use Rattle.world_run.specs.World.{byte_of, in_flight, is_reply, leaves_all, next, opening_world, work_left};
 
-    /// The opening world of a set-up. This first world takes a bus of eight bytes, good pages alone and no bad words.
-    ///
-    /// Memory is asked for only where the set-up isn't refused.
+    /// The opening world of a set-up. Memory is asked for only where the set-up isn't refused.
     pub fn new(alloc: Global, setup: &Setup) -> Result<World, SetupFault>
-        requires bus { setup.now.config.axi_bytes ≡ 8 }
-        requires good { IsTrue (list_all is_listed_good setup.now.pages.items) }
-        requires no_bad_words { setup.now.bad_words.items ≡ [] }
         ensures refused { IfSome (setup_fault (lists_of setup.now)) (λ fault. result ≡ Err fault) }
         ensures want { IfErr result (λ fault. (setup_fault (lists_of setup.now) ≡ Some fault) ⊎ (fault ≡ NoMemory)) }
         ensures opens { IfOk result (λ world. world ≡ opening_world (lists_of setup.now)) }
+        ensures laws { IfOk result IsSoundWorld }
     {
         if let Some(fault) = setup_fault(setup) {
             return Err(fault);
         }
+        match World::opening(alloc, setup) {
+            Ok(world) => Ok(world),
+            Err(_) => Err(SetupFault::NoMemory),
+        }
+    }
+
+    fn opening(alloc: Global, setup: &Setup) -> Result<World, AllocError>
+        requires { setup_fault (lists_of setup.now) ≡ None }
+        ensures opens { IfOk result (λ world. world ≡ opening_world (lists_of setup.now)) }
+    {
         let Ok(map) = PageMap::new(alloc, setup.regions.as_slice()) else {
-            return Err(SetupFault::NoMemory);
+            return Err(AllocError);
         };
+        let Ok(bridge) = Bridge::new(alloc, setup.config, map) else {
+            return Err(AllocError);
+        };
+        let width = setup.config.axi_bytes;
         let pages = setup.pages.as_slice();
-        let bad_words = setup.bad_words.as_slice();
-        let Ok(device) = Device::new(alloc, setup.config.axi_bytes, pages, bad_words) else {
-            return Err(SetupFault::NoMemory);
+        let Ok(device) = Device::new(alloc, width, pages, setup.bad_words.as_slice()) else {
+            return Err(AllocError);
         };
-        let Ok(stock) = BurstBox::new(alloc) else {
-            return Err(SetupFault::NoMemory);
-        };
-        let Ok(empty) = BurstBox::new(alloc) else {
-            return Err(SetupFault::NoMemory);
-        };
+        let empty = BurstBox::new(alloc)?;
         Ok(World {
-            config: setup.config,
-            map,
+            bridge,
             device,
-            stock: Some(stock),
             empty,
-            held: None,
-            accepted: 0,
             last_sent: None,
         })
     }
@@ -194,28 +93,23 @@ impl World {
 
     /// How many requests were accepted and aren't done.
     pub fn in_flight(&self) -> u16
-        ensures { result ≡ in_flight self.now.live }
+        ensures { result ≡ in_flight self.now }
     {
-        match self.held {
-            Some(held) if held.reply.is_none() => 1,
-            _ => 0,
-        }
+        self.bridge.in_flight()
     }
 
-    /// How many events are left that send, perform or answer, until all that was accepted is done.
+    /// The work left: bursts to send, beats to perform, answers to come. A fresh atomic counts its write from the start.
     pub fn work_left(&self) -> u64
         ensures { result ≡ work_left self.now }
     {
-        let Some(held) = self.held else {
-            return 0;
-        };
-        if held.reply.is_some() {
-            return 0;
-        }
-        if held.is_sent {
-            return 2 - self.device.performed_waiting();
-        }
-        3
+        self.bridge.unsent_work() + self.device.work_left()
+    }
+
+    /// Whether a client could take a reply.
+    pub fn first_done(&self, client: u8) -> bool
+        ensures { result ≡ is_some (first_done self.now.bridge.requests.live client) }
+    {
+        self.bridge.first_done(client)
     }
 
     /// The burst that the last step sent, where the last step that changed the world was a Pump; else an empty box.
@@ -231,30 +125,28 @@ impl World {
         }
     }
 
-    fn place_offered(&self, client: u8, beat: &ABeat) -> Option<u32>
-        ensures { result ≡ place_offered self.now client beat.now }
-    {
-        if client != 0
-            || !is_of_eight_bytes(beat)
-            || self.accepted >= MAX_ACCEPTED
-            || self.held.is_some()
-        {
-            return None;
-        }
-        let operation = Operation::named(beat.opcode, beat.param).unwrap_or(Operation::Get);
-        let place = self.map.translate(operation, beat.address)?;
-        match self.device.byte(place) {
-            Some(_) => Some(place),
-            None => None,
-        }
-    }
-
     /// One event: the next state and the answer are those of the definition, and the box changes with a reply alone.
     pub fn step(&mut self, step: &Step, reply: &mut ReplyBox) -> Answer
         ensures answer { result ≡ (next self.old step.now).answer }
         ensures state { self.new ≡ (next self.old step.now).state }
         ensures reply { reply.new ≡ (if is_reply result then (next self.old step.now).reply else reply.old) }
         ensures kept { IsTrue (leaves_all result) → self.new ≡ self.old }
+
+        // Bridge and memory agree, and neither refuses what the other hands it.
+        ensures laws { IsSoundWorld self.new }
+        ensures take_all { TakeAll self.old }
+
+        // Memory, open bursts and gathered replies stay those of the accepted requests carried out one at a time.
+        ensures order { (order : Order) → IsForeseen order self.old step.now → KeepsOrder order self.old → KeepsOrder order self.new }
+    {
+        self.made(step, reply)
+    }
+
+    fn made(&mut self, step: &Step, reply: &mut ReplyBox) -> Answer
+        ensures answer { result ≡ (next self.old step.now).answer }
+        ensures state { self.new ≡ (next self.old step.now).state }
+        ensures reply { reply.new ≡ (if is_reply result then (next self.old step.now).reply else reply.old) }
+        ensures laws { IsSoundWorld self.old × IsSoundWorld self.new }
     {
         match *step {
             Step::Offer(client, beat) => self.offer(client, &beat),
@@ -269,52 +161,36 @@ impl World {
     fn offer(&mut self, client: u8, beat: &ABeat) -> Answer
         ensures answer { result ≡ (next self.old (Offer client beat.now)).answer }
         ensures state { self.new ≡ (next self.old (Offer client beat.now)).state }
+        ensures laws { IsSoundWorld self.old × IsSoundWorld self.new }
     {
-        if client >= self.config.clients {
-            return Answer::NoClient;
-        }
-        let Some(place) = self.place_offered(client, beat) else {
-            return Answer::NotReady;
+        let answer = match self.bridge.offer(client, beat) {
+            Offered::NoClient => return Answer::NoClient,
+            Offered::Refused(rule) => return Answer::Refused(rule),
+            Offered::NotReady => return Answer::NotReady,
+            Offered::Exhausted => return Answer::Exhausted,
+            Offered::More => Answer::More,
+            Offered::Accepted(number) => Answer::Accepted(number),
         };
-        let number = self.accepted;
-        self.held = Some(Held {
-            number,
-            beat: *beat,
-            place,
-            is_sent: false,
-            reply: None,
-        });
-        self.accepted += 1;
         self.last_sent = None;
-        Answer::Accepted(number)
+        answer
     }
 
-    fn pump(&mut self) -> Answer
+    pub(crate) fn pump(&mut self) -> Answer
         ensures answer { result ≡ (next self.old Pump).answer }
         ensures state { self.new ≡ (next self.old Pump).state }
+        ensures laws { IsSoundWorld self.old × IsSoundWorld self.new }
     {
-        let Some(held) = self.held else {
+        let Some(serial) = send(&mut self.bridge, &mut self.device) else {
             return Answer::Idle;
         };
-        if held.is_sent {
-            return Answer::Idle;
-        }
-        let mut burst = self.stock.take().unwrap();
-        fill(&mut burst, &held);
-        let Ok(serial) = self.device.send_box(burst) else {
-            unreachable!();
-        };
-        self.held = Some(Held {
-            is_sent: true,
-            ..held
-        });
         self.last_sent = Some(serial);
         Answer::Sent(serial)
     }
 
-    fn perform(&mut self, serial: u64, beat: u16) -> Answer
+    pub(crate) fn perform(&mut self, serial: u64, beat: u16) -> Answer
         ensures answer { result ≡ (next self.old (Perform serial beat)).answer }
         ensures state { self.new ≡ (next self.old (Perform serial beat)).state }
+        ensures laws { IsSoundWorld self.old × IsSoundWorld self.new }
     {
         match self.device.perform(serial, beat) {
             Performed::NoSuch => Answer::NoSuch,
@@ -326,28 +202,26 @@ impl World {
         }
     }
 
-    fn answer_b(&mut self, id: u8) -> Answer
+    pub(crate) fn answer_b(&mut self, id: u8) -> Answer
         ensures answer { result ≡ (next self.old (AnswerB id)).answer }
         ensures state { self.new ≡ (next self.old (AnswerB id)).state }
+        ensures laws { IsSoundWorld self.old × IsSoundWorld self.new }
     {
-        let Some(beat) = self.device.answer_b(id) else {
+        let Some(beat) = give_b(&mut self.bridge, &mut self.device, id) else {
             return Answer::Nothing;
         };
-        self.stock = self.device.take_closed();
-        self.held = answered(self.held, Known::Acknowledged);
         self.last_sent = None;
         Answer::B(beat)
     }
 
-    fn answer_r(&mut self, id: u8) -> Answer
+    pub(crate) fn answer_r(&mut self, id: u8) -> Answer
         ensures answer { result ≡ (next self.old (AnswerR id)).answer }
         ensures state { self.new ≡ (next self.old (AnswerR id)).state }
+        ensures laws { IsSoundWorld self.old × IsSoundWorld self.new }
     {
-        let Some(beat) = self.device.answer_r(id) else {
+        let Some(beat) = give_r(&mut self.bridge, &mut self.device, id) else {
             return Answer::Nothing;
         };
-        self.stock = self.device.take_closed();
-        self.held = answered(self.held, Known::Word(beat.payload));
         self.last_sent = None;
         Answer::R(beat)
     }
@@ -355,24 +229,16 @@ impl World {
     fn take(&mut self, client: u8, reply: &mut ReplyBox) -> Answer
         ensures answer { result ≡ (next self.old (Take client)).answer }
         ensures state { self.new ≡ (next self.old (Take client)).state }
+        ensures laws { IsSoundWorld self.old × IsSoundWorld self.new }
         ensures reply { reply.new ≡ (if is_reply result then (next self.old (Take client)).reply else reply.old) }
     {
-        if client >= self.config.clients {
-            return Answer::NoClient;
+        match self.bridge.take(client, reply) {
+            Taken::NoClient => Answer::NoClient,
+            Taken::Nothing => Answer::Nothing,
+            Taken::Reply(number) => {
+                self.last_sent = None;
+                Answer::Reply(number)
+            }
         }
-        let Some(held) = self.held else {
-            return Answer::Nothing;
-        };
-        let Some(known) = held.reply else {
-            return Answer::Nothing;
-        };
-        if client != 0 {
-            return Answer::Nothing;
-        }
-        reply.clear();
-        reply.push(beat_of(&held.beat, known));
-        self.held = None;
-        self.last_sent = None;
-        Answer::Reply(held.number)
     }
 }

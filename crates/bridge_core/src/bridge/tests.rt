@@ -74,6 +74,7 @@ enum Step {
     FirstDone(u8, bool),
     InFlight(u16),
     Work(u64),
+    Unsent(u64),
     Stock(u8),
     /// The burst that went last comes back.
     GiveBack,
@@ -81,7 +82,7 @@ enum Step {
 
 use Step::{
     B, CanPump, Data, FirstDone, GiveBack, Idle, InFlight, Offer, OfferAll, R, Read, Reads, Reply,
-    Shows, Stock, Take, Work, Write,
+    Shows, Stock, Take, Unsent, Work, Write,
 };
 
 /// A bridge, with what came out of it last.
@@ -338,6 +339,7 @@ fn carries(bench: &mut Bench, step: Step) -> bool {
         FirstDone(client, answer) => bench.bridge.first_done(client) == answer,
         InFlight(count) => bench.bridge.in_flight() == count,
         Work(work) => bench.bridge.work_left() == work,
+        Unsent(work) => bench.bridge.unsent_work() == work,
         Stock(count) => bench.bridge.stock() == count,
         GiveBack => match bench.burst.take() {
             Some(burst) => comes_back(&mut bench.bridge, burst),

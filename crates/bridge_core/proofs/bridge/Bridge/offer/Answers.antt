@@ -7,6 +7,7 @@ use Rattle.flight_table.specs.Tables.{FlightTable, is_busy}
 use Rattle.bridge_core.specs.Inside.{held_back}
 use Rattle.bridge_core.specs.declared.Config.{Config}
 use Rattle.bridge_core.specs.declared.Offered.TheVariants as offer
+use Rattle.bridge_core.proofs.Offers.{refused_kept}
 use Rattle.bridge_core.proofs.OfferSteps.{IsMade, IsOffering, can_accept, is_empty, made_answer, made_back, made_more, made_refused, made_state, made_whole}
 use Rattle.bridge_core.proofs.bridge.Bridge.offer.Goals as goal
 
@@ -64,6 +65,9 @@ returns-in-Some-clause-state c =
     let i = c.self.inside in
     sym c.self.view_is ∙ made_state i.ports.items i.requests i.monitor.open_bursts c.args.client c.args.beat.now i.ports.items i.requests c.in-Some.answer (vec_len i.stock) c.args.self.now c.self.view_is (back c)
 
+pub returns-in-Some-clause-kept : goal.returns-in-Some-clause-kept
+returns-in-Some-clause-kept c = refused_kept c.args.self.now _ c.args.client c.args.beat.now _ (returns-in-Some-clause-answer c) (returns-in-Some-clause-state c)
+
 -- ---- it breaks a rule
 
 offering-refused : (c : goal.In-Err) → IsOffering c.self.inside.ports.items c.self.inside.requests c.self.inside.monitor.open_bursts c.args.client c.args.beat.now c.busy-busy.result
@@ -95,6 +99,9 @@ pub returns-in-Err-clause-state : goal.returns-in-Err-clause-state
 returns-in-Err-clause-state c =
     let i = c.self.inside in
     made_state i.ports.items i.requests i.monitor.open_bursts c.args.client c.args.beat.now c.take_beat.new.ports.items i.requests (offer.Refused c.in-Err.rule) (vec_len i.stock) c.args.self.now c.self.view_is (refused c)
+
+pub returns-in-Err-clause-kept : goal.returns-in-Err-clause-kept
+returns-in-Err-clause-kept c = refused_kept c.args.self.now _ c.args.client c.args.beat.now _ (returns-in-Err-clause-answer c) (returns-in-Err-clause-state c)
 
 pub returns-in-Err-clause-laws : goal.returns-in-Err-clause-laws
 returns-in-Err-clause-laws c = (refused c).sound

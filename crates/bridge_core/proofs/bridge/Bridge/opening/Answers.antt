@@ -25,5 +25,8 @@ invariant_of-result c =
       rw c.in_ok-requests.ensures (omega (arith, c.in_ok-stock.ensures.1, c.in_ok-stock.ensures.0, stocked c)),
     )
 
-pub returns : goal.returns
-returns c = kept c
+pub returns-clause-state : goal.returns-clause-state
+returns-clause-state c = kept c
+
+pub returns-clause-laws : goal.returns-clause-laws
+returns-clause-laws c = subst (λ (b : StockedBridge). IsSoundBridge b.state) (sym (kept c)) (sound_opening c.args.config c.args.map c.requires)

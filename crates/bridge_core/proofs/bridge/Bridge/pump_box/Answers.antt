@@ -1,9 +1,11 @@
 -- The burst that goes is legal and breaks no rule of the port.
 use Rattle.std.proofs.Common.{◌≡◌, ◌∙◌, ◌+◌, ◌≤◌, ap, sym, subst, arith}
-use Rattle.std.specs.Prelude.{IfSome, is_some}
+use Rattle.std.specs.Prelude.{None, IfSome, is_some}
 use Rattle.std.specs.Vec.{vec_capacity, vec_len}
 use Rattle.axi_beats.specs.Bursts.{IsLegal}
+use Rattle.axi_checker.specs.Rules.{burst_fault}
 use Rattle.bridge_core.specs.Bridge.{BridgeState, StockedBridge, burst_to_send}
+use Rattle.bridge_core.specs.Configs.{axi_port_of}
 use Rattle.bridge_core.specs.Requests.{with_sent_burst}
 use Rattle.bridge_core.proofs.BridgeSteps.{IsBridge, monitor_with, pumped, pumped_state, state_in}
 use Rattle.bridge_core.proofs.Pumps.{IsSent, is_sent}
@@ -61,6 +63,13 @@ returns-clause-legal c =
     let i = c.self.inside in
     subst (λ (b : StockedBridge). IfSome (burst_to_send b.state) (IsLegal b.state.requests.config.axi_bytes)) c.self.view_is
     (rw w.sent.1 (sent_unbroken (state_in i.ports.items i.requests i.monitor.open_bursts) w.sent.0 c.self.invariant.0 w.sent.1).0)
+
+pub returns-clause-unbroken : goal.returns-clause-unbroken
+returns-clause-unbroken c =
+    let w = went c in
+    let i = c.self.inside in
+    subst (λ (b : StockedBridge). IfSome (burst_to_send b.state) (λ burst. burst_fault (axi_port_of b.state.requests.config) b.state.open_bursts burst ≡ None)) c.self.view_is
+    (rw w.sent.1 (sent_unbroken (state_in i.ports.items i.requests i.monitor.open_bursts) w.sent.0 c.self.invariant.0 w.sent.1).1)
 
 pub returns-clause-laws : goal.returns-clause-laws
 returns-clause-laws c = (kept c).0

@@ -9,10 +9,10 @@ use Rattle.subordinate.proofs.device.Device.answer_b.Goals as goal
 
 pub returns-in_err-place-clause-answer : goal.returns-in_err-place-clause-answer
 returns-in_err-place-clause-answer c =
-    c.from_residual.ensures ∙ sym (no_b c.args.self.now.memory c.args.id (found_none (is_write_of c.args.id) c.args.self.now.memory.pending (sym c.oldest_write.ensures ∙ c.in_err-place.was)))
+    c.from_residual.ensures ∙ sym (no_b c.args.self.now.memory c.args.id (found_none (is_write_of c.args.id) c.args.self.now.memory.pending (sym c.oldest_write.ensures.place ∙ c.in_err-place.was)))
 
 pub returns-clause-order : goal.returns-clause-order
 returns-clause-order c = λ answered.
-    let place = sym c.oldest_write.ensures ∙ c.in_ok-place.was in
-    subst (λ (device : DeviceState). AnswersOldestWrite c.args.id c.args.self.now.memory.pending device.memory.pending) (sym (c.close.ensures (is_write_of c.args.id) place))
+    let place = sym c.oldest_write.ensures.place ∙ c.in_ok-place.was in
+    subst (λ (device : DeviceState). AnswersOldestWrite c.args.id c.args.self.now.memory.pending device.memory.pending) (sym (c.close.ensures.state (is_write_of c.args.id) place))
     (answers_oldest_write c.args.id c.args.self.now.memory.pending c.open_at.result.now (c.open_at.ensures.found (is_write_of c.args.id) place))

@@ -13,34 +13,34 @@ use Rattle.subordinate.proofs.device.Device.answer_r.Goals as goal
 
 pub returns-in_err-place-clause-answer : goal.returns-in_err-place-clause-answer
 returns-in_err-place-clause-answer c =
-    c.from_residual.ensures ∙ sym (no_r c.args.self.now.memory c.args.id (found_none (is_read_of c.args.id) c.args.self.now.memory.pending (sym c.oldest_read.ensures ∙ c.in_err-place.was)))
+    c.from_residual.ensures ∙ sym (no_r c.args.self.now.memory c.args.id (found_none (is_read_of c.args.id) c.args.self.now.memory.pending (sym c.oldest_read.ensures.place ∙ c.in_err-place.was)))
 
 pub returns-then-last-clause-closed : goal.returns-then-last-clause-closed
 returns-then-last-clause-closed c = λ answered.
-    let place = sym c.oldest_read.ensures ∙ c.in_ok-place.was in
-    c.close.ensures (is_read_of c.args.id) place
+    let place = sym c.oldest_read.ensures.place ∙ c.in_ok-place.was in
+    c.close.ensures.state (is_read_of c.args.id) place
     ∙ answering-last c.args.self.now c.args.id c.open_at-2.result.now (c.open_at-2.ensures.found (is_read_of c.args.id) place) (sym c.gives_last-last.ensures ∙ c.if-last.true)
 
 pub returns-else-last-clause-closed : goal.returns-else-last-clause-closed
 returns-else-last-clause-closed c = λ answered.
-    let place = sym c.oldest_read.ensures ∙ c.in_ok-place.was in
-    c.count_answer.ensures (is_read_of c.args.id) place
+    let place = sym c.oldest_read.ensures.place ∙ c.in_ok-place.was in
+    c.count_answer.ensures.state (is_read_of c.args.id) place
     ∙ answering-more c.args.self.now c.args.id c.open_at-2.result.now (c.open_at-2.ensures.found (is_read_of c.args.id) place) (sym c.gives_last-last.ensures ∙ c.if-last.false)
 
 pub returns-then-last-clause-order : goal.returns-then-last-clause-order
 returns-then-last-clause-order c =
-    let place = sym c.oldest_read.ensures ∙ c.in_ok-place.was in
+    let place = sym c.oldest_read.ensures.place ∙ c.in_ok-place.was in
     let state : captured_at (beat_at c.open_at.result.now c.open_at.result.now.answered) ≡ Some (c.in_ok-payload.payload, c.in_ok-payload.resp) = sym c.captured.ensures ∙ c.in_ok-payload.was in
     let r : RBeat = record { id = c.args.id; payload = c.in_ok-payload.payload; resp = c.in_ok-payload.resp; last = c.gives_last-last.result } in
     subst (λ (device : DeviceState). AnswersNextBeat c.args.id r c.args.self.now.memory.pending device.memory.pending) (sym (returns-then-last-clause-closed c refl))
     (answers_next_beat c.args.id c.args.self.now.memory.bus_bytes c.args.self.now.memory.sent c.args.self.now.memory.pending c.open_at.result.now r (c.open_at.ensures.found (is_read_of c.args.id) place)
-    c.open_at.ensures.sound c.open_at.ensures.rising (captured_is (beat_at c.open_at.result.now c.open_at.result.now.answered) c.in_ok-payload.payload c.in_ok-payload.resp state))
+    c.open_at.ensures.sound c.oldest_read.ensures.laws.rising (captured_is (beat_at c.open_at.result.now c.open_at.result.now.answered) c.in_ok-payload.payload c.in_ok-payload.resp state))
 
 pub returns-else-last-clause-order : goal.returns-else-last-clause-order
 returns-else-last-clause-order c =
-    let place = sym c.oldest_read.ensures ∙ c.in_ok-place.was in
+    let place = sym c.oldest_read.ensures.place ∙ c.in_ok-place.was in
     let state : captured_at (beat_at c.open_at.result.now c.open_at.result.now.answered) ≡ Some (c.in_ok-payload.payload, c.in_ok-payload.resp) = sym c.captured.ensures ∙ c.in_ok-payload.was in
     let r : RBeat = record { id = c.args.id; payload = c.in_ok-payload.payload; resp = c.in_ok-payload.resp; last = c.gives_last-last.result } in
     subst (λ (device : DeviceState). AnswersNextBeat c.args.id r c.args.self.now.memory.pending device.memory.pending) (sym (returns-else-last-clause-closed c refl))
     (answers_next_beat c.args.id c.args.self.now.memory.bus_bytes c.args.self.now.memory.sent c.args.self.now.memory.pending c.open_at.result.now r (c.open_at.ensures.found (is_read_of c.args.id) place)
-    c.open_at.ensures.sound c.open_at.ensures.rising (captured_is (beat_at c.open_at.result.now c.open_at.result.now.answered) c.in_ok-payload.payload c.in_ok-payload.resp state))
+    c.open_at.ensures.sound c.oldest_read.ensures.laws.rising (captured_is (beat_at c.open_at.result.now c.open_at.result.now.answered) c.in_ok-payload.payload c.in_ok-payload.resp state))

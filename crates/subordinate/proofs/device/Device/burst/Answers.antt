@@ -5,4 +5,4 @@ use Rattle.subordinate.proofs.OpenBursts.{found_none}
 use Rattle.subordinate.proofs.device.Device.burst.Goals as goal
 
 pub returns-in-None : goal.returns-in-None
-returns-in-None c = rw (found_none (has_serial c.args.serial) c.args.self.now.memory.pending (sym c.place_of.ensures ∙ c.in-None.is)) refl
+returns-in-None c = rw (found_none (has_serial c.args.serial) c.args.self.now.memory.pending (sym c.place_of.ensures.place ∙ c.in-None.is)) refl

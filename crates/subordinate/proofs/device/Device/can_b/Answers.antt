@@ -7,7 +7,7 @@ use Rattle.subordinate.proofs.device.Device.can_b.Goals as goal
 pub returns-in-Some : goal.returns-in-Some
 returns-in-Some c =
     can_b_found c.args.self.now.memory c.args.id c.open_at.result.now c.all_performed.result
-    (c.open_at.ensures.found (is_write_of c.args.id) (sym c.oldest_write.ensures ∙ c.in-Some.is)) c.all_performed.ensures
+    (c.open_at.ensures.found (is_write_of c.args.id) (sym c.oldest_write.ensures.place ∙ c.in-Some.is)) c.all_performed.ensures
 
 pub returns-in-None : goal.returns-in-None
-returns-in-None c = rw (found_none (is_write_of c.args.id) c.args.self.now.memory.pending (sym c.oldest_write.ensures ∙ c.in-None.is)) refl
+returns-in-None c = rw (found_none (is_write_of c.args.id) c.args.self.now.memory.pending (sym c.oldest_write.ensures.place ∙ c.in-None.is)) refl

@@ -2,7 +2,7 @@
 use Rattle.std.proofs.Common.{◌≡◌, ◌<◌, length, subst, sym, ◌∙◌, ap}
 use Rattle.std.specs.Prelude.{Some, find, position}
 use Rattle.subordinate.specs.Device.{DeviceState}
-use Rattle.subordinate.specs.Inside.{IsSoundPending}
+use Rattle.subordinate.specs.Laws.{IsSoundPending}
 use Rattle.subordinate.proofs.OpenBursts.{all-at, found_at}
 use Rattle.subordinate.proofs.device.Device.open_at.Goals as goal
 

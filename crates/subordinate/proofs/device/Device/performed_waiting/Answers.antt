@@ -4,7 +4,7 @@ use Rattle.std.specs.List.{AllByRecursion}
 use Rattle.std.specs.Prelude.{sum_by}
 use Rattle.subordinate.specs.Device.{DeviceState}
 use Rattle.subordinate.specs.FreeMemory.{Pending, performed_waiting_in}
-use Rattle.subordinate.specs.Inside.{IsSoundPending}
+use Rattle.subordinate.specs.Laws.{IsSoundPending}
 use Rattle.subordinate.proofs.BeatStates.{sum_end, sum_step}
 use Rattle.subordinate.proofs.OpenBursts.{all-at}
 use Rattle.subordinate.proofs.device.Device.performed_waiting.Goals as goal

@@ -7,8 +7,8 @@ use Rattle.subordinate.specs.FreeMemory.{Pending, has_serial}
 use Rattle.subordinate.proofs.OpenBursts.{place_of_serial}
 use Rattle.subordinate.proofs.device.Device.place_of.Goals as goal
 
-pub returns : goal.returns
-returns c =
+pub returns-clause-place : goal.returns-clause-place
+returns-clause-place c =
     let facts = c.binary_search_by_key.ensures in
     let by_serial = facts.position (λ p. p.serial) (answers_always _ _ _ (λ f a r g called. search rules)) in
     c.ok.ensures.value

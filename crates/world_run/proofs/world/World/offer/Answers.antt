@@ -1,11 +1,14 @@
-use Rattle.std.proofs.Common.{rules}
-use Rattle.world_run.specs.declared.Step.TheVariants.{Offer}
+-- Bridge and memory agree after an offer.
+use Rattle.std.proofs.Common.{subst}
+use Rattle.world_run.specs.Laws.{IsSoundWorld}
+use Rattle.world_run.proofs.Taking.{paired_offered}
 use Rattle.world_run.proofs.world.World.offer.Goals as goal
-use Rattle.world_run.proofs.WorldLaws.{sound_next, is_room}
 
--- src/world.rt:252:5
-pub invariant_of-self : goal.invariant_of-self
-invariant_of-self c =
-    let room = is_room c.args.self.now c.args.client c.args.beat.now c.in-Some.place (search rules) in
-    sound_next _ _ (Offer c.args.client c.args.beat.now) c.self.inside.device c.self.inside.stock c.self.inside.empty c.self.invariant.reached (search rules)
-    c.self.invariant.none_closed c.self.invariant.stocked c.self.invariant.nothing (search rules) (search rules)
+pub invariant_of-self-2 : goal.invariant_of-self-2
+invariant_of-self-2 c = (paired_offered c.self.inside.bridge c.offer.new.self c.self.inside.device c.args.client c.args.beat.now c.self.invariant.0 c.offer.ensures.state c.offer.ensures.laws, c.self.invariant.1)
+
+pub returns-clause-laws : goal.returns-clause-laws
+returns-clause-laws c = (
+  subst IsSoundWorld c.self.view_is c.self.invariant.0.agree,
+  (paired_offered c.self.inside.bridge c.offer.new.self c.self.inside.device c.args.client c.args.beat.now c.self.invariant.0 c.offer.ensures.state c.offer.ensures.laws).agree,
+)

@@ -1,0 +1,201 @@
+-- The open bursts of an ID are the outstanding ones of the request that holds it: what is left of this where one is sent, performed or
+-- answered. It knows the two lists, entry by entry; which event it was, and the memory's bytes, are hidden.
+use Rattle.std.proofs.Common.{◌≡◌, ◌≢◌, ℕ, suc, ◌==◌, Bool, true, false, not, ◌||◌, List, [], ◌∷◌, ◌++◌, refl, ap, sym, ◌∙◌, subst}
+use Rattle.std.specs.Prelude.{None, Some, if◌then◌else◌}
+use Rattle.std.specs.List.{AllByRecursion, find, slice_get}
+use Rattle.std.proofs.lemmas.Bool.{eqb-true, ne_eqb}
+use Rattle.std.proofs.lemmas.Option.{same_Some}
+use Rattle.axi_beats.specs.Bursts.{Burst, ReadBurst, WriteBurst}
+use Rattle.axi_beats.specs.declared.ArBeat.{ArBeat}
+use Rattle.axi_beats.specs.declared.AwBeat.{AwBeat}
+use Rattle.axi_beats.specs.declared.WBeat.{WBeat}
+use Rattle.burst_plan.specs.declared.Piece.{Piece}
+use Rattle.bus_words.specs.Places.{change_first}
+use Rattle.bridge_core.proofs.AnswerLinks.{AreOf}
+use Rattle.subordinate.specs.FreeMemory.{Pending, is_read_of, is_write_of, reads_as, writes_as}
+use Rattle.world_run.specs.InOrder.{AreBurstsOf, IsBurstOf, IsReadOf, IsWriteOf, is_of_id}
+use Rattle.world_run.specs.Serial.{Order}
+use Rattle.world_run.proofs.PerformedBytes.{burst_more, bursts_more}
+
+-- ---- one is sent
+
+pub bursts_append : (order : Order) (bus_bytes : ℕ) (wrote : ℕ → ℕ → Bool) (number : ℕ) (mine : List Pending) (bursts : List (Bool × Piece)) (pending : Pending) (burst : Bool × Piece)
+    → AreBurstsOf order bus_bytes wrote number mine bursts → IsBurstOf order bus_bytes wrote number pending burst
+    → AreBurstsOf order bus_bytes wrote number (mine ++ pending ∷ []) (bursts ++ burst ∷ [])
+bursts_append order bus_bytes wrote number [] [] pending burst are is = (is, tt)
+bursts_append order bus_bytes wrote number [] (other ∷ bursts) pending burst are is = absurd are
+bursts_append order bus_bytes wrote number (other ∷ mine) [] pending burst are is = absurd are
+bursts_append order bus_bytes wrote number (first ∷ mine) (other ∷ bursts) pending burst are is = (are.0, bursts_append order bus_bytes wrote number mine bursts pending burst are.1 is)
+
+-- where nothing is outstanding nothing is open
+pub none_open : (order : Order) (bus_bytes : ℕ) (wrote : ℕ → ℕ → Bool) (number : ℕ) (mine : List Pending) (bursts : List (Bool × Piece)) → bursts ≡ [] → AreBurstsOf order bus_bytes wrote number mine bursts → mine ≡ []
+none_open order bus_bytes wrote number [] bursts none are = refl
+none_open order bus_bytes wrote number (pending ∷ mine) [] none are = absurd are
+none_open order bus_bytes wrote number (pending ∷ mine) (burst ∷ bursts) none are = absurd (cc (none))
+
+-- ---- one changes
+
+-- an open burst is that of an outstanding piece; where it changes, and more is written, the others stay as they are
+pub record IsOneOf (order : Order) (bus_bytes : ℕ) (wrote : ℕ → ℕ → Bool) (number : ℕ) (mine : List Pending) (bursts : List (Bool × Piece)) (test : Pending → Bool) (pending : Pending) : Type 0 where
+  pub place : ℕ
+  pub burst : Bool × Piece
+  pub there : slice_get bursts place ≡ Some burst
+  pub is : IsBurstOf order bus_bytes wrote number pending burst
+  pub changed :
+      (more : ℕ → ℕ → Bool) (change : Pending → Pending) → ((x : ℕ) → wrote number x ≡ true → more number x ≡ true) → IsBurstOf order bus_bytes more number (change pending) burst
+      → AreBurstsOf order bus_bytes more number (change_first test change mine) bursts
+
+pub open_one : (order : Order) (bus_bytes : ℕ) (wrote : ℕ → ℕ → Bool) (number : ℕ) (mine : List Pending) (bursts : List (Bool × Piece)) (test : Pending → Bool) (pending : Pending)
+    → AreBurstsOf order bus_bytes wrote number mine bursts → find test mine ≡ Some pending → IsOneOf order bus_bytes wrote number mine bursts test pending
+open_one order bus_bytes wrote number [] bursts test pending are found = absurd (cc (found))
+open_one order bus_bytes wrote number (first ∷ mine) [] test pending are found = absurd are
+open_one order bus_bytes wrote number (first ∷ mine) (burst ∷ bursts) test pending are found =
+    by_test (test first) refl found (λ later. open_one order bus_bytes wrote number mine bursts test pending are.1 later)
+  where
+    by_test : (b : Bool) → test first ≡ b → (if b then Some first else find test mine) ≡ Some pending
+        → (find test mine ≡ Some pending → IsOneOf order bus_bytes wrote number mine bursts test pending)
+        → IsOneOf order bus_bytes wrote number (first ∷ mine) (burst ∷ bursts) test pending
+    by_test true passes here rest =
+        let same : first ≡ pending = same_Some first pending here in
+        record {
+          place = 0;
+          burst = burst;
+          there = refl;
+          is = subst (λ (p : Pending). IsBurstOf order bus_bytes wrote number p burst) same are.0;
+          changed = λ more change kept new.
+              rw passes (subst (λ (p : Pending). IsBurstOf order bus_bytes more number (change p) burst) (sym same) new, bursts_more order bus_bytes wrote more number mine bursts kept are.1);
+        }
+    by_test false fails later rest =
+        let one = rest later in
+        record {
+          place = suc one.place;
+          burst = one.burst;
+          there = one.there;
+          is = one.is;
+          changed = λ more change kept new. rw fails (burst_more order bus_bytes wrote more number first burst kept are.0, one.changed more change kept new);
+        }
+
+-- ---- IDs
+
+-- a write, and a read, are of one ID alone
+of_one_id : (n id other : ℕ) → id ≢ other → (n == id) ≡ true → (n == other) ≡ false
+of_one_id n id other apart is = let same : n ≡ id = eqb-true n id is in rw same (ne_eqb id other apart)
+
+pub burst_of_one : (id other : ℕ) (burst : Burst) → id ≢ other → (writes_as id burst || reads_as id burst) ≡ true → (writes_as other burst || reads_as other burst) ≡ false
+burst_of_one id other (WriteBurst aw w_beats) apart is = by_test (aw.id == id) refl is
+  where
+    by_test : (b : Bool) → (aw.id == id) ≡ b → (b || false) ≡ true → ((aw.id == other) || false) ≡ false
+    by_test true here is = rw (of_one_id aw.id id other apart here) refl
+    by_test false here is = absurd (cc (is))
+burst_of_one id other (ReadBurst ar) apart is = of_one_id ar.id id other apart is
+
+pub of_one : (id other : ℕ) (pending : Pending) → id ≢ other → is_of_id id pending ≡ true → is_of_id other pending ≡ false
+of_one id other pending apart is = burst_of_one id other pending.burst apart is
+
+pub write_is_of : (id : ℕ) (pending : Pending) → is_write_of id pending ≡ true → is_of_id id pending ≡ true
+write_is_of id pending is = rw is refl
+
+pub read_is_of : (id : ℕ) (pending : Pending) → is_read_of id pending ≡ true → is_of_id id pending ≡ true
+read_is_of id pending is = by_test (is_write_of id pending)
+  where
+    by_test : (b : Bool) → (b || is_read_of id pending) ≡ true
+    by_test true = refl
+    by_test false = is
+
+-- ---- the first of an ID is answered
+
+-- an open burst of an ID whose piece is written is a write of it, and one whose piece is read a read
+record IsOnSide (id : ℕ) (side : Bool) (burst : Burst) : Type 0 where
+  writes : writes_as id burst ≡ side
+  reads : reads_as id burst ≡ not side
+
+write_side : (id : ℕ) (burst : Burst) (aw : AwBeat) (w_beats : List WBeat) → burst ≡ WriteBurst aw w_beats → (writes_as id burst || reads_as id burst) ≡ true → IsOnSide id true burst
+write_side id burst aw w_beats is one =
+    subst (λ (b : Burst). (writes_as id b || reads_as id b) ≡ true → IsOnSide id true b) (sym is) (by_test (aw.id == id) refl) one
+  where
+    by_test : (b : Bool) → (aw.id == id) ≡ b → (b || false) ≡ true → IsOnSide id true (WriteBurst aw w_beats)
+    by_test true here one = record { writes = here; reads = refl }
+    by_test false here one = absurd (cc (one))
+
+read_side : (id : ℕ) (burst : Burst) (ar : ArBeat) → burst ≡ ReadBurst ar → (writes_as id burst || reads_as id burst) ≡ true → IsOnSide id false burst
+read_side id burst ar is one =
+    subst (λ (b : Burst). (writes_as id b || reads_as id b) ≡ true → IsOnSide id false b) (sym is) (λ here. record { writes = refl; reads = here }) one
+
+on_side : (order : Order) (bus_bytes : ℕ) (wrote : ℕ → ℕ → Bool) (number id : ℕ) (pending : Pending) (side : Bool) (piece : Piece) → is_of_id id pending ≡ true
+    → IsBurstOf order bus_bytes wrote number pending (side, piece) → IsOnSide id side pending.burst
+on_side order bus_bytes wrote number id pending true piece one is = write_side id pending.burst is.aw is.w_beats is.burst one
+on_side order bus_bytes wrote number id pending false piece one is = read_side id pending.burst is.ar is.burst one
+
+-- an ID's open bursts are on the side of the outstanding ones
+abbrev IsOne : ℕ → Pending → Type 0
+IsOne id pending = is_of_id id pending ≡ true
+
+no_writes : (order : Order) (bus_bytes : ℕ) (wrote : ℕ → ℕ → Bool) (number id : ℕ) (mine : List Pending) (bursts : List (Bool × Piece)) → AllByRecursion (IsOne id) mine → AreOf false bursts
+    → AreBurstsOf order bus_bytes wrote number mine bursts → find (is_write_of id) mine ≡ None
+no_writes order bus_bytes wrote number id [] bursts ones sides are = refl
+no_writes order bus_bytes wrote number id (first ∷ mine) [] ones sides are = absurd are
+no_writes order bus_bytes wrote number id (first ∷ mine) ((true, piece) ∷ bursts) ones sides are = absurd (cc (sides.0))
+no_writes order bus_bytes wrote number id (first ∷ mine) ((false, piece) ∷ bursts) ones sides are =
+    let first_on = on_side order bus_bytes wrote number id first false piece ones.0 are.0 in
+    rw first_on.writes (no_writes order bus_bytes wrote number id mine bursts ones.1 sides.1 are.1)
+
+no_reads : (order : Order) (bus_bytes : ℕ) (wrote : ℕ → ℕ → Bool) (number id : ℕ) (mine : List Pending) (bursts : List (Bool × Piece)) → AllByRecursion (IsOne id) mine → AreOf true bursts
+    → AreBurstsOf order bus_bytes wrote number mine bursts → find (is_read_of id) mine ≡ None
+no_reads order bus_bytes wrote number id [] bursts ones sides are = refl
+no_reads order bus_bytes wrote number id (first ∷ mine) [] ones sides are = absurd are
+no_reads order bus_bytes wrote number id (first ∷ mine) ((false, piece) ∷ bursts) ones sides are = absurd (cc (sides.0))
+no_reads order bus_bytes wrote number id (first ∷ mine) ((true, piece) ∷ bursts) ones sides are =
+    let first_on = on_side order bus_bytes wrote number id first true piece ones.0 are.0 in
+    rw first_on.reads (no_reads order bus_bytes wrote number id mine bursts ones.1 sides.1 are.1)
+
+-- an open burst is the first of its ID, and that of the first outstanding piece
+pub record IsFirstOf (order : Order) (bus_bytes : ℕ) (wrote : ℕ → ℕ → Bool) (number : ℕ) (side : Bool) (mine : List Pending) (bursts : List (Bool × Piece)) (pending : Pending) : Type 0 where
+  pub piece : Piece
+  pub later : List Pending
+  pub rest : List (Bool × Piece)
+  pub listed : mine ≡ pending ∷ later
+  pub outstanding : bursts ≡ (side, piece) ∷ rest
+  pub is : IsBurstOf order bus_bytes wrote number pending (side, piece)
+  pub others : AreBurstsOf order bus_bytes wrote number later rest
+
+pub first_write : (order : Order) (bus_bytes : ℕ) (wrote : ℕ → ℕ → Bool) (number id : ℕ) (side : Bool) (mine : List Pending) (bursts : List (Bool × Piece)) (pending : Pending) → AllByRecursion (IsOne id) mine
+    → AreOf side bursts → AreBurstsOf order bus_bytes wrote number mine bursts → find (is_write_of id) mine ≡ Some pending → IsFirstOf order bus_bytes wrote number true mine bursts pending
+first_write order bus_bytes wrote number id side [] bursts pending ones sides are found = absurd (cc (found))
+first_write order bus_bytes wrote number id side (first ∷ mine) [] pending ones sides are found = absurd are
+first_write order bus_bytes wrote number id side (first ∷ mine) ((false, piece) ∷ bursts) pending ones sides are found =
+    let none = no_writes order bus_bytes wrote number id (first ∷ mine) ((false, piece) ∷ bursts) ones (subst (λ s. AreOf s ((false, piece) ∷ bursts)) (sym sides.0) sides) are in
+    absurd (cc (none, found))
+first_write order bus_bytes wrote number id side (first ∷ mine) ((true, piece) ∷ bursts) pending ones sides are found =
+    let first_on = on_side order bus_bytes wrote number id first true piece ones.0 are.0 in
+    let here : find (is_write_of id) (first ∷ mine) ≡ Some first = rw first_on.writes refl in
+    let same : first ≡ pending = same_Some first pending (sym here ∙ found) in
+    record {
+      piece = piece;
+      later = mine;
+      rest = bursts;
+      listed = ap (λ (p : Pending). p ∷ mine) same;
+      outstanding = refl;
+      is = subst (λ (p : Pending). IsWriteOf order bus_bytes wrote number p piece) same are.0;
+      others = are.1;
+    }
+
+pub first_read : (order : Order) (bus_bytes : ℕ) (wrote : ℕ → ℕ → Bool) (number id : ℕ) (side : Bool) (mine : List Pending) (bursts : List (Bool × Piece)) (pending : Pending) → AllByRecursion (IsOne id) mine
+    → AreOf side bursts → AreBurstsOf order bus_bytes wrote number mine bursts → find (is_read_of id) mine ≡ Some pending → IsFirstOf order bus_bytes wrote number false mine bursts pending
+first_read order bus_bytes wrote number id side [] bursts pending ones sides are found = absurd (cc (found))
+first_read order bus_bytes wrote number id side (first ∷ mine) [] pending ones sides are found = absurd are
+first_read order bus_bytes wrote number id side (first ∷ mine) ((true, piece) ∷ bursts) pending ones sides are found =
+    let none = no_reads order bus_bytes wrote number id (first ∷ mine) ((true, piece) ∷ bursts) ones (subst (λ s. AreOf s ((true, piece) ∷ bursts)) (sym sides.0) sides) are in
+    absurd (cc (none, found))
+first_read order bus_bytes wrote number id side (first ∷ mine) ((false, piece) ∷ bursts) pending ones sides are found =
+    let first_on = on_side order bus_bytes wrote number id first false piece ones.0 are.0 in
+    let here : find (is_read_of id) (first ∷ mine) ≡ Some first = rw first_on.reads refl in
+    let same : first ≡ pending = same_Some first pending (sym here ∙ found) in
+    record {
+      piece = piece;
+      later = mine;
+      rest = bursts;
+      listed = ap (λ (p : Pending). p ∷ mine) same;
+      outstanding = refl;
+      is = subst (λ (p : Pending). IsReadOf order bus_bytes number p piece) same are.0;
+      others = are.1;
+    }

@@ -1,0 +1,254 @@
+-- A beat that is performed keeps the order: a write's bytes are those that its request leaves, a read captures what its request finds. It
+-- knows that the request of the beat stands at a cut; what the beat does to single bytes comes from PerformedBytes.
+use Rattle.std.proofs.Common.{◌≡◌, ◌≢◌, ℕ, ◌+◌, ◌==◌, ◌≤◌, Bool, true, false, ◌&&◌, ◌||◌, List, [], Option, Some, None, refl, ap, sym, ◌∙◌, subst, arith, inl, inr}
+use Rattle.std.specs.Prelude.{if◌then◌else◌, unwrap_or}
+use Rattle.std.specs.List.{AllByRecursion, filter, find, slice_get}
+use Rattle.std.proofs.lemmas.Bool.{and_parts, and_right, cases_eq, cases_Bool, eq-eqb, eqb-true, ne_eqb}
+use Rattle.std.proofs.lemmas.Option.{slice_get_within}
+use Rattle.bus_words.specs.Places.{change_first}
+use Rattle.bus_words.proofs.PlaceChanges.{all-find, find-passes}
+use Rattle.axi_beats.specs.Bursts.{Burst, ReadBurst, WriteBurst}
+use Rattle.axi_beats.specs.Transfers.{transfer_has}
+use Rattle.axi_checker.specs.Rules.{id_of}
+use Rattle.burst_plan.specs.declared.Piece.{Piece}
+use Rattle.tl_messages.specs.Operations.{has_data, reply_has_data}
+use Rattle.tl_messages.specs.Requests.{request_of}
+use Rattle.flight_table.specs.LiveRequests.{is_atomic, pieces_planned, planned_writes, read_pieces}
+use Rattle.bridge_core.specs.Laws.{outstanding}
+use Rattle.bridge_core.specs.Requests.{BridgedRequest, RequestTable, holder, holds}
+use Rattle.bridge_core.proofs.AnswerLinks.{read_at}
+use Rattle.subordinate.specs.FreeMemory.{FreeMemory, Pending, Performs, beat_after, beat_at, has_serial, memory_after, performed, performed_beat, performed_in, with_beat, with_performed, reads_as, writes_as}
+use Rattle.subordinate.specs.Laws.{IsSoundPending}
+use Rattle.subordinate.specs.Pages.{byte_at_address}
+use Rattle.subordinate.specs.declared.BeatState.{BeatState}
+use Rattle.subordinate.specs.declared.BeatState.TheVariants.{Captured, Waiting, Written}
+use Rattle.subordinate.specs.declared.Performed.{Performed}
+use Rattle.subordinate.specs.declared.Performed.TheVariants as perform
+use Rattle.world_run.specs.InOrder.{AreOfHolder, IsHistory, IsInOrder, KeepsOrder, finished, is_of_id, memory_bytes, started}
+use Rattle.world_run.specs.Laws.{IsSoundWorld}
+use Rattle.world_run.specs.Serial.{Order, byte_left, bytes_before, touches, writes}
+use Rattle.world_run.specs.World.{WorldState, changed}
+use Rattle.world_run.specs.declared.Answer.TheVariants.{Done}
+use Rattle.world_run.proofs.AllWritten.{no_data_written}
+use Rattle.world_run.proofs.BurstBytes.{write_is_planned, writes_in_range}
+use Rattle.world_run.proofs.History.{found_here, history_stores, store_adds, store_keeps, with_written}
+use Rattle.world_run.proofs.HolderBursts.{of_same_holder}
+use Rattle.world_run.proofs.ListChanges.{all_both, filter-change-kept, filter-change-other, find-filter}
+use Rattle.world_run.proofs.LiveNumbers.{numbered_once}
+use Rattle.world_run.proofs.OpenOfHolder.{IsOneOf, of_one, open_one}
+use Rattle.world_run.proofs.OpenRequests.{HasOpen, IsGoingOn, going_on, has_open, transfer_touches}
+use Rattle.world_run.proofs.PerformedBytes.{PerformsSerially, beat_within, in_order_more, of_holder_more, performs_serially, stores_by}
+use Rattle.world_run.proofs.SerialBytes.{left_alone, message_touches}
+
+-- ---- which beat was performed
+
+pub performs_done : (state : FreeMemory) (serial beat : ℕ) (memory : FreeMemory) → performed state serial beat ≡ (memory, perform.Done) → Performs state serial beat memory
+performs_done state serial beat memory is = by_found (find (has_serial serial) state.pending) refl is
+  where
+    never : (answer : Performed) → (answer ≡ perform.Done → ⊥) → ◌≡◌ {A = FreeMemory × Performed} (state, answer) (memory, perform.Done) → Performs state serial beat memory
+    never answer other same = absurd (other (ap (λ (result : FreeMemory × Performed). result.1) same))
+
+    by_state : (pending : Pending) → find (has_serial serial) state.pending ≡ Some pending → (there : Option BeatState) → beat_at pending beat ≡ there
+        → performed_beat state pending beat there ≡ (memory, perform.Done) → Performs state serial beat memory
+    by_state pending found None at same = never perform.NoSuch (λ other. cc) same
+    by_state pending found (Some Waiting) at same =
+        record { pending = pending; is_open = found; waits = at; becomes = sym (ap (λ (result : FreeMemory × Performed). result.0) same) }
+    by_state pending found (Some Written) at same = never perform.Already (λ other. cc) same
+    by_state pending found (Some (Captured payload resp)) at same = never perform.Already (λ other. cc) same
+
+    by_found : (found : Option Pending) → find (has_serial serial) state.pending ≡ found → performed_in state beat found ≡ (memory, perform.Done) → Performs state serial beat memory
+    by_found None none same = never perform.NoSuch (λ other. cc) same
+    by_found (Some pending) found same = by_state pending found (beat_at pending beat) refl same
+
+-- ---- what its request hasn't written
+
+-- a request that still reads has written nothing
+pub reader_unwritten : (order : Order) (table : RequestTable) (bus_bytes : ℕ) (wrote : ℕ → ℕ → Bool) (request : BridgedRequest) (piece : Piece) (x : ℕ) → IsGoingOn order table request (false, piece)
+    → IsInOrder order bus_bytes wrote request → (wrote request.flight.number x ≡ true → writes order request.flight.number x ≡ true) → wrote request.flight.number x ≡ false
+reader_unwritten order table bus_bytes wrote request piece x going of writer = by_atomic (is_atomic request.flight) refl
+  where
+    read : slice_get (read_pieces request.flight) going.place ≡ Some piece
+    read = read_at (read_pieces request.flight) (planned_writes request.flight) going.place piece going.planned
+
+    reading : (b : Bool) → request.flight.writing ≡ b → b ≡ false
+    reading true is =
+        let writing = going.served.writing is in
+        let within = slice_get_within (read_pieces request.flight) going.place piece read in
+        absurd (omega (arith, going.unanswered, writing.1, within))
+    reading false is = refl
+
+    has_reply : (b : Bool) → reply_has_data request.flight.operation ≡ b → slice_get (if b then pieces_planned request.flight.plan else []) going.place ≡ Some piece → b ≡ true
+    has_reply true is there = refl
+    has_reply false is there = absurd (cc (there))
+
+    replies : reply_has_data request.flight.operation ≡ true
+    replies = has_reply (reply_has_data request.flight.operation) refl read
+
+    no_data : (b : Bool) → has_data request.flight.operation ≡ b → is_atomic request.flight ≡ false → b ≡ false
+    no_data true is isnt = let both : is_atomic request.flight ≡ true = rw (replies, is) refl in absurd (cc (both, isnt))
+    no_data false is isnt = refl
+
+    by_atomic : (b : Bool) → is_atomic request.flight ≡ b → wrote request.flight.number x ≡ false
+    by_atomic true is = of.unwritten is (reading request.flight.writing refl) x
+    by_atomic false isnt =
+        let none : has_data request.message.operation ≡ false = ap has_data (sym going.served.flight.operation) ∙ no_data (has_data request.flight.operation) refl isnt in
+        let never = no_data_written order request.flight.number (request_of request.message) x of.asked none in
+        elim (cases_Bool (wrote request.flight.number x)) [
+          | inl there ↦ absurd (cc (writer there, never))
+          | inr out ↦ out
+        ]
+
+-- ---- the step
+
+own_id : (burst : Burst) → (writes_as (id_of burst) burst || reads_as (id_of burst) burst) ≡ true
+own_id (WriteBurst aw w_beats) = rw (eq-eqb aw.id aw.id refl) refl
+own_id (ReadBurst ar) = eq-eqb ar.id ar.id refl
+
+-- who isn't of this number wrote nothing more
+not_added : (number : ℕ) (P : ℕ → Bool) (wrote : ℕ → ℕ → Bool) (i x : ℕ) → ((i == number) && P x) ≡ false → with_written number P wrote i x ≡ wrote i x
+not_added number P wrote i x none = ap (λ b. wrote i x || b) none ∙ last (wrote i x)
+  where
+    last : (b : Bool) → (b || false) ≡ b
+    last true = refl
+    last false = refl
+
+module _ (order : Order) (state : WorldState) (pending : Pending) (beat : ℕ) (sound : IsSoundWorld state) (keeps : KeepsOrder order state)
+    (found : find (has_serial pending.serial) state.memory.pending ≡ Some pending) (waits : beat_at pending beat ≡ Some Waiting) where
+  abbrev id : ℕ
+  id = id_of pending.burst
+
+  abbrev table : RequestTable
+  table = state.bridge.requests
+
+  abbrev mine : List Pending
+  mine = filter (is_of_id id) state.memory.pending
+
+  of_id : is_of_id id pending ≡ true
+  of_id = own_id pending.burst
+
+  found_mine : find (has_serial pending.serial) mine ≡ Some pending
+  found_mine = find-filter (has_serial pending.serial) (is_of_id id) state.memory.pending pending found of_id
+
+  abbrev has : HasOpen order state keeps.wrote id
+  has = has_open order state keeps.wrote id (has_serial pending.serial) pending sound (keeps.bursts id) found_mine
+
+  abbrev number : ℕ
+  number = has.request.flight.number
+
+  abbrev one : IsOneOf order state.memory.bus_bytes keeps.wrote number mine (outstanding has.request.flight) (has_serial pending.serial) pending
+  one = open_one order state.memory.bus_bytes keeps.wrote number mine (outstanding has.request.flight) (has_serial pending.serial) pending has.are found_mine
+
+  going : IsGoingOn order table has.request one.burst
+  going = going_on order state id has.request one.place one.burst sound keeps.regions has.known one.there
+
+  of : IsInOrder order state.memory.bus_bytes keeps.wrote has.request
+  of = all-find (IsInOrder order state.memory.bus_bytes keeps.wrote) (holds id) table.live has.request keeps.live has.known.held
+
+  sound_pending : IsSoundPending state.memory.bus_bytes pending
+  sound_pending = all-find (IsSoundPending state.memory.bus_bytes) (has_serial pending.serial) state.memory.pending pending sound.memory_laws.each found
+
+  within : beat + 1 ≤ one.burst.1.len + 1
+  within = beat_within order state.memory.bus_bytes keeps.wrote number pending one.burst beat Waiting sound_pending one.is waits
+
+  -- what a read takes is what its request finds
+  finds : (x : ℕ) → transfer_has one.burst.1.address one.burst.1.size (beat + 1) x ≡ true → one.burst.0 ≡ false → memory_bytes state x ≡ bytes_before order number x
+  finds x holds_it reads =
+      found_here (writes order) (touches order) (bytes_before order) (started table) (finished table) keeps.wrote (memory_bytes state) number x keeps.history keeps.held going.started going.unfinished
+      (transfer_touches order table has.request one.burst (beat + 1) x going of.asked (omega arith) within holds_it)
+      (reader_unwritten order table state.memory.bus_bytes keeps.wrote has.request one.burst.1 x (subst (λ (side : Bool). IsGoingOn order table has.request (side, one.burst.1)) reads going) of
+      (keeps.history.writer number x))
+
+  does : PerformsSerially order state.memory keeps.wrote number pending one.burst beat
+  does =
+      performs_serially order state.memory keeps.wrote number pending one.burst beat Waiting sound.memory_laws sound_pending keeps.faults one.is waits
+      (λ x written. (writes_in_range order table.config has.request going.range x going.at of.asked written).good)
+      (λ x holds_it page reads. finds x holds_it reads)
+
+  -- the bytes that are written by it
+  abbrev adds : ℕ → Bool
+  adds x = stores_by order number one.burst (beat + 1) x
+
+  abbrev more : ℕ → ℕ → Bool
+  more = with_written number adds keeps.wrote
+
+  stored_written : (burst : Bool × Piece) (n x : ℕ) → stores_by order number burst n x ≡ true → writes order number x ≡ true
+  stored_written (true, piece) n x there = (and_parts (transfer_has piece.address piece.size n x) (writes order number x) there).1
+  stored_written (false, piece) n x there = absurd (cc (there))
+
+  history : IsHistory (writes order) (bytes_before order) (started table) (finished table) more (λ x. unwrap_or (byte_at_address (memory_after state.memory pending.burst beat) x) 0)
+  history =
+      history_stores (writes order) (touches order) (bytes_before order) (started table) (finished table) keeps.wrote (memory_bytes state)
+      (λ x. unwrap_or (byte_at_address (memory_after state.memory pending.burst beat) x) 0) number adds (byte_left order number) keeps.history keeps.held (left_alone order) going.started going.unfinished
+      (λ x hit. stored_written one.burst (beat + 1) x hit)
+      (λ x hit. message_touches order number x has.request.message of.asked (stored_written one.burst (beat + 1) x hit))
+      (λ x hit. refl)
+      (λ x hit. ap (λ (o : Option ℕ). unwrap_or o 0) (does.set x hit))
+      (λ x out. ap (λ (o : Option ℕ). unwrap_or o 0) (does.kept x out))
+
+  kept : (i x : ℕ) → keeps.wrote i x ≡ true → more i x ≡ true
+  kept i x there = store_keeps number adds keeps.wrote i x there
+
+  -- an atomic whose write isn't planned has written no more
+  same_unplanned : (burst : Bool × Piece) (x : ℕ) → IsGoingOn order table has.request burst → is_atomic has.request.flight ≡ true → has.request.flight.writing ≡ false
+      → stores_by order number burst (beat + 1) x ≡ false
+  same_unplanned (true, piece) x is_going atomic isnt =
+      let planned_one = write_is_planned has.request.flight is_going.place piece atomic is_going.planned in
+      absurd (cc (planned_one, isnt))
+  same_unplanned (false, piece) x is_going atomic isnt = refl
+
+  same_unwritten : (r : BridgedRequest) → (r.flight.number ≡ number → r ≡ has.request) → is_atomic r.flight ≡ true → r.flight.writing ≡ false → (x : ℕ)
+      → more r.flight.number x ≡ keeps.wrote r.flight.number x
+  same_unwritten r alone atomic isnt x =
+      elim (cases_eq r.flight.number number) [
+        | inl its ↦
+            let same = alone its in
+            let none = same_unplanned one.burst x going (ap (λ (q : BridgedRequest). is_atomic q.flight) (sym same) ∙ atomic) (ap (λ (q : BridgedRequest). q.flight.writing) (sym same) ∙ isnt) in
+            not_added number adds keeps.wrote r.flight.number x (and_right (r.flight.number == number) (adds x) none)
+        | inr other ↦ not_added number adds keeps.wrote r.flight.number x (rw (ne_eqb r.flight.number number other) refl)
+      ]
+
+  live_more : AllByRecursion (IsInOrder order state.memory.bus_bytes more) table.live
+  live_more = all_both (λ (r : BridgedRequest). r.flight.number ≡ number → r ≡ has.request) (IsInOrder order state.memory.bus_bytes keeps.wrote) (IsInOrder order state.memory.bus_bytes more) table.live
+      (λ r alone was. in_order_more order state.memory.bus_bytes keeps.wrote more r (kept r.flight.number) (same_unwritten r alone) was)
+      (numbered_once (holds id) table.live has.request sound.bridge_laws.requests.flights.rising has.known.held) keeps.live
+
+  abbrev change : Pending → Pending
+  change = with_beat beat (beat_after state.memory pending.burst beat)
+
+  own_bursts : AreOfHolder order state.memory.bus_bytes more (filter (is_of_id id) (change_first (has_serial pending.serial) change state.memory.pending)) (holder id table.live)
+  own_bursts =
+      subst (λ (ps : List Pending). AreOfHolder order state.memory.bus_bytes more ps (holder id table.live)) (sym (filter-change-kept (has_serial pending.serial) (is_of_id id) change state.memory.pending pending found of_id of_id))
+      (of_same_holder order state.memory.bus_bytes more (change_first (has_serial pending.serial) change mine) (Some has.request) (holder id table.live) (sym has.known.held)
+      (one.changed more change (kept number) (does.still more (kept number) (λ x hit. store_adds number adds keeps.wrote x hit))))
+
+  other_bursts : (j : ℕ) → id ≢ j → AreOfHolder order state.memory.bus_bytes more (filter (is_of_id j) (change_first (has_serial pending.serial) change state.memory.pending)) (holder j table.live)
+  other_bursts j other =
+      let fails = of_one id j pending other of_id in
+      subst (λ (ps : List Pending). AreOfHolder order state.memory.bus_bytes more ps (holder j table.live)) (sym (filter-change-other (has_serial pending.serial) (is_of_id j) change state.memory.pending pending found fails fails))
+      (of_holder_more order state.memory.bus_bytes keeps.wrote more (filter (is_of_id j) state.memory.pending) (holder j table.live) kept (keeps.bursts j))
+
+  pub keeps_performed : KeepsOrder order (changed state.bridge (with_performed state.memory pending beat) Done).state
+  keeps_performed =
+      record {
+        wrote = more;
+        faults = keeps.faults;
+        regions = keeps.regions;
+        history = history;
+        held = keeps.held;
+        live = live_more;
+        bursts = λ j.
+            elim (cases_eq id j) [
+              | inl same ↦
+                  subst (λ k. AreOfHolder order state.memory.bus_bytes more (filter (is_of_id k) (change_first (has_serial pending.serial) change state.memory.pending)) (holder k table.live)) same own_bursts
+              | inr other ↦ other_bursts j other
+            ];
+      }
+
+-- a beat that is performed
+pub performed_keeps : (order : Order) (state : WorldState) (serial beat : ℕ) (memory : FreeMemory) → performed state.memory serial beat ≡ (memory, perform.Done) → IsSoundWorld state → KeepsOrder order state
+    → KeepsOrder order (changed state.bridge memory Done).state
+performed_keeps order state serial beat memory is sound keeps =
+    let did = performs_done state.memory serial beat memory is in
+    let same : did.pending.serial ≡ serial = eqb-true did.pending.serial serial (find-passes (has_serial serial) state.memory.pending did.pending did.is_open) in
+    subst (λ (m : FreeMemory). KeepsOrder order (changed state.bridge m Done).state) (sym did.becomes)
+    (keeps_performed order state did.pending beat sound keeps (ap (λ s. find (has_serial s) state.memory.pending) same ∙ did.is_open) did.waits)

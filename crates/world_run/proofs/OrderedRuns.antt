@@ -1,0 +1,250 @@
+-- A whole run: its replies are those of the accepted requests one at a time, and once it is quiet its memory is theirs. It knows that each
+-- event keeps the order, as a premise, and fixes the list of all requests; which event came is hidden.
+use Rattle.std.proofs.Common.{◌≡◌, ℕ, ◌==◌, ◌<◌, nat_lt, Bool, true, false, not, List, [], ◌∷◌, length, Option, Some, None, refl, sym, subst, ◌∙◌, ap, arith}
+use Rattle.std.specs.Prelude.{filter, find, is_some, nat_le, option_map, slice_get, unwrap_or, if◌then◌else◌}
+use Rattle.std.specs.List.{AllByRecursion, cons_option}
+use Rattle.std.proofs.lemmas.Bool.Decides.{nat_tests}
+use Rattle.std.proofs.lemmas.Bool.{and_parts, eqb-true}
+use Rattle.std.proofs.lemmas.List.{append-nil}
+use Rattle.bus_words.proofs.PlaceChanges.{all-find, find-passes}
+use Rattle.tl_messages.specs.Requests.{WholeRequest, request_of}
+use Rattle.burst_plan.specs.declared.Region.{Region}
+use Rattle.flight_table.specs.Laws.{IsSoundRequest}
+use Rattle.flight_table.specs.Tables.{is_undone}
+use Rattle.responses.specs.Shown.{Reply as ReplyGiven, shown}
+use Rattle.bridge_core.specs.Bridge.{message_with, reply_taken}
+use Rattle.bridge_core.specs.Configs.{table_limits_of}
+use Rattle.bridge_core.specs.Laws.{IsServed}
+use Rattle.bridge_core.specs.Requests.{BridgedRequest, address_of, first_done, flights_of, is_done_for, is_numbered, reply_beats}
+use Rattle.bridge_core.proofs.HolderChanges.{all-mapped}
+use Rattle.subordinate.specs.Faults.{Faults, is_good, standing_at}
+use Rattle.world_run.specs.Headline.{IsReplyTo, byte_shown, bytes_of_all, replies_of}
+use Rattle.world_run.specs.InOrder.{IsGathered, IsForeseen, IsForeseenBy, IsInOrder, KeepsOrder, finished, is_over, memory_bytes, started}
+use Rattle.world_run.specs.Laws.{AreSoundAlong, IsSoundWorld}
+use Rattle.world_run.specs.Meaning.{Bytes, bytes_after_all, meaning, replies_in_order, zeros}
+use Rattle.world_run.specs.Runs.{HandedReply, accepted_in, answers_of, handed_at, handed_in}
+use Rattle.world_run.specs.Serial.{Order, asked, bytes_before, writes}
+use Rattle.world_run.specs.Setups.{SetupLists, faults_of}
+use Rattle.world_run.specs.World.{IsQuiet, Outcome, WorldState, after, byte_of, leaves_all, next, opening_world}
+use Rattle.world_run.specs.declared.Answer.{Answer}
+use Rattle.world_run.specs.declared.Answer.TheVariants.{Accepted, Reply}
+use Rattle.world_run.specs.declared.Step.{Step}
+use Rattle.world_run.specs.declared.Step.TheVariants.{Offer, Take}
+use Rattle.world_run.proofs.AcceptedRequests.{HasAccepted, has_accepted-here, has_accepted-next, has_accepted-opening, request_at}
+use Rattle.world_run.proofs.Events.{EachWay, each_way}
+use Rattle.world_run.proofs.GatheredInOrder.{reply_served_by}
+use Rattle.world_run.proofs.HeldOrder.{unaccepted}
+use Rattle.world_run.proofs.History.{quiet_memory}
+use Rattle.world_run.proofs.OrderOpens.{keeps_opening}
+use Rattle.world_run.proofs.SerialBytes.{all_carried_out, replies_at}
+
+-- ---- what is accepted is foreseen
+
+quiet_foreseen : (order : Order) (state : WorldState) (step : Step) (answer : Answer) → leaves_all answer ≡ true → IsForeseenBy order state.bridge step answer
+quiet_foreseen order state (Offer client beat) (Accepted number) still = absurd (cc)
+quiet_foreseen order state _ _ still = tt
+
+abbrev IsForeseenIn : Order → WorldState → Step → Outcome → Type 0
+IsForeseenIn order state event outcome =
+    ((q : WholeRequest) → request_at state.bridge event outcome.answer ≡ Some q → slice_get order.requests state.bridge.requests.accepted ≡ Some q)
+    → IsForeseenBy order state.bridge event outcome.answer
+
+foreseen_ways : (order : Order) (state : WorldState) → EachWay (IsForeseenIn order state) state
+foreseen_ways order state =
+    record {
+      quiet = λ event answer still known. quiet_foreseen order state event answer still;
+      begins = λ client beat taken known. tt;
+      accepts = λ client beat accepted known. known (request_of (message_with state.bridge client beat)) refl;
+      sends = λ sending sent known. tt;
+      performs = λ serial beat memory done known. tt;
+      gives_b = λ id b given known. tt;
+      gives_r = λ id r given known. tt;
+      hands_out = λ client request is first known. tt;
+    }
+
+-- where all requests of a run are those that it accepts, each event's is the one of its number
+foreseen : (order : Order) (state : WorldState) (step : Step) (steps : List Step) → HasAccepted order.requests state (step ∷ steps) → IsForeseen order state step
+foreseen order state step steps has =
+    each_way (IsForeseenIn order state) state (foreseen_ways order state) step (λ q is. has_accepted-here order.requests state step steps q has is)
+
+-- ---- a reply that is handed out
+
+quiet_handed : (step : Step) (answer : Answer) → leaves_all answer ≡ true → handed_at step answer [] ≡ None
+quiet_handed (Take client) (Reply number) still = absurd (cc)
+quiet_handed _ _ still = refl
+
+-- the replies to all requests, one at a time
+abbrev pub replies_in : Order → List ReplyGiven
+replies_in order = replies_in_order order.faults order.regions order.requests zeros
+
+-- the reply to a request that is done, where its beats are those of serial execution
+reply_is : (order : Order) (state : WorldState) (client : ℕ) (request : BridgedRequest) → IsSoundWorld state → KeepsOrder order state
+    → first_done state.bridge.requests.live client ≡ Some request
+    → reply_beats request ≡ shown (request_of request.message) (meaning order.faults order.regions (request_of request.message) (bytes_before order request.flight.number)).reply
+    → IsReplyTo order.requests (replies_in order) (record { client = client; number = request.flight.number; beats = reply_beats request })
+reply_is order state client request sound keeps first beats = record {
+  request = request_of request.message;
+  reply = (meaning order.faults order.regions (request_of request.message) (bytes_before order request.flight.number)).reply;
+  accepted = is;
+  carried_out = replies_at order request.flight.number ∙ ap (option_map (λ q. (meaning order.faults order.regions q (bytes_before order request.flight.number)).reply)) is;
+  client =
+      sym (eqb-true request.flight.client client (and_parts (request.flight.client == client) request.flight.done (find-passes (is_done_for client) state.bridge.requests.live request first)).0)
+      ∙ (all-find (IsServed state.bridge.requests.config state.bridge.requests.regions) (is_done_for client) state.bridge.requests.live request sound.bridge_laws.requests.served first).flight.client;
+  beats = beats;
+}
+  where
+    is : asked order request.flight.number ≡ Some (request_of request.message)
+    is = (all-find (IsInOrder order state.memory.bus_bytes keeps.wrote) (is_done_for client) state.bridge.requests.live request keeps.live first).asked
+
+-- the reply that a client may take
+pub reply_served : (order : Order) (state : WorldState) (client : ℕ) (request : BridgedRequest) → IsSoundWorld state → KeepsOrder order state → reply_taken state.bridge client ≡ Some request
+    → reply_beats request ≡ shown (request_of request.message) (meaning order.faults order.regions (request_of request.message) (bytes_before order request.flight.number)).reply
+reply_served order state client request sound keeps taken =
+    reply_served_by order state.bridge.requests.config (table_limits_of state.bridge.requests.config) state.bridge.requests.accepted request sound.bridge_laws.requests.config
+    (subst (λ (regions : List Region). IsServed state.bridge.requests.config regions request) keeps.regions
+    (all-find (IsServed state.bridge.requests.config state.bridge.requests.regions) (is_done_for client) state.bridge.requests.live request sound.bridge_laws.requests.served first))
+    (all-find (λ (r : BridgedRequest). IsSoundRequest (table_limits_of state.bridge.requests.config) state.bridge.requests.accepted r.flight) (is_done_for client) state.bridge.requests.live request
+    (all-mapped (IsSoundRequest (table_limits_of state.bridge.requests.config) state.bridge.requests.accepted) (λ (r : BridgedRequest). r.flight) state.bridge.requests.live sound.bridge_laws.requests.flights.requests) first)
+    (and_parts (request.flight.client == client) request.flight.done (find-passes (is_done_for client) state.bridge.requests.live request first)).1
+    (subst (λ (bus_bytes : ℕ). IsGathered order bus_bytes request (address_of order.regions (request_of request.message))) sound.bus
+    (all-find (IsInOrder order state.memory.bus_bytes keeps.wrote) (is_done_for client) state.bridge.requests.live request keeps.live first).gathered)
+  where
+    first_of : (none : Bool) (o : Option BridgedRequest) → (if none then None else o) ≡ Some request → o ≡ Some request
+    first_of true o is = absurd (cc)
+    first_of false o is = is
+
+    first : first_done state.bridge.requests.live client ≡ Some request
+    first = first_of (nat_le state.bridge.requests.config.clients client) (first_done state.bridge.requests.live client) taken
+
+-- ---- once it is quiet
+
+-- where nobody is undone a live request is done
+all_done : (p : BridgedRequest → Bool) (live : List BridgedRequest) (request : BridgedRequest) → length (filter is_undone (flights_of live)) ≡ 0 → find p live ≡ Some request
+    → request.flight.done ≡ true
+all_done p [] request none found = absurd (cc)
+all_done p (r ∷ live) request none found = by_tests (p r) r.flight.done refl none found (λ fewer later. all_done p live request fewer later)
+  where
+    by_tests : (b c : Bool) → r.flight.done ≡ c
+        → length (if not c then r.flight ∷ filter is_undone (flights_of live) else filter is_undone (flights_of live)) ≡ 0 → (if b then Some r else find p live) ≡ Some request
+        → (length (filter is_undone (flights_of live)) ≡ 0 → find p live ≡ Some request → request.flight.done ≡ true) → request.flight.done ≡ true
+    by_tests b false is none found rest = absurd (omega (arith, none))
+    by_tests true true is none here rest =
+        let same : r ≡ request = cc in
+        ap (λ (q : BridgedRequest). q.flight.done) (sym same) ∙ is
+    by_tests false true is none later rest = rest none later
+
+all_finished : (state : WorldState) → IsQuiet state → (j : ℕ) → j < state.bridge.requests.accepted → finished state.bridge.requests j ≡ true
+all_finished state quiet j below =
+    let given : nat_lt j state.bridge.requests.accepted ≡ true = grind (arith, nat_tests) in
+    rw given (over (find (is_numbered j) state.bridge.requests.live) refl)
+  where
+    over : (o : Option BridgedRequest) → find (is_numbered j) state.bridge.requests.live ≡ o → is_over o ≡ true
+    over None is = refl
+    over (Some r) is = all_done (is_numbered j) state.bridge.requests.live r quiet is
+
+-- the bytes of a quiet world are those that all requests leave
+quiet_bytes : (order : Order) (state : WorldState) → KeepsOrder order state → IsQuiet state → state.bridge.requests.accepted ≡ length order.requests → (x : ℕ)
+    → memory_bytes state x ≡ bytes_after_all order.faults order.regions order.requests zeros x
+quiet_bytes order state keeps quiet count x =
+    quiet_memory (writes order) (bytes_before order) (started state.bridge.requests) (finished state.bridge.requests) keeps.wrote (memory_bytes state) state.bridge.requests.accepted keeps.history
+    (all_finished state quiet) (λ j past. unaccepted state.bridge.requests j past) x
+    ∙ ap (λ (n : ℕ). bytes_before order n x) count
+    ∙ sym (ap (λ (bytes : Bytes). bytes x) (all_carried_out order))
+
+-- a byte is shown just where its page is good
+shown_byte : (good : Bool) (o : Option ℕ) (byte : ℕ) → is_some o ≡ good → unwrap_or o 0 ≡ byte → o ≡ (if good then Some byte else None)
+shown_byte true None byte there is = absurd (cc)
+shown_byte true (Some x) byte there is = ap Some is
+shown_byte false None byte there is = refl
+shown_byte false (Some x) byte there is = absurd (cc)
+
+quiet_shown : (order : Order) (state : WorldState) → IsSoundWorld state → KeepsOrder order state → IsQuiet state → state.bridge.requests.accepted ≡ length order.requests → (address : ℕ)
+    → byte_of state address ≡ (if is_good (standing_at order.faults address) then Some (bytes_after_all order.faults order.regions order.requests zeros address) else None)
+quiet_shown order state sound keeps quiet count address =
+    shown_byte (is_good (standing_at order.faults address)) (byte_of state address) (bytes_after_all order.faults order.regions order.requests zeros address)
+    (sound.memory_laws.pages.exactly address ∙ ap (λ (faults : Faults). is_good (standing_at faults address)) keeps.faults)
+    (quiet_bytes order state keeps quiet count address)
+
+-- ---- along a run
+
+-- each event keeps the order
+abbrev pub EachKeeps : Order → Type 0
+EachKeeps order =
+    (state : WorldState) (step : Step) → IsSoundWorld state → IsSoundWorld (next state step).state → IsForeseen order state step → KeepsOrder order state
+    → KeepsOrder order (next state step).state
+
+module _ (order : Order) (kept : EachKeeps order) where
+  first_sound : (state : WorldState) (steps : List Step) → AreSoundAlong state steps → IsSoundWorld state
+  first_sound state [] along = along
+  first_sound state (step ∷ steps) along = along.0
+
+  abbrev AllReplies : List HandedReply → Type 0
+  AllReplies handed = AllByRecursion (IsReplyTo order.requests (replies_in order)) handed
+
+  -- the reply that one event hands out
+  abbrev HandsOut : List HandedReply → Step → Outcome → Type 0
+  HandsOut later event outcome = AllReplies (cons_option (handed_at event outcome.answer outcome.reply) later)
+
+  hands_out_ways : (state : WorldState) (later : List HandedReply) → IsSoundWorld state → KeepsOrder order state → AllReplies later → EachWay (HandsOut later) state
+  hands_out_ways state later sound keeps rest =
+      record {
+        quiet = λ event answer still. subst (λ (o : Option HandedReply). AllReplies (cons_option o later)) (sym (quiet_handed event answer still)) rest;
+        begins = λ client beat taken. rest;
+        accepts = λ client beat accepted. rest;
+        sends = λ sending sent. rest;
+        performs = λ serial beat memory done. rest;
+        gives_b = λ id b given. rest;
+        gives_r = λ id r given. rest;
+        hands_out = λ client request known first.
+            (reply_is order state client request sound keeps first (reply_served order state client request sound keeps (rw known first)), rest);
+      }
+
+  -- the replies of all events, and the world after them
+  replies_along : (state : WorldState) (steps : List Step) → HasAccepted order.requests state steps → AreSoundAlong state steps → KeepsOrder order state → AllReplies (handed_in state steps)
+  replies_along state [] has along keeps = tt
+  replies_along state (step ∷ steps) has along keeps =
+      each_way (HandsOut (handed_in (next state step).state steps)) state
+      (hands_out_ways state (handed_in (next state step).state steps) along.0 keeps
+      (replies_along (next state step).state steps (has_accepted-next order.requests state step steps has) along.1
+      (kept state step along.0 (first_sound (next state step).state steps along.1) (foreseen order state step steps has) keeps)))
+      step
+
+  -- the world after all events, which have accepted all requests
+  record IsEnd (state : WorldState) : Type 0 where
+    pub sound : IsSoundWorld state
+    pub keeps : KeepsOrder order state
+    pub count : state.bridge.requests.accepted ≡ length order.requests
+
+  end_along : (state : WorldState) (steps : List Step) → HasAccepted order.requests state steps → AreSoundAlong state steps → KeepsOrder order state → IsEnd (after state steps)
+  end_along state [] has along keeps =
+      record {
+        sound = along;
+        keeps = keeps;
+        count = sym has.count ∙ sym (ap length (has.all ∙ append-nil has.past));
+      }
+  end_along state (step ∷ steps) has along keeps =
+      end_along (next state step).state steps (has_accepted-next order.requests state step steps has) along.1
+      (kept state step along.0 (first_sound (next state step).state steps along.1) (foreseen order state step steps has) keeps)
+
+-- ---- a run
+
+-- the requests that a run accepts, in their order
+abbrev pub order_of_run : SetupLists → List Step → Order
+order_of_run setup steps =
+    record { faults = faults_of setup; regions = setup.regions; requests = accepted_in steps (answers_of (opening_world setup) steps) }
+
+module _ (setup : SetupLists) (steps : List Step) (along : AreSoundAlong (opening_world setup) steps) (kept : EachKeeps (order_of_run setup steps)) where
+  opens : KeepsOrder (order_of_run setup steps) (opening_world setup)
+  opens = keeps_opening (order_of_run setup steps) setup refl refl
+
+  -- its replies are those of these requests one at a time
+  pub replies_in_turn :
+      AllByRecursion (IsReplyTo (order_of_run setup steps).requests (replies_of setup (order_of_run setup steps).requests)) (handed_in (opening_world setup) steps)
+  replies_in_turn = replies_along (order_of_run setup steps) kept (opening_world setup) steps (has_accepted-opening setup steps) along opens
+
+  -- and once it is quiet its memory is theirs
+  pub memory_in_turn : IsQuiet (after (opening_world setup) steps) → (address : ℕ)
+      → byte_of (after (opening_world setup) steps) address ≡ byte_shown setup (bytes_of_all setup (order_of_run setup steps).requests) address
+  memory_in_turn quiet address =
+      let ends = end_along (order_of_run setup steps) kept (opening_world setup) steps (has_accepted-opening setup steps) along opens in
+      quiet_shown (order_of_run setup steps) (after (opening_world setup) steps) ends.sound ends.keeps quiet ends.count address

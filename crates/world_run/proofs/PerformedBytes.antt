@@ -1,0 +1,317 @@
+-- What performing a beat of an open burst does to single bytes: a write stores what its request leaves, and a read captures what its
+-- request finds. It knows one burst, its piece and the memory; that the memory has what the request finds is a premise, and other requests
+-- are hidden.
+use Rattle.std.proofs.Common.{◌≡◌, ℕ, zero, suc, ◌+◌, ◌-◌, ◌%◌, ◌<◌, ◌≤◌, ◌==◌, Bool, true, false, ◌&&◌, List, [], ◌∷◌, length, Option, Some, None, is_some, inl, inr, ◌⊎◌, refl, ap, sym, ◌∙◌, subst, arith}
+use Rattle.std.specs.Prelude.{unwrap_or, IfSome, slice_set}
+use Rattle.std.specs.List.{enumerate_from, list_all, list_any, slice_get}
+use Rattle.std.proofs.lemmas.Bool.{and_parts, and_from, eqb-true, or_parts}
+use Rattle.std.proofs.lemmas.Option.{same_Some, slice_get_within}
+use Rattle.bus_words.specs.Lanes.{has_lane, lane_byte}
+use Rattle.axi_beats.specs.Bursts.{IsLegal, WriteBurst, is_legal_address, is_legal_data}
+use Rattle.axi_beats.specs.Transfers.{transfer_address, transfer_has}
+use Rattle.axi_beats.specs.declared.AwBeat.{AwBeat}
+use Rattle.axi_beats.specs.declared.Resp.{Resp}
+use Rattle.axi_beats.specs.declared.WBeat.{WBeat}
+use Rattle.burst_plan.specs.declared.Piece.{Piece}
+use Rattle.flight_table.specs.LiveRequests.{is_atomic}
+use Rattle.bridge_core.specs.Laws.{outstanding}
+use Rattle.bridge_core.specs.Requests.{BridgedRequest}
+use Rattle.subordinate.specs.Effects.{HasEffect, IsCaptured, IsWritten}
+use Rattle.subordinate.specs.Faults.{is_good, read_response, standing_at}
+use Rattle.subordinate.specs.FreeMemory.{FreeMemory, Pending, beat_after, is_waiting, memory_after, transfers_in, with_beat, with_performed}
+use Rattle.subordinate.specs.Laws.{IsSoundPending}
+use Rattle.subordinate.specs.Laws.{IsSoundMemory}
+use Rattle.subordinate.specs.Pages.{Memory, byte_at_address}
+use Rattle.subordinate.specs.declared.BeatState.{BeatState}
+use Rattle.subordinate.specs.declared.BeatState.TheVariants.{Captured, Waiting, Written}
+use Rattle.subordinate.proofs.EffectLaws.{has_effect}
+use Rattle.world_run.specs.InOrder.{AreBurstsOf, AreOfHolder, IsBurstOf, IsInOrder, IsReadOf, IsWriteOf, PutsSerially, TellsSerially}
+use Rattle.world_run.specs.Serial.{Order, byte_left, bytes_before, writes}
+
+-- ---- one more beat performed
+
+-- the beats after one was set: that one, or as before
+beat_set : (beats : List BeatState) (k n : ℕ) (new beat : BeatState) → slice_get (slice_set beats k new) n ≡ Some beat → ((n ≡ k) × (beat ≡ new)) ⊎ (slice_get beats n ≡ Some beat)
+beat_set [] k n new beat there = absurd (cc (there))
+beat_set (b ∷ beats) zero zero new beat there = inl (refl, sym (same_Some new beat there))
+beat_set (b ∷ beats) zero (suc n) new beat there = inr there
+beat_set (b ∷ beats) (suc k) zero new beat there = inr there
+beat_set (b ∷ beats) (suc k) (suc n) new beat there =
+    elim (beat_set beats k n new beat there) [
+      | inl here ↦ inl (ap suc here.0, here.1)
+      | inr before ↦ inr before
+    ]
+
+-- ---- a write
+
+-- whether a request writes the byte at x by this transfer
+abbrev pub writes_by : Order → ℕ → Piece → ℕ → ℕ → Bool
+writes_by order number piece n x = transfer_has piece.address piece.size n x && writes order number x
+
+-- the bytes that a transfer's request writes there are what it leaves, and no other byte changes
+pub record StoresSerially (order : Order) (number : ℕ) (piece : Piece) (n : ℕ) (old new : Memory) : Type 0 where
+  pub set : (x : ℕ) → writes_by order number piece n x ≡ true → byte_at_address new x ≡ Some (byte_left order number x)
+  pub kept : (x : ℕ) → writes_by order number piece n x ≡ false → byte_at_address new x ≡ byte_at_address old x
+
+-- a transfer of a write that puts what its request leaves
+stored : (order : Order) (bus_bytes number : ℕ) (piece : Piece) (old new : FreeMemory) (aw : AwBeat) (n : ℕ) (w : WBeat) → old.bus_bytes ≡ bus_bytes → old.faults ≡ order.faults → aw.address ≡ piece.address
+    → aw.size ≡ piece.size → ((x : ℕ) → writes order number x ≡ true → is_good (standing_at order.faults x) ≡ true) → PutsSerially order number bus_bytes piece n w → IsWritten old new aw n w
+    → StoresSerially order number piece n old.memory new.memory
+stored order bus_bytes number piece old new aw n w bus faults address size good puts written =
+    record {
+      set = λ x here.
+          let both = and_parts (transfer_has piece.address piece.size n x) (writes order number x) here in
+          let page = good x both.1 in
+          written.set x (strobed x true both.0 (puts.strobes x both.0 page ∙ both.1)) (on_page x true page)
+          ∙ ap (λ b. Some (lane_byte w.payload (x % b))) bus ∙ ap (λ (b : ℕ). Some b) (puts.bytes x both.0 both.1);
+      kept = λ x isnt. by_page x isnt (is_good (standing_at order.faults x)) refl (transfer_has piece.address piece.size n x) refl;
+    }
+  where
+    has_is : (x : ℕ) → transfer_has aw.address aw.size n x ≡ transfer_has piece.address piece.size n x
+    has_is x = ap (λ a. transfer_has a aw.size n x) address ∙ ap (λ s. transfer_has piece.address s n x) size
+
+    strobed : (x : ℕ) (b : Bool) → transfer_has piece.address piece.size n x ≡ true → has_lane w.strobes (x % bus_bytes) ≡ b → (transfer_has aw.address aw.size n x && has_lane w.strobes (x % old.bus_bytes)) ≡ b
+    strobed x b has strobe = ap (λ h. h && has_lane w.strobes (x % old.bus_bytes)) (has_is x ∙ has) ∙ ap (λ bytes. has_lane w.strobes (x % bytes)) bus ∙ strobe
+
+    on_page : (x : ℕ) (b : Bool) → is_good (standing_at order.faults x) ≡ b → is_good (standing_at old.faults x) ≡ b
+    on_page x b page = ap (λ f. is_good (standing_at f x)) faults ∙ page
+
+    by_page : (x : ℕ) → writes_by order number piece n x ≡ false → (page : Bool) → is_good (standing_at order.faults x) ≡ page → (has : Bool) → transfer_has piece.address piece.size n x ≡ has
+        → byte_at_address new.memory x ≡ byte_at_address old.memory x
+    by_page x isnt false page has within = written.refused x (on_page x false page)
+    by_page x isnt true page false outside = written.kept x (ap (λ h. h && has_lane w.strobes (x % old.bus_bytes)) (has_is x ∙ outside))
+    by_page x isnt true page true within =
+        let none : writes order number x ≡ false = ap (λ h. h && writes order number x) (sym within) ∙ isnt in
+        written.kept x (strobed x false within (puts.strobes x within page ∙ none))
+
+-- a legal write has the data of each of its beats
+has_data_beat : (bus_bytes : ℕ) (pending : Pending) (aw : AwBeat) (w_beats : List WBeat) (n : ℕ) (beat : BeatState) → IsSoundPending bus_bytes pending → pending.burst ≡ WriteBurst aw w_beats
+    → slice_get pending.beats n ≡ Some beat → (w : WBeat) × (slice_get w_beats n ≡ Some w)
+has_data_beat bus_bytes pending aw w_beats n beat sound is there = some_at w_beats n (omega (arith, within, whole, counted))
+  where
+    within : n < length pending.beats
+    within = slice_get_within pending.beats n beat there
+
+    whole : length pending.beats ≡ aw.len + 1
+    whole = sound.whole ∙ ap transfers_in is
+
+    counted : length w_beats ≡ aw.len + 1
+    counted =
+        let legal : IsLegal bus_bytes (WriteBurst aw w_beats) = subst (IsLegal bus_bytes) is sound.legal in
+        let address = and_parts (is_legal_address bus_bytes aw.address aw.len aw.size aw.burst && length w_beats == aw.len + 1) (list_all (λ (transfer : ℕ × WBeat). is_legal_data bus_bytes aw transfer.0 transfer.1) (enumerate_from 1 w_beats)) legal in
+        eqb-true (length w_beats) (aw.len + 1) (and_parts (is_legal_address bus_bytes aw.address aw.len aw.size aw.burst) (length w_beats == aw.len + 1) address.0).1
+
+    some_at : (ws : List WBeat) (k : ℕ) → k < length ws → (w : WBeat) × (slice_get ws k ≡ Some w)
+    some_at [] k below = absurd (omega (arith, below))
+    some_at (w ∷ ws) zero below = (w, refl)
+    some_at (w ∷ ws) (suc k) below = some_at ws k (omega (arith, below))
+
+-- the memory after beat n of an open write
+pub stores_serially : (order : Order) (memory : FreeMemory) (wrote : ℕ → ℕ → Bool) (number : ℕ) (pending : Pending) (piece : Piece) (n : ℕ) (beat : BeatState) → IsSoundMemory memory → IsSoundPending memory.bus_bytes pending
+    → memory.faults ≡ order.faults → IsWriteOf order memory.bus_bytes wrote number pending piece → slice_get pending.beats n ≡ Some beat
+    → ((x : ℕ) → writes order number x ≡ true → is_good (standing_at order.faults x) ≡ true)
+    → StoresSerially order number piece (n + 1) memory.memory (memory_after memory pending.burst n)
+stores_serially order memory wrote number pending piece n beat sound sound_pending faults of there good =
+    let (w, given) = has_data_beat memory.bus_bytes pending of.aw of.w_beats n beat sound_pending of.burst there in
+    let does = subst (λ burst. HasEffect memory (with_performed memory pending n) burst n) of.burst (has_effect memory pending n sound.bus sound_pending.legal sound.pages) in
+    let written : IsWritten memory (with_performed memory pending n) of.aw (n + 1) w = subst (λ (o : Option WBeat). IfSome o (IsWritten memory (with_performed memory pending n) of.aw (n + 1))) given does in
+    stored order memory.bus_bytes number piece memory (with_performed memory pending n) of.aw (n + 1) w refl faults of.address of.size good (of.puts n w given) written
+
+-- that beat is written from then on, where the bytes that its request writes by it are
+pub write_performed : (order : Order) (memory : FreeMemory) (bus_bytes : ℕ) (wrote more : ℕ → ℕ → Bool) (number : ℕ) (pending : Pending) (piece : Piece) (n : ℕ)
+    → ((x : ℕ) → wrote number x ≡ true → more number x ≡ true) → ((x : ℕ) → writes_by order number piece (n + 1) x ≡ true → more number x ≡ true)
+    → IsWriteOf order bus_bytes wrote number pending piece → IsWriteOf order bus_bytes more number (with_beat n (beat_after memory pending.burst n) pending) piece
+write_performed order memory bus_bytes wrote more number pending piece n kept adds of =
+    record {
+      aw = of.aw;
+      w_beats = of.w_beats;
+      burst = of.burst;
+      address = of.address;
+      size = of.size;
+      len = of.len;
+      puts = of.puts;
+      written = λ k x beat there performed has written.
+          elim (beat_set pending.beats n k (beat_after memory pending.burst n) beat there) [
+            | inl here ↦ adds x (and_from _ _ (ap (λ i. transfer_has piece.address piece.size (i + 1) x) (sym here.0) ∙ has) written)
+            | inr before ↦ kept x (of.written k x beat before performed has written)
+          ];
+    }
+
+-- ---- a read
+
+-- what beat n of an open read captures tells what its request finds, where the memory has that
+pub record CapturesSerially (order : Order) (bus_bytes number : ℕ) (piece : Piece) (n : ℕ) (becomes : BeatState) : Type 0 where
+  pub payload : ℕ
+  pub resp : Resp
+  pub is : becomes ≡ Captured payload resp
+  pub tells : TellsSerially order number bus_bytes piece n payload resp
+
+pub captures_serially : (order : Order) (memory : FreeMemory) (number : ℕ) (pending : Pending) (piece : Piece) (n : ℕ) → IsSoundMemory memory → IsSoundPending memory.bus_bytes pending
+    → memory.faults ≡ order.faults → IsReadOf order memory.bus_bytes number pending piece
+    → ((x : ℕ) → transfer_has piece.address piece.size (n + 1) x ≡ true → is_good (standing_at order.faults x) ≡ true → unwrap_or (byte_at_address memory.memory x) 0 ≡ bytes_before order number x)
+    → CapturesSerially order memory.bus_bytes number piece (n + 1) (beat_after memory pending.burst n)
+captures_serially order memory number pending piece n sound sound_pending faults of finds =
+    let (payload, resp, becomes, captures) = subst (λ burst. HasEffect memory (with_performed memory pending n) burst n) of.burst (has_effect memory pending n sound.bus sound_pending.legal sound.pages) in
+    record { payload = payload; resp = resp; is = ap (λ burst. beat_after memory burst n) of.burst ∙ becomes; tells = tells payload resp captures }
+  where
+    has_is : (x : ℕ) → transfer_has of.ar.address of.ar.size (n + 1) x ≡ transfer_has piece.address piece.size (n + 1) x
+    has_is x = ap (λ a. transfer_has a of.ar.size (n + 1) x) of.address ∙ ap (λ s. transfer_has piece.address s (n + 1) x) of.size
+
+    tells : (payload : ℕ) (resp : Resp) → IsCaptured memory of.ar (n + 1) payload resp → TellsSerially order number memory.bus_bytes piece (n + 1) payload resp
+    tells payload resp captures =
+        record {
+          response =
+              captures.response ∙ ap (λ f. read_response f (transfer_address of.ar.address of.ar.size (n + 1))) faults
+              ∙ ap (λ a. read_response order.faults (transfer_address a of.ar.size (n + 1))) of.address ∙ ap (λ s. read_response order.faults (transfer_address piece.address s (n + 1))) of.size;
+          bytes = λ x okay has.
+              let byte = captures.bytes x okay (has_is x ∙ has) in
+              let good : is_good (standing_at order.faults x) ≡ true = ap (λ f. is_good (standing_at f x)) (sym faults) ∙ sym (sound.pages.exactly x) ∙ ap (λ (o : Option ℕ). is_some o) byte in
+              ap (λ (o : Option ℕ). unwrap_or o 0) (sym byte) ∙ finds x has good;
+        }
+
+-- it is captured from then on
+pub read_performed : (order : Order) (bus_bytes number : ℕ) (pending : Pending) (piece : Piece) (n : ℕ) (becomes : BeatState) → CapturesSerially order bus_bytes number piece (n + 1) becomes
+    → IsReadOf order bus_bytes number pending piece → IsReadOf order bus_bytes number (with_beat n becomes pending) piece
+read_performed order bus_bytes number pending piece n becomes captures of =
+    record {
+      ar = of.ar;
+      burst = of.burst;
+      address = of.address;
+      size = of.size;
+      len = of.len;
+      tells = λ k payload resp there.
+          elim (beat_set pending.beats n k becomes (Captured payload resp) there) [
+            | inl here ↦ told k payload resp here.0 (captured_parts payload captures.payload resp captures.resp (here.1 ∙ captures.is))
+            | inr before ↦ of.tells k payload resp before
+          ];
+    }
+  where
+    payload_in : BeatState → ℕ
+    payload_in Waiting = 0
+    payload_in Written = 0
+    payload_in (Captured payload resp) = payload
+
+    resp_in : Resp → BeatState → Resp
+    resp_in other Waiting = other
+    resp_in other Written = other
+    resp_in other (Captured payload resp) = resp
+
+    captured_parts : (payload payload' : ℕ) (resp resp' : Resp) → Captured payload resp ≡ Captured payload' resp' → (payload ≡ payload') × (resp ≡ resp')
+    captured_parts payload payload' resp resp' same = (ap payload_in same, ap (resp_in resp) same)
+
+    told : (k payload : ℕ) (resp : Resp) → k ≡ n → (payload ≡ captures.payload) × (resp ≡ captures.resp) → TellsSerially order number bus_bytes piece (k + 1) payload resp
+    told k payload resp at same =
+        subst (λ (i : ℕ). TellsSerially order number bus_bytes piece (i + 1) payload resp) (sym at)
+        (subst (λ (word : ℕ). TellsSerially order number bus_bytes piece (n + 1) word resp) (sym same.0)
+        (subst (λ (response : Resp). TellsSerially order number bus_bytes piece (n + 1) captures.payload response) (sym same.1) captures.tells))
+
+-- ---- either
+
+-- whether a request writes the byte at x by this transfer of a burst; true is a write
+abbrev pub stores_by : Order → ℕ → Bool × Piece → ℕ → ℕ → Bool
+stores_by order number (true, piece) n x = writes_by order number piece n x
+stores_by order number (false, piece) n x = false
+
+-- what performing beat n of an open burst does: the bytes of the memory that its request writes there are what it leaves, no other byte changes, and
+-- the burst is still its request's, where these bytes are added to those that are written
+pub record PerformsSerially (order : Order) (memory : FreeMemory) (wrote : ℕ → ℕ → Bool) (number : ℕ) (pending : Pending) (burst : Bool × Piece) (n : ℕ) : Type 0 where
+  pub set : (x : ℕ) → stores_by order number burst (n + 1) x ≡ true → byte_at_address (memory_after memory pending.burst n) x ≡ Some (byte_left order number x)
+  pub kept : (x : ℕ) → stores_by order number burst (n + 1) x ≡ false → byte_at_address (memory_after memory pending.burst n) x ≡ byte_at_address memory.memory x
+  pub still :
+      (more : ℕ → ℕ → Bool) → ((x : ℕ) → wrote number x ≡ true → more number x ≡ true) → ((x : ℕ) → stores_by order number burst (n + 1) x ≡ true → more number x ≡ true)
+      → IsBurstOf order memory.bus_bytes more number (with_beat n (beat_after memory pending.burst n) pending) burst
+
+pub performs_serially : (order : Order) (memory : FreeMemory) (wrote : ℕ → ℕ → Bool) (number : ℕ) (pending : Pending) (burst : Bool × Piece) (n : ℕ) (beat : BeatState) → IsSoundMemory memory
+    → IsSoundPending memory.bus_bytes pending → memory.faults ≡ order.faults → IsBurstOf order memory.bus_bytes wrote number pending burst → slice_get pending.beats n ≡ Some beat
+    → ((x : ℕ) → writes order number x ≡ true → is_good (standing_at order.faults x) ≡ true)
+    → ((x : ℕ) → transfer_has burst.1.address burst.1.size (n + 1) x ≡ true → is_good (standing_at order.faults x) ≡ true → burst.0 ≡ false → unwrap_or (byte_at_address memory.memory x) 0 ≡ bytes_before order number x)
+    → PerformsSerially order memory wrote number pending burst n
+performs_serially order memory wrote number pending (true, piece) n beat sound sound_pending faults of there good finds =
+    let stores = stores_serially order memory wrote number pending piece n beat sound sound_pending faults of there good in
+    record {
+      set = stores.set;
+      kept = stores.kept;
+      still = λ more kept adds. write_performed order memory memory.bus_bytes wrote more number pending piece n kept adds of;
+    }
+performs_serially order memory wrote number pending (false, piece) n beat sound sound_pending faults of there good finds =
+    let captures = captures_serially order memory number pending piece n sound sound_pending faults of (λ x has page. finds x has page refl) in
+    record {
+      set = λ x never. absurd (cc (never));
+      kept = λ x same. ap (λ burst. byte_at_address (memory_after memory burst n) x) of.burst;
+      still = λ more kept adds. read_performed order memory.bus_bytes number pending piece n (beat_after memory pending.burst n) captures of;
+    }
+
+-- an open burst has as many beats as its piece has transfers
+beats_counted : (order : Order) (bus_bytes : ℕ) (wrote : ℕ → ℕ → Bool) (number : ℕ) (pending : Pending) (burst : Bool × Piece) → IsSoundPending bus_bytes pending
+    → IsBurstOf order bus_bytes wrote number pending burst → length pending.beats ≡ burst.1.len + 1
+beats_counted order bus_bytes wrote number pending (true, piece) sound of = sound.whole ∙ ap transfers_in of.burst ∙ ap (λ n. n + 1) of.len
+beats_counted order bus_bytes wrote number pending (false, piece) sound of = sound.whole ∙ ap transfers_in of.burst ∙ ap (λ n. n + 1) of.len
+
+-- a beat of an open burst is a transfer of its piece
+pub beat_within : (order : Order) (bus_bytes : ℕ) (wrote : ℕ → ℕ → Bool) (number : ℕ) (pending : Pending) (burst : Bool × Piece) (n : ℕ) (beat : BeatState) → IsSoundPending bus_bytes pending
+    → IsBurstOf order bus_bytes wrote number pending burst → slice_get pending.beats n ≡ Some beat → n + 1 ≤ burst.1.len + 1
+beat_within order bus_bytes wrote number pending burst n beat sound of there =
+    omega (arith, slice_get_within pending.beats n beat there, beats_counted order bus_bytes wrote number pending burst sound of)
+
+-- ---- a write that is answered
+
+not_waiting : (beats : List BeatState) (n : ℕ) → list_any is_waiting beats ≡ false → n < length beats → (beat : BeatState) × (slice_get beats n ≡ Some beat) × (is_waiting beat ≡ false)
+not_waiting [] n none below = absurd (omega (arith, below))
+not_waiting (b ∷ beats) zero none below = (b, refl, (or_parts (is_waiting b) (list_any is_waiting beats) none).0)
+not_waiting (b ∷ beats) (suc n) none below = not_waiting beats n (or_parts (is_waiting b) (list_any is_waiting beats) none).1 (omega (arith, below))
+
+-- once all its beats are performed, all that its request writes by it is written
+pub answered_written : (order : Order) (bus_bytes : ℕ) (wrote : ℕ → ℕ → Bool) (number : ℕ) (pending : Pending) (piece : Piece) (n x : ℕ) → IsSoundPending bus_bytes pending
+    → IsWriteOf order bus_bytes wrote number pending piece → list_any is_waiting pending.beats ≡ false → 1 ≤ n → n ≤ piece.len + 1 → transfer_has piece.address piece.size n x ≡ true → writes order number x ≡ true
+    → wrote number x ≡ true
+answered_written order bus_bytes wrote number pending piece n x sound of none one last has written =
+    let (beat, there, performed) = not_waiting pending.beats (n - 1) none (omega (arith, beats_counted order bus_bytes wrote number pending (true, piece) sound of)) in
+    let place : n - 1 + 1 ≡ n = omega arith in
+    of.written (n - 1) x beat there performed (ap (λ i. transfer_has piece.address piece.size i x) place ∙ has) written
+
+-- ---- where more is written
+
+-- what holds of an open burst holds on
+pub writes_more : (order : Order) (bus_bytes : ℕ) (wrote more : ℕ → ℕ → Bool) (number : ℕ) (pending : Pending) (piece : Piece) → ((x : ℕ) → wrote number x ≡ true → more number x ≡ true)
+    → IsWriteOf order bus_bytes wrote number pending piece → IsWriteOf order bus_bytes more number pending piece
+writes_more order bus_bytes wrote more number pending piece kept of =
+    record {
+      aw = of.aw;
+      w_beats = of.w_beats;
+      burst = of.burst;
+      address = of.address;
+      size = of.size;
+      len = of.len;
+      puts = of.puts;
+      written = λ n x beat there performed has written. kept x (of.written n x beat there performed has written);
+    }
+
+pub burst_more : (order : Order) (bus_bytes : ℕ) (wrote more : ℕ → ℕ → Bool) (number : ℕ) (pending : Pending) (burst : Bool × Piece) → ((x : ℕ) → wrote number x ≡ true → more number x ≡ true)
+    → IsBurstOf order bus_bytes wrote number pending burst → IsBurstOf order bus_bytes more number pending burst
+burst_more order bus_bytes wrote more number pending (true, piece) kept of = writes_more order bus_bytes wrote more number pending piece kept of
+burst_more order bus_bytes wrote more number pending (false, piece) kept of = of
+
+pub bursts_more : (order : Order) (bus_bytes : ℕ) (wrote more : ℕ → ℕ → Bool) (number : ℕ) (mine : List Pending) (bursts : List (Bool × Piece)) → ((x : ℕ) → wrote number x ≡ true → more number x ≡ true)
+    → AreBurstsOf order bus_bytes wrote number mine bursts → AreBurstsOf order bus_bytes more number mine bursts
+bursts_more order bus_bytes wrote more number [] [] kept of = tt
+bursts_more order bus_bytes wrote more number [] (burst ∷ bursts) kept of = absurd of
+bursts_more order bus_bytes wrote more number (pending ∷ mine) [] kept of = absurd of
+bursts_more order bus_bytes wrote more number (pending ∷ mine) (burst ∷ bursts) kept of =
+    (burst_more order bus_bytes wrote more number pending burst kept of.0, bursts_more order bus_bytes wrote more number mine bursts kept of.1)
+
+pub of_holder_more : (order : Order) (bus_bytes : ℕ) (wrote more : ℕ → ℕ → Bool) (mine : List Pending) (holds : Option BridgedRequest) → ((i x : ℕ) → wrote i x ≡ true → more i x ≡ true)
+    → AreOfHolder order bus_bytes wrote mine holds → AreOfHolder order bus_bytes more mine holds
+of_holder_more order bus_bytes wrote more mine None kept of = of
+of_holder_more order bus_bytes wrote more mine (Some request) kept of = bursts_more order bus_bytes wrote more request.flight.number mine (outstanding request.flight) (kept request.flight.number) of
+
+-- and a live request stays in order, where an atomic that doesn't write yet still wrote nothing
+pub in_order_more : (order : Order) (bus_bytes : ℕ) (wrote more : ℕ → ℕ → Bool) (request : BridgedRequest) → ((x : ℕ) → wrote request.flight.number x ≡ true → more request.flight.number x ≡ true)
+    → (is_atomic request.flight ≡ true → request.flight.writing ≡ false → (x : ℕ) → more request.flight.number x ≡ wrote request.flight.number x) → IsInOrder order bus_bytes wrote request
+    → IsInOrder order bus_bytes more request
+in_order_more order bus_bytes wrote more request kept same of =
+    record {
+      asked = of.asked;
+      unwritten = λ atomic isnt x. same atomic isnt x ∙ of.unwritten atomic isnt x;
+      written = λ k n x piece answered there first last has writes_there. kept x (of.written k n x piece answered there first last has writes_there);
+      gathered = of.gathered;
+    }

@@ -1,0 +1,90 @@
+-- A request is settled after an answer: it goes on, plans its write, or is finished. What it has written is as before. It knows one live
+-- request; the answer and the memory are hidden.
+use Rattle.std.proofs.Common.{◌≡◌, ℕ, zero, suc, ◌+◌, ◌<◌, ◌≤◌, Bool, true, false, not, ◌||◌, List, [], ◌∷◌, length, Some, refl, ap, sym, ◌∙◌, subst, arith, inl, inr, ◌⊎◌}
+use Rattle.std.specs.Prelude.{if◌then◌else◌}
+use Rattle.std.specs.List.{slice_get}
+use Rattle.std.proofs.lemmas.Option.{same_Some}
+use Rattle.axi_beats.specs.Transfers.{transfer_has}
+use Rattle.burst_plan.specs.declared.Piece.{Piece}
+use Rattle.flight_table.specs.LiveRequests.{course, is_atomic, is_settled, planned, read_pieces, write_pieces}
+use Rattle.tl_messages.specs.Requests.{request_of}
+use Rattle.bridge_core.specs.Requests.{BridgedRequest, address_of, settled}
+use Rattle.bridge_core.proofs.ResponseLinks.{finished_one, settled_as, with_its_write}
+use Rattle.world_run.specs.InOrder.{IsGathered, IsInOrder}
+use Rattle.world_run.specs.Serial.{Order, asked, writes}
+
+-- ---- what settling leaves
+
+pub settled_has : (P : BridgedRequest → Type 0) (request : BridgedRequest) → P request → (is_settled request.flight ≡ true → P (with_its_write request)) → (is_settled request.flight ≡ true → P (finished_one request))
+    → P (settled request)
+settled_has P request going writing ending =
+    elim (settled_as request) [
+      | inl goes_on ↦ subst P (sym goes_on.1) going
+      | inr at_end ↦ at_the_end at_end.answered at_end.becomes
+    ]
+  where
+    at_the_end : is_settled request.flight ≡ true → (settled request ≡ with_its_write request) ⊎ (settled request ≡ finished_one request) → P (settled request)
+    at_the_end all (inl writes) = subst P (sym writes) (writing all)
+    at_the_end all (inr ends) = subst P (sym ends) (ending all)
+
+pub settled_number : (request : BridgedRequest) → (settled request).flight.number ≡ request.flight.number
+settled_number request = settled_has (λ r. r.flight.number ≡ request.flight.number) request refl (λ all. refl) (λ all. refl)
+
+pub settled_message : (request : BridgedRequest) → (settled request).message ≡ request.message
+settled_message request = settled_has (λ r. r.message ≡ request.message) request refl (λ all. refl) (λ all. refl)
+
+-- ---- its planned bursts
+
+-- among bursts that read at first, a write isn't one of the reads
+write_past_reads : (reads writes : List Piece) (k : ℕ) (piece : Piece) → slice_get (course reads writes) k ≡ Some (true, piece) → length reads ≤ k
+write_past_reads [] writes k piece there = omega arith
+write_past_reads (r ∷ reads) writes zero piece there =
+    let sides : false ≡ true = ap (λ (burst : Bool × Piece). burst.0) (same_Some (false, r) (true, piece) there) in
+    absurd (cc (sides))
+write_past_reads (r ∷ reads) writes (suc k) piece there = let rest = write_past_reads reads writes k piece there in omega (arith, rest)
+
+length_reads : (reads : List Piece) → length (course reads []) ≡ length reads
+length_reads [] = refl
+length_reads (r ∷ reads) = ap suc (length_reads reads)
+
+-- a write that is answered was planned before its request planned more
+planned_before : (reads writes : List Piece) (atomic writing : Bool) (k : ℕ) (piece : Piece) → k < length (course reads (if not atomic || writing then writes else []))
+    → slice_get (course reads (if not atomic || true then writes else [])) k ≡ Some (true, piece) → slice_get (course reads (if not atomic || writing then writes else [])) k ≡ Some (true, piece)
+planned_before reads writes false writing k piece below there = there
+planned_before reads writes true true k piece below there = there
+planned_before reads writes true false k piece below there =
+    let past = write_past_reads reads writes k piece there in
+    absurd (omega (arith, past, below, length_reads reads))
+
+-- ---- it is in order
+
+-- what its answered writes put is written
+abbrev pub HasWritten : Order → (ℕ → ℕ → Bool) → BridgedRequest → Type 0
+HasWritten order wrote request =
+    (k n x : ℕ) (piece : Piece) → k < request.flight.answered → slice_get (planned request.flight) k ≡ Some (true, piece) → 1 ≤ n → n ≤ piece.len + 1
+    → transfer_has piece.address piece.size n x ≡ true → writes order request.flight.number x ≡ true → wrote request.flight.number x ≡ true
+
+abbrev pub IsUnwritten : (ℕ → ℕ → Bool) → BridgedRequest → Type 0
+IsUnwritten wrote request = is_atomic request.flight ≡ true → request.flight.writing ≡ false → (x : ℕ) → wrote request.flight.number x ≡ false
+
+settled_written : (order : Order) (wrote : ℕ → ℕ → Bool) (request : BridgedRequest) → request.flight.answered ≤ length (planned request.flight) → HasWritten order wrote request → HasWritten order wrote (settled request)
+settled_written order wrote request most written =
+    settled_has (HasWritten order wrote) request written
+    (λ all k n x piece below there first last has writing.
+    written k n x piece below
+    (planned_before (read_pieces request.flight) (write_pieces request.flight) (is_atomic request.flight) request.flight.writing k piece (omega (arith, below, most)) there) first last has writing)
+    (λ all. written)
+
+settled_unwritten : (wrote : ℕ → ℕ → Bool) (request : BridgedRequest) → IsUnwritten wrote request → IsUnwritten wrote (settled request)
+settled_unwritten wrote request none = settled_has (IsUnwritten wrote) request none (λ all atomic isnt x. absurd (cc (isnt))) (λ all. none)
+
+pub settled_in_order : (order : Order) (bus_bytes : ℕ) (wrote : ℕ → ℕ → Bool) (request : BridgedRequest) → request.flight.answered ≤ length (planned request.flight)
+    → asked order request.flight.number ≡ Some (request_of request.message) → IsUnwritten wrote request → HasWritten order wrote request
+    → IsGathered order bus_bytes (settled request) (address_of order.regions (request_of request.message)) → IsInOrder order bus_bytes wrote (settled request)
+settled_in_order order bus_bytes wrote request most is_asked none written told =
+    record {
+      asked = ap (asked order) (settled_number request) ∙ is_asked ∙ ap (λ m. Some (request_of m)) (sym (settled_message request));
+      unwritten = settled_unwritten wrote request none;
+      written = settled_written order wrote request most written;
+      gathered = subst (λ m. IsGathered order bus_bytes (settled request) (address_of order.regions (request_of m))) (sym (settled_message request)) told;
+    }

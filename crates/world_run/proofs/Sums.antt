@@ -1,0 +1,56 @@
+-- Sums and lengths of lists of which one item changes or goes. Lists alone: no requests, no bursts.
+use Rattle.std.proofs.Common.{◌≡◌, ℕ, suc, ◌+◌, Bool, true, false, List, [], ◌∷◌, length, Some, refl, ap, sym, subst, arith}
+use Rattle.std.specs.Prelude.{find, if◌then◌else◌, sum_by}
+use Rattle.std.proofs.lemmas.List.Sums.{sum_by-cons}
+use Rattle.std.proofs.lemmas.Option.{same_Some}
+use Rattle.bus_words.specs.Places.{change_first, without_first}
+
+-- the first item that passes a test changes, and its measure by so much
+pub sum_changed : {X : Type 0} (measure : X → ℕ) (test : X → Bool) (change : X → X) (more : ℕ) (xs : List X) (x : X) → find test xs ≡ Some x → measure (change x) ≡ measure x + more
+    → sum_by measure (change_first test change xs) ≡ sum_by measure xs + more
+sum_changed measure test change more [] x found grows = absurd (cc)
+sum_changed {X = X} measure test change more (y ∷ ys) x found grows = by_test (test y) found (λ later. sum_changed measure test change more ys x later grows)
+  where
+    by_test : (here : Bool) → (if here then Some y else find test ys) ≡ Some x → (find test ys ≡ Some x → sum_by measure (change_first test change ys) ≡ sum_by measure ys + more)
+        → sum_by measure (if here then change y ∷ ys else y ∷ change_first test change ys) ≡ sum_by measure (y ∷ ys) + more
+    by_test true found later =
+        let grown : measure (change y) ≡ measure y + more = subst (λ (z : X). measure (change z) ≡ measure z + more) (sym (same_Some y x found)) grows in
+        omega (arith, sum_by-cons measure (change y) ys, sum_by-cons measure y ys, grown)
+    by_test false found later = omega (arith, sum_by-cons measure y (change_first test change ys), sum_by-cons measure y ys, later found)
+
+-- a change that a measure doesn't see
+pub sum_unseen : {X : Type 0} (measure : X → ℕ) (test : X → Bool) (change : X → X) (xs : List X) → ((x : X) → measure (change x) ≡ measure x) → sum_by measure (change_first test change xs) ≡ sum_by measure xs
+sum_unseen measure test change [] unseen = refl
+sum_unseen {X = X} measure test change (y ∷ ys) unseen = by_test (test y) (sum_unseen measure test change ys unseen)
+  where
+    by_test : (here : Bool) → sum_by measure (change_first test change ys) ≡ sum_by measure ys
+        → sum_by measure (if here then change y ∷ ys else y ∷ change_first test change ys) ≡ sum_by measure (y ∷ ys)
+    by_test true later = omega (arith, sum_by-cons measure (change y) ys, sum_by-cons measure y ys, unseen y)
+    by_test false later = omega (arith, sum_by-cons measure y (change_first test change ys), sum_by-cons measure y ys, later)
+
+-- the first item that passes a test goes
+pub sum_without : {X : Type 0} (measure : X → ℕ) (test : X → Bool) (xs : List X) (x : X) → find test xs ≡ Some x → sum_by measure (without_first test xs) + measure x ≡ sum_by measure xs
+sum_without measure test [] x found = absurd (cc)
+sum_without {X = X} measure test (y ∷ ys) x found = by_test (test y) found (λ later. sum_without measure test ys x later)
+  where
+    by_test : (here : Bool) → (if here then Some y else find test ys) ≡ Some x → (find test ys ≡ Some x → sum_by measure (without_first test ys) + measure x ≡ sum_by measure ys)
+        → sum_by measure (if here then ys else y ∷ without_first test ys) + measure x ≡ sum_by measure (y ∷ ys)
+    by_test true found later = omega (arith, sum_by-cons measure y ys, ap measure (same_Some y x found))
+    by_test false found later = omega (arith, sum_by-cons measure y (without_first test ys), sum_by-cons measure y ys, later found)
+
+pub length_changed : {X : Type 0} (test : X → Bool) (change : X → X) (xs : List X) → length (change_first test change xs) ≡ length xs
+length_changed test change [] = refl
+length_changed test change (y ∷ ys) = by_test (test y) (length_changed test change ys)
+  where
+    by_test : (here : Bool) → length (change_first test change ys) ≡ length ys → length (if here then change y ∷ ys else y ∷ change_first test change ys) ≡ length (y ∷ ys)
+    by_test true later = refl
+    by_test false later = ap suc later
+
+pub length_without : {X : Type 0} (test : X → Bool) (xs : List X) (x : X) → find test xs ≡ Some x → length (without_first test xs) + 1 ≡ length xs
+length_without test [] x found = absurd (cc)
+length_without {X = X} test (y ∷ ys) x found = by_test (test y) found (λ later. length_without test ys x later)
+  where
+    by_test : (here : Bool) → (if here then Some y else find test ys) ≡ Some x → (find test ys ≡ Some x → length (without_first test ys) + 1 ≡ length ys)
+        → length (if here then ys else y ∷ without_first test ys) + 1 ≡ length (y ∷ ys)
+    by_test true found later = omega arith
+    by_test false found later = omega (arith, later found)

@@ -1,0 +1,97 @@
+-- How much work there can be. It knows how many requests may be live and how many bursts each has; which is where is hidden.
+use Rattle.std.proofs.Common.{◌≡◌, ℕ, ◌+◌, ◌*◌, ◌%◌, ◌^◌, ◌<◌, ◌≤◌, Bool, true, false, List, [], ◌∷◌, length, drop, Option, Some, None, refl, ◌∙◌, arith}
+use Rattle.std.specs.Prelude.{if◌then◌else◌, sum_by}
+use Rattle.std.specs.List.{AllByRecursion}
+use Rattle.std.proofs.Math.Nat.{div-le_self, mul-le-mul_right}
+use Rattle.std.proofs.Math.Pow.{pow_mono}
+use Rattle.std.proofs.lemmas.List.Sums.{sum_by-cons, sum_by-take-drop}
+use Rattle.std.proofs.lemmas.Nat.{one_shl}
+use Rattle.burst_plan.specs.Pieces.{IsPlannable, PlannedRange, beat_size, pieces}
+use Rattle.burst_plan.specs.declared.Piece.{Piece}
+use Rattle.burst_plan.specs.declared.Region.{Region}
+use Rattle.burst_plan.proofs.PlanLaws.{beats_counted}
+use Rattle.tl_messages.specs.Operations.{has_data, reply_has_data}
+use Rattle.flight_table.specs.LiveRequests.{LiveRequest, course, pieces_planned, read_pieces, whole_course, write_pieces}
+use Rattle.flight_table.specs.Work.{answers_of_burst, beats_of_burst, unsent_work, work_of_bursts}
+use Rattle.bridge_core.specs.Configs.{is_valid}
+use Rattle.bridge_core.specs.Laws.{IsServed, beats_in}
+use Rattle.bridge_core.specs.Requests.{BridgedRequest, flights_of}
+use Rattle.bridge_core.specs.declared.Config.{Config}
+use Rattle.bridge_core.proofs.SentBursts.{plannable}
+use Rattle.world_run.specs.Laws.{IsSoundWorld}
+use Rattle.world_run.specs.World.{WorldState, work_left}
+use Rattle.world_run.proofs.OpenWork.{work_open_few}
+
+-- ---- a plan has at most 4,096 transfers
+
+few_transfers : (range : PlannedRange) → IsPlannable range → beats_in (pieces range) ≤ 4096
+few_transfers range plans =
+    let whole : 1 * 2 ^ range.size % 2 ^ 16 ≡ 2 ^ range.size = one_shl range.size 16 (omega (arith, plans.size)) in
+    let small : 2 ^ range.size ≤ 4096 = pow_mono {i = range.size} {j = 12} plans.size in
+    let counted = beats_counted range (beat_size range) plans refl in
+    let fewer = div-le_self (1 * 2 ^ range.size % 2 ^ 16) (2 ^ beat_size range) in
+    omega (arith, whole, small, counted, fewer)
+
+few_of_plan : (config : Config) (regions : List Region) (request : BridgedRequest) → is_valid config ≡ true → IsServed config regions request → (plan : Option PlannedRange) → request.flight.plan ≡ plan
+    → beats_in (pieces_planned plan) ≤ 4096
+few_of_plan config regions request valid served None is = omega arith
+few_of_plan config regions request valid served (Some range) is = few_transfers range (plannable config regions request range valid served.pages served is).0
+
+-- ---- the work of bursts is at most three times their transfers
+
+burst_work : (burst : Bool × Piece) → 1 + beats_of_burst burst + answers_of_burst burst ≤ 3 * beats_of_burst burst
+burst_work (true, piece) = omega arith
+burst_work (false, piece) = omega arith
+
+bursts_work : (bursts : List (Bool × Piece)) → work_of_bursts bursts ≤ 3 * sum_by beats_of_burst bursts
+bursts_work [] = omega arith
+bursts_work (burst ∷ bursts) = omega (arith, burst_work burst, bursts_work bursts, sum_by-cons beats_of_burst burst bursts, sum_by-cons answers_of_burst burst bursts)
+
+course_beats : (reads writes : List Piece) → sum_by beats_of_burst (course reads writes) ≡ beats_in reads + beats_in writes
+course_beats [] [] = refl
+course_beats [] (w ∷ writes) = sum_by-cons beats_of_burst (true, w) (course [] writes) ∙ omega (arith, course_beats [] writes, sum_by-cons (λ (p : Piece). p.len + 1) w writes)
+course_beats (r ∷ reads) writes = sum_by-cons beats_of_burst (false, r) (course reads writes) ∙ omega (arith, course_beats reads writes, sum_by-cons (λ (p : Piece). p.len + 1) r reads)
+
+few_either : (test : Bool) (parts : List Piece) → beats_in parts ≤ 4096 → beats_in (if test then parts else []) ≤ 4096
+few_either true parts few = few
+few_either false parts few = omega arith
+
+left_work : (sent : ℕ) (reads writes : List Piece) → beats_in reads ≤ 4096 → beats_in writes ≤ 4096 → work_of_bursts (drop sent (course reads writes)) ≤ 24576
+left_work sent reads writes few_reads few_writes =
+    omega (
+      arith,
+      few_reads,
+      few_writes,
+      course_beats reads writes,
+      bursts_work (drop sent (course reads writes)),
+      sum_by-take-drop beats_of_burst (course reads writes) sent,
+    )
+
+few_unsent : (flight : LiveRequest) → beats_in (pieces_planned flight.plan) ≤ 4096 → unsent_work flight ≤ 24576
+few_unsent flight few =
+    by_flag flight.done
+    (left_work flight.sent (read_pieces flight) (write_pieces flight) (few_either (reply_has_data flight.operation) (pieces_planned flight.plan) few) (few_either (has_data flight.operation) (pieces_planned flight.plan) few))
+  where
+    by_flag : (done : Bool) → work_of_bursts (drop flight.sent (whole_course flight)) ≤ 24576 → (if done then 0 else work_of_bursts (drop flight.sent (whole_course flight))) ≤ 24576
+    by_flag true few = omega arith
+    by_flag false few = few
+
+all_unsent : (config : Config) (regions : List Region) (live : List BridgedRequest) → is_valid config ≡ true → AllByRecursion (IsServed config regions) live → sum_by unsent_work (flights_of live) ≤ length live * 24576
+all_unsent config regions [] valid served = omega arith
+all_unsent config regions (request ∷ live) valid served =
+    omega (
+      arith,
+      few_unsent request.flight (few_of_plan config regions request valid served.0 request.flight.plan refl),
+      all_unsent config regions live valid served.1,
+      sum_by-cons unsent_work request.flight (flights_of live),
+    )
+
+-- ---- all of it fits a word
+
+pub few_work : (state : WorldState) → IsSoundWorld state → work_left state < 2 ^ 63
+few_work state sound =
+    let table = state.bridge.requests in
+    let unsent = all_unsent table.config table.regions table.live sound.bridge_laws.requests.config sound.bridge_laws.requests.served in
+    let few : length table.live ≤ 2 ^ 48 = omega (arith, sound.serials.live, sound.serials.accepted) in
+    let rows : length table.live * 24576 ≤ 2 ^ 48 * 24576 = mul-le-mul_right 24576 few in
+    omega (arith, unsent, rows, work_open_few state.memory sound.memory_laws)

@@ -1,0 +1,338 @@
+//! A long run of two clients whose turns come by lot, beside a plain replayer: it carries out each request as it is
+//! accepted, one after another, on an array of bytes. Every reply and the memory at the end have to be the same.
+use super::*;
+
+/// The bytes of the four pages.
+const BYTES: u32 = 16_384;
+
+/// A request of a client's script: what it offers, and how many beats it offers.
+const fn script(place: u8) -> (ABeat, u8) {
+    match place {
+        0 => (a(0, 0, 4, 0, 0, 0xff, 0), 2),
+        1 => (a(4, 0, 6, 0, 0, 0xff, 0), 1),
+        2 => (a(2, 4, 2, 0, 8, 0x0f, 0), 1),
+        _ => (a(1, 0, 3, 0, 8, 0x3c, 0), 1),
+    }
+}
+
+/// Where a client is in its script: which of the four requests, which beat of it, and its source.
+#[derive(Clone, Copy)]
+struct Client {
+    place: u8,
+    beat: u8,
+    source: u8,
+    /// The payload of the beat that is to be offered again.
+    offered: Option<u64>,
+    /// The payload of the first beat of a request of two.
+    first: u64,
+}
+
+const AT_THE_START: Client = Client {
+    place: 0,
+    beat: 0,
+    source: 0,
+    offered: None,
+    first: 0,
+};
+
+/// The reply to a request: its first eight payloads are all that a reply of this script has.
+#[derive(Clone, Copy, PartialEq, Eq)]
+struct Expected {
+    client: u8,
+    first: DBeat,
+    beats: u16,
+    payloads: [u64; 8],
+}
+
+/// A plain memory, and the reply to each request by its number.
+#[derive(Drop)]
+struct Replayer {
+    bytes: Vec<u8>,
+    expected: Vec<Expected>,
+    taken: u64,
+}
+
+/// Both sides, and the two clients.
+#[derive(Drop)]
+struct Race {
+    bench: Bench,
+    replayer: Replayer,
+    clients: [Client; 2],
+}
+
+fn start(alloc: Global, lists: Lists) -> Result<Option<Race>, AllocError> {
+    let Some(bench) = fresh(alloc, lists)? else {
+        return Ok(None);
+    };
+    let mut bytes = Vec::with_capacity(alloc, BYTES as usize)?;
+    for _ in 0..BYTES {
+        if bytes.push(0).is_err() {
+            return Err(AllocError);
+        }
+    }
+    let replayer = Replayer {
+        bytes,
+        expected: Vec::new(alloc),
+        taken: 0,
+    };
+    Ok(Some(Race {
+        bench,
+        replayer,
+        clients: [AT_THE_START; 2],
+    }))
+}
+
+/// The eight bytes of a word, the least significant first, from an address on.
+fn load(bytes: &[u8], address: u32) -> u64 {
+    let mut word = 0u64;
+    for k in 0..8u32 {
+        let place = address.wrapping_add(7).wrapping_sub(k) as usize;
+        let byte = bytes.get(place).copied().unwrap_or(0);
+        word = word.wrapping_mul(256).wrapping_add(u64::from(byte));
+    }
+    word
+}
+
+/// Stores the bytes of a word whose lanes a mask has.
+fn store(bytes: &mut Vec<u8>, address: u32, word: u64, mask: u8) {
+    let mut rest = word;
+    let mut lanes = mask;
+    for k in 0..8u32 {
+        let place = address.wrapping_add(k) as usize;
+        if lanes % 2 == 1 {
+            if let Some(byte) = bytes.get_mut(place) {
+                *byte = (rest % 256) as u8;
+            }
+        }
+        lanes /= 2;
+        rest /= 256;
+    }
+}
+
+/// The first eight words of memory.
+fn words(bytes: &[u8]) -> [u64; 8] {
+    [
+        load(bytes, 0),
+        load(bytes, 8),
+        load(bytes, 16),
+        load(bytes, 24),
+        load(bytes, 32),
+        load(bytes, 40),
+        load(bytes, 48),
+        load(bytes, 56),
+    ]
+}
+
+/// Carries out a request of the script, and answers the opcode, the beats and the payloads of its reply.
+fn carry_out(bytes: &mut Vec<u8>, place: u8, first: u64, last: u64) -> (u8, u16, [u64; 8]) {
+    let none = [0; 8];
+    match place {
+        0 => {
+            store(bytes, 0, first, 0xff);
+            store(bytes, 8, last, 0xff);
+            (0, 1, none)
+        }
+        1 => (1, 8, words(bytes.as_slice())),
+        2 => {
+            let old = (load(bytes.as_slice(), 8) % 0x1_0000_0000) as u32;
+            let new = old.wrapping_add((last % 0x1_0000_0000) as u32);
+            store(bytes, 8, u64::from(new), 0x0f);
+            (1, 1, [u64::from(old), 0, 0, 0, 0, 0, 0, 0])
+        }
+        _ => {
+            store(bytes, 8, last, 0x3c);
+            (0, 1, none)
+        }
+    }
+}
+
+/// The request that a client just offered whole was accepted; whether its number is the next.
+fn replay(replayer: &mut Replayer, client: u8, at: Client, last: u64, number: u64) -> bool {
+    if replayer.expected.len() as u64 != number {
+        return false;
+    }
+    let (opcode, beats, payloads) = carry_out(&mut replayer.bytes, at.place, at.first, last);
+    let (beat, _) = script(at.place);
+    let expected = Expected {
+        client,
+        first: d(opcode, beat.size, at.source, false),
+        beats,
+        payloads,
+    };
+    replayer.expected.push(expected).is_ok()
+}
+
+/// Where a client is once its beat was taken.
+fn after(at: Client, payload: u64) -> Client {
+    let (_, beats) = script(at.place);
+    if at.beat.wrapping_add(1) < beats {
+        return Client {
+            beat: at.beat.wrapping_add(1),
+            offered: None,
+            first: payload,
+            ..at
+        };
+    }
+    Client {
+        place: at.place.wrapping_add(1) % 4,
+        beat: 0,
+        source: at.source.wrapping_add(1) % 8,
+        offered: None,
+        first: 0,
+    }
+}
+
+/// A client offers its next beat, with this payload where it has data and wasn't offered before.
+fn offer_next(race: &mut Race, client: u8, x: u64) -> bool {
+    let Some(at) = race.clients.get(usize::from(client)).copied() else {
+        return false;
+    };
+    let (form, _) = script(at.place);
+    let payload = if at.place == 1 {
+        0
+    } else {
+        at.offered.unwrap_or(x)
+    };
+    let beat = ABeat {
+        source: at.source,
+        payload,
+        ..form
+    };
+    let next = match race
+        .bench
+        .world
+        .step(&Step::Offer(client, beat), &mut race.bench.reply)
+    {
+        Answer::More => after(at, payload),
+        Answer::Accepted(number) => {
+            if !replay(&mut race.replayer, client, at, payload, number) {
+                return false;
+            }
+            after(at, payload)
+        }
+        Answer::NotReady | Answer::Refused(TlRule::SourceBusy) => Client {
+            offered: Some(payload),
+            ..at
+        },
+        _ => return false,
+    };
+    if let Some(kept) = race.clients.get_mut(usize::from(client)) {
+        *kept = next;
+    }
+    true
+}
+
+/// Whether the reply in the box is the replayer's.
+fn is_expected(reply: &ReplyBox, expected: Expected) -> bool {
+    if reply.beats() != expected.beats {
+        return false;
+    }
+    for k in 0..reply.beats() {
+        let payload = expected.payloads.get(usize::from(k)).copied();
+        let beat = DBeat {
+            payload: payload.unwrap_or(0),
+            ..expected.first
+        };
+        if reply.beat(k) != beat {
+            return false;
+        }
+    }
+    true
+}
+
+/// A client takes a reply, if there is one; whether it is the replayer's.
+fn take_next(race: &mut Race, client: u8) -> bool {
+    match race
+        .bench
+        .world
+        .step(&Step::Take(client), &mut race.bench.reply)
+    {
+        Answer::Nothing => true,
+        Answer::Reply(number) => {
+            let expected = race.replayer.expected.get(number as usize).copied();
+            race.replayer.taken = race.replayer.taken.wrapping_add(1);
+            expected.is_some_and(|e| e.client == client && is_expected(&race.bench.reply, e))
+        }
+        _ => false,
+    }
+}
+
+/// Bridge and memory make a step, if they can make one.
+fn move_on(race: &mut Race, lot: u64) -> bool {
+    let choices = u64::from(race.bench.world.choices());
+    if choices == 0 {
+        return true;
+    }
+    let k = (lot % choices) as u32;
+    if k >= race.bench.world.choices() {
+        return false;
+    }
+    let step = race.bench.world.choose(k);
+    matches!(
+        race.bench.world.step(&step, &mut race.bench.reply),
+        Answer::Sent(_) | Answer::Done | Answer::B(_) | Answer::R(_)
+    )
+}
+
+fn next_word(x: u64) -> u64 {
+    x.wrapping_mul(6364136223846793005)
+        .wrapping_add(1442695040888963407)
+}
+
+/// One turn; whether all went as it must.
+fn turn(race: &mut Race, x: u64) -> bool {
+    let w = x / 0x2_0000_0000;
+    let client = ((w / 4) % 2) as u8;
+    match w % 4 {
+        0 => offer_next(race, client, x),
+        1 => take_next(race, client),
+        _ => move_on(race, w / 4),
+    }
+}
+
+/// How many turns went as they must before one didn't.
+fn turns(race: &mut Race, count: u32) -> u32 {
+    let mut x = 1;
+    for k in 0..count {
+        x = next_word(x);
+        if !turn(race, x) {
+            return k;
+        }
+    }
+    count
+}
+
+/// Whether the clients take what is left, and these are the replayer's replies.
+fn takes_the_rest(race: &mut Race) -> bool {
+    for _ in 0..4 {
+        if !take_next(race, 0) || !take_next(race, 1) {
+            return false;
+        }
+    }
+    race.replayer.taken == race.replayer.expected.len() as u64
+}
+
+/// The first byte of the four pages that isn't the replayer's.
+fn first_other(race: &Race) -> Option<u32> {
+    (0..BYTES).find(|k| {
+        let byte = race.replayer.bytes.get(*k as usize).copied();
+        byte.is_none() || race.bench.world.byte(0x10000u32.wrapping_add(*k)) != byte
+    })
+}
+
+#[test]
+fn ten_thousand_turns(rt: HostRuntime) -> Result<(), Fail> {
+    for axi_bytes in [8, 4] {
+        let config = Config { axi_bytes, ..USUAL };
+        let race = start(rt.alloc(), Lists { config, ..PLAIN })?;
+        let mut race = race.expect(&rt, "a world");
+        assert_eq!(rt; turns(&mut race, 10_000), 10_000);
+        let left = race.bench.world.work_left();
+        assert_eq!(rt; race.bench.world.drain(), left);
+        assert_eq!(rt; first_other(&race), None);
+        assert!(rt; takes_the_rest(&mut race));
+        // The lots let each client go through its script many times.
+        assert!(rt; race.replayer.taken > 100);
+    }
+    Ok(())
+}
