@@ -1,5 +1,5 @@
 -- The laws of a burst's transfers: each lies in one word of the bus, one begins where the one before stops, and together they cover the burst.
-use Rattle.std.proofs.Common.{◌≡◌, ℕ, zero, suc, ◌+◌, ◌-◌, ◌*◌, ◌/◌, ◌%◌, ◌^◌, ◌<◌, ◌≤◌, inl, inr, true, refl, ap, arith}
+use Rattle.std.proofs.Common.{◌≡◌, ℕ, zero, suc, ◌+◌, ◌-◌, ◌*◌, ◌/◌, ◌%◌, ◌^◌, ◌<◌, ◌≤◌, inl, inr, true, ap, arith}
 use Rattle.std.proofs.Math.Nat.{add-mul}
 use Rattle.std.proofs.Math.Pow.{pow_mono}
 use Rattle.std.specs.Prelude.{nat_le, if◌then◌else◌}
@@ -81,19 +81,9 @@ transfer_address-aligned start size zero aligned one = absurd (omega arith)
 transfer_address-aligned start size (suc zero) aligned one = omega arith
 transfer_address-aligned start size (suc (suc n)) aligned one = let later = lt-leb (suc (suc n)) 1 (omega arith) in rw later (omega (arith, aligned))
 
--- a burst stops where its last transfer stops
-pub transfer_end-last : (start len size : ℕ) → transfer_end start size (len + 1) ≡ last_byte start len size
-transfer_end-last start len size = refl
-
 -- a transfer's first byte is not past its last
 pub transfer_address_le_transfer_end : (start size n : ℕ) → 1 ≤ n → transfer_address start size n ≤ transfer_end start size n
 transfer_address_le_transfer_end start size n one = omega (arith, transfer_address_is start size n one, transfer_end_is start size n one, begins_within start size n)
-
--- a burst's first byte is not past its last
-pub start_le_last_byte : (start len size : ℕ) → start ≤ last_byte start len size
-start_le_last_byte start len size =
-    let some = one_transfer size (len + 1) (omega arith) in
-    omega (arith, div-add-mod' start (2 ^ size), mod_below start (2 ^ size) some.0)
 
 -- a transfer stops in the bus's word that it begins in
 transfer_held : (bus_bytes start size n : ℕ) → IsBusWidth bus_bytes → fits_bus bus_bytes size ≡ true → 1 ≤ n → transfer_end start size n < transfer_address start size n / bus_bytes * bus_bytes + bus_bytes

@@ -68,7 +68,7 @@ pub struct WBeat {
     pub last: bool,
 }
 
-/// A beat on the write response channel: the answer to a whole write burst.
+/// A beat on the write response channel: the answer to a whole write burst (AXI4, A3.4.4).
 #[derive(Clone, Copy, Debug, PartialEq, Eq)]
 pub struct BBeat {
     /// The ID of the write that it answers.
@@ -77,7 +77,7 @@ pub struct BBeat {
     pub resp: Resp,
 }
 
-/// A beat on the read data channel: one transfer of a read burst.
+/// A beat on the read data channel: one transfer of a read burst (AXI4, A3.4.3 and A3.4.4).
 #[derive(Clone, Copy, Debug, PartialEq, Eq)]
 pub struct RBeat {
     /// The ID of the read that it answers.

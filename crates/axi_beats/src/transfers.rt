@@ -1,5 +1,5 @@
 //! The addresses and lanes of a burst's transfers (AXI4, A3.4.1). A transfer's number counts from 1.
-ghost use Rattle.std.specs.Prelude.{◌≡◌, ℕ, ◌+◌, ◌-◌, ◌<◌, ◌≤◌, ◌^◌, true, IsTrue};
+ghost use Rattle.std.specs.Prelude.{◌≡◌, ℕ, ◌+◌, ◌-◌, ◌<◌, ◌≤◌, IsTrue};
 ghost use Rattle.axi_beats.specs.Transfers.{transfer_address, lowest_lane, highest_lane, last_byte, IsBusWidth, fits_bus, TransfersCoverOnce};
 
 /// The address of transfer `n`, from 1 to 256, of a burst that begins at `start` with transfers of `2^size` bytes:

@@ -2,8 +2,7 @@
 use Rattle.std.proofs.Common.{◌≡◌, List, [], ◌∷◌, ◌++◌, refl, ap, sym, ◌∙◌}
 use Rattle.std.specs.Prelude.{None}
 use Rattle.axi_beats.specs.Bursts.{Burst}
-use Rattle.axi_beats.specs.declared.RBeat.{RBeat}
-use Rattle.axi_checker.specs.OpenBursts.{AxiBeat, OnR, OpenBursts, open_after, write_to_fill}
+use Rattle.axi_checker.specs.OpenBursts.{AxiBeat, OpenBursts, open_after, write_to_fill}
 use Rattle.axi_checker.specs.Rules.{AxiPortLimits, beats_sent, burst_fault, first_axi_fault, open_after_all, open_with_burst}
 use Rattle.axi_checker.proofs.Judging.{first_axi_fault-none}
 use Rattle.axi_checker.proofs.LegalBursts.{head_unbroken, open_after_all-burst, unbroken_burst}
@@ -17,17 +16,9 @@ first_axi_fault-append port open_bursts (beat ∷ beats) later none =
     first_axi_fault-none port open_bursts beat (beats ++ later) fine
     ∙ first_axi_fault-append port (open_after open_bursts beat) beats later (sym (first_axi_fault-none port open_bursts beat beats fine) ∙ none)
 
-pub open_after_all-append : (open_bursts : OpenBursts) (beats later : List AxiBeat) → open_after_all open_bursts (beats ++ later) ≡ open_after_all (open_after_all open_bursts beats) later
-open_after_all-append open_bursts [] later = refl
-open_after_all-append open_bursts (beat ∷ beats) later = open_after_all-append (open_after open_bursts beat) beats later
-
 -- a burst that breaks no rule, and then other beats
 pub first_axi_fault-burst : (port : AxiPortLimits) (open_bursts : OpenBursts) (burst : Burst) (later : List AxiBeat) → write_to_fill open_bursts ≡ None → burst_fault port open_bursts burst ≡ None
     → first_axi_fault port open_bursts (beats_sent burst ++ later) ≡ first_axi_fault port (open_with_burst open_bursts burst) later
 first_axi_fault-burst port open_bursts burst later ready none =
     first_axi_fault-append port open_bursts (beats_sent burst) later (unbroken_burst port open_bursts burst none).0
     ∙ ap (λ after. first_axi_fault port after later) (open_after_all-burst port open_bursts burst ready none)
-
--- after read data no write lacks data where none did before
-pub ready-r : (open_bursts : OpenBursts) (r : RBeat) → write_to_fill open_bursts ≡ None → write_to_fill (open_after open_bursts (OnR r)) ≡ None
-ready-r open_bursts r ready = ready

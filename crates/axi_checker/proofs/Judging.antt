@@ -1,19 +1,18 @@
 -- A burst judged as a whole: the rules on its address, then those on its data, whose write is the only one that lacks any.
 use Rattle.std.proofs.Common.{◌≡◌, ℕ, zero, suc, ◌+◌, ◌<◌, ◌==◌, Bool, true, false, List, [], ◌∷◌, ◌++◌, length, map, refl, ap, sym, ◌∙◌, nat_le, subst, replicate, arith}
-use Rattle.std.specs.Prelude.{Option, Some, None, IfSome, IsSome, filter, find, is_some, if◌then◌else◌}
+use Rattle.std.specs.Prelude.{Option, Some, None, IfSome, filter, find, is_some, if◌then◌else◌}
 use Rattle.std.specs.Option.{option_or}
 use Rattle.std.proofs.lemmas.List.Folds.{find-append}
 use Rattle.std.proofs.lemmas.Bool.{lt-leb}
 use Rattle.std.proofs.lemmas.Bool.Decides.{nat_tests}
 use Rattle.bus_words.specs.Tables.{first_broken}
 use Rattle.bus_words.proofs.PlaceChanges.{change_first-append-none}
-use Rattle.axi_beats.specs.Boxes.{aw_of, ar_of, w_beats_of}
+use Rattle.axi_beats.specs.Boxes.{aw_of, w_beats_of}
 use Rattle.axi_beats.specs.Bursts.{Burst, ReadBurst, WriteBurst}
 use Rattle.axi_beats.specs.declared.AwBeat.{AwBeat}
-use Rattle.axi_beats.specs.declared.ArBeat.{ArBeat}
 use Rattle.axi_beats.specs.declared.WBeat.{WBeat}
 use Rattle.axi_checker.specs.Monitors.{first_data_fault, if_lacking}
-use Rattle.axi_checker.specs.OpenBursts.{AxiBeat, OnAr, OnAw, OnW, OpenBursts, OpenWrite, lacks_data, open_after, write_of_id, write_to_fill}
+use Rattle.axi_checker.specs.OpenBursts.{AxiBeat, OnAw, OnW, OpenBursts, OpenWrite, lacks_data, open_after, write_of_id, write_to_fill}
 use Rattle.axi_checker.specs.Rules.{AxiPortLimits, address_rules, axi_fault, beats_sent, burst_fault, data_rules, first_axi_fault, id_of, outstanding_beside}
 use Rattle.axi_checker.specs.declared.AxiRule.{AxiRule}
 use Rattle.axi_checker.specs.declared.AxiRule.TheVariants.{WLast, WWithoutAw}
@@ -120,40 +119,13 @@ judged_address port open_bursts held aw rule is broken =
     subst (λ box. IfSome box (λ burst. Some rule ≡ burst_fault port open_bursts burst)) (sym (held_write held aw is))
     (rw (first_axi_fault-some port open_bursts (OnAw aw) (map OnW (w_beats_of held)) rule broken) refl)
 
--- a write's ID, and a read's, is that of the burst in the box
+-- a write's ID is that of the burst in the box
 pub write_room : (held : Option Burst) (aw : AwBeat) (ids outstanding depth : ℕ) → aw_of held ≡ Some aw → aw.id < ids → outstanding < depth → IfSome held (λ burst. (id_of burst < ids) × (outstanding < depth))
 write_room None aw ids outstanding depth is known fewer = tt
 write_room (Some (WriteBurst aw2 ws)) aw ids outstanding depth is known fewer =
     let same : aw ≡ aw2 = cc in
     (rw same at known, fewer)
 write_room (Some (ReadBurst ar)) aw ids outstanding depth is known fewer = absurd (cc)
-
-pub read_room : (held : Option Burst) (ar : ArBeat) (ids outstanding depth : ℕ) → ar_of held ≡ Some ar → ar.id < ids → outstanding < depth → IfSome held (λ burst. (id_of burst < ids) × (outstanding < depth))
-read_room None ar ids outstanding depth is known fewer = tt
-read_room (Some (WriteBurst aw ws)) ar ids outstanding depth is known fewer = absurd (cc)
-read_room (Some (ReadBurst ar2)) ar ids outstanding depth is known fewer =
-    let same : ar ≡ ar2 = cc in
-    (rw same at known, fewer)
-
--- a read is judged by its address
-pub judged_read : (port : AxiPortLimits) (open_bursts : OpenBursts) (held : Option Burst) (ar : ArBeat) (outstanding : ℕ) (fault : Option AxiRule) → ar_of held ≡ Some ar
-    → fault ≡ first_broken (address_rules port ar.id ar.address ar.len ar.size ar.burst outstanding)
-    → IfSome held (λ burst. outstanding_beside open_bursts burst ≡ outstanding → fault ≡ burst_fault port open_bursts burst)
-judged_read port open_bursts None ar outstanding fault is rules = tt
-judged_read port open_bursts (Some (WriteBurst aw ws)) ar outstanding fault is rules = absurd (cc)
-judged_read port open_bursts (Some (ReadBurst ar2)) ar outstanding fault is rules = λ few.
-    let same : ar ≡ ar2 = cc in
-    by_fault fault (sym (ap (λ n. first_broken (address_rules port ar2.id ar2.address ar2.len ar2.size ar2.burst n)) few ∙ sym (rw same at rules)))
-  where
-    by_fault : (found : Option AxiRule) → found ≡ axi_fault port open_bursts (OnAr ar2) → found ≡ burst_fault port open_bursts (ReadBurst ar2)
-    by_fault None none = rw (← none) refl
-    by_fault (Some rule) broken = rw (← broken) refl
-
--- a box that holds a read holds no write
-pub read_held : (held : Option Burst) → IsSome held → is_some (aw_of held) ≡ false → IsSome (ar_of held)
-read_held None full none = absurd (cc)
-read_held (Some (WriteBurst aw ws)) full none = absurd (cc)
-read_held (Some (ReadBurst ar)) full none = refl
 
 -- so many open writes of one ID, with all their data
 abbrev pub writes_alike : AwBeat → ℕ → OpenBursts

@@ -14,12 +14,12 @@ use Rattle.axi_beats.specs.declared.AwBeat.{AwBeat}
 use Rattle.axi_beats.specs.declared.ArBeat.{ArBeat}
 use Rattle.axi_beats.specs.declared.WBeat.{WBeat}
 use Rattle.axi_checker.specs.Monitors.{IsWithinLimits, first_data_fault}
-use Rattle.axi_checker.specs.OpenBursts.{AxiBeat, OnAr, OnAw, OnW, OpenBursts, OpenWrite, lacks_data, open_after, write_of_id, write_to_fill}
+use Rattle.axi_checker.specs.OpenBursts.{OnAr, OnAw, OnW, OpenBursts, OpenWrite, lacks_data, write_of_id, write_to_fill}
 use Rattle.axi_checker.specs.Rules.{AxiPortLimits, address_rules, axi_fault, beats_sent, burst_fault, first_axi_fault, id_of, open_after_all, open_with_burst, outstanding_beside}
 use Rattle.axi_checker.specs.declared.AxiRule.{AxiRule}
-use Rattle.axi_checker.proofs.Judging.{first_axi_fault-none, first_axi_fault-write, one_beat_more, write_to_fill-with_write, writes_alike, writes_alike-count, writes_alike-ready}
+use Rattle.axi_checker.proofs.InOrder.{within-open_after_all}
+use Rattle.axi_checker.proofs.Judging.{first_axi_fault-write, one_beat_more, write_to_fill-with_write, writes_alike, writes_alike-count, writes_alike-ready}
 use Rattle.axi_checker.proofs.LegalBursts.{head_unbroken, last_place, open_after_all-burst, unbroken_burst}
-use Rattle.axi_checker.proofs.WithinLimits.{within-open_after}
 
 -- an address breaks no rule that is legal, of an ID of the port's, with fewer outstanding than it may have
 pub address_unbroken : (port : AxiPortLimits) (id address len size burst_type open_of_id : ℕ) → is_legal_address port.bus_bytes address len size burst_type ≡ true → id < port.ids → open_of_id < port.depth
@@ -85,14 +85,7 @@ filled_with_burst open_bursts (ReadBurst ar) ready = ready
 pub filled_after_b : (id : ℕ) (writes : List OpenWrite) → find lacks_data writes ≡ None → find lacks_data (without_first (write_of_id id) writes) ≡ None
 filled_after_b id writes ready = find-without_first-none lacks_data (write_of_id id) writes ready
 
--- beats that break no rule leave the outstanding bursts within the limits, and so does a whole burst
-within-open_after_all : (port : AxiPortLimits) (open_bursts : OpenBursts) (beats : List AxiBeat) → first_axi_fault port open_bursts beats ≡ None → IsWithinLimits port open_bursts
-    → IsWithinLimits port (open_after_all open_bursts beats)
-within-open_after_all port open_bursts [] none within = within
-within-open_after_all port open_bursts (beat ∷ beats) none within =
-    let fine = head_unbroken port open_bursts beat beats none in
-    within-open_after_all port (open_after open_bursts beat) beats (sym (first_axi_fault-none port open_bursts beat beats fine) ∙ none) (within-open_after port open_bursts beat fine within)
-
+-- a whole burst that breaks no rule leaves the outstanding bursts within the limits
 pub within-open_with_burst : (port : AxiPortLimits) (open_bursts : OpenBursts) (burst : Burst) → write_to_fill open_bursts ≡ None → burst_fault port open_bursts burst ≡ None → IsWithinLimits port open_bursts
     → IsWithinLimits port (open_with_burst open_bursts burst)
 within-open_with_burst port open_bursts burst ready none within =

@@ -109,7 +109,7 @@ fn rules_in_their_order(rt: HostRuntime) -> Result<(), Fail> {
             1,
         ),
         (Beat::Ar(wrapping), 2),
-        (Beat::Aw(write(2, 0x10ff8, 255, 3)), 3),
+        (Beat::Aw(write(2, 0x10ff8, 1, 3)), 3),
         (Beat::Ar(read(2, 0x10ff8, 1, 3)), 3),
         (Beat::Aw(write(2, 0x10ff8, 0, 3)), 4),
         (Beat::Ar(read(2, 0x10ff8, 0, 3)), 4),
@@ -137,6 +137,21 @@ fn rules_in_their_order(rt: HostRuntime) -> Result<(), Fail> {
         (read_data(1, Resp::ExOkay, true), 12),
         (read_data(1, Resp::SlvErr, true), 0),
         (read_data(1, Resp::Okay, true), 10),
+    ];
+    assert_eq!(rt; first_difference(&mut monitor, &beats), None);
+    Ok(())
+}
+
+/// A strobe outside its transfer's lanes: the first of two transfers of four bytes has lane 3 alone, the second lanes 4 to
+/// 7.
+#[test]
+fn strobes_of_an_uneven_burst(rt: HostRuntime) -> Result<(), Fail> {
+    let mut monitor = Monitor::new(rt.alloc(), 1, 1, 8)?;
+    let beats = [
+        (Beat::Aw(write(0, 0x10003, 1, 2)), 0),
+        (Beat::W(data(0x10, false)), 7),
+        (Beat::W(data(0x08, false)), 0),
+        (Beat::W(data(0xf0, true)), 0),
     ];
     assert_eq!(rt; first_difference(&mut monitor, &beats), None);
     Ok(())

@@ -12,7 +12,7 @@ use Rattle.bus_words.specs.Tables.{first_broken}
 use Rattle.burst_plan.specs.PageMap.{all_pages, share_a_page, region_rules, rules_of_regions, region_fault, IsInRange, AreApart, IsPageMap, HasFaultAfter, faulty_place, IsFirstFault}
 use Rattle.burst_plan.specs.declared.Region.{Region}
 use Rattle.burst_plan.specs.declared.MapFault.{MapFault}
-use Rattle.burst_plan.specs.declared.MapFault.TheVariants.{RegionEmpty, RegionRange, RegionOverlap, NoMemory}
+use Rattle.burst_plan.specs.declared.MapFault.TheVariants.{RegionEmpty, RegionRange, RegionOverlap}
 use Rattle.burst_plan.proofs.PageLaws.{AreApart-from_false, share_a_page-false, page-from_share_a_page}
 
 -- of two tables, one after another, the first one's rules come first
@@ -173,8 +173,3 @@ IsFirstFault-from_some earlier i (region ∷ regions) fault map here e =
 -- the fault of a list of regions is that of the first region at fault, and there the first that is tested
 pub region_fault-some : (regions : List Region) → IfSome (region_fault regions) (IsFirstFault regions)
 region_fault-some regions = each_some (region_fault regions) (IsFirstFault regions) (λ fault e. IsFirstFault-from_some [] 0 regions fault no_regions refl e)
-
--- want of memory is no fault of a list of regions
-pub region_fault-no_memory : (regions : List Region) → region_fault regions ≡ Some NoMemory → ⊥
-region_fault-no_memory regions e =
-    (IsFirstFault-from_some [] 0 regions NoMemory no_regions refl e).broken (record { tl_page = 0; pages = 0; axi_page = 0; get = false; put = false; atomic = false; hint = false })

@@ -1,7 +1,7 @@
 -- Which pages two regions share, and which region of a page map holds a page.
-use Rattle.std.proofs.Common.{◌≡◌, ℕ, ◌+◌, ◌<◌, ◌≤◌, true, false, List, length, get_or, inl, inr, arith}
+use Rattle.std.proofs.Common.{◌≡◌, ℕ, ◌+◌, ◌<◌, ◌≤◌, true, false, inl, inr, arith}
 use Rattle.std.proofs.lemmas.Bool.{and_parts, and_from, ltb-true, leb-true, lt-ltb, le-leb, cases_lt, both_ways, false_from_ne_true}
-use Rattle.burst_plan.specs.PageMap.{holds_page, share_a_page, AreApart, Overlap, IsPageMap}
+use Rattle.burst_plan.specs.PageMap.{holds_page, share_a_page, AreApart, Overlap}
 use Rattle.burst_plan.specs.declared.Region.{Region}
 
 -- a page that a region holds stands between its first and its end
@@ -49,15 +49,3 @@ AreApart-from_false a b none page in_b in_a = both_ways _ none (share_a_page-fro
 pub share_a_page-false : (a b : Region) → AreApart b a → share_a_page a b ≡ false
 share_a_page-false a b apart =
     false_from_ne_true _ (λ share. let both = page-from_share_a_page a b share in apart both.0 both.2 both.1)
-
--- in a page map at most one region holds a page
-pub one_region_holds : (regions : List Region) → IsPageMap regions → (page i j : ℕ) (d : Region) → i < length regions → j < length regions
-    → holds_page page (get_or regions i d) ≡ true → holds_page page (get_or regions j d) ≡ true → i ≡ j
-one_region_holds regions map page i j d i_below j_below at_i at_j =
-    elim (cases_lt i j) [
-      | inl before ↦ absurd (map.apart i j d before j_below page at_i at_j)
-      | inr after ↦ elim (cases_lt j i) [
-        | inl before ↦ absurd (map.apart j i d before i_below page at_j at_i)
-        | inr same ↦ omega arith
-      ]
-    ]

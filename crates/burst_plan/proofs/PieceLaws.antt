@@ -1,5 +1,5 @@
 -- The pieces of a range: how many they are, where each lies, and that they are a plan.
-use Rattle.std.proofs.Common.{◌≡◌, ℕ, zero, suc, ◌+◌, ◌-◌, ◌*◌, ◌/◌, ◌%◌, ◌^◌, ◌<◌, ◌≤◌, ◌==◌, Bool, true, false, ◌||◌, List, [], ◌∷◌, map, length, min, max, refl, sym, ◌∙◌, ap, arith, inl, inr, ◌⊎◌, Some}
+use Rattle.std.proofs.Common.{◌≡◌, ℕ, zero, suc, ◌+◌, ◌-◌, ◌*◌, ◌/◌, ◌%◌, ◌^◌, ◌<◌, ◌≤◌, ◌==◌, Bool, true, false, ◌||◌, List, ◌∷◌, map, length, min, max, refl, sym, ◌∙◌, ap, arith, inl, inr, ◌⊎◌, Some}
 use Rattle.std.specs.List.{range_with_len, list_any, slice_get, flat_map, All}
 use Rattle.std.proofs.lemmas.List.FromFn.{length-map-range_with_len, get_or-map-range_with_len}
 use Rattle.std.proofs.lemmas.List.Elements.{All-from_get_or}
@@ -7,12 +7,12 @@ use Rattle.std.proofs.lemmas.List.Concat.{flat_map-cons}
 use Rattle.std.proofs.lemmas.List.Folds.{flat_map-map}
 use Rattle.std.proofs.lemmas.Option.{slice_get-get_or, slice_get_within, get_or_from_slice_get}
 use Rattle.std.proofs.lemmas.Bool.{cases_lt, eqb-true, eq-eqb, and_from, le-leb, lt-ltb}
-use Rattle.std.proofs.lemmas.Nat.{pow_below, div-mul-add, div-add-mod', pow-add, pow_pos, shl-shr}
-use Rattle.std.proofs.Math.Nat.{mul-le-mul_left, mul-le-mul_right, mul-mod_left}
+use Rattle.std.proofs.lemmas.Nat.{div-mul-add, div-add-mod', pow-add, pow_pos, shl-shr}
+use Rattle.std.proofs.Math.Nat.{mul-le-mul_right, mul-mod_left}
 use Rattle.std.proofs.Math.Pow.{pow_mono}
 use Rattle.axi_beats.specs.Transfers.{last_byte}
 use Rattle.axi_beats.proofs.Ranges.{range_with_len-append-range_with_len}
-use Rattle.burst_plan.specs.Pieces.{beat_size, PlannedRange, IsPlannable, widest_size, cut_bytes, part_start, part_end, first_cut, range_end, piece_from_cut, pieces, piece_addresses, piece_bytes, piece_end, IsPartOf, IsPlan}
+use Rattle.burst_plan.specs.Pieces.{PlannedRange, IsPlannable, widest_size, cut_bytes, part_start, part_end, first_cut, range_end, piece_from_cut, pieces, piece_addresses, piece_bytes, piece_end, IsPartOf, IsPlan}
 use Rattle.burst_plan.specs.PlannedTransfers.{beat_bytes, burst_bytes, burst_beats, burst_count, piece_at}
 use Rattle.burst_plan.specs.declared.Piece.{Piece}
 use Rattle.burst_plan.proofs.Cuts.{IsDivided, divided, held_between}
@@ -262,34 +262,3 @@ is_plan range plannable = let even = divides_evenly range plannable in record { 
         (λ k within.
         let below : k < burst_count range = omega (arith, length-pieces range even) in
         rw (get_or_from_slice_get (pieces range) k (piece_at range k) (piece_at range 0) (slice_get-pieces range even k below)) (is_part range plannable even k below))
-
--- ---- ranges that go as one burst
-
-one : (n : ℕ) → 0 < n → n / n ≡ 1
-one n some = let row : n ≡ 1 * n + 0 = omega arith in ap (λ z. z / n) row ∙ div-mul-add 1 n 0 some
-
--- a range that isn't longer than a burst may be is one
-pub pieces_uncut : (range : PlannedRange) → DividesEvenly range → 2 ^ range.size ≤ cut_bytes range
-    → pieces range ≡ record { address = range.address; len = 2 ^ range.size / beat_bytes range - 1; size = beat_size range } ∷ []
-pieces_uncut range even short =
-    let all : burst_bytes range ≡ 2 ^ range.size = omega arith in
-    let count : burst_count range ≡ 1 = ap (λ z. 2 ^ range.size / z) all ∙ one (2 ^ range.size) (pow_pos range.size) in
-    let start : range.address + 0 * burst_bytes range ≡ range.address = omega arith in
-    pieces_are range even ∙ ap (λ n. map (piece_at range) (range_with_len 0 n)) count
-    ∙ ap (λ address. record { address = address; len = burst_beats range - 1; size = beat_size range } ∷ []) start
-    ∙ ap (λ bytes. record { address = range.address; len = bytes / beat_bytes range - 1; size = beat_size range } ∷ []) all
-
-one_transfer : (address beats size other : ℕ) → beats ≡ 1 → size ≡ other
-    → ◌≡◌ {A = List Piece} (record { address = address; len = beats - 1; size = size } ∷ []) (record { address = address; len = 0; size = other } ∷ [])
-one_transfer address beats size other single same = rw (single, same) refl
-
--- a range that one transfer can carry is one burst of one transfer, of the range's size
-pub pieces_narrow : (range : PlannedRange) → IsPlannable range → 2 ^ range.size ≤ range.bus_bytes → pieces range ≡ record { address = range.address; len = 0; size = range.size } ∷ []
-pieces_narrow range plannable narrow =
-    let (w, j, powers) = powers_of range plannable in
-    let some : 0 < 2 ^ j = pow_pos j in
-    let longest : range.bus_bytes * 1 ≤ range.bus_bytes * range.max_len = mul-le-mul_left range.bus_bytes (omega (arith, powers.max_len)) in
-    let small : range.size ≤ w = elim (cases_lt w range.size) [ inl large ↦ absurd (omega (arith, pow_below w range.size large, powers.bus)) | inr fits ↦ fits ] in
-    let size : beat_size range ≡ range.size = ap (λ z. min range.size z) powers.widest ∙ omega arith in
-    let bytes : 2 ^ range.size / beat_bytes range ≡ 1 = ap (λ z. 2 ^ range.size / 2 ^ z) size ∙ one (2 ^ range.size) (pow_pos range.size) in
-    pieces_uncut range (divides_evenly range plannable) (omega arith) ∙ one_transfer range.address (2 ^ range.size / beat_bytes range) (beat_size range) range.size bytes size

@@ -1,5 +1,5 @@
 -- Each byte of a range is in one transfer of one burst of its plan.
-use Rattle.std.proofs.Common.{◌≡◌, ℕ, ◌+◌, ◌-◌, ◌*◌, ◌/◌, ◌%◌, ◌^◌, ◌<◌, ◌≤◌, true, Some, nat_le, sym, ◌∙◌, ap, arith}
+use Rattle.std.proofs.Common.{◌≡◌, ℕ, ◌+◌, ◌-◌, ◌*◌, ◌/◌, ◌%◌, ◌<◌, ◌≤◌, true, Some, nat_le, sym, ◌∙◌, ap, arith}
 use Rattle.std.specs.List.{slice_get}
 use Rattle.std.proofs.Math.Nat.{mul-le-mul_right}
 use Rattle.std.proofs.lemmas.Bool.{and_from, and_parts, le-leb, leb-true}
@@ -100,26 +100,3 @@ pub holds_each_byte_once : (range : PlannedRange) → IsPlannable range → Hold
 holds_each_byte_once range plannable =
     let even = divides_evenly range plannable in
     record { held = held range plannable even; back = back range even; counted = counted range even }
-
--- ---- transfers counted through all bursts
-
--- a transfer's number in its burst is one of the burst's
-transfer_of-lt : (range : PlannedRange) → DividesEvenly range → (x : ℕ) → transfer_of range x - 1 < burst_beats range
-transfer_of-lt range even x =
-    let rest = mod_below (x - range.address) (burst_bytes range) even.parts.some in
-    let few : (x - range.address) % burst_bytes range / beat_bytes range < burst_beats range = div_below ((x - range.address) % burst_bytes range) (beat_bytes range) (burst_beats range) even.beat (omega (arith, even.beats)) in
-    omega arith
-
--- the burst of a transfer, by its number through all bursts
-pub piece_of-beat_of : (range : PlannedRange) → DividesEvenly range → (x : ℕ) → piece_of range x ≡ beat_of range x / burst_beats range
-piece_of-beat_of range even x = sym (ap (λ z. z / burst_beats range) (counted range even x) ∙ div-mul-add (piece_of range x) (burst_beats range) (transfer_of range x - 1) (transfer_of-lt range even x))
-
--- its number in that burst
-pub transfer_of-beat_of : (range : PlannedRange) → DividesEvenly range → (x : ℕ) → transfer_of range x ≡ beat_of range x % burst_beats range + 1
-transfer_of-beat_of range even x =
-    let rest : beat_of range x % burst_beats range ≡ transfer_of range x - 1 = ap (λ z. z % burst_beats range) (counted range even x) ∙ mod-mul-add (piece_of range x) (burst_beats range) (transfer_of range x - 1) (transfer_of-lt range even x) in
-    omega arith
-
--- the bytes of a range are those of its transfers
-pub range_bytes : (range : PlannedRange) → DividesEvenly range → 2 ^ range.size ≡ burst_count range * burst_beats range * beat_bytes range
-range_bytes range even = even.parts.whole ∙ ap (λ z. burst_count range * z) even.beats ∙ omega arith

@@ -1,31 +1,16 @@
 -- Where a page map leads to.
-use Rattle.std.proofs.Common.{◌≡◌, ℕ, ◌+◌, ◌-◌, ◌*◌, ◌/◌, ◌%◌, ◌^◌, ◌<◌, ◌≤◌, Bool, true, Some, None, List, [], ◌∷◌, length, get_or, refl, ap, ◌∙◌, sym, subst, inl, inr, arith, All, IfSome, find, if◌then◌else◌}
-use Rattle.std.specs.List.{slice_get, position_or_len}
+use Rattle.std.proofs.Common.{◌≡◌, ℕ, ◌+◌, ◌-◌, ◌*◌, ◌/◌, ◌%◌, ◌^◌, ◌<◌, ◌≤◌, Bool, true, Some, None, List, [], ◌∷◌, ap, ◌∙◌, sym, subst, inl, inr, arith, All, IfSome, find, if◌then◌else◌}
+use Rattle.std.specs.List.{position_or_len}
 use Rattle.std.proofs.Math.Pow.{mod-mod-pow}
-use Rattle.std.proofs.lemmas.Bool.{cases_Bool, cond-true, cond-false, false_from_ne_true}
+use Rattle.std.proofs.lemmas.Bool.{cases_Bool, cond-true, cond-false}
 use Rattle.std.proofs.lemmas.List.Folds.{find_at}
-use Rattle.std.proofs.lemmas.List.Sums.{position_or_len_is}
 use Rattle.std.proofs.lemmas.Nat.{div-mul-add, mod-mul-add, mod_below, mod-pow-add, pow_pos}
-use Rattle.std.proofs.lemmas.Option.{same_Some, slice_get-get_or, slice_get_within, get_or_from_slice_get, option_and_then_some, cond_some}
+use Rattle.std.proofs.lemmas.Option.{same_Some, slice_get_within, get_or_from_slice_get, option_and_then_some, cond_some}
 use Rattle.tl_messages.specs.declared.Operation.{Operation}
-use Rattle.burst_plan.specs.PageMap.{holds_page, permits, address_in, translated, IsInRange, IsPageMap, LeadsThrough, LeadsTo}
+use Rattle.burst_plan.specs.PageMap.{holds_page, permits, address_in, translated, IsInRange, LeadsThrough, LeadsTo}
 use Rattle.burst_plan.specs.declared.Region.{Region}
 use Rattle.burst_plan.proofs.PageLaws.{holds_page-true}
 use Rattle.burst_plan.proofs.FaultLaws.{each_some}
-
--- in a page map it is the one region that holds a page that is found by it
-pub find-holds_page : (regions : List Region) → IsPageMap regions → (page i : ℕ) (d : Region) → i < length regions → holds_page page (get_or regions i d) ≡ true
-    → find (holds_page page) regions ≡ Some (get_or regions i d)
-find-holds_page regions map page i d below holds =
-    let none_before = λ (j : ℕ) (before : j < i). false_from_ne_true (holds_page page (get_or regions j d)) (λ other. map.apart j i d before below page other holds) in
-    find_at (holds_page page) regions
-    ∙ ap (slice_get regions) (position_or_len_is (holds_page page) regions i d (omega arith) none_before (λ _. holds))
-    ∙ slice_get-get_or regions i d below
-
--- where an operation leads to, at an address in a region of a page map
-pub translated-through : (regions : List Region) → IsPageMap regions → (operation : Operation) (address i : ℕ) (d : Region) → i < length regions → holds_page (address / 4096) (get_or regions i d) ≡ true
-    → translated regions operation address ≡ (if permits (get_or regions i d) operation then Some (address_in (get_or regions i d) address) else None)
-translated-through regions map operation address i d below holds = rw (find-holds_page regions map (address / 4096) i d below holds) refl
 
 found_passes : (p : Region → Bool) (regions : List Region) (region : Region) → find p regions ≡ Some region → p region ≡ true
 found_passes p [] region e = cc

@@ -1,13 +1,11 @@
 -- The W beats that the code makes of words of eight bytes.
-use Rattle.std.proofs.Common.{◌≡◌, ℕ, zero, suc, ◌+◌, ◌*◌, ◌/◌, ◌%◌, ◌^◌, ◌<◌, ◌≤◌, ◌==◌, min, nat_le, Bool, true, false, ◌&&◌, Option, Some, None, is_some, if◌then◌else◌, refl, sym, ◌∙◌, ap, arith, lit<, bit_and}
+use Rattle.std.proofs.Common.{◌≡◌, ℕ, ◌+◌, ◌*◌, ◌/◌, ◌%◌, ◌^◌, ◌<◌, ◌≤◌, ◌==◌, nat_le, Bool, true, false, ◌&&◌, Option, Some, None, is_some, if◌then◌else◌, refl, sym, ◌∙◌, ap, arith, lit<, bit_and}
 use Rattle.std.specs.Prelude.{unwrap_or}
-use Rattle.std.specs.Int.{bit_at}
 use Rattle.std.proofs.lemmas.Bool.{and_parts, leb-true}
 use Rattle.std.proofs.lemmas.Nat.{shr-shr, and_le_r, mod_below}
-use Rattle.std.proofs.lemmas.Nat.Bits.{bit_at_and, bit_at-lt}
 use Rattle.bus_words.specs.Lanes.{has_lane, lane_byte, mask_of, payload_of, is_between}
 use Rattle.bus_words.proofs.LaneLaws.{word_of_lanes-same}
-use Rattle.bus_words.proofs.MaskLaws.{mask_of-lt, mask_of-same, mask_of-has_lane, has_lane-mask_of}
+use Rattle.bus_words.proofs.MaskLaws.{mask_of-lt, mask_of-same, mask_of-has_lane, has_lane-and, has_lane-mask_of}
 use Rattle.tl_messages.specs.Lanes.{lane_of}
 use Rattle.tl_messages.specs.Requests.{given_in}
 use Rattle.tl_messages.specs.declared.MaskedWord.{MaskedWord}
@@ -32,18 +30,6 @@ given_in-upper word address lane upper below =
     rw (moved, has_lane-down word.mask 4 lane, lane_byte-down word.word 4 lane) refl
 
 -- ---- a beat
-
-both-min : (x y : ℕ) → x < 2 → y < 2 → (min x y == 1) ≡ ((x == 1) && (y == 1))
-both-min zero zero a b = refl
-both-min zero (suc zero) a b = refl
-both-min (suc zero) zero a b = refl
-both-min (suc zero) (suc zero) a b = refl
-both-min (suc (suc x)) y a b = absurd (omega arith)
-both-min zero (suc (suc y)) a b = absurd (omega arith)
-both-min (suc zero) (suc (suc y)) a b = absurd (omega arith)
-
-has_lane-and : (a b lane : ℕ) → has_lane (bit_and a b) lane ≡ (has_lane a lane && has_lane b lane)
-has_lane-and a b lane = ap (λ n. n == 1) (bit_at_and a b lane) ∙ both-min (bit_at a lane) (bit_at b lane) (bit_at-lt a lane) (bit_at-lt b lane)
 
 -- data holds in the bus's lanes what a word gives at the addresses of a transfer's word of the bus
 pub record IsCarried (bus_bytes address : ℕ) (word held : MaskedWord) : Type 0 where

@@ -1,7 +1,7 @@
 -- The bursts of a range's pieces are legal, and the W beats of a write put each given byte at its address and no other.
 use Rattle.std.proofs.Common.{◌≡◌, ℕ, zero, suc, ◌+◌, ◌-◌, ◌%◌, ◌<◌, ◌≤◌, ◌==◌, nat_le, Bool, true, false, ◌||◌, not, List, ◌∷◌, map, Option, Some, None, is_some, if◌then◌else◌, refl, sym, ◌∙◌, ap, arith, lit<, inl, inr}
 use Rattle.std.specs.Bool.{beq}
-use Rattle.std.specs.List.{range_with_len, list_all, slice_get, enumerate_from}
+use Rattle.std.specs.List.{range_with_len, slice_get, enumerate_from}
 use Rattle.std.specs.Prelude.{unwrap_or}
 use Rattle.std.specs.Option.{option_flatten}
 use Rattle.std.proofs.lemmas.Bool.{and_from, and_parts, eq-eqb, leb-true, or_right}
@@ -9,6 +9,7 @@ use Rattle.std.proofs.lemmas.List.FromFn.{length-map-range_with_len}
 use Rattle.std.proofs.lemmas.List.Folds.{list_all-map}
 use Rattle.std.proofs.lemmas.Option.{slice_get_within, get_or_from_slice_get}
 use Rattle.bus_words.specs.Lanes.{has_lane, lane_byte, mask_of, payload_of, given_at}
+use Rattle.bus_words.proofs.Inclusion.{list_all-from}
 use Rattle.bus_words.proofs.LaneLaws.{lane_byte-payload_of}
 use Rattle.bus_words.proofs.MaskLaws.{has_lane-mask_of}
 use Rattle.axi_beats.specs.Bursts.{IsLegal, is_legal_address, is_legal_data, strobes_fit}
@@ -83,11 +84,6 @@ w_beat_puts bus_bytes given piece n width fits small one =
 
 -- ---- a whole burst
 
--- a test that each number of a range passes
-all_of_range : (p : ℕ → Bool) (a n : ℕ) → ((k : ℕ) → a ≤ k → k < a + n → p k ≡ true) → list_all p (range_with_len a n) ≡ true
-all_of_range p a zero each = refl
-all_of_range p a (suc n) each = and_from (p a) _ (each a (omega arith) (omega arith)) (all_of_range p (a + 1) n (λ k low high. each k (omega arith) (omega arith)))
-
 -- what a function gives of the numbers of a range, each with its number
 enumerate_from-map : {X : Type 0} (f : ℕ → X) (a n : ℕ) → enumerate_from a (map f (range_with_len a n)) ≡ map (λ k. (k, f k)) (range_with_len a n)
 enumerate_from-map f a zero = refl
@@ -101,7 +97,7 @@ beq-same false = refl
 strobes_within : (bus_bytes : ℕ) (given : ℕ → Option ℕ) (piece : Piece) (aw : AwBeat) (n : ℕ) → aw.address ≡ piece.address → aw.size ≡ piece.size
     → strobes_fit bus_bytes aw n (w_beat bus_bytes given piece n).strobes ≡ true
 strobes_within bus_bytes given piece aw n same_address same_size =
-    all_of_range (λ lane. not (has_lane (w_beat bus_bytes given piece n).strobes lane) || covers_lane bus_bytes aw.address aw.size n lane) 0 8
+    list_all-from (λ lane. not (has_lane (w_beat bus_bytes given piece n).strobes lane) || covers_lane bus_bytes aw.address aw.size n lane) 0 8
     (λ lane low high.
     rw (same_address, same_size, has_lane-mask_of (λ lane. is_some (byte_to_write bus_bytes given piece n lane)) lane (omega arith))
     (fits (covers_lane bus_bytes piece.address piece.size n lane) (given (lane_address bus_bytes piece.address piece.size n lane))))
@@ -116,7 +112,7 @@ pub write_is_legal : (bus_bytes id : ℕ) (bytes : List (Option ℕ)) (start : �
 write_is_legal bus_bytes id bytes start piece legal =
     and_from _ _ (and_from _ _ legal (eq-eqb _ _ (length-map-range_with_len (w_beat bus_bytes (given_at bytes start) piece) 1 (piece.len + 1))))
     (rw (enumerate_from-map (w_beat bus_bytes (given_at bytes start) piece) 1 (piece.len + 1), list_all-map (λ (transfer : ℕ × WBeat). is_legal_data bus_bytes aw transfer.0 transfer.1) (λ k. (k, w_beat bus_bytes (given_at bytes start) piece k)) (range_with_len 1 (piece.len + 1)))
-    (all_of_range (λ k. is_legal_data bus_bytes aw k (w_beat bus_bytes (given_at bytes start) piece k)) 1 (piece.len + 1)
+    (list_all-from (λ k. is_legal_data bus_bytes aw k (w_beat bus_bytes (given_at bytes start) piece k)) 1 (piece.len + 1)
     (λ k low high. and_from _ _ (strobes_within bus_bytes (given_at bytes start) piece aw k refl refl) (beq-same (k == piece.len + 1)))))
   where
     aw : AwBeat

@@ -1,5 +1,5 @@
 //! The plan of a range of bytes: the bursts that it goes as.
-ghost use Rattle.std.specs.Prelude.{◌≡◌, ℕ, List, Option, ◌+◌, ◌-◌, ◌*◌, ◌/◌, ◌%◌, ◌^◌, ◌<◌, ◌≤◌, length, min, Some, slice_get, IsTrue, sum_by};
+ghost use Rattle.std.specs.Prelude.{◌≡◌, ℕ, List, Option, ◌+◌, ◌%◌, ◌^◌, ◌<◌, ◌≤◌, length, Some, slice_get, IsTrue, sum_by};
 ghost use Rattle.axi_beats.specs.Transfers.{IsBusWidth};
 
 use crate::Piece;

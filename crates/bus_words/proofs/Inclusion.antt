@@ -18,7 +18,8 @@ list_all-at p a (suc n) k all low high =
       | inr past ↦ list_all-at p (a + 1) n k parts.1 (omega arith) (omega arith)
     ]
 
-list_all-from : (p : ℕ → Bool) (a n : ℕ) → ((k : ℕ) → a ≤ k → k < a + n → p k ≡ true) → list_all p (range_with_len a n) ≡ true
+-- and one that each number of a range passes
+pub list_all-from : (p : ℕ → Bool) (a n : ℕ) → ((k : ℕ) → a ≤ k → k < a + n → p k ≡ true) → list_all p (range_with_len a n) ≡ true
 list_all-from p a zero each = refl
 list_all-from p a (suc n) each = and_from (p a) (list_all p (range_with_len (a + 1) n)) (each a (omega arith) (omega arith)) (list_all-from p (a + 1) n (λ k low high. each k (omega arith) (omega arith)))
 

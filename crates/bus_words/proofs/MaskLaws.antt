@@ -1,9 +1,9 @@
 -- Sets of lanes: a mask built from a test has just the lanes that pass it, and a mask is known by its lanes.
-use Rattle.std.proofs.Common.{◌≡◌, ℕ, zero, suc, ◌+◌, ◌-◌, ◌*◌, ◌^◌, ◌<◌, ◌≤◌, ◌==◌, nat_le, Bool, true, false, if◌then◌else◌, refl, sym, ◌∙◌, ap, arith, pow-suc, eq-or-lt_of_le, inl, inr, lit<}
+use Rattle.std.proofs.Common.{◌≡◌, ℕ, zero, suc, ◌+◌, ◌-◌, ◌*◌, ◌^◌, ◌<◌, ◌≤◌, ◌==◌, nat_le, min, Bool, true, false, ◌&&◌, if◌then◌else◌, bit_and, refl, sym, ◌∙◌, ap, arith, pow-suc, eq-or-lt_of_le, inl, inr, lit<}
 use Rattle.std.proofs.Math.Nat.{sub_self}
 use Rattle.std.proofs.lemmas.Bool.{cases_lt, and_left, and_right, and_from, lt-leb, le-leb}
 use Rattle.std.proofs.Math.Pow.{pow_mono, pow_pos}
-use Rattle.std.proofs.lemmas.Nat.Bits.{bit_at_mask_inside, bit_at_mask_above, bit_at_mask_below, bit_at_cat_low, bit_at_cat_high, bit_at-lt, same_from_bits_below, bit_at_lowest}
+use Rattle.std.proofs.lemmas.Nat.Bits.{bit_at_mask_inside, bit_at_mask_above, bit_at_mask_below, bit_at_cat_low, bit_at_cat_high, bit_at-lt, same_from_bits_below, bit_at_lowest, bit_at_and}
 use Rattle.std.specs.Int.{bit_at, sum_through}
 use Rattle.bus_words.specs.Lanes.{has_lane, mask_of, is_between}
 
@@ -77,6 +77,17 @@ same_lanes v w small fits same = same_from_bits_below 8 v w small fits (λ lane 
 -- a mask is the mask of its own lanes
 pub mask_of-has_lane : (mask : ℕ) → mask < 256 → mask_of (has_lane mask) ≡ mask
 mask_of-has_lane mask fits = same_lanes (mask_of (has_lane mask)) mask (mask_of-lt (has_lane mask)) fits (λ lane below. has_lane-mask_of (has_lane mask) lane below)
+
+-- a lane is in both of two masks where it is in each
+pub has_lane-and : (v w lane : ℕ) → has_lane (bit_and v w) lane ≡ (has_lane v lane && has_lane w lane)
+has_lane-and v w lane = ap (λ n. n == 1) (bit_at_and v w lane) ∙ both (bit_at v lane) (bit_at w lane) (bit_at-lt v lane) (bit_at-lt w lane)
+  where
+    both : (a b : ℕ) → a < 2 → b < 2 → (min a b == 1) ≡ ((a == 1) && (b == 1))
+    both zero b small fits = grind arith
+    both (suc zero) zero small fits = refl
+    both (suc zero) (suc zero) small fits = refl
+    both (suc zero) (suc (suc b)) small fits = absurd (omega arith)
+    both (suc (suc a)) b small fits = absurd (omega arith)
 
 -- the mask of the lanes below n that pass a test
 abbrev pub mask_below : (ℕ → Bool) → ℕ → ℕ

@@ -1,5 +1,5 @@
--- What changes of a list's first passing entry keep: what holds of each entry, and how many entries pass a test.
-use Rattle.std.proofs.Common.{◌≡◌, suc, ◌≤◌, Bool, true, false, List, [], ◌∷◌, ◌++◌, length, refl, ap, arith}
+-- What changes of a list's first passing entry keep: what holds of each entry, how many there are, and how many pass a test.
+use Rattle.std.proofs.Common.{◌≡◌, ◌+◌, suc, ◌≤◌, Bool, true, false, List, [], ◌∷◌, ◌++◌, length, refl, ap, arith}
 use Rattle.std.specs.Prelude.{None, Some, if◌then◌else◌}
 use Rattle.std.specs.List.{AllByRecursion, filter, find}
 use Rattle.bus_words.specs.Places.{change_first, without_first}
@@ -108,3 +108,20 @@ find-without_first-none {X = X} p q (x ∷ xs) none = by_tests (p x) refl (q x) 
     by_tests true is c found rest = absurd (cc (found))
     by_tests false is true later rest = later
     by_tests false is false later rest = rw is (rest later)
+
+-- how many entries there are after a change, and after one was taken out
+pub length-change_first : {X : Type 0} (p : X → Bool) (f : X → X) (xs : List X) → length (change_first p f xs) ≡ length xs
+length-change_first p f [] = refl
+length-change_first {X = X} p f (x ∷ xs) = by_test (p x) (length-change_first p f xs)
+  where
+    by_test : (b : Bool) → length (change_first p f xs) ≡ length xs → length (if b then f x ∷ xs else x ∷ change_first p f xs) ≡ length (x ∷ xs)
+    by_test true rest = refl
+    by_test false rest = ap suc rest
+
+pub length-without_found : {X : Type 0} (p : X → Bool) (xs : List X) (x : X) → find p xs ≡ Some x → length (without_first p xs) + 1 ≡ length xs
+length-without_found p [] x found = absurd (cc)
+length-without_found {X = X} p (y ∷ ys) x found = by_test (p y) found (λ later. length-without_found p ys x later)
+  where
+    by_test : (b : Bool) → (if b then Some y else find p ys) ≡ Some x → (find p ys ≡ Some x → length (without_first p ys) + 1 ≡ length ys) → length (if b then ys else y ∷ without_first p ys) + 1 ≡ length (y ∷ ys)
+    by_test true here rest = omega arith
+    by_test false later rest = omega (arith, rest later)

@@ -5,7 +5,7 @@
 //! (AXI4, A3.4.3).
 #![tactic(auto)]
 
-ghost use Rattle.std.specs.Prelude.{◌≡◌, ℕ, ◌+◌, ◌<◌, ◌≤◌, false, slice_index, slice_index_or, unwrap_or};
+ghost use Rattle.std.specs.Prelude.{◌≡◌, ℕ, ◌<◌, ◌≤◌, false, slice_index, slice_index_or, unwrap_or};
 ghost use Rattle.bus_words.specs.Lanes.{lane_byte, has_lane, is_between, mask_of, word_of_lanes, payload_of};
 ghost use Rattle.bus_words.specs.Text.{flag as flag_of};
 

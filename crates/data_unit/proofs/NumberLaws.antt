@@ -1,5 +1,5 @@
 -- Numbers and the lists of their bytes, the lowest first.
-use Rattle.std.proofs.Common.{◌≡◌, ℕ, zero, suc, ◌+◌, ◌*◌, ◌%◌, ◌^◌, ◌<◌, ◌≤◌, List, get_or, length, refl, sym, ◌∙◌, ap, arith, inl, inr, lit<}
+use Rattle.std.proofs.Common.{◌≡◌, ℕ, zero, suc, ◌+◌, ◌*◌, ◌%◌, ◌^◌, ◌<◌, ◌≤◌, List, get_or, length, refl, ◌∙◌, ap, arith, inl, inr, lit<}
 use Rattle.std.proofs.Math.Pow.{pow_mono, pow_pos}
 use Rattle.std.proofs.lemmas.Bool.{cases_lt}
 use Rattle.std.proofs.lemmas.List.{get_or_past}
@@ -8,10 +8,10 @@ use Rattle.std.proofs.lemmas.Grind.{same_number_lists}
 use Rattle.std.specs.List.{All}
 use Rattle.std.specs.Int.{bytes_low_first, byte_at}
 use Rattle.bus_words.specs.Lanes.{lane_byte, word_of_lanes}
-use Rattle.bus_words.proofs.LaneLaws.{GivesBytes, lane_byte-word_of_lanes, same_lanes}
+use Rattle.bus_words.proofs.LaneLaws.{GivesBytes, lane_byte-word_of_lanes}
 use Rattle.data_unit.specs.Atomics.{modulus}
 use Rattle.data_unit.specs.Words.{value, bytes_of}
-use Rattle.data_unit.proofs.ByteLaws.{lane_byte-shr, lane_byte-low, lane_byte-past}
+use Rattle.data_unit.proofs.ByteLaws.{lane_byte-shr}
 
 -- a lane holds a byte
 pub lane_byte-lt : (word lane : ℕ) → lane_byte word lane < 256
@@ -41,23 +41,6 @@ lane_byte-value bytes k small below = lane_byte-word_of_lanes (λ i. get_or byte
 pub value-lt : (bytes : List ℕ) → All (λ b. b < 256) bytes → value bytes < 2 ^ 64
 value-lt bytes small = word_of_lanes-lt (λ i. get_or bytes i 0) (record { at = λ i within. get_or-lt bytes i small })
 
--- two numbers of a word with the same lowest bytes, and none above
-same_low : (number other count : ℕ) → number < 2 ^ 64 → count ≤ 8 → ((k : ℕ) → k < count → lane_byte number k ≡ lane_byte other k) → ((k : ℕ) → count ≤ k → k < 8 → lane_byte number k ≡ 0)
-    → number ≡ other % modulus count
-same_low number other count fits most below above =
-    same_lanes number (other % modulus count) fits (omega (arith, mod-modulus-lt other count, modulus-le count most))
-    (λ k within.
-    elim (cases_lt k count) [
-      | inl inside ↦ below k inside ∙ sym (lane_byte-low other count k inside)
-      | inr past ↦ above k past within ∙ sym (lane_byte-past (other % modulus count) count k (mod-modulus-lt other count) past)
-    ])
-
--- the number of at most eight bytes fits so many
-pub value-lt-modulus : (bytes : List ℕ) → All (λ b. b < 256) bytes → length bytes ≤ 8 → value bytes < modulus (length bytes)
-value-lt-modulus bytes small most =
-    let same = same_low (value bytes) (value bytes) (length bytes) (value-lt bytes small) most (λ k inside. refl) (λ k past within. lane_byte-value bytes k small within ∙ get_or_past bytes k 0 past) in
-    rw same (mod-modulus-lt (value bytes) (length bytes))
-
 -- the bytes of a number from byte i on
 get_or-bytes_low_first : (i count number k : ℕ) → k < count → get_or (bytes_low_first i count number) k 0 ≡ byte_at (i + k) number
 get_or-bytes_low_first i zero number k below = absurd (omega arith)
@@ -76,21 +59,10 @@ length-bytes_of count number = length-bytes_low_first 0 count number
 pub get_or-bytes_of : (count number k : ℕ) → k < count → get_or (bytes_of count number) k 0 ≡ byte_at k number
 get_or-bytes_of count number k below = get_or-bytes_low_first 0 count number k below ∙ ap (λ j. byte_at j number) (omega arith)
 
-get_or-bytes_of_past : (count number k : ℕ) → count ≤ k → get_or (bytes_of count number) k 0 ≡ 0
-get_or-bytes_of_past count number k past = get_or_past (bytes_of count number) k 0 (omega (arith, length-bytes_of count number))
-
 pub All-bytes_of : (count number : ℕ) → All (λ b. b < 256) (bytes_of count number)
 All-bytes_of count number =
     All-from_get_or (λ b. b < 256) (bytes_of count number) 0
     (λ k below. omega (arith, get_or-bytes_of count number k (omega (arith, length-bytes_of count number)), lane_byte-lt number k))
-
--- the number of a number's lowest bytes
-pub value-bytes_of : (count number : ℕ) → count ≤ 8 → value (bytes_of count number) ≡ number % modulus count
-value-bytes_of count number most =
-    let small = All-bytes_of count number in
-    same_low (value (bytes_of count number)) number count (value-lt (bytes_of count number) small) most
-    (λ k inside. lane_byte-value (bytes_of count number) k small (omega arith) ∙ get_or-bytes_of count number k inside)
-    (λ k past within. lane_byte-value (bytes_of count number) k small within ∙ get_or-bytes_of_past count number k past)
 
 -- the bytes of the number of at most eight bytes
 pub bytes_of-value : (bytes : List ℕ) → All (λ b. b < 256) bytes → length bytes ≤ 8 → bytes_of (length bytes) (value bytes) ≡ bytes

@@ -1,10 +1,10 @@
 -- The bursts of a request, by their places, and the work that they are.
-use Rattle.std.proofs.Common.{◌≡◌, ℕ, zero, suc, ◌+◌, ◌-◌, ◌*◌, ◌<◌, ◌≤◌, Bool, true, false, not, ◌||◌, List, [], ◌∷◌, map, length, drop, Some, None, refl, ap, sym, ◌∙◌, arith, length-drop}
+use Rattle.std.proofs.Common.{◌≡◌, ℕ, zero, suc, ◌+◌, ◌-◌, ◌*◌, ◌<◌, ◌≤◌, Bool, true, false, not, ◌||◌, List, [], ◌∷◌, map, length, drop, Some, refl, ap, sym, ◌∙◌, arith, length-drop}
 use Rattle.std.proofs.lemmas.List.{length-map}
 use Rattle.std.specs.Prelude.{option_map, if◌then◌else◌}
 use Rattle.std.specs.List.{AllByRecursion, range_with_len, slice_get, sum_by}
 use Rattle.std.proofs.lemmas.List.Sums.{sum_by-cons}
-use Rattle.std.proofs.lemmas.Option.{slice_get-map, slice_get_past}
+use Rattle.std.proofs.lemmas.Option.{slice_get-map}
 use Rattle.burst_plan.specs.Pieces.{IsPlannable, PlannedRange, pieces}
 use Rattle.burst_plan.specs.PlannedTransfers.{burst_beats, burst_count, piece_at}
 use Rattle.burst_plan.specs.declared.Piece.{Piece}
@@ -12,11 +12,6 @@ use Rattle.burst_plan.proofs.PieceLaws.{divides_evenly, piece_listed, pieces_are
 use Rattle.flight_table.specs.LiveRequests.{LiveRequest, course, is_atomic, next_burst, pieces_planned, planned, planned_writes, read_pieces, whole_course, write_pieces}
 use Rattle.tl_messages.specs.Operations.{has_data, reply_has_data}
 use Rattle.flight_table.specs.Work.{answers_of_burst, beats_of_burst}
-
-pub in_reads : (reads writes : List Piece) (k : ℕ) (piece : Piece) → slice_get reads k ≡ Some piece → slice_get (course reads writes) k ≡ Some (false, piece)
-in_reads [] writes k piece found = absurd (cc)
-in_reads (r ∷ reads) writes zero piece found = let same : r ≡ piece = cc in rw same refl
-in_reads (r ∷ reads) writes (suc k) piece found = in_reads reads writes k piece found
 
 pub in_writes : (reads writes : List Piece) (k : ℕ) (piece : Piece) → length reads ≤ k → slice_get writes (k - length reads) ≡ Some piece → slice_get (course reads writes) k ≡ Some (true, piece)
 in_writes [] writes k piece past found =
@@ -32,9 +27,6 @@ within_if : (b : Bool) (parts : List Piece) (k : ℕ) → k < length (if b then 
 within_if true parts k within = refl
 within_if false parts k within = absurd (omega (arith, within))
 
-read_all : (request : LiveRequest) (k : ℕ) → k < length (read_pieces request) → read_pieces request ≡ pieces_planned request.plan
-read_all request k within = within_if (reply_has_data request.operation) (pieces_planned request.plan) k within
-
 write_all : (request : LiveRequest) (k : ℕ) → k < length (planned_writes request) → planned_writes request ≡ pieces_planned request.plan
 write_all request k within =
     let all : planned_writes request ≡ write_pieces request = within_if (not (is_atomic request) || request.writing) (write_pieces request) k within in
@@ -45,25 +37,10 @@ pub length_course : (reads writes : List Piece) → length (course reads writes)
 length_course [] writes = length-map writes (λ piece. (true, piece)) ∙ omega arith
 length_course (p ∷ reads) writes = grind (arith, length_course reads writes)
 
--- the next burst, where it is a read and where it is a write
-pub read_next_within : (request : LiveRequest) (reads : ℕ) → reads ≡ length (read_pieces request) → request.sent < reads → request.sent < length (pieces_planned request.plan)
-read_next_within request reads is within = let below : request.sent < length (read_pieces request) = omega (arith, is, within) in rw (← read_all request request.sent below) below
-
-pub read_next : (request : LiveRequest) (reads : ℕ) (piece : Piece) → reads ≡ length (read_pieces request) → request.sent < reads → slice_get (pieces_planned request.plan) request.sent ≡ Some piece
-    → Some (false, piece) ≡ next_burst request
-read_next request reads piece is within found =
-    let below : request.sent < length (read_pieces request) = omega (arith, is, within) in
-    sym (in_reads (read_pieces request) (planned_writes request) request.sent piece (rw (read_all request request.sent below) found))
-
+-- the next burst, where it is a write
 write_below : (request : LiveRequest) (count reads : ℕ) → count ≡ length (planned request) → reads ≡ length (read_pieces request) → request.sent < count → reads ≤ request.sent
     → request.sent - reads < length (planned_writes request)
 write_below request count reads is reads_is below past = omega (arith, is, reads_is, below, past, length_course (read_pieces request) (planned_writes request))
-
-pub write_next_within : (request : LiveRequest) (count reads : ℕ) → count ≡ length (planned request) → reads ≡ length (read_pieces request) → request.sent < count → reads ≤ request.sent
-    → request.sent - reads < length (pieces_planned request.plan)
-write_next_within request count reads is reads_is below past =
-    let within = write_below request count reads is reads_is below past in
-    rw (← write_all request (request.sent - reads) within) within
 
 write_next_at : (request : LiveRequest) (count reads : ℕ) (piece : Piece) → count ≡ length (planned request) → reads ≡ length (read_pieces request) → request.sent < count → reads ≤ request.sent
     → slice_get (pieces_planned request.plan) (request.sent - reads) ≡ Some piece → Some (true, piece) ≡ next_burst request
@@ -75,9 +52,6 @@ write_next_at request count reads piece is reads_is below past found =
 pub write_next : (request : LiveRequest) (count reads : ℕ) (piece : Piece) → count ≡ length (planned request) → reads ≡ length (read_pieces request) → (sent : ℕ) → sent ≡ request.sent → sent < count → reads ≤ sent
     → slice_get (pieces_planned request.plan) (sent - reads) ≡ Some piece → Some (true, piece) ≡ next_burst request
 write_next request count reads piece is reads_is sent same below past found = write_next_at request count reads piece is reads_is (rw same at below) (rw same at past) (rw same at found)
-
-pub none_next : (request : LiveRequest) (count : ℕ) → count ≡ length (planned request) → count ≤ request.sent → None ≡ next_burst request
-none_next request count is past = sym (slice_get_past (planned request) request.sent (omega (arith, is, past)))
 
 -- ---- work
 

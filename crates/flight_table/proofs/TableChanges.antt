@@ -41,9 +41,6 @@ any-put {X = X} q p old new (x ∷ xs) found so any = by_test (p x) found any (�
         pass (q new) (q x) (λ passes. rw same (so passes)) any
     by_test false later any rest = keep (q x) (put_first p new xs) xs (rest later) any
 
-count : {X : Type 0} → (X → Bool) → List X → ℕ
-count q xs = length (filter q xs)
-
 count-cons : {X : Type 0} (q : X → Bool) (x : X) (xs ys : List X) → length (filter q ys) ≡ length (filter q xs) → length (filter q (x ∷ ys)) ≡ length (filter q (x ∷ xs))
 count-cons {X = X} q x xs ys same = by_test (q x)
   where

@@ -1,5 +1,5 @@
 //! The table.
-ghost use Rattle.std.specs.Prelude.{◌≡◌, ℕ, ◌+◌, ◌<◌, ◌≤◌, ◌^◌, false, ◌&&◌, not, [], Some, None, IfOk, IfSome, IsFalse, IsSome, IsSomeAnd, IsTrue, is_some, length, option_map};
+ghost use Rattle.std.specs.Prelude.{◌≡◌, ℕ, ◌<◌, ◌≤◌, ◌^◌, false, [], Some, None, IfOk, IfSome, IsFalse, IsSome, IsSomeAnd, IsTrue, is_some, length, option_map};
 ghost use Rattle.std.specs.List.{AllByRecursion};
 ghost use Rattle.flight_table.specs.LiveRequests.{finished, flight_for, awaits_write, is_settled, next_burst, with_answered, with_sent, with_write};
 ghost use Rattle.flight_table.specs.Laws.{IsSound};

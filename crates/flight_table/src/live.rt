@@ -1,11 +1,9 @@
 //! The live requests, and their keys by rising number.
-ghost use Rattle.std.specs.Prelude.{◌≡◌, ◌==◌, ◌&&◌, ◌||◌, not, ◌<◌, ◌≤◌, ◌^◌, [], ◌∷◌, ◌++◌, Some, None, IfOk, IsSome, is_some, length, filter, find, nat_lt, position, sum_by};
+ghost use Rattle.std.specs.Prelude.{◌≡◌, ◌==◌, ◌<◌, ◌≤◌, ◌^◌, [], ◌∷◌, ◌++◌, Some, None, IfOk, IsSome, length, filter, position, sum_by};
 ghost use Rattle.std.specs.List.{list_any};
 ghost use Rattle.std.specs.Option.{option_or};
 ghost use Rattle.std.specs.Vec.{vec_len, vec_capacity};
 ghost use Rattle.bus_words.specs.Places.{change_first, without_first};
-ghost use Rattle.flight_table.specs.Inside.{stored};
-ghost use Rattle.flight_table.specs.LiveRequests.{LiveRequest, next_burst, unanswered};
 ghost use Rattle.flight_table.specs.Order.{free_id, holds_back, holds_id, may_send};
 ghost use Rattle.flight_table.specs.Tables.{change_entry, has_key, has_number, has_source, is_done_of, is_of, is_undone, key_in, request_in, requests_of};
 ghost use Rattle.flight_table.specs.Laws.{HaveOwnKeys};

@@ -65,9 +65,10 @@ fn range_end(plan: &Plan) -> u64
     u64::from(plan.address()) + (1u64 << plan.size())
 }
 
-/// Whether each of two ranges begins before the other ends.
-fn overlap(a: &Option<Plan>, b: &Option<Plan>) -> bool
-    ensures { result ≡ share_bytes a.now b.now }
+/// Whether two ranges of AXI addresses share a byte: each begins before the other ends.
+fn share_bytes(a: &Option<Plan>, b: &Option<Plan>) -> bool
+    ensures answer { result ≡ share_bytes a.now b.now }
+    ensures address { IsTrue result ↔ HaveCommonAddress a.now b.now }
 {
     match (a, b) {
         (Some(a), Some(b)) => {
@@ -75,14 +76,6 @@ fn overlap(a: &Option<Plan>, b: &Option<Plan>) -> bool
         }
         _ => false,
     }
-}
-
-/// Whether two ranges of AXI addresses share a byte.
-fn share_bytes(a: &Option<Plan>, b: &Option<Plan>) -> bool
-    ensures answer { result ≡ share_bytes a.now b.now }
-    ensures address { IsTrue result ↔ HaveCommonAddress a.now b.now }
-{
-    overlap(a, b)
 }
 
 /// The plan that a request of this operation has: an Intent sends nothing.
@@ -225,8 +218,7 @@ impl LiveRequest {
         requires { self.sent < length (planned self) }
         ensures { result ≡ with_sent id self }
     {
-        // The count of planned bursts bounds that of the sent ones.
-        let _planned = self.planned();
+        prove!(self.sent < self.planned());
         LiveRequest {
             id: Some(id),
             sent: self.sent + 1,

@@ -1,8 +1,7 @@
 //! Scans of the live requests in the order of their keys.
-ghost use Rattle.std.specs.Prelude.{◌≡◌, ℕ, ◌^◌, ◌<◌, ◌≤◌, Bool, IfSome, position, ◌==◌, ◌&&◌, ◌||◌, not, is_some, filter, find, length, map, nat_lt, sum_by};
+ghost use Rattle.std.specs.Prelude.{◌≡◌, ℕ, ◌^◌, ◌<◌, ◌≤◌, Bool, IfSome, position, filter, find, length, sum_by};
 ghost use Rattle.std.specs.List.{list_any};
 ghost use Rattle.flight_table.specs.Inside.{requests_in, sends_by, stored};
-ghost use Rattle.flight_table.specs.LiveRequests.{next_burst, unanswered};
 ghost use Rattle.flight_table.specs.Order.{free_id, holds_back, holds_id, is_free, is_held, may_send};
 ghost use Rattle.flight_table.specs.Tables.{has_number, has_source, is_done_of, is_of, is_undone};
 ghost use Rattle.flight_table.specs.Work.{unsent_work, work_of};
@@ -69,19 +68,12 @@ pub(crate) fn count_holders(
 }
 
 /// Whether an earlier request holds back this one.
-fn any_holds_back(requests: &Slab<LiveRequest>, order: &[Key], request: &LiveRequest) -> bool
-    ensures { result ≡ list_any (λ k. holds_back request.now (stored requests.now k)) order.now }
+fn is_held(requests: &Slab<LiveRequest>, order: &[Key], request: &LiveRequest) -> bool
+    ensures { result ≡ is_held (requests_in requests.now order.now) request.now }
 {
     order
         .iter()
         .any(|key| stored(requests, *key).holds_back(request))
-}
-
-/// Whether a request is held back.
-fn is_held(requests: &Slab<LiveRequest>, order: &[Key], request: &LiveRequest) -> bool
-    ensures { result ≡ is_held (requests_in requests.now order.now) request.now }
-{
-    any_holds_back(requests, order, request)
 }
 
 /// Whether a request of a client has this source.

@@ -1,5 +1,3 @@
-ghost use Rattle.std.specs.Prelude.{◌≡◌};
-
 use super::*;
 use burst_plan::Plan;
 use std::alloc::{AllocError, Global};

@@ -1,5 +1,5 @@
 //! What was gathered for a reply.
-ghost use Rattle.std.specs.Prelude.{◌≡◌, ℕ, Option, ◌+◌, ◌<◌, ◌≤◌, ◌%◌, ◌^◌, ◌==◌, true, false, [], length, map, replicate, Some, IfOk, IfSome};
+ghost use Rattle.std.specs.Prelude.{◌≡◌, ◌<◌, ◌≤◌, ◌^◌, [], length, map, replicate, Some, IfOk, IfSome};
 ghost use Rattle.std.specs.List.{range_with_len};
 ghost use Rattle.std.specs.Vec.{vec_capacity, vec_len};
 ghost use Rattle.axi_beats.specs.Responses.{is_decerr};
@@ -183,7 +183,6 @@ impl Model for Gather {
 }
 
 impl Gather {
-    ghost use Rattle.tl_messages.specs.Operations.{reply_has_data};
     ghost use Rattle.tl_messages.specs.Requests.{WholeRequest, request_of};
     ghost use Rattle.responses.specs.Answers.{IsNumberSeen, ShowsAnswers};
     ghost use Rattle.responses.specs.Gathered.{after_b, after_r, gathered, gathering_of, old_value, opening_gather, outline_of, reads_of};

@@ -180,7 +180,8 @@ some_is : (byte : Option ℕ) → is_some byte ≡ true → byte ≡ Some (unwra
 some_is None there = absurd (cc)
 some_is (Some byte) there = refl
 
-okay_is_good : (standing : Standing) (bad : Bool) → is_okay (read_response_on standing bad) ≡ true → is_good standing ≡ true
+-- a page is good that answers OKAY
+pub okay_is_good : (standing : Standing) (bad : Bool) → is_okay (read_response_on standing bad) ≡ true → is_good standing ≡ true
 okay_is_good IsGood bad okay = refl
 okay_is_good IsSlaveError bad okay = okay
 okay_is_good IsAbsent bad okay = okay

@@ -2,7 +2,7 @@
 use Rattle.std.proofs.Common.{◌≡◌, ℕ, ◌+◌, ◌/◌, ◌==◌, Bool, true, false, ◌||◌, cond, List, [], ◌∷◌, ◌++◌, map, inl, inr, refl, ◌∙◌}
 use Rattle.std.proofs.lemmas.Bool.Decides.{eqb_tells}
 use Rattle.std.specs.List.{AllByRecursion, list_any}
-use Rattle.std.specs.Prelude.{Option, Some, None, filter, find, is_some, nat_lt, option_map, slice_get}
+use Rattle.std.specs.Prelude.{Option, Some, None, filter, find, is_some, nat_lt, slice_get}
 use Rattle.bus_words.specs.Tables.{first_broken}
 use Rattle.axi_beats.specs.Bursts.{Burst, WriteBurst, ReadBurst}
 use Rattle.axi_beats.specs.declared.WBeat.{WBeat}
@@ -16,6 +16,7 @@ use Rattle.subordinate.specs.declared.DeviceFault.TheVariants.{PageRange, PageTw
 use Rattle.subordinate.specs.declared.PageKind.{PageKind}
 use Rattle.subordinate.specs.declared.PageKind.TheVariants.{Good, SlaveError}
 use Rattle.subordinate.proofs.EffectLaws.{is_some-bytes_written, whole-bytes_written}
+use Rattle.subordinate.proofs.OpenBursts.{is_some-option_map}
 
 -- ---- tables without a broken rule
 
@@ -83,17 +84,13 @@ keeps-opening_memory number earlier i ((page, SlaveError) ∷ pages) none =
     [ true ↦ (λ here. not_later number (earlier ++ (page, SlaveError) ∷ []) (i + 1) pages twice.1 (listed_last number earlier (page, SlaveError) here)) | false ↦ (λ other. later) ]
     refl
 
-is_some-option_map : {X Y : Type 0} (f : X → Y) (found : Option X) → is_some (option_map f found) ≡ is_some found
-is_some-option_map f None = refl
-is_some-option_map f (Some x) = refl
-
 whole-opening_memory : (pages : List (ℕ × PageKind)) → AllByRecursion IsWholePage (map zero_page pages)
 unfolding zero_words
 whole-opening_memory [] = tt
 whole-opening_memory (page ∷ pages) = (refl, whole-opening_memory pages)
 
 -- pages and bad words that aren't refused open a memory whose bytes are those of the good pages
-pub has_good_pages-opening : (bus_bytes : ℕ) (pages : List (ℕ × PageKind)) (bad_words : List ℕ) → device_fault pages bad_words ≡ None → HasGoodPages (opening bus_bytes pages bad_words)
+has_good_pages-opening : (bus_bytes : ℕ) (pages : List (ℕ × PageKind)) (bad_words : List ℕ) → device_fault pages bad_words ≡ None → HasGoodPages (opening bus_bytes pages bad_words)
 has_good_pages-opening bus_bytes pages bad_words none =
     record {
       exactly = λ address.

@@ -5,7 +5,6 @@ use Rattle.std.proofs.lemmas.List.{append-nil, length-append, length-set, map-ap
 use Rattle.std.specs.List.{AllByRecursion, remove}
 use Rattle.std.specs.Prelude.{Option, Some, None, IfSome, IsSome, filter, find, position, slice_get, take}
 use Rattle.axi_beats.specs.Bursts.{Burst, IsLegal, ReadBurst, WriteBurst}
-use Rattle.axi_beats.specs.Transfers.{IsBusWidth}
 use Rattle.axi_checker.proofs.Few.{few-append, few-change_first, few-without_first, length-few}
 use Rattle.axi_checker.specs.Monitors.{HasFewOfEach}
 use Rattle.axi_checker.specs.Rules.{id_of, outstanding_beside}
@@ -15,14 +14,12 @@ use Rattle.std.proofs.lemmas.Bool.{eqb-true}
 use Rattle.std.proofs.lemmas.Option.{slice_get-get_or}
 use Rattle.bus_words.specs.Places.{change_first}
 use Rattle.subordinate.specs.Device.{DeviceState, after_r}
-use Rattle.subordinate.specs.FreeMemory.{FreeMemory, Pending, beat_after, beat_at, gives_last, has_serial, is_read_of, is_waiting, memory_after, newly_pending, open_bursts_of, opening, performed, transfers_in, with_beat, with_burst}
+use Rattle.subordinate.specs.FreeMemory.{FreeMemory, Pending, beat_after, beat_at, gives_last, has_serial, is_read_of, is_waiting, memory_after, newly_pending, open_bursts_of, performed, transfers_in, with_beat, with_burst}
 use Rattle.subordinate.specs.Effects.{HasGoodPages}
-use Rattle.subordinate.specs.Faults.{device_fault}
 use Rattle.subordinate.specs.Inside.{HasRoom, after_closing, after_counting, after_performing, burst_in, captured_at, device_state, is_beside, memory_of, memory_over, with_answer}
 use Rattle.subordinate.specs.InsidePages.{KeepsGoodPages, PagesState}
 use Rattle.subordinate.specs.Laws.{IsBeatOf, IsPerformed, IsSoundMemory, IsSoundPending, RisesWithin, queue_of, queue_of_burst}
-use Rattle.subordinate.specs.declared.PageKind.{PageKind}
-use Rattle.subordinate.proofs.GoodPages.{has_good_pages-kept, has_good_pages-opening, keeps_good_pages-after}
+use Rattle.subordinate.proofs.GoodPages.{has_good_pages-kept, keeps_good_pages-after}
 use Rattle.subordinate.specs.declared.BeatState.{BeatState}
 use Rattle.subordinate.specs.declared.BeatState.TheVariants.{Waiting, Written, Captured}
 use Rattle.subordinate.proofs.OpenBursts.{all-at, count_in_queue, known_beside, pending_after_r-last, pending_after_r-more, position-serial, rises-append, rises-change_first, rises-without_first, serial_at}
@@ -87,11 +84,6 @@ sound-newly bus_bytes serial burst legal =
 -- other bursts leave the pages as they are
 kept_pages : (memory : FreeMemory) (pending : List Pending) (sent : ℕ) → HasGoodPages memory → HasGoodPages (record memory { pending = pending; sent = sent })
 kept_pages memory pending sent pages = record { exactly = pages.exactly; whole = pages.whole }
-
--- a memory that nothing was sent to
-pub sound-opening : (bus_bytes : ℕ) (pages : List (ℕ × PageKind)) (bad_words : List ℕ) → IsBusWidth bus_bytes → device_fault pages bad_words ≡ None → IsSoundMemory (opening bus_bytes pages bad_words)
-sound-opening bus_bytes pages bad_words width fine =
-    record { bus = width; rising = omega arith; few = record { known = tt; few = λ id. omega arith }; each = tt; pages = has_good_pages-opening bus_bytes pages bad_words fine }
 
 -- a burst that was sent
 pub sound-append : (memory : FreeMemory) (burst : Burst) → IsSoundMemory memory → IsLegal memory.bus_bytes burst → id_of burst < 16

@@ -1,14 +1,13 @@
--- A transfer lies in one word of eight bytes: at either width of the bus, each of its lanes is a lane of that word. The beats of a legal burst
--- are its transfers.
+-- A transfer lies in one word of eight bytes: at either width of the bus, each of its lanes is a lane of that word. The W beats of a legal
+-- write are its transfers.
 use Rattle.std.proofs.Common.{◌≡◌, ℕ, zero, suc, ◌+◌, ◌*◌, ◌/◌, ◌<◌, ◌≤◌, ◌==◌, Bool, true, false, ◌&&◌, nat_le, nat_lt, List, [], ◌∷◌, length, inl, inr, refl, arith}
 use Rattle.std.proofs.lemmas.Bool.{and_parts, eqb-true, leb-true}
 use Rattle.std.specs.Prelude.{Some, not, ◌||◌, slice_get}
 use Rattle.std.specs.List.{enumerate_from, list_all, range_with_len}
 use Rattle.bus_words.proofs.BelowEight.{below_eight}
 use Rattle.bus_words.specs.Lanes.{has_lane}
-use Rattle.axi_beats.specs.Bursts.{WriteBurst, ReadBurst, IsLegal, is_legal_address, is_legal_data, strobes_fit}
+use Rattle.axi_beats.specs.Bursts.{WriteBurst, IsLegal, is_legal_address, is_legal_data, strobes_fit}
 use Rattle.axi_beats.specs.Transfers.{IsBusWidth, covers_lane, fits_bus, highest_lane, in_one_page, lowest_lane, transfer_address}
-use Rattle.axi_beats.specs.declared.ArBeat.{ArBeat}
 use Rattle.axi_beats.specs.declared.AwBeat.{AwBeat}
 use Rattle.axi_beats.specs.declared.WBeat.{WBeat}
 use Rattle.axi_beats.proofs.TransferLaws.{highest_lane_lt_bus_bytes}
@@ -51,11 +50,6 @@ address_parts bus_bytes address len size burst_type n width legal first last =
     let short = and_parts (fits_bus bus_bytes size && burst_type == 1) (nat_lt len 256) within.0 in
     let incr = and_parts (fits_bus bus_bytes size) (burst_type == 1) short.0 in
     record { width = width; fits = incr.0; first = first; last = last; one_page = within.1 }
-
--- each beat of a legal read, counted from 0, is a transfer of it
-pub transfer_of_read : (bus_bytes : ℕ) (ar : ArBeat) (beat : ℕ) → IsBusWidth bus_bytes → IsLegal bus_bytes (ReadBurst ar) → beat < ar.len + 1
-    → IsTransferOf bus_bytes ar.address ar.len ar.size (beat + 1)
-transfer_of_read bus_bytes ar beat width legal below = address_parts bus_bytes ar.address ar.len ar.size ar.burst (beat + 1) width legal (omega arith) (omega arith)
 
 -- what is right of all W beats is right of each
 data_at : (bus_bytes : ℕ) (aw : AwBeat) (from : ℕ) (ws : List WBeat) (beat : ℕ) (w : WBeat)

@@ -1,5 +1,5 @@
--- A free AXI4 memory at the end point: it performs the beats of outstanding bursts in any order, and a beat is performed before its
--- burst is answered; it answers as AXI4's ordering allows (AXI4, A5, transaction ordering). That a response never comes from a buffer on
+-- A free AXI4 memory at the end point: it performs the beats of outstanding bursts in any order, every beat of a write before its B and each
+-- beat of a read before its R; it answers as AXI4's ordering allows (AXI4, A5, transaction ordering). That a response never comes from a buffer on
 -- the way, and that a write answered with an error changes nothing, is this project's profile: AXI4 allows more.
 use Rattle.std.specs.Prelude.{ℕ, ◌+◌, ◌-◌, ◌==◌, ◌≡◌, Bool, true, false, ◌&&◌, List, [], ◌∷◌, ◌++◌, length, replicate, Option, Some, None, Result, Ok, Err, is_some, find, filter, filter_map, if◌then◌else◌, slice_get, slice_set, fold, flat_map, sum_by, drop, not}
 use Rattle.std.specs.List.{list_any, range_with_len, enumerate_from}

@@ -1,5 +1,5 @@
 //! What became of the beats of an open burst.
-ghost use Rattle.std.specs.Prelude.{◌≡◌, ◌<◌, ◌≤◌, false, true, [], None, Some, IfOk, filter, length, not, replicate, slice_get, slice_set};
+ghost use Rattle.std.specs.Prelude.{◌≡◌, ◌<◌, ◌≤◌, false, [], Some, IfOk, length, not, replicate, slice_get, slice_set};
 ghost use Rattle.std.specs.List.{list_any};
 ghost use Rattle.subordinate.specs.FreeMemory.{is_waiting};
 ghost use Rattle.subordinate.specs.Inside.{count_waiting, waiting_places};

@@ -1,7 +1,7 @@
 //! A burst that is open: sent, and not answered whole.
-ghost use Rattle.std.specs.Prelude.{◌≡◌, ◌+◌, ◌<◌, ◌≤◌, false, IsSome, Some, filter, length, not, option_map, slice_get, take};
+ghost use Rattle.std.specs.Prelude.{◌≡◌, ◌+◌, ◌<◌, ◌≤◌, false, IsSome, Some, length, not, slice_get, take};
 ghost use Rattle.std.specs.List.{AllByRecursion, list_any};
-ghost use Rattle.subordinate.specs.FreeMemory.{answers_left, beat_at, gives_last, has_serial, is_read_of, is_waiting, is_write_of, newly_pending, performed_waiting_in, start_of, transfers_in, with_beat, work_in};
+ghost use Rattle.subordinate.specs.FreeMemory.{answers_left, beat_at, gives_last, is_read_of, is_waiting, is_write_of, newly_pending, performed_waiting_in, start_of, transfers_in, with_beat, work_in};
 ghost use Rattle.subordinate.specs.Inside.{burst_in, captured_at, count_waiting, waiting_places, with_answer};
 ghost use Rattle.subordinate.specs.Laws.{IsPerformed};
 ghost use Rattle.subordinate.specs.declared.BeatState.TheVariants.{Waiting};

@@ -96,16 +96,6 @@ pub none_front : (limits : TlPortLimits) → IsFront limits []
 unfolding get_of_one
 none_front limits = (get_of_one, [], request_of (message_of limits.client get_of_one []), begun_spells limits get_of_one [] (record { right = get_is_right limits; later = refl }) refl)
 
--- a list of beats isn't both a front and a spelling
-pub front_not_spelled : (limits : TlPortLimits) (beats : List ABeat) (q : WholeRequest) → IsFront limits beats → Spells limits beats q → ⊥
-front_not_spelled limits [] q front spells = spells
-front_not_spelled limits (first ∷ rest) q front spells = absurd (omega (arith, (front_part limits first rest front).fewer, spells.2))
-
--- beats spell one request at most
-pub spelled_once : (limits : TlPortLimits) (beats : List ABeat) (q other : WholeRequest) → Spells limits beats q → Spells limits beats other → q ≡ other
-spelled_once limits [] q other spells again = absurd spells
-spelled_once limits (first ∷ rest) q other spells again = spells.3 ∙ sym again.3
-
 -- ---- what is held of a list
 
 -- a message that has begun is whole where it has as many beats as it wants

@@ -1,13 +1,11 @@
 -- Whether a mask has a lane outside another, by the lanes that both have.
-use Rattle.std.proofs.Common.{◌≡◌, ℕ, zero, suc, ◌+◌, ◌<◌, ◌≤◌, ◌==◌, Bool, true, false, not, min, refl, sym, ◌∙◌, ap, arith, inl, inr}
+use Rattle.std.proofs.Common.{◌≡◌, ℕ, zero, suc, ◌+◌, ◌<◌, ◌≤◌, ◌==◌, Bool, true, false, not, refl, sym, ◌∙◌, ap, arith, inl, inr}
 use Rattle.std.specs.Prelude.{◌&&◌, bit_and}
-use Rattle.std.specs.Int.{bit_at}
 use Rattle.std.specs.Int.Bits.{and_lt}
 use Rattle.std.specs.List.{list_any, range_with_len}
 use Rattle.std.proofs.lemmas.Bool.{cases_eq, eq-eqb, ne_eqb, or_parts, true_from_ne_false}
-use Rattle.std.proofs.lemmas.Nat.Bits.{bit_at_and, bit_at-lt}
 use Rattle.bus_words.specs.Lanes.{has_lane}
-use Rattle.bus_words.proofs.MaskLaws.{same_lanes}
+use Rattle.bus_words.proofs.MaskLaws.{has_lane-and, same_lanes}
 
 -- a range none of whose numbers passes, and one where some test fails throughout
 none_passes : (p : ℕ → Bool) (a n : ℕ) → ((k : ℕ) → a ≤ k → k < a + n → p k ≡ false) → list_any p (range_with_len a n) ≡ false
@@ -19,17 +17,6 @@ each_fails p a zero none k from below = absurd (omega arith)
 each_fails p a (suc n) none k from below =
     let parts = or_parts (p a) (list_any p (range_with_len (a + 1) n)) none in
     elim (cases_eq k a) [ inl here ↦ rw here parts.0 | inr later ↦ each_fails p (a + 1) n parts.1 k (omega arith) (omega arith) ]
-
--- a lane is in both of two masks where it is in each
-has_lane-and : (v w lane : ℕ) → has_lane (bit_and v w) lane ≡ (has_lane v lane && has_lane w lane)
-has_lane-and v w lane = ap (λ n. n == 1) (bit_at_and v w lane) ∙ both (bit_at v lane) (bit_at w lane) (bit_at-lt v lane) (bit_at-lt w lane)
-  where
-    both : (a b : ℕ) → a < 2 → b < 2 → (min a b == 1) ≡ ((a == 1) && (b == 1))
-    both zero b small fits = grind arith
-    both (suc zero) zero small fits = refl
-    both (suc zero) (suc zero) small fits = refl
-    both (suc zero) (suc (suc b)) small fits = absurd (omega arith)
-    both (suc (suc a)) b small fits = absurd (omega arith)
 
 -- a mask that is kept whole by another has no lane outside it, and one that isn't has one
 pub not_kept-outside : (mask full : ℕ) (inside : ℕ → Bool) → mask < 256 → full < 256 → ((lane : ℕ) → lane < 8 → has_lane full lane ≡ inside lane)

@@ -93,7 +93,3 @@ taken-append limits front (beat ∷ beats) more taken = (taken.0, taken-append l
 -- the beats that begin a spelling are taken one after another: no rule refuses one of them
 pub prefix_taken : (limits : TlPortLimits) (beats more : List ABeat) (q : WholeRequest) → Spells limits (beats ++ more) q → AreTaken limits None beats
 prefix_taken limits beats more q spells = taken-append limits None beats more ((spelling_exact limits (beats ++ more) q).0 spells).0
-
--- and so are they as long as one is to come
-pub prefix_front : (limits : TlPortLimits) (beats : List ABeat) (next : ABeat) (more : List ABeat) (q : WholeRequest) → Spells limits (beats ++ next ∷ more) q → IsFront limits beats
-prefix_front limits beats next more q spells = (next, more, q, spells)
