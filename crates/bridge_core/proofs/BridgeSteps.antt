@@ -1,6 +1,6 @@
 -- What is kept of a bridge by a burst that goes, an answer that comes, and a reply that is taken.
 use Rattle.std.proofs.Common.{◌≡◌, ◌∙◌, ℕ, ◌-◌, ◌≤◌, true, List, map, Option, None, Some, Ok, Err, ap, refl, sym, subst, arith}
-use Rattle.std.specs.Prelude.{IsSome, IsSomeAnd, MatchOption, Result, ⊤}
+use Rattle.std.specs.Prelude.{IsSomeAnd, MatchOption, Result, ⊤}
 use Rattle.axi_beats.specs.declared.BBeat.{BBeat}
 use Rattle.axi_beats.specs.declared.RBeat.{RBeat}
 use Rattle.axi_checker.specs.OpenBursts.{OnB, OnR, OpenBursts, write_to_fill}
@@ -121,13 +121,3 @@ awaits_r state r sound none =
       place = found.place;
     }
     )
-
--- a reply is taken, if one is there
-pub reply_left : (ports : List PortState) (requests new_requests : RequestTable) (monitor : MonitorState) (stock room client : ℕ) (answer : Option ℕ) → IsBridge ports requests monitor stock room
-    → (IsSome answer → new_requests ≡ without_done client requests) → (answer ≡ None → new_requests ≡ requests) → IsSoundRequestTable new_requests → IsBridge ports new_requests monitor stock room
-reply_left ports requests new_requests monitor stock room client None i table kept laws = subst (λ (t : RequestTable). IsBridge ports t monitor stock room) (sym (kept refl)) i
-reply_left ports requests new_requests monitor stock room client (Some number) i table kept laws =
-    let left = table refl in
-    let sound : IsSoundBridge (after_take (state_in ports requests monitor.open_bursts) client) =
-    sound_taken (state_in ports requests monitor.open_bursts) client i.0 (subst IsSoundRequestTable left laws) in
-    rw left (sound, i.1, i.2, i.3, i.4)

@@ -1,5 +1,5 @@
 -- A plan's pieces as writes, transfer by transfer, and the operand of an atomic.
-use Rattle.std.proofs.Common.{◌≡◌, ℕ, zero, suc, ◌+◌, ◌-◌, ◌*◌, ◌/◌, ◌^◌, ◌<◌, ◌≤◌, Bool, true, false, List, map, length, Option, Some, None, IsSome, if◌then◌else◌, refl, sym, ◌∙◌, ap, arith, inl, inr, lit<}
+use Rattle.std.proofs.Common.{◌≡◌, ℕ, zero, suc, ◌+◌, ◌-◌, ◌*◌, ◌/◌, ◌^◌, ◌<◌, ◌≤◌, Bool, true, false, List, map, length, Option, Some, None, if◌then◌else◌, refl, sym, ◌∙◌, ap, arith, inl, inr, lit<}
 use Rattle.std.specs.Prelude.{unwrap_or}
 use Rattle.std.specs.List.{range_with_len, slice_get}
 use Rattle.std.proofs.lemmas.Bool.{and_from, and_parts, cases_lt, le-leb}
@@ -13,7 +13,7 @@ use Rattle.tl_messages.specs.Operations.{beats_of, has_data}
 use Rattle.tl_messages.specs.Requests.{HeldMessage, beat_at, byte_given, request_of}
 use Rattle.tl_messages.specs.declared.MaskedWord.{MaskedWord}
 use Rattle.tl_messages.proofs.BeatCounts.{beats_of-le}
-use Rattle.axi_beats.specs.Boxes.{aw_of, w_beats_of, with_w_beat}
+use Rattle.axi_beats.specs.Boxes.{w_beats_of, with_w_beat}
 use Rattle.axi_beats.specs.Bursts.{Burst, WriteBurst}
 use Rattle.axi_beats.specs.Transfers.{fits_bus, transfer_address, transfer_end, transfer_has}
 use Rattle.axi_beats.specs.declared.WBeat.{WBeat}
@@ -85,9 +85,6 @@ word_of_transfer range piece k start first address plannable listed last start_i
 abbrev pub begun : ℕ → ℕ → List (Option ℕ) → ℕ → Piece → ℕ → Option Burst
 begun bus_bytes id bytes start piece k =
     Some (WriteBurst (record { id = id; address = piece.address; len = piece.len; size = piece.size; burst = 1 }) (map (w_beat bus_bytes (given_at bytes start) piece) (range_with_len 1 k)))
-
-pub begun-write : (burst : Option Burst) (bus_bytes id : ℕ) (bytes : List (Option ℕ)) (start : ℕ) (piece : Piece) (k : ℕ) → burst ≡ begun bus_bytes id bytes start piece k → IsSome (aw_of burst)
-begun-write burst bus_bytes id bytes start piece k is = rw is refl
 
 pub begun-room : (burst : Option Burst) (bus_bytes id : ℕ) (bytes : List (Option ℕ)) (start : ℕ) (piece : Piece) (k : ℕ) → burst ≡ begun bus_bytes id bytes start piece k → k < 256 → length (w_beats_of burst) < 256
 begun-room burst bus_bytes id bytes start piece k is below = rw (is, length-map-range_with_len (w_beat bus_bytes (given_at bytes start) piece) 1 k) below

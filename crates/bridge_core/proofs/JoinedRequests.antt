@@ -1,8 +1,7 @@
 -- A request that is accepted joins both sides of the table.
-use Rattle.std.proofs.Common.{◌≡◌, ℕ, ◌<◌, ◌≤◌, Bool, true, false, ◌&&◌, nat_le, List, [], ◌∷◌, ◌++◌, length, Option, Some, None, is_none, is_some, not, IsSome, refl, sym, ◌∙◌, ap, subst, arith, length-append}
+use Rattle.std.proofs.Common.{◌≡◌, ℕ, ◌<◌, Bool, true, false, List, [], ◌∷◌, ◌++◌, length, Option, Some, None, is_none, is_some, not, IsSome, refl, sym, ◌∙◌, ap, subst, arith, length-append}
 use Rattle.std.specs.Prelude.{IfSome, option_map}
 use Rattle.std.specs.List.{AllByRecursion}
-use Rattle.std.proofs.lemmas.Bool.{and_parts, leb-true}
 use Rattle.std.proofs.lemmas.List.{length-map, map-append}
 use Rattle.bus_words.proofs.PlaceChanges.{all-append}
 use Rattle.tl_messages.specs.Requests.{HeldMessage, request_of}
@@ -21,6 +20,7 @@ use Rattle.bridge_core.specs.Laws.{IsServed, IsSoundRequestTable}
 use Rattle.bridge_core.specs.Requests.{BridgedRequest, RequestTable, address_of, flight_table_of, newly_live, range_at, range_of}
 use Rattle.bridge_core.specs.Requests as requests
 use Rattle.bridge_core.specs.declared.Config.{Config}
+use Rattle.bridge_core.proofs.ReadCounts.{config_parts}
 use Rattle.bridge_core.proofs.ServedRequests.{served_new}
 use Rattle.bridge_core.proofs.TableSteps.{table_seen}
 use Rattle.bridge_core.proofs.Together.{together_append}
@@ -38,33 +38,8 @@ pub rooms : (table : RequestTable) (client : ℕ) (whole : Option HeldMessage) �
 rooms table client None there room free = tt
 rooms table client (Some message) there room free = record { there = there; room = room; free = free }
 
-between_parts : (low high n : ℕ) → (nat_le low n && nat_le n high) ≡ true → (low ≤ n) × (n ≤ high)
-between_parts low high n is =
-    let both = and_parts (nat_le low n) (nat_le n high) is in
-    (leb-true low n both.0, leb-true n high both.1)
-
 pub limits_made : (config : Config) → is_valid config ≡ true → AreLimits (table_limits_of config)
-limits_made config valid =
-    let bus = and_parts _ _ valid in
-    let size = and_parts _ _ bus.0 in
-    let len = and_parts _ _ size.0 in
-    let depth = and_parts _ _ len.0 in
-    let ids = and_parts _ _ depth.0 in
-    let quota = and_parts _ _ ids.0 in
-    let clients = between_parts 1 8 config.clients quota.0 in
-    let quotas = between_parts 1 8 config.quota quota.1 in
-    let some_ids = between_parts 1 16 config.ids ids.1 in
-    let depths = between_parts 1 4 config.depth depth.1 in
-    record {
-      some_clients = clients.0;
-      most_clients = clients.1;
-      some_quota = quotas.0;
-      most_quota = quotas.1;
-      some_ids = some_ids.0;
-      most_ids = some_ids.1;
-      some_depth = depths.0;
-      most_depth = depths.1;
-    }
+limits_made config valid = (config_parts config valid).limits
 
 live_below : (table : RequestTable) (client : ℕ) (message : HeldMessage) → IsSoundRequestTable table → HasRoomFor table client message.source → length (flight_table_of table).live < 64
 live_below table client message sound room =

@@ -1,9 +1,8 @@
 -- The pieces of a live request's plan: there is one at least, and of an atomic just one.
-use Rattle.std.proofs.Common.{◌≡◌, ℕ, zero, suc, ◌+◌, ◌*◌, ◌/◌, ◌^◌, ◌==◌, ◌<◌, ◌≤◌, nat_le, Bool, true, false, ◌&&◌, ◌||◌, List, length, Option, Some, None, refl, ap, sym, ◌∙◌, arith}
-use Rattle.std.proofs.lemmas.Bool.{and_parts, eqb-true, leb-true}
+use Rattle.std.proofs.Common.{◌≡◌, ℕ, ◌+◌, ◌*◌, ◌/◌, ◌^◌, ◌<◌, ◌≤◌, true, false, ◌&&◌, List, length, Option, Some, None, refl, ap, sym, ◌∙◌, arith}
+use Rattle.std.proofs.lemmas.Bool.{and_parts}
 use Rattle.std.proofs.lemmas.Nat.{div-mul-add, pow_pos}
 use Rattle.std.proofs.Math.Pow.{pow_mono}
-use Rattle.bus_words.specs.Lanes.{is_between}
 use Rattle.tl_messages.specs.Operations.{has_data, reply_has_data}
 use Rattle.tl_messages.specs.Requests.{HeldMessage, request_of}
 use Rattle.tl_messages.specs.declared.AtomicOp.{AtomicOp}
@@ -11,7 +10,7 @@ use Rattle.tl_messages.specs.declared.Operation.{Operation}
 use Rattle.tl_messages.specs.declared.Operation.TheVariants.{PutFull, PutPartial, Atomic, Get, Intent}
 use Rattle.tl_checker.specs.Sound.{IsSound}
 use Rattle.burst_plan.specs.PageMap.{IsPageMap}
-use Rattle.burst_plan.specs.Pieces.{IsPlannable, PlannedRange, cut_bytes, is_max_len, pieces}
+use Rattle.burst_plan.specs.Pieces.{IsPlannable, PlannedRange, cut_bytes, pieces}
 use Rattle.burst_plan.specs.PlannedTransfers.{burst_bytes}
 use Rattle.burst_plan.specs.declared.Region.{Region}
 use Rattle.burst_plan.proofs.PieceLaws.{divides_evenly, length-pieces}
@@ -22,26 +21,6 @@ use Rattle.bridge_core.specs.Laws.{IsOfMessage}
 use Rattle.bridge_core.specs.Requests.{BridgedRequest, range_of}
 use Rattle.bridge_core.specs.declared.Config.{Config}
 use Rattle.bridge_core.proofs.ReadCounts.{config_parts, plannable, planned_range, range_known}
-
--- ---- a burst may have eight bytes
-
-some_transfers : (len : ℕ) → is_max_len len ≡ true → 1 ≤ len
-some_transfers zero is = absurd (cc (is))
-some_transfers (suc len) is = omega arith
-
-on_either_bus : (bytes len : ℕ) (wide : Bool) → (bytes == 8) ≡ wide → 1 ≤ len → (wide || bytes == 4 && nat_le 2 len) ≡ true → 8 ≤ bytes * len
-on_either_bus bytes len true is some either = rw (eqb-true bytes 8 is) (omega (arith, some))
-on_either_bus bytes len false is some either =
-    let both = and_parts (bytes == 4) (nat_le 2 len) either in
-    rw (eqb-true bytes 4 both.0) (omega (arith, leb-true 2 len both.1))
-
-eight_bytes : (config : Config) → is_valid config ≡ true → 8 ≤ config.axi_bytes * config.max_len
-eight_bytes config valid =
-    let bus = config.axi_bytes == 8 || config.axi_bytes == 4 && nat_le 2 config.max_len in
-    let all =
-    and_parts
-    (is_between 1 8 config.clients && is_between 1 8 config.quota && is_between 1 16 config.ids && is_between 1 4 config.depth && is_max_len config.max_len && is_between 3 12 config.max_size) bus valid in
-    on_either_bus config.axi_bytes config.max_len (config.axi_bytes == 8) refl (some_transfers config.max_len (config_parts config valid).max_len) all.1
 
 -- ---- the range of a message
 
@@ -74,7 +53,7 @@ itself n some =
 -- eight bytes go as one burst
 pub one_piece : (config : Config) (message : HeldMessage) (range : PlannedRange) → is_valid config ≡ true → IsPlanOf config message range → message.size ≤ 3 → length (pieces range) ≡ 1
 one_piece config message range valid plan small =
-    let cut : 8 ≤ cut_bytes range = rw (plan.bus, plan.max_len) (eight_bytes config valid) in
+    let cut : 8 ≤ cut_bytes range = rw (plan.bus, plan.max_len) (config_parts config valid).eight_bytes in
     let few : 2 ^ range.size ≤ 8 = pow_mono {i = range.size} {j = 3} (omega (arith, plan.size, small)) in
     let bytes : burst_bytes range ≡ 2 ^ range.size = omega (arith, cut, few) in
     length-pieces range (divides_evenly range plan.plannable) ∙ ap (λ n. 2 ^ range.size / n) bytes ∙ itself (2 ^ range.size) (pow_pos range.size)

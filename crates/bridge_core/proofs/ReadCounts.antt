@@ -1,11 +1,10 @@
 -- How many read transfers a live request has: those that its reply needs.
-use Rattle.std.proofs.Common.{◌≡◌, ℕ, ◌+◌, ◌*◌, ◌/◌, ◌%◌, ◌^◌, ◌==◌, ◌<◌, ◌≤◌, min, max, nat_le, Bool, true, false, ◌&&◌, ◌||◌, List, [], refl, ap, sym, ◌∙◌, subst, arith, inl, inr}
+use Rattle.std.proofs.Common.{◌≡◌, ℕ, zero, suc, ◌+◌, ◌*◌, ◌/◌, ◌%◌, ◌^◌, ◌==◌, ◌<◌, ◌≤◌, min, max, nat_le, Bool, true, false, ◌&&◌, ◌||◌, List, [], refl, ap, sym, ◌∙◌, subst, arith, inl, inr}
 use Rattle.std.specs.Prelude.{IfSome, None, Option, Some, if◌then◌else◌, option_map}
 use Rattle.std.proofs.lemmas.Bool.{and_parts, cases_lt, eqb-true, leb-true}
 use Rattle.std.proofs.Math.Nat.{mul-le-mul}
 use Rattle.std.proofs.lemmas.Nat.{div-mul-add, one_shl, pow_pos}
 use Rattle.std.proofs.lemmas.Option.{same_Some}
-use Rattle.bus_words.specs.Lanes.{is_between}
 use Rattle.tl_messages.specs.Operations.{reply_has_data}
 use Rattle.tl_messages.specs.Requests.{HeldMessage, WholeRequest, request_of}
 use Rattle.tl_messages.specs.declared.Operation.{Operation}
@@ -18,10 +17,11 @@ use Rattle.burst_plan.specs.declared.Region.{Region}
 use Rattle.burst_plan.proofs.PieceLaws.{divides_evenly}
 use Rattle.burst_plan.proofs.PlanLaws.{beats_counted}
 use Rattle.burst_plan.proofs.TranslationLaws.{LeadsTo-alignment, translated-LeadsTo}
+use Rattle.flight_table.specs.Laws.{AreLimits}
 use Rattle.flight_table.specs.LiveRequests.{plan_for, read_pieces}
 use Rattle.responses.specs.Gathered.{reads_of}
 use Rattle.bridge_core.specs.Bridge.{boxes_of}
-use Rattle.bridge_core.specs.Configs.{is_valid, port_of}
+use Rattle.bridge_core.specs.Configs.{is_valid, port_of, table_limits_of}
 use Rattle.bridge_core.specs.Laws.{IsServed, beats_in}
 use Rattle.bridge_core.specs.Requests.{BridgedRequest, address_of, outline_in, range_at, range_of}
 use Rattle.bridge_core.specs.declared.Config.{Config}
@@ -29,47 +29,68 @@ use Rattle.bridge_core.specs.declared.Config.{Config}
 -- ---- a valid configuration
 
 pub record IsValidConfig (config : Config) : Type 0 where
-  pub bus : IsBusWidth config.axi_bytes
+  pub limits : AreLimits (table_limits_of config)
   pub max_len : is_max_len config.max_len ≡ true
   pub max_size : config.max_size ≤ 12
+  pub bus : IsBusWidth config.axi_bytes
+  pub eight_bytes : 8 ≤ config.axi_bytes * config.max_len
+
+between_parts : (low high n : ℕ) → (nat_le low n && nat_le n high) ≡ true → (low ≤ n) × (n ≤ high)
+between_parts low high n is =
+    let both = and_parts (nat_le low n) (nat_le n high) is in
+    (leb-true low n both.0, leb-true n high both.1)
 
 bus_of : (bytes len : ℕ) (wide : Bool) → (bytes == 8) ≡ wide → (wide || bytes == 4 && nat_le 2 len) ≡ true → IsBusWidth bytes
 bus_of bytes len true is either = inr (eqb-true bytes 8 is)
 bus_of bytes len false is either = inl (eqb-true bytes 4 (and_parts (bytes == 4) (nat_le 2 len) either).0)
 
--- no more boxes than 64
-pub few_boxes : (config : Config) → is_valid config ≡ true → boxes_of config ≤ 64
-few_boxes config valid =
-    let clients = is_between 1 8 config.clients in
-    let quota = is_between 1 8 config.quota in
-    let ids = is_between 1 16 config.ids in
-    let depth = is_between 1 4 config.depth in
-    let len = is_max_len config.max_len in
-    let size = is_between 3 12 config.max_size in
-    let bus = config.axi_bytes == 8 || config.axi_bytes == 4 && nat_le 2 config.max_len in
-    let all = and_parts (clients && quota && ids && depth && len && size) bus valid in
-    let sizes = and_parts (clients && quota && ids && depth && len) size all.0 in
-    let lens = and_parts (clients && quota && ids && depth) len sizes.0 in
-    let depths = and_parts (clients && quota && ids) depth lens.0 in
-    let known = and_parts (clients && quota) ids depths.0 in
-    let few_ids = leb-true config.ids 16 (and_parts (nat_le 1 config.ids) (nat_le config.ids 16) known.1).1 in
-    let shallow = leb-true config.depth 4 (and_parts (nat_le 1 config.depth) (nat_le config.depth 4) depths.1).1 in
-    mul-le-mul few_ids shallow
+some_transfers : (len : ℕ) → is_max_len len ≡ true → 1 ≤ len
+some_transfers zero is = absurd (cc (is))
+some_transfers (suc len) is = omega arith
+
+-- a burst may have eight bytes
+on_either_bus : (bytes len : ℕ) (wide : Bool) → (bytes == 8) ≡ wide → 1 ≤ len → (wide || bytes == 4 && nat_le 2 len) ≡ true → 8 ≤ bytes * len
+on_either_bus bytes len true is some either = rw (eqb-true bytes 8 is) (omega (arith, some))
+on_either_bus bytes len false is some either =
+    let both = and_parts (bytes == 4) (nat_le 2 len) either in
+    rw (eqb-true bytes 4 both.0) (omega (arith, leb-true 2 len both.1))
 
 pub config_parts : (config : Config) → is_valid config ≡ true → IsValidConfig config
 config_parts config valid =
-    let clients = is_between 1 8 config.clients in
-    let quota = is_between 1 8 config.quota in
-    let ids = is_between 1 16 config.ids in
-    let depth = is_between 1 4 config.depth in
-    let len = is_max_len config.max_len in
-    let size = is_between 3 12 config.max_size in
-    let bus = config.axi_bytes == 8 || config.axi_bytes == 4 && nat_le 2 config.max_len in
-    let all = and_parts (clients && quota && ids && depth && len && size) bus valid in
-    let sizes = and_parts (clients && quota && ids && depth && len) size all.0 in
-    let lens = and_parts (clients && quota && ids && depth) len sizes.0 in
-    let between = and_parts (nat_le 3 config.max_size) (nat_le config.max_size 12) sizes.1 in
-    record { bus = bus_of config.axi_bytes config.max_len (config.axi_bytes == 8) refl all.1; max_len = lens.1; max_size = leb-true config.max_size 12 between.1 }
+    let bus = and_parts _ _ valid in
+    let size = and_parts _ _ bus.0 in
+    let len = and_parts _ _ size.0 in
+    let depth = and_parts _ _ len.0 in
+    let ids = and_parts _ _ depth.0 in
+    let quota = and_parts _ _ ids.0 in
+    let clients = between_parts 1 8 config.clients quota.0 in
+    let quotas = between_parts 1 8 config.quota quota.1 in
+    let some_ids = between_parts 1 16 config.ids ids.1 in
+    let depths = between_parts 1 4 config.depth depth.1 in
+    let sizes = between_parts 3 12 config.max_size size.1 in
+    let wide = config.axi_bytes == 8 in
+    record {
+      limits = record {
+        some_clients = clients.0;
+        most_clients = clients.1;
+        some_quota = quotas.0;
+        most_quota = quotas.1;
+        some_ids = some_ids.0;
+        most_ids = some_ids.1;
+        some_depth = depths.0;
+        most_depth = depths.1;
+      };
+      max_len = len.1;
+      max_size = sizes.1;
+      bus = bus_of config.axi_bytes config.max_len wide refl bus.1;
+      eight_bytes = on_either_bus config.axi_bytes config.max_len wide refl (some_transfers config.max_len len.1) bus.1;
+    }
+
+-- no more boxes than 64
+pub few_boxes : (config : Config) → is_valid config ≡ true → boxes_of config ≤ 64
+few_boxes config valid =
+    let limits = (config_parts config valid).limits in
+    mul-le-mul limits.most_ids limits.most_depth
 
 -- ---- the range of a live request
 

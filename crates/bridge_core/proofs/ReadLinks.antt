@@ -1,22 +1,21 @@
 -- After an R the outstanding bursts are those of the live requests.
-use Rattle.std.proofs.Common.{◌≡◌, ◌≢◌, ℕ, ◌+◌, ◌==◌, ◌<◌, ◌≤◌, Bool, true, false, List, [], ◌∷◌, length, drop, refl, ap, sym, ◌∙◌, subst, arith, inl, inr}
+use Rattle.std.proofs.Common.{◌≡◌, ◌≢◌, ℕ, ◌+◌, ◌==◌, ◌≤◌, Bool, true, false, List, [], ◌∷◌, drop, refl, ap, sym, ◌∙◌, subst, arith, inl, inr}
 use Rattle.std.specs.Prelude.{None, Option, Some, if◌then◌else◌}
 use Rattle.std.specs.List.{filter, find}
-use Rattle.std.proofs.lemmas.Bool.{cases_eq, cases_lt, eq-eqb, eqb-true, le-ltb, lt-ltb, ltb-true, ne_eqb}
-use Rattle.std.proofs.lemmas.Option.{same_Some}
+use Rattle.std.proofs.lemmas.Bool.{cases_eq, cases_lt, eq-eqb, eqb-true, le-ltb, lt-ltb, ne_eqb}
 use Rattle.bus_words.specs.Places.{change_first, without_first}
 use Rattle.axi_beats.specs.declared.RBeat.{RBeat}
 use Rattle.axi_checker.specs.OpenBursts.{OpenRead, read_of_id, reads_after, write_of_id, write_to_fill}
 use Rattle.axi_checker.proofs.ReadsAfter.{goes_on, one_more, reads_after-closes, reads_after-goes_on}
 use Rattle.burst_plan.specs.declared.Piece.{Piece}
-use Rattle.flight_table.specs.LiveRequests.{planned, with_answered}
+use Rattle.flight_table.specs.LiveRequests.{with_answered}
 use Rattle.responses.specs.Gathered.{after_r}
 use Rattle.bridge_core.specs.Bridge.{BridgeState, after_r_beat, r_fault}
-use Rattle.bridge_core.specs.Laws.{AreLinked, IsLinked, IsPartWay, IsSoundBridge, came_of, came_of_next, open_read, open_reads, open_writes, outstanding, outstanding_of}
+use Rattle.bridge_core.specs.Laws.{AreLinked, IsLinked, IsSoundBridge, came_of, came_of_next, open_read, open_reads, open_writes, outstanding, outstanding_of}
 use Rattle.bridge_core.specs.Requests.{BridgedRequest, after_read, holder, holds, outline_in, settled}
-use Rattle.bridge_core.proofs.AnswerLinks.{FindsReader, IsReader, finds_reader, open_writes-reads}
+use Rattle.bridge_core.proofs.AnswerLinks.{IsReader, finds_reader, open_writes-reads}
 use Rattle.bridge_core.proofs.HolderChanges.{filter-changed, filter-changed-other, filter-without, filter-without-other}
-use Rattle.bridge_core.proofs.ResponseLinks.{IsLeft, holder-other, left_after, nothing_left, one_holder, part_way-settled, settled-other, settled_as}
+use Rattle.bridge_core.proofs.ResponseLinks.{IsLeft, holder-other, left_after, one_holder, settled-other}
 
 -- ---- a request with an R counted, before it is settled
 
@@ -194,41 +193,3 @@ linked_read state r sound none =
 -- no write lacks data
 pub filled_read : (state : BridgeState) (r : RBeat) → IsSoundBridge state → write_to_fill (after_r_beat state r).open_bursts ≡ None
 filled_read state r sound = sound.filled
-
--- ---- how far the next read is
-
--- a request that has bursts outstanding isn't settled
-still_going : (request : BridgedRequest) → request.flight.answered < request.flight.sent → request.flight.sent ≤ length (planned request.flight) → settled request ≡ request
-still_going request within sent =
-    elim (settled_as request) [
-      | inl going ↦ going.1
-      | inr at_end ↦ absurd (omega (arith, within, nothing_left request at_end.answered sent))
-    ]
-
-part_way-more : (state : BridgeState) (r : RBeat) (request : BridgedRequest) (piece : Piece) (rest : List (Bool × Piece)) → IsReader state r request piece rest → r.last ≡ false
-    → IsPartWay (came_of_next (settled (counted_by state.requests.config.axi_bytes r request))) (outstanding (settled (counted_by state.requests.config.axi_bytes r request)).flight)
-part_way-more state r request piece rest reader is =
-    let answered = counted_by state.requests.config.axi_bytes r request in
-    let going : settled answered ≡ answered = still_going answered reader.next.within reader.holder.sound.sent in
-    let part : (came_of_next request == piece.len) ≡ false = sym reader.last ∙ is in
-    let more = ltb-true (came_of_next request) piece.len (not_at_end (open_read r.id (came_of_next request) piece) part reader.few) in
-    let below : came_of_next request + 1 ≤ piece.len = omega (arith, more) in
-    let here : IsPartWay (came_of_next answered) (outstanding answered.flight) = rw (came-more state r request piece rest reader, reader.first) below in
-    subst (λ (q : BridgedRequest). IsPartWay (came_of_next q) (outstanding q.flight)) (sym going) here
-
--- the read that is answered next is on its way
-pub part_way_read : (state : BridgeState) (r : RBeat) → IsSoundBridge state → r_fault state r ≡ None → (request : BridgedRequest) → holder r.id state.requests.live ≡ Some request
-    → IsPartWay (came_of_next (after_read state.requests.config.axi_bytes r request)) (outstanding (after_read state.requests.config.axi_bytes r request).flight)
-part_way_read state r sound none request held =
-    let finds = finds_reader state r sound none in
-    let same : finds.request ≡ request = same_Some finds.request request (sym finds.reader.holder.held ∙ held) in
-    subst (λ (q : BridgedRequest). IsPartWay (came_of_next (after_read state.requests.config.axi_bytes r q)) (outstanding (after_read state.requests.config.axi_bytes r q).flight)) same (by_flag finds r.last refl)
-  where
-    by_flag : (finds : FindsReader state r) (last : Bool) → r.last ≡ last
-        → IsPartWay (came_of_next (after_read state.requests.config.axi_bytes r finds.request)) (outstanding (after_read state.requests.config.axi_bytes r finds.request).flight)
-    by_flag finds true is =
-        subst (λ (q : BridgedRequest). IsPartWay (came_of_next q) (outstanding q.flight)) (sym (after_read-last state.requests.config.axi_bytes r finds.request is))
-        (part_way-settled (closed_by state.requests.config.axi_bytes r finds.request) (came-last state r finds.request finds.piece finds.rest finds.reader is))
-    by_flag finds false is =
-        subst (λ (q : BridgedRequest). IsPartWay (came_of_next q) (outstanding q.flight)) (sym (after_read-more state.requests.config.axi_bytes r finds.request is))
-        (part_way-more state r finds.request finds.piece finds.rest finds.reader is)

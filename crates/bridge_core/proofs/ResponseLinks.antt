@@ -1,9 +1,7 @@
 -- After an answer of the memory the outstanding bursts are those of the live requests: what settling a request leaves, and a B.
-use Rattle.std.proofs.Common.{◌≡◌, ◌≢◌, ℕ, zero, suc, ◌+◌, ◌≤◌, Bool, true, false, not, ◌&&◌, is_some, List, [], ◌∷◌, length, drop, take, refl, ap, sym, ◌∙◌, subst, arith, inl, inr, ◌⊎◌}
+use Rattle.std.proofs.Common.{◌≡◌, ◌≢◌, ℕ, ◌≤◌, Bool, true, false, not, ◌&&◌, is_some, List, [], ◌∷◌, length, drop, refl, ap, sym, ◌∙◌, subst, arith, inl, inr, ◌⊎◌}
 use Rattle.std.specs.Prelude.{None, Option, Some}
 use Rattle.std.specs.List.{filter}
-use Rattle.std.proofs.lemmas.List.Sums.{sum_by-cons}
-use Rattle.std.proofs.lemmas.Option.{same_Some}
 use Rattle.std.proofs.lemmas.Bool.{cases_eq, eq-eqb, eqb-true, leb-true, ne_eqb}
 use Rattle.bus_words.specs.Places.{change_first}
 use Rattle.bus_words.proofs.PlaceChanges.{find-without_first-none}
@@ -11,11 +9,11 @@ use Rattle.axi_beats.specs.declared.BBeat.{BBeat}
 use Rattle.axi_beats.specs.declared.Resp.{Resp}
 use Rattle.axi_checker.specs.OpenBursts.{OpenWrite, lacks_data, read_of_id, write_of_id, write_to_fill}
 use Rattle.burst_plan.specs.declared.Piece.{Piece}
-use Rattle.flight_table.specs.LiveRequests.{LiveRequest, finished, is_settled, planned, read_pieces, with_answered, with_write}
+use Rattle.flight_table.specs.LiveRequests.{LiveRequest, finished, is_settled, planned, with_answered, with_write}
 use Rattle.flight_table.specs.Order.{holds_id, is_id}
 use Rattle.responses.specs.Gathered.{after_b}
 use Rattle.bridge_core.specs.Bridge.{BridgeState, after_b_beat, b_fault}
-use Rattle.bridge_core.specs.Laws.{AreLinked, IsLinked, IsPartWay, IsSoundBridge, beats_in, came_of, came_of_next, open_reads, open_write, open_writes, outstanding, outstanding_of}
+use Rattle.bridge_core.specs.Laws.{AreLinked, IsLinked, IsPartWay, IsSoundBridge, came_of, came_of_next, open_reads, open_write, open_writes, outstanding, outstanding_of}
 use Rattle.bridge_core.specs.Requests.{BridgedRequest, after_response, holder, holds, settled, value_found}
 use Rattle.bridge_core.proofs.AnswerLinks.{FindsWriter, finds_writer, open_reads-writes}
 use Rattle.bridge_core.proofs.HolderChanges.{IsNextOf, filter-without, filter-without-other, find-changed, find-changed-gone, find-changed-other, length-filter-map, part-empty, part-next}
@@ -74,10 +72,7 @@ left-nobody id request past =
     record { writes = rw before refl; reads = rw before refl }
 
 -- the request that holds an ID, after an answer
-abbrev HasId : ℕ → BridgedRequest → Type 0
-HasId id request = request.flight.id ≡ Some id
-
-holds_it : (id : ℕ) (own : Option ℕ) → own ≡ Some id → is_id id own ≡ true
+pub holds_it : (id : ℕ) (own : Option ℕ) → own ≡ Some id → is_id id own ≡ true
 holds_it id own is = rw is (eq-eqb id id refl)
 
 pub left_after : (id : ℕ) (live : List BridgedRequest) (change : BridgedRequest → BridgedRequest) (old answered : BridgedRequest) → holder id live ≡ Some old → change old ≡ settled answered → answered.flight.id ≡ Some id
@@ -127,26 +122,12 @@ holder-other id other live change apart keeps =
     find-changed-other (holds other) (holds id) change live
     (λ request holds_id. let fails = not_other id other request.flight.id apart holds_id in (fails, keeps request fails))
 
--- ---- how far the next read is, after a request was settled
+-- ---- how far the next read is
 
 pub part_way-zero : (bursts : List (Bool × Piece)) → IsPartWay 0 bursts
 part_way-zero [] = refl
 part_way-zero ((true, piece) ∷ bursts) = refl
 part_way-zero ((false, piece) ∷ bursts) = omega arith
-
-pub part_way-settled : (request : BridgedRequest) → came_of_next request ≡ 0 → IsPartWay (came_of_next (settled request)) (outstanding (settled request).flight)
-part_way-settled request none = rw (came ∙ none) (part_way-zero (outstanding (settled request).flight))
-  where
-    ending : (settled request ≡ with_its_write request) ⊎ (settled request ≡ finished_one request) → came_of_next (settled request) ≡ came_of_next request
-    ending (inl writes) = ap came_of_next writes
-    ending (inr ends) = ap came_of_next ends
-
-    came : came_of_next (settled request) ≡ came_of_next request
-    came =
-        elim (settled_as request) [
-          | inl going ↦ ap came_of_next going.1
-          | inr at_end ↦ ending at_end.becomes
-        ]
 
 -- ---- a B
 
@@ -155,15 +136,6 @@ pub one_holder : (state : BridgeState) → IsSoundBridge state → (id : ℕ) �
 one_holder state sound id =
     let one = sound.requests.flights.one_holder id in
     omega (arith, one, length-filter-map (holds_id id) (λ (request : BridgedRequest). request.flight) state.requests.live)
-
--- more pieces have more transfers
-pub beats_in-more : (k : ℕ) (pieces : List Piece) → beats_in (take k pieces) ≤ beats_in (take (k + 1) pieces)
-beats_in-more zero [] = omega arith
-beats_in-more (suc k) [] = omega arith
-beats_in-more zero (piece ∷ pieces) = omega arith
-beats_in-more (suc k) (piece ∷ pieces) =
-    let next : suc k + 1 ≡ suc (k + 1) = omega arith in
-    rw (next, sum_by-cons (λ (p : Piece). p.len + 1) piece (take k pieces), sum_by-cons (λ (p : Piece). p.len + 1) piece (take (k + 1) pieces)) (omega (arith, beats_in-more k pieces))
 
 -- a request with the B counted, before it is settled
 abbrev answered_by : Resp → BridgedRequest → BridgedRequest
@@ -227,14 +199,3 @@ linked_response state b sound none =
 -- no write lacks data
 pub filled_response : (state : BridgeState) (b : BBeat) → IsSoundBridge state → write_to_fill (after_b_beat state b).open_bursts ≡ None
 filled_response state b sound = find-without_first-none lacks_data (write_of_id b.id) state.open_bursts.writes sound.filled
-
--- no read of the request that the B answers is on its way
-pub part_way_response : (state : BridgeState) (b : BBeat) → IsSoundBridge state → b_fault state b ≡ None → (request : BridgedRequest) → holder b.id state.requests.live ≡ Some request
-    → IsPartWay (came_of_next (after_response b.resp request)) (outstanding (after_response b.resp request).flight)
-part_way_response state b sound none request held =
-    let found = finds_writer state b sound none in
-    let same : found.request ≡ request = same_Some found.request request (sym found.holder.held ∙ held) in
-    let at_zero : came_of_next found.request ≡ 0 = subst (IsPartWay (came_of_next found.request)) found.next.is found.holder.served.next in
-    let more = beats_in-more found.request.flight.answered (read_pieces found.request.flight) in
-    let none_came : came_of_next (answered_by b.resp found.request) ≡ 0 = omega (arith, at_zero, more) in
-    subst (λ (r : BridgedRequest). IsPartWay (came_of_next (after_response b.resp r)) (outstanding (after_response b.resp r).flight)) same (part_way-settled (answered_by b.resp found.request) none_came)

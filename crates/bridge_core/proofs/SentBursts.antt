@@ -1,9 +1,8 @@
 -- The burst that goes next is legal, and breaks no rule of the port.
-use Rattle.std.proofs.Common.{◌≡◌, ℕ, zero, suc, ◌-◌, ◌^◌, ◌==◌, ◌<◌, ◌≤◌, nat_le, Bool, true, false, ◌&&◌, ◌||◌, List, [], ◌∷◌, map, length, take, Option, Some, None, refl, ap, sym, ◌∙◌, arith, subst, inl, inr, ◌⊎◌, length-drop, length-take, lit<}
+use Rattle.std.proofs.Common.{◌≡◌, ℕ, zero, suc, ◌-◌, ◌^◌, ◌<◌, ◌≤◌, Bool, true, false, List, [], ◌∷◌, map, length, take, Option, Some, None, refl, ap, sym, ◌∙◌, arith, subst, inl, inr, ◌⊎◌, length-drop, length-take, lit<}
 use Rattle.std.specs.Prelude.{if◌then◌else◌, unwrap_or, IfSome, slice_index_or}
 use Rattle.std.specs.List.{range_with_len, slice_get}
 use Rattle.std.specs.Option.{option_and_then}
-use Rattle.std.proofs.lemmas.Bool.{and_parts, eqb-true, leb-true}
 use Rattle.std.proofs.lemmas.List.Elements.{All-map}
 use Rattle.std.proofs.lemmas.Option.{same_Some}
 use Rattle.bus_words.specs.Lanes.{has_lane, lane_byte}
@@ -17,18 +16,17 @@ use Rattle.data_unit.specs.Atomics.{atomic_result}
 use Rattle.data_unit.specs.Words.{bytes_of}
 use Rattle.data_unit.proofs.NumberLaws.{All-bytes_of, lane_byte-lt}
 use Rattle.axi_beats.specs.Bursts.{Burst, IsLegal}
-use Rattle.axi_beats.specs.Transfers.{IsBusWidth}
 use Rattle.axi_checker.specs.OpenBursts.{OpenBursts}
 use Rattle.axi_checker.specs.Rules.{AxiPortLimits, burst_fault, id_of, outstanding_beside}
 use Rattle.axi_checker.proofs.Taking.{legal_is_unbroken}
 use Rattle.burst_plan.specs.PageMap.{IsPageMap, LeadsTo, translated_address}
-use Rattle.burst_plan.specs.Pieces.{IsPlannable, PlannedRange, is_max_len, pieces}
+use Rattle.burst_plan.specs.Pieces.{IsPlannable, PlannedRange, pieces}
 use Rattle.burst_plan.specs.PlannedBursts.{AreBytes}
 use Rattle.burst_plan.specs.declared.Piece.{Piece}
 use Rattle.burst_plan.specs.declared.Region.{Region}
 use Rattle.burst_plan.proofs.TranslationLaws.{LeadsTo-alignment, translated-LeadsTo}
 use Rattle.burst_plan.proofs.WriteLaws.{puts_given_bytes, reads_are_legal}
-use Rattle.flight_table.specs.LiveRequests.{LiveRequest, course, next_burst, pieces_planned, plan_for, planned, planned_writes, read_pieces, write_pieces}
+use Rattle.flight_table.specs.LiveRequests.{LiveRequest, course, next_burst, pieces_planned, planned, planned_writes, read_pieces, write_pieces}
 use Rattle.flight_table.specs.Laws.{IsSoundRequest}
 use Rattle.flight_table.specs.declared.TableLimits.{TableLimits}
 use Rattle.flight_table.proofs.Steps.{MayTake, takes_id}
@@ -39,6 +37,7 @@ use Rattle.bridge_core.specs.Requests.{BridgedRequest, RequestTable, address_of,
 use Rattle.bridge_core.specs.Sending.{Sending, burst_of_piece, bytes_to_write, bytes_written, next_sending, operand_of}
 use Rattle.bridge_core.specs.declared.Config.{Config}
 use Rattle.bridge_core.proofs.NextSending.{IsNext, map_some, next_found}
+use Rattle.bridge_core.proofs.ReadCounts.{config_parts, planned_range, uncorrupt_address}
 use Rattle.bridge_core.proofs.SendingLinks.{sound_requests}
 use Rattle.bridge_core.proofs.SentLinks.{taken_by}
 
@@ -78,48 +77,6 @@ written_are_bytes held (Intent write) old = no_bytes
 
 -- ---- a request's range has a plan
 
--- what the limits of a bridge give its ranges
-record AreRanged (config : Config) : Type 0 where
-  pub ids : 1 ≤ config.ids
-  pub depth : 1 ≤ config.depth
-  pub max_len : is_max_len config.max_len ≡ true
-  pub max_size : config.max_size ≤ 12
-  pub bus : IsBusWidth config.axi_bytes
-
-bus_width : (a b c : Bool) (bytes : ℕ) → (bytes == 8) ≡ a → (bytes == 4) ≡ b → (a || b && c) ≡ true → IsBusWidth bytes
-bus_width true b c bytes eight four valid = inr (eqb-true bytes 8 eight)
-bus_width false true c bytes eight four valid = inl (eqb-true bytes 4 four)
-bus_width false false c bytes eight four valid = absurd (cc (valid))
-
-ranged : (config : Config) → is_valid config ≡ true → AreRanged config
-ranged config valid =
-    let bus = and_parts _ _ valid in
-    let size = and_parts _ _ bus.0 in
-    let len = and_parts _ _ size.0 in
-    let depth = and_parts _ _ len.0 in
-    let ids = and_parts _ _ depth.0 in
-    let some_depth = and_parts _ _ depth.1 in
-    let some_ids = and_parts _ _ ids.1 in
-    let small = and_parts _ _ size.1 in
-    record {
-      ids = leb-true 1 config.ids some_ids.0;
-      depth = leb-true 1 config.depth some_depth.0;
-      max_len = len.1;
-      max_size = leb-true config.max_size 12 small.1;
-      bus = bus_width (config.axi_bytes == 8) (config.axi_bytes == 4) (nat_le 2 config.max_len) config.axi_bytes refl refl bus.1;
-    }
-
-planned_for : (operation : Operation) (plan : Option PlannedRange) (range : PlannedRange) → plan_for operation plan ≡ Some range → plan ≡ Some range
-planned_for PutFull plan range is = is
-planned_for PutPartial plan range is = is
-planned_for (Atomic op) plan range is = is
-planned_for Get plan range is = is
-planned_for (Intent write) plan range is = absurd (cc (is))
-
-not_corrupt : (corrupt : Bool) (place : Option ℕ) (address : ℕ) → (if corrupt then None else place) ≡ Some address → place ≡ Some address
-not_corrupt true place address is = absurd (cc (is))
-not_corrupt false place address is = is
-
 -- the range is that of an address to which the message leads
 pub record IsRangeOf (config : Config) (regions : List Region) (message : HeldMessage) (range : PlannedRange) : Type 0 where
   pub address : ℕ
@@ -129,9 +86,9 @@ pub record IsRangeOf (config : Config) (regions : List Region) (message : HeldMe
 pub range_is : (config : Config) (regions : List Region) (request : BridgedRequest) (range : PlannedRange) → IsPageMap regions → IsServed config regions request → request.flight.plan ≡ Some range
     → IsRangeOf config regions request.message range
 range_is config regions request range map_of served plan =
-    map_some (range_at config (request_of request.message)) (address_of regions (request_of request.message)) range (planned_for request.message.operation (range_of config regions (request_of request.message)) range (sym served.flight.plan ∙ plan))
+    map_some (range_at config (request_of request.message)) (address_of regions (request_of request.message)) range (planned_range request.message.operation (range_of config regions (request_of request.message)) range (sym served.flight.plan ∙ plan))
     (λ address found same.
-    let place = not_corrupt request.message.corrupt (translated_address regions (request_of request.message)) address found in
+    let place = uncorrupt_address request.message.corrupt (translated_address regions (request_of request.message)) address found in
     record {
       address = address;
       is = sym same;
@@ -142,7 +99,7 @@ pub plannable : (config : Config) (regions : List Region) (request : BridgedRequ
     → request.flight.plan ≡ Some range → (IsPlannable range) × (range.bus_bytes ≡ config.axi_bytes)
 plannable config regions request range valid map_of served plan =
     let of = range_is config regions request range map_of served plan in
-    let limits = ranged config valid in
+    let limits = config_parts config valid in
     let small : request.message.size ≤ 12 = omega (arith, served.message.size, limits.max_size) in
     rw of.is (
       record {
@@ -208,7 +165,7 @@ sent_legal table sending sound is =
 
 -- ---- its ID has room for it
 
-id_of_piece : (id : ℕ) (request : BridgedRequest) (range : PlannedRange) (burst : Bool × Piece) → id_of (burst_of_piece id request range burst) ≡ id
+pub id_of_piece : (id : ℕ) (request : BridgedRequest) (range : PlannedRange) (burst : Bool × Piece) → id_of (burst_of_piece id request range burst) ≡ id
 id_of_piece id request range (true, piece) = refl
 id_of_piece id request range (false, piece) = refl
 

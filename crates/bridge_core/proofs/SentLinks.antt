@@ -167,21 +167,9 @@ open_reads-append id came ((true, piece) ∷ bursts) burst way =
     ∙ ap (λ n. open_reads id n bursts ++ open_reads id 0 (burst ∷ [])) (sym way)
 open_reads-append id came ((false, piece) ∷ bursts) burst way = ap (λ (rs : List OpenRead). open_read id came piece ∷ rs) (open_reads-append id 0 bursts burst (none_came bursts))
 
--- one more at its end leaves a list on its way
-part_way-append : (came : ℕ) (bursts : List (Bool × Piece)) (burst : Bool × Piece) → IsPartWay came bursts → IsPartWay came (bursts ++ burst ∷ [])
-part_way-append came [] burst way = subst (λ n. IsPartWay n (burst ∷ [])) (sym way) (none_came (burst ∷ []))
-part_way-append came ((true, piece) ∷ bursts) burst way = way
-part_way-append came ((false, piece) ∷ bursts) burst way = way
-
 pub outstanding_sent : (id : ℕ) (request : BridgedRequest) (burst : Bool × Piece) → request.flight.answered ≤ request.flight.sent → next_burst request.flight ≡ Some burst
     → outstanding (after_sending id request).flight ≡ outstanding request.flight ++ burst ∷ []
 outstanding_sent id request burst below next = drop_take_more (planned request.flight) request.flight.answered request.flight.sent burst below next
-
--- a sent burst leaves the read on its way that is answered next
-pub part_way_sent : (id : ℕ) (request : BridgedRequest) (burst : Bool × Piece) → request.flight.answered ≤ request.flight.sent → next_burst request.flight ≡ Some burst
-    → IsPartWay (came_of_next request) (outstanding request.flight) → IsPartWay (came_of_next (after_sending id request)) (outstanding (after_sending id request).flight)
-part_way_sent id request burst below next way =
-    subst (IsPartWay (came_of_next request)) (sym (outstanding_sent id request burst below next)) (part_way-append (came_of_next request) (outstanding request.flight) burst way)
 
 -- a burst as it stands open
 writes_after : (open_bursts : OpenBursts) (id : ℕ) (request : BridgedRequest) (range : PlannedRange) (burst : Bool × Piece)

@@ -5,12 +5,7 @@ use Rattle.std.specs.List.{find}
 use Rattle.std.proofs.lemmas.Bool.{lt-leb}
 use Rattle.bus_words.specs.Places.{change_first}
 use Rattle.bus_words.proofs.PlaceChanges.{all-find, find-passes}
-use Rattle.tl_messages.specs.Operations.{has_data, reply_has_data}
 use Rattle.tl_messages.specs.Requests.{request_of}
-use Rattle.tl_messages.specs.declared.AtomicOp.{AtomicOp}
-use Rattle.tl_messages.specs.declared.AtomicOp.TheVariants.{Min, Max, MinU, MaxU, Add, Xor, Or, And, Swap}
-use Rattle.tl_messages.specs.declared.Operation.{Operation}
-use Rattle.tl_messages.specs.declared.Operation.TheVariants.{PutFull, PutPartial, Atomic, Get, Intent}
 use Rattle.axi_beats.specs.declared.RBeat.{RBeat}
 use Rattle.axi_beats.specs.declared.Resp.{Resp}
 use Rattle.burst_plan.specs.declared.Region.{Region}
@@ -30,7 +25,7 @@ use Rattle.bridge_core.specs.declared.Config.{Config}
 use Rattle.bridge_core.proofs.HolderChanges.{find-changed}
 use Rattle.bridge_core.proofs.KeyChanges.{change_none}
 use Rattle.bridge_core.proofs.SendingLinks.{sound_requests}
-use Rattle.bridge_core.proofs.ServedRequests.{served_read, served_response}
+use Rattle.bridge_core.proofs.ServedRequests.{atomic_both, served_read, served_response}
 use Rattle.bridge_core.proofs.TableSteps.{IsChanged, IsStep, changed_table, rising}
 use Rattle.bridge_core.proofs.Together.{found_apart, found_together, held_there}
 
@@ -93,29 +88,11 @@ atomic_only : (b : Bool) (outline : Outline) (gathering : Gathering) → gathere
 atomic_only true outline gathering is some = refl
 atomic_only false outline gathering is some = absurd (cc (rw is at some))
 
-both_data : (op : Operation) → gathered.is_atomic op ≡ true → (reply_has_data op && has_data op) ≡ true
-both_data PutFull is = absurd (cc (is))
-both_data PutPartial is = absurd (cc (is))
-both_data (Atomic op) is = by_op op
-  where
-    by_op : (o : AtomicOp) → (reply_has_data (Atomic o) && has_data (Atomic o)) ≡ true
-    by_op Min = refl
-    by_op Max = refl
-    by_op MinU = refl
-    by_op MaxU = refl
-    by_op Add = refl
-    by_op Xor = refl
-    by_op Or = refl
-    by_op And = refl
-    by_op Swap = refl
-both_data Get is = absurd (cc (is))
-both_data (Intent write) is = absurd (cc (is))
-
 pub found_is_atomic : (config : Config) (regions : List Region) (request : BridgedRequest) (gathering : Gathering) → IsServed config regions request
     → is_some (old_value (outline_in request) gathering) ≡ true → is_atomic request.flight ≡ true
 found_is_atomic config regions request gathering served some =
     let atomic : gathered.is_atomic request.message.operation ≡ true = atomic_only (gathered.is_atomic request.message.operation) (outline_in request) gathering refl some in
-    rw served.flight.operation (both_data request.message.operation atomic)
+    rw served.flight.operation (atomic_both request.message.operation atomic)
 
 -- ---- what an answer makes of it
 

@@ -1,9 +1,9 @@
 -- What a change of one live request keeps of the table: the numbers on both sides, and what is true of every table.
-use Rattle.std.proofs.Common.{◌≡◌, ℕ, suc, Bool, true, false, List, [], ◌∷◌, Option, Some, None, refl, sym, ◌∙◌, ap}
-use Rattle.std.specs.Prelude.{IsSome, if◌then◌else◌, length, option_map}
+use Rattle.std.proofs.Common.{◌≡◌, ℕ, Bool, List, Option, Some, None, refl, sym, ◌∙◌, ap}
+use Rattle.std.specs.Prelude.{IsSome, option_map}
 use Rattle.std.specs.List.{AllByRecursion, find}
 use Rattle.bus_words.specs.Places.{change_first}
-use Rattle.bus_words.proofs.PlaceChanges.{all-change_first, all-find}
+use Rattle.bus_words.proofs.PlaceChanges.{all-change_first, all-find, length-change_first}
 use Rattle.burst_plan.specs.declared.Region.{Region}
 use Rattle.flight_table.specs.Laws.{AreRising, IsSound}
 use Rattle.flight_table.specs.LiveRequests.{LiveRequest}
@@ -58,14 +58,6 @@ pub record IsChanged (config : Config) (regions : List Region) (old new : KeyedT
 buses_changed : (config : Config) (g : HeldRequest → HeldRequest) (n : ℕ) (helds : List HeldRequest) → ((h : HeldRequest) → (g h).bus_bytes ≡ h.bus_bytes)
     → AllByRecursion (λ (h : HeldRequest). h.bus_bytes ≡ config.axi_bytes) helds → AllByRecursion (λ (h : HeldRequest). h.bus_bytes ≡ config.axi_bytes) (change_first (is_held n) g helds)
 buses_changed config g n helds keeps all = all-change_first (λ (h : HeldRequest). h.bus_bytes ≡ config.axi_bytes) (is_held n) g helds (λ h passes is. keeps h ∙ is) all
-
-pub length-change_first : {X : Type 0} (p : X → Bool) (f : X → X) (xs : List X) → length (change_first p f xs) ≡ length xs
-length-change_first p f [] = refl
-length-change_first {X = X} p f (x ∷ xs) = by_test (p x) (length-change_first p f xs)
-  where
-    by_test : (b : Bool) → length (change_first p f xs) ≡ length xs → length (if b then f x ∷ xs else x ∷ change_first p f xs) ≡ length (x ∷ xs)
-    by_test true rest = refl
-    by_test false rest = ap suc rest
 
 -- what has to be shown of a change: it keeps numbers and buses, makes of the request what both sides make of it, and leaves it served
 pub record IsStep (config : Config) (regions : List Region) (helds : List HeldRequest) (f : LiveRequest → LiveRequest) (g : HeldRequest → HeldRequest) (change : BridgedRequest → BridgedRequest) (r : LiveRequest) : Type 0 where

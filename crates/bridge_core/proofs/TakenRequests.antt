@@ -1,11 +1,11 @@
 -- A request whose reply leaves, on both sides.
-use Rattle.std.proofs.Common.{◌≡◌, ℕ, ◌+◌, Bool, true, false, List, [], ◌∷◌, ◌++◌, Some, length, refl, sym, ◌∙◌, ap, arith}
-use Rattle.std.specs.Prelude.{IsSomeAnd, IsTrue, if◌then◌else◌, option_map}
+use Rattle.std.proofs.Common.{◌≡◌, ℕ, ◌+◌, List, [], ◌∷◌, ◌++◌, Some, length, refl, sym, ◌∙◌, ap, arith}
+use Rattle.std.specs.Prelude.{IsSomeAnd, IsTrue, option_map}
 use Rattle.std.specs.List.{AllByRecursion, find}
 use Rattle.std.proofs.lemmas.List.{length-append}
 use Rattle.std.proofs.lemmas.Bool.{and_parts}
 use Rattle.bus_words.specs.Places.{without_first}
-use Rattle.bus_words.proofs.PlaceChanges.{all-append, all-find, all-without_first, find-passes}
+use Rattle.bus_words.proofs.PlaceChanges.{all-append, all-find, all-without_first, find-passes, length-without_found}
 use Rattle.burst_plan.specs.declared.Region.{Region}
 use Rattle.flight_table.specs.Laws.{IsSound}
 use Rattle.flight_table.specs.LiveRequests.{LiveRequest}
@@ -16,14 +16,6 @@ use Rattle.bridge_core.specs.Requests.{BridgedRequest, first_done, without_done}
 use Rattle.bridge_core.specs.declared.Config.{Config}
 use Rattle.bridge_core.proofs.TableSteps.{rising, table_seen}
 use Rattle.bridge_core.proofs.Together.{found_together, held_there, numbers_without, without_together}
-
-length-without_found : {X : Type 0} (p : X → Bool) (xs : List X) (x : X) → find p xs ≡ Some x → length (without_first p xs) + 1 ≡ length xs
-length-without_found p [] x found = absurd (cc)
-length-without_found {X = X} p (y ∷ ys) x found = by_test (p y) found (λ later. length-without_found p ys x later)
-  where
-    by_test : (b : Bool) → (if b then Some y else find p ys) ≡ Some x → (find p ys ≡ Some x → length (without_first p ys) + 1 ≡ length ys) → length (if b then ys else y ∷ without_first p ys) + 1 ≡ length (y ∷ ys)
-    by_test true here rest = omega arith
-    by_test false later rest = omega (arith, rest later)
 
 -- the table after a request left, and what was found before
 pub record IsTakenOut (config : Config) (regions : List Region) (old new : KeyedTable) (helds after more : List HeldRequest) (client : ℕ) (request : BridgedRequest) : Type 0 where

@@ -1,7 +1,7 @@
 -- The read beats that came of outstanding bursts are among the work that is left.
 use Rattle.std.proofs.Common.{◌≡◌, ℕ, zero, suc, ◌+◌, ◌*◌, ◌==◌, ◌≤◌, Bool, true, false, not, ◌||◌, List, [], ◌∷◌, length, drop, take, Option, Some, None, refl, ap, sym, ◌∙◌, arith}
 use Rattle.std.specs.Prelude.{if◌then◌else◌}
-use Rattle.std.specs.List.{AllByRecursion, filter, find, slice_get, sum_by}
+use Rattle.std.specs.List.{AllByRecursion, filter, slice_get, sum_by}
 use Rattle.std.proofs.lemmas.Bool.{eq-eqb, eqb-true}
 use Rattle.std.proofs.lemmas.List.Sums.{sum_by-cons}
 use Rattle.std.proofs.lemmas.Option.{same_Some}
@@ -18,6 +18,7 @@ use Rattle.bridge_core.specs.Laws.{IsPartWay, IsServed, IsSoundBridge, came_of, 
 use Rattle.bridge_core.specs.Requests.{BridgedRequest, flight_table_of, flights_of, holder, holds}
 use Rattle.bridge_core.specs.declared.Config.{Config}
 use Rattle.burst_plan.specs.declared.Region.{Region}
+use Rattle.bridge_core.proofs.HolderChanges.{find-none-kept}
 use Rattle.bridge_core.proofs.SendingLinks.{sound_requests}
 use Rattle.bridge_core.proofs.SentLinks.{holders_counted}
 
@@ -126,14 +127,6 @@ fewer_after {X = X} q x xs = by_test (q x)
     by_test true = omega arith
     by_test false = omega arith
 
-none_after : {X : Type 0} (q : X → Bool) (xs : List X) → length (filter q xs) ≡ 0 → find q xs ≡ None
-none_after q [] none = refl
-none_after {X = X} q (x ∷ xs) none = by_test (q x) none (none_after q xs)
-  where
-    by_test : (b : Bool) → length (if b then x ∷ filter q xs else filter q xs) ≡ 0 → (length (filter q xs) ≡ 0 → find q xs ≡ None) → (if b then Some x else find q xs) ≡ None
-    by_test true none rest = absurd (omega (arith, none))
-    by_test false none rest = rest none
-
 not_here : (id : ℕ) (request : BridgedRequest) (live : List BridgedRequest) → holds id request ≡ false → holder id (request ∷ live) ≡ holder id live
 not_here id request live fails = rw fails refl
 
@@ -165,7 +158,7 @@ reads_within limits accepted config regions (r ∷ live) reads all served one li
         → filter (read_of_id id) (filter (is_other j) reads) ≡ open_reads id (came_of (holder id live)) (outstanding_of (holder id live))
     others_linked j some id true is =
         let same : j ≡ id = eqb-true j id is in
-        let none : holder id live ≡ None = none_after (holds id) live (alone_here (holds id) r live (rw some is) (one id)) in
+        let none : holder id live ≡ None = find-none-kept (holds id) live (alone_here (holds id) r live (rw some is) (one id)) in
         ap (λ n. filter (read_of_id id) (filter (is_other n) reads)) same ∙ own_of_others id reads ∙ sym (ap (λ h. open_reads id (came_of h) (outstanding_of h)) none)
     others_linked j some id false is =
         others_of_others id j reads is ∙ linked id ∙ by_held id (not_here id r live (rw some is))

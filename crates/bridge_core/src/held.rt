@@ -1,8 +1,7 @@
 //! What a live request asks, and what its answers have told so far.
-ghost use Rattle.std.specs.Prelude.{◌≡◌, ◌<◌, ◌≤◌, ◌^◌, ◌%◌, IfOk, IfSome, IsSome};
+ghost use Rattle.std.specs.Prelude.{◌≡◌, ◌<◌, IfOk};
 ghost use Rattle.axi_beats.specs.Transfers.{IsBusWidth};
-ghost use Rattle.data_unit.specs.Atomics.{modulus};
-ghost use Rattle.tl_messages.specs.Requests.{WholeRequest, request_of};
+ghost use Rattle.tl_messages.specs.Requests.{request_of};
 ghost use Rattle.responses.specs.Gathered.{after_b, after_r, gathered, gathering_of, old_value, outline_of, reads_of};
 ghost use Rattle.burst_plan.specs.PlannedBursts.{write_of};
 ghost use Rattle.bridge_core.specs.Inside.{CanFill, bytes_held};

@@ -5,7 +5,7 @@
 ghost use Rattle.std.specs.Prelude.{◌≡◌};
 ghost use Rattle.bus_words.specs.Lanes.{is_between};
 ghost use Rattle.burst_plan.specs.Pieces.{is_max_len};
-ghost use Rattle.bridge_core.specs.Configs.{is_valid};
+ghost use Rattle.bridge_core.specs.Configs.{is_valid, port_of};
 
 mod bridge;
 mod bursts;
@@ -88,6 +88,16 @@ impl Config {
             && is_max_len(self.max_len)
             && is_between(3, 12, self.max_size)
             && (self.axi_bytes == 8 || self.axi_bytes == 4 && self.max_len >= 2)
+    }
+
+    /// The level of a client's port; TL-UL where there can be no such client.
+    pub fn level_of(&self, client: u8) -> Level
+        ensures { result ≡ (port_of self.now client).level }
+    {
+        match self.levels.get(usize::from(client)) {
+            Some(level) => *level,
+            None => Level::Ul,
+        }
     }
 }
 

@@ -1,7 +1,7 @@
 //! The clients' ports.
 ghost use Rattle.std.specs.Prelude.{◌≡◌, true, None, IfOk, IfSome, IsSomeAnd, slice_get, slice_set};
 ghost use Rattle.tl_checker.specs.Ports.{judged, opening_port, port_after};
-ghost use Rattle.bridge_core.specs.Configs.{is_valid, port_of};
+ghost use Rattle.bridge_core.specs.Configs.{is_valid};
 ghost use Rattle.bridge_core.specs.Inside.{CanAccept, ports_from};
 ghost use Rattle.bridge_core.specs.Laws.{IsSoundRequestTable};
 ghost use Rattle.bridge_core.specs.Requests.{with_request};
@@ -9,18 +9,8 @@ ghost use Rattle.bridge_core.specs.Requests.{with_request};
 use crate::Config;
 use crate::requests::RequestTable;
 use std::alloc::{AllocError, Global};
-use tl_checker::{Level, Port, Progress, TlRule};
+use tl_checker::{Port, Progress, TlRule};
 use tl_messages::ABeat;
-
-/// The level of a client's port.
-fn level_of(config: &Config, client: u8) -> Level
-    ensures { result ≡ (port_of config.now client).level }
-{
-    match config.levels.get(usize::from(client)) {
-        Some(level) => *level,
-        None => Level::Ul,
-    }
-}
 
 /// A port for each client, on which no beat has come.
 pub(crate) fn opening_ports(alloc: Global, config: &Config) -> Result<Vec<Port>, AllocError>
@@ -29,7 +19,7 @@ pub(crate) fn opening_ports(alloc: Global, config: &Config) -> Result<Vec<Port>,
 {
     let mut ports = Vec::new(alloc);
     for client in 0..config.clients {
-        let level = level_of(config, client);
+        let level = config.level_of(client);
         ports.push(Port::new(alloc, client, level, config.max_size)?)?;
     }
     Ok(ports)

@@ -1,24 +1,23 @@
 //! The live requests of the bridge.
-ghost use Rattle.std.specs.Prelude.{◌≡◌, ◌+◌, ◌<◌, ◌≤◌, ◌^◌, ◌%◌, [], ◌∷◌, ◌++◌, true, false, length, find, position, IfOk, IfSome, IsSome, IsSomeAnd, IsTrue, IsFalse, None, Some, is_some, option_map};
+ghost use Rattle.std.specs.Prelude.{◌≡◌, ◌+◌, ◌<◌, ◌≤◌, ◌^◌, ◌%◌, [], ◌∷◌, ◌++◌, true, false, find, position, IfOk, IfSome, IsSome, IsSomeAnd, None, Some, is_some, option_map};
 ghost use Rattle.std.specs.List.{AllByRecursion};
 ghost use Rattle.std.specs.Vec.{vec_capacity, vec_len};
 ghost use Rattle.bus_words.specs.Places.{change_first, without_first};
 ghost use Rattle.tl_messages.specs.Requests.{request_of};
 ghost use Rattle.tl_checker.specs.Ports.{opening_port};
 ghost use Rattle.burst_plan.specs.PageMap.{IsPageMap};
-ghost use Rattle.flight_table.specs.Tables.{change_key, has_room, in_flight, is_busy, is_done_of, request_at, requests_of, table_of};
+ghost use Rattle.flight_table.specs.Tables.{change_key, has_room, is_busy, is_done_of, request_at, requests_of, table_of};
 ghost use Rattle.flight_table.specs.Order.{holds_id, is_ready};
 ghost use Rattle.flight_table.specs.Laws.{IsSound};
-ghost use Rattle.flight_table.specs.Work.{work};
 ghost use Rattle.responses.specs.Gathered.{after_b, after_r, gathered, outline_of, reads_of};
 ghost use Rattle.responses.specs.RightReplies.{ShowsReply};
 ghost use Rattle.axi_beats.specs.Transfers.{IsBusWidth};
 ghost use Rattle.bridge_core.specs.Bridge.{opening_requests};
 ghost use Rattle.bridge_core.specs.Configs.{is_valid, port_of};
-ghost use Rattle.bridge_core.specs.Inside.{AwaitsAnswer, AwaitsBeat, HeldRequest, IsFirstAt, IsUndone, answered_flight, is_held, settled_flight};
+ghost use Rattle.bridge_core.specs.Inside.{AwaitsAnswer, AwaitsBeat, IsFirstAt, IsUndone, answered_flight, is_held, settled_flight};
 ghost use Rattle.bridge_core.specs.Laws.{IsSoundRequestTable};
-ghost use Rattle.bridge_core.specs.Requests.{BridgedRequest, first_done, flight_table_of, holder, may_send, outline_in, range_of, reply_beats, with_read, with_request, with_response, with_sent_burst, without_done};
-ghost use Rattle.bridge_core.specs.Sending.{burst_for, next_sending};
+ghost use Rattle.bridge_core.specs.Requests.{first_done, flight_table_of, holder, may_send, outline_in, range_of, reply_beats, with_read, with_request, with_response, with_sent_burst, without_done};
+ghost use Rattle.bridge_core.specs.Sending.{next_sending};
 
 use crate::Config;
 use crate::bursts::set_read;

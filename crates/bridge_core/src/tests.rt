@@ -37,3 +37,31 @@ fn limits(rt: HostRuntime) {
         assert_eq!(rt; config.is_valid(), valid, "{config:?}");
     }
 }
+
+#[test]
+fn each_client_has_its_own_level(rt: HostRuntime) {
+    let mut levels = [Level::Ul; 8];
+    levels[1] = Level::Uh;
+    levels[7] = Level::Uh;
+    let config = Config {
+        clients: 8,
+        quota: 1,
+        ids: 1,
+        depth: 1,
+        max_len: 1,
+        max_size: 3,
+        levels,
+        axi_bytes: 8,
+    };
+    for (client, level) in [
+        (0, Level::Ul),
+        (1, Level::Uh),
+        (2, Level::Ul),
+        (6, Level::Ul),
+        (7, Level::Uh),
+        (8, Level::Ul),
+        (255, Level::Ul),
+    ] {
+        assert_eq!(rt; config.level_of(client), level, "{client}");
+    }
+}

@@ -61,13 +61,13 @@ enum Step {
     B(u8, Resp, u8),
     /// The memory answers a read, and the number of the rule that this breaks, or 0.
     R(RBeat, u8),
-    /// The memory answers a read of 256 transfers with the numbers from 0.
+    /// The memory answers all but the last transfer of a read of 256 with the numbers from 0.
     Reads(u8),
     /// Whether a request is ready.
     CanPump(bool),
     /// A client takes a reply.
     Take(u8, Taken),
-    /// The reply that was taken last: how many beats, and what the first has but its payload.
+    /// The reply that was taken last: how many beats, and what each has but what it shows.
     Reply(u16, DBeat),
     /// A beat of that reply: its payload, and whether it is corrupt.
     Shows(u16, u64, bool),
@@ -252,34 +252,33 @@ fn broken(answer: Result<(), AxiRule>) -> u8 {
     }
 }
 
-/// Whether the beats of a read of 256 transfers are taken.
+/// Whether all but the last beat of a read of 256 transfers are taken.
 fn reads(bridge: &mut Bridge, id: u8) -> bool {
-    for k in 0..256u64 {
-        let beat = RBeat {
-            id,
-            payload: k,
-            resp: Resp::Okay,
-            last: k == 255,
-        };
-        if bridge.on_r(&beat).is_err() {
+    for payload in 0..255u64 {
+        if bridge.on_r(&r(id, payload, Resp::Okay)).is_err() {
             return false;
         }
     }
     true
 }
 
-/// Whether the reply has so many beats, the first of which is this but for what it shows.
+/// Whether the reply has so many beats, each of which is this but for what it shows.
 fn replied(reply: &ReplyBox, beats: u16, first: DBeat) -> bool {
     if reply.beats() != beats || beats == 0 {
         return false;
     }
-    let found = reply.beat(0);
-    let expected = DBeat {
-        payload: found.payload,
-        corrupt: found.corrupt,
-        ..first
-    };
-    found == expected
+    for k in 0..beats {
+        let found = reply.beat(k);
+        let expected = DBeat {
+            payload: found.payload,
+            corrupt: found.corrupt,
+            ..first
+        };
+        if found != expected {
+            return false;
+        }
+    }
+    true
 }
 
 fn shows(reply: &ReplyBox, k: u16, payload: u64, corrupt: bool) -> bool {

@@ -131,6 +131,32 @@ fn read_beats_of_two_ids_go_to_their_own_requests(rt: HostRuntime) -> Result<(),
     Ok(())
 }
 
+/// Each burst that is sent takes one from the work that is left, each beat of a read two.
+#[test]
+fn a_get_of_256_bytes_in_two_bursts(rt: HostRuntime) -> Result<(), Fail> {
+    let steps = [
+        Offer(0, get(8, 0, 0), Offered::Accepted(0)),
+        Work(66),
+        Read(0, 0x10000, 15, 3),
+        Read(0, 0x10080, 15, 3),
+        Idle,
+        Work(64),
+        R(r(0, 1, Resp::Okay), 0),
+        Work(62),
+        B(0, Resp::Okay, 9),
+        R(r(0, 2, Resp::ExOkay), 12),
+        Work(62),
+        Take(0, Taken::Nothing),
+        R(r(0, 2, Resp::Okay), 0),
+        Work(60),
+    ];
+    assert_eq!(rt;
+        carried(rt.alloc(), USUAL, &[FOUR_PAGES], &steps)?,
+        steps.len()
+    );
+    Ok(())
+}
+
 /// Any response other than OKAY denies the whole Put.
 #[test]
 fn a_put_in_two_bursts(rt: HostRuntime) -> Result<(), Fail> {

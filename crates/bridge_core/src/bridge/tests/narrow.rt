@@ -46,6 +46,7 @@ fn eight_bytes_go_in_two_transfers(rt: HostRuntime) -> Result<(), Fail> {
     Ok(())
 }
 
+/// Two bursts are unanswered at most: the next goes once the last beat of one has come.
 #[test]
 fn a_page_goes_in_bursts_of_1024_bytes(rt: HostRuntime) -> Result<(), Fail> {
     let config = Config {
@@ -59,13 +60,20 @@ fn a_page_goes_in_bursts_of_1024_bytes(rt: HostRuntime) -> Result<(), Fail> {
         Read(0, 0x11400, 255, 2),
         Idle,
         Reads(0),
+        Idle,
+        R(last_r(0, 255, Resp::Okay), 0),
         Read(0, 0x11800, 255, 2),
         Idle,
         Reads(0),
+        Idle,
+        R(last_r(0, 255, Resp::Okay), 0),
         Read(0, 0x11c00, 255, 2),
         Idle,
         Reads(0),
+        R(last_r(0, 255, Resp::Okay), 0),
         Reads(0),
+        Take(0, Taken::Nothing),
+        R(last_r(0, 255, Resp::Okay), 0),
         Take(0, Taken::Reply(0)),
         Reply(512, d(1, 12, 0, false)),
         Shows(0, 0x0000000100000000, false),
