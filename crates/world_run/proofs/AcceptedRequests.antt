@@ -1,6 +1,6 @@
 -- The beats that a run shows tell what the bridge holds: each client's front is what was heard of it, and so each request that is accepted
 -- is the message that the bridge makes of its last beat. It knows beats and answers; the memory plays no part.
-use Rattle.std.proofs.Common.{◌≡◌, ℕ, ◌+◌, inl, inr, true, false, List, [], ◌∷◌, ◌++◌, length, Option, Some, None, Ok, option_to_list, zero, suc, refl, sym, subst, ap, ◌∙◌, arith, append-nil, append_assoc, length-append}
+use Rattle.std.proofs.Common.{◌≡◌, ℕ, ◌+◌, inl, inr, true, false, List, [], ◌∷◌, ◌++◌, length, Option, Some, None, Ok, option_to_list, zero, suc, refl, sym, subst, ap, ◌∙◌, arith, append_assoc, length-append}
 use Rattle.std.specs.Prelude.{zip, ◌==◌, ◌≢◌, nat_le, option_map, slice_get, slice_set, if◌then◌else◌}
 use Rattle.std.specs.List.{cons_option}
 use Rattle.std.specs.Option.{option_flatten}
@@ -24,7 +24,7 @@ use Rattle.bridge_core.proofs.Openings.{nothing_begun}
 use Rattle.bridge_core.proofs.PortPlaces.{get_set, get_set-other}
 use Rattle.world_run.specs.Runs.{Heard, heard_nothing, with_heard, AcceptedMessage, messages_from, requests_of, accepted_in, answers_of}
 use Rattle.world_run.specs.Setups.{SetupLists}
-use Rattle.world_run.specs.World.{WorldState, Outcome, after, opening_world, next, leaves_all}
+use Rattle.world_run.specs.World.{WorldState, Outcome, opening_world, next, leaves_all}
 use Rattle.world_run.specs.declared.Answer.{Answer}
 use Rattle.world_run.specs.declared.Answer.TheVariants.{More, Accepted}
 use Rattle.world_run.specs.declared.Step.{Step}
@@ -316,20 +316,3 @@ has_accepted-here requests state step steps q has is =
     split =
         accepted_at_step state.bridge.requests.config state.bridge has.heard step answer (zip steps (answers_of (next state step).state steps)) has.is_heard
         ∙ ap (λ request. cons_option request later) is
-
--- so is one that a beat completes
-pub has_accepted-offer : (requests : List WholeRequest) (state : WorldState) (client : ℕ) (beat : ABeat) (steps : List Step) (number : ℕ) → HasAccepted requests state (Offer client beat ∷ steps)
-    → (next state (Offer client beat)).answer ≡ Accepted number → slice_get requests state.bridge.requests.accepted ≡ Some (request_of (message_with state.bridge client beat))
-has_accepted-offer requests state client beat steps number has is =
-    has_accepted-here requests state (Offer client beat) steps (request_of (message_with state.bridge client beat)) has (ap (request_at state.bridge (Offer client beat)) is)
-
--- after the last event all are accepted
-has_accepted-along : (requests : List WholeRequest) (state : WorldState) (steps : List Step) → HasAccepted requests state steps → HasAccepted requests (after state steps) []
-has_accepted-along requests state [] has = has
-has_accepted-along requests state (step ∷ steps) has = has_accepted-along requests (next state step).state steps (has_accepted-next requests state step steps has)
-
-pub all_accepted : (setup : SetupLists) (steps : List Step)
-    → length (accepted_in steps (answers_of (opening_world setup) steps)) ≡ (after (opening_world setup) steps).bridge.requests.accepted
-all_accepted setup steps =
-    let has = has_accepted-along (accepted_in steps (answers_of (opening_world setup) steps)) (opening_world setup) steps (has_accepted-opening setup steps) in
-    ap length (has.all ∙ append-nil has.past) ∙ has.count

@@ -6,7 +6,7 @@ use Rattle.std.specs.List.{AllByRecursion}
 use Rattle.std.proofs.lemmas.Bool.{leb-false}
 use Rattle.std.proofs.lemmas.List.{length-append}
 use Rattle.std.proofs.lemmas.List.Sums.{sum_by-append, sum_by-cons}
-use Rattle.bus_words.proofs.PlaceChanges.{all-find}
+use Rattle.bus_words.proofs.PlaceChanges.{all-find, length-change_first, length-without_found}
 use Rattle.axi_beats.specs.declared.BBeat.{BBeat}
 use Rattle.axi_beats.specs.declared.RBeat.{RBeat}
 use Rattle.axi_beats.specs.declared.Resp.{Resp}
@@ -41,7 +41,7 @@ use Rattle.world_run.specs.Laws.{Agree, bursts_sent}
 use Rattle.world_run.proofs.Serials.{most_sent}
 use Rattle.world_run.proofs.Outstanding.{HasBeatsToCome, outstanding_after_b, outstanding_after_r, outstanding_performed, outstanding_sent}
 use Rattle.world_run.proofs.Plain.{plain_after_b, plain_after_r, plain_performed, plain_sent}
-use Rattle.world_run.proofs.Sums.{length_changed, length_without, sum_changed, sum_unseen, sum_without}
+use Rattle.world_run.proofs.Sums.{sum_changed, sum_unseen, sum_without}
 
 -- ---- a burst is sent
 
@@ -55,7 +55,7 @@ pub agree_sent : (state : BridgeState) (memory : FreeMemory) (sending : Sending)
     → IsSoundBridge (after_sent state sending) → IsSoundMemory (with_burst memory sending.burst) → Agree (after_sent state sending) (with_burst memory sending.burst)
 agree_sent state memory sending agree is bridge_laws memory_laws =
     let counted = sent_counted state sending agree.bridge_laws is in
-    let same = length_changed (is_numbered sending.request.flight.number) (after_sending sending.id) state.requests.live in
+    let same = length-change_first (is_numbered sending.request.flight.number) (after_sending sending.id) state.requests.live in
     record {
       bridge_laws = bridge_laws;
       memory_laws = memory_laws;
@@ -112,7 +112,7 @@ read_sent bus_bytes r request =
 pub agree_after_b : (state : BridgeState) (memory : FreeMemory) (b : BBeat) → Agree state memory → IsSoundBridge (after_b_beat state b) → IsSoundMemory (after_b_of memory b.id)
     → Agree (after_b_beat state b) (after_b_of memory b.id)
 agree_after_b state memory b agree bridge_laws memory_laws =
-    let same = length_changed (holds b.id) (after_response b.resp) state.requests.live in
+    let same = length-change_first (holds b.id) (after_response b.resp) state.requests.live in
     let counted = sum_unseen (λ (r : BridgedRequest). r.flight.sent) (holds b.id) (after_response b.resp) state.requests.live (response_sent b.resp) in
     record {
       bridge_laws = bridge_laws;
@@ -131,7 +131,7 @@ pub agree_after_r : (state : BridgeState) (memory : FreeMemory) (r : RBeat) → 
     → IsSoundMemory (after_r_of memory r.id) → Agree (after_r_beat state r) (after_r_of memory r.id)
 agree_after_r state memory r agree to_come bridge_laws memory_laws =
     let change = after_read state.requests.config.axi_bytes r in
-    let same = length_changed (holds r.id) change state.requests.live in
+    let same = length-change_first (holds r.id) change state.requests.live in
     let counted = sum_unseen (λ (q : BridgedRequest). q.flight.sent) (holds r.id) change state.requests.live (read_sent state.requests.config.axi_bytes r) in
     record {
       bridge_laws = bridge_laws;
@@ -157,7 +157,7 @@ few_sent state client request sound found =
 pub agree_taken : (state : BridgeState) (memory : FreeMemory) (client : ℕ) (request : BridgedRequest) → Agree state memory → find (is_done_for client) state.requests.live ≡ Some request
     → IsSoundBridge (after_take state client) → Agree (after_take state client) memory
 agree_taken state memory client request agree found bridge_laws =
-    let fewer = length_without (is_done_for client) state.requests.live request found in
+    let fewer = length-without_found (is_done_for client) state.requests.live request found in
     let counted = sum_without (λ (q : BridgedRequest). q.flight.sent) (is_done_for client) state.requests.live request found in
     let few = few_sent state client request agree.bridge_laws found in
     record {

@@ -4,7 +4,7 @@ use Rattle.std.proofs.Common.{◌≡◌, ℕ, ◌+◌, ◌<◌, ◌≤◌, Bool,
 use Rattle.std.specs.Prelude.{IfSome, IsSome, find, if◌then◌else◌, option_map, option_to_list, MatchOption, Result, Ok, Err}
 use Rattle.std.specs.List.{AllByRecursion, list_any}
 use Rattle.std.proofs.lemmas.Option.{same_Some, slice_get_within}
-use Rattle.bus_words.proofs.PlaceChanges.{all-find}
+use Rattle.bus_words.proofs.PlaceChanges.{all-find, length-without_found}
 use Rattle.axi_beats.specs.Bursts.{Burst}
 use Rattle.axi_beats.specs.declared.BBeat.{BBeat}
 use Rattle.axi_beats.specs.declared.RBeat.{RBeat}
@@ -22,7 +22,6 @@ use Rattle.world_run.specs.Laws.{Agree}
 use Rattle.world_run.proofs.Agreeing.{agree_after_b, agree_after_r}
 use Rattle.world_run.proofs.Outstanding.{HasBeatsToCome}
 use Rattle.world_run.proofs.Passing.{world_of}
-use Rattle.world_run.proofs.Sums.{length_without}
 use Rattle.world_run.proofs.TakesAll.{takes_all}
 
 -- ---- whose answer it is
@@ -100,7 +99,7 @@ b_closes : (memory : FreeMemory) (id : ℕ) (found : Option Pending) → find (i
 b_closes memory id None same some = absurd (cc (some))
 b_closes memory id (Some pending) same some =
     let closed : closed_by_b memory id ≡ pending.burst ∷ [] = ap (λ (o : Option Pending). option_to_list (option_map (λ (p : Pending). p.burst) o)) same in
-    rw closed (record { most = omega arith; fewer = length_without (is_write_of id) memory.pending pending same })
+    rw closed (record { most = omega arith; fewer = length-without_found (is_write_of id) memory.pending pending same })
 
 length_after_r : (id : ℕ) (pending : List Pending) (p : Pending) → find (is_read_of id) pending ≡ Some p → length (pending_after_r id pending) + length (closed_by_last (Some p)) ≡ length pending
 length_after_r id [] p found = absurd (cc (found))

@@ -16,13 +16,12 @@ use Rattle.flight_table.specs.LiveRequests.{LiveRequest, planned}
 use Rattle.bridge_core.specs.Bridge.{BridgeState, StockedBridge, boxes_of, burst_to_send}
 use Rattle.bridge_core.specs.Laws.{IsSoundBridge, came_of, open_reads, open_writes, outstanding, outstanding_of}
 use Rattle.bridge_core.specs.Requests.{BridgedRequest, holder}
-use Rattle.bridge_core.specs.Sending.{Sending, burst_of_piece, next_sending}
-use Rattle.burst_plan.specs.Pieces.{PlannedRange}
+use Rattle.bridge_core.specs.Sending.{Sending, next_sending}
 use Rattle.subordinate.specs.Device.{DeviceState}
 use Rattle.world_run.specs.Inside.{ArePaired}
 use Rattle.bridge_core.proofs.AnswerLinks.{holder_known}
 use Rattle.bridge_core.proofs.NextSending.{next_found}
-use Rattle.bridge_core.proofs.SentBursts.{sent_within}
+use Rattle.bridge_core.proofs.SentBursts.{id_of_piece, sent_within}
 use Rattle.bridge_core.proofs.SentLinks.{taken_by}
 use Rattle.subordinate.specs.FreeMemory.{FreeMemory, Pending, is_read_of, is_write_of, newly_pending, reads_as, writes_as}
 use Rattle.subordinate.proofs.OpenBursts.{reads_known, writes_known}
@@ -111,10 +110,6 @@ few_of_each bridge memory agree =
     }
 
 -- ---- so a burst that goes finds a box
-
-id_of_piece : (id : ℕ) (request : BridgedRequest) (range : PlannedRange) (burst : Bool × Piece) → id_of (burst_of_piece id request range burst) ≡ id
-id_of_piece id request range (true, piece) = refl
-id_of_piece id request range (false, piece) = refl
 
 -- fewer bursts are open than there are boxes
 pub box_left : (bridge : BridgeState) (memory : FreeMemory) (sending : Sending) → Agree bridge memory → next_sending bridge.requests ≡ Some sending → length memory.pending < boxes_of bridge.requests.config

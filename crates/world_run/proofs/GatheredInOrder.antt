@@ -5,12 +5,12 @@ use Rattle.std.specs.Prelude.{option_map}
 use Rattle.std.specs.List.{enumerate_from}
 use Rattle.std.proofs.lemmas.Bool.{leb-true}
 use Rattle.std.proofs.lemmas.List.{nil_from_length, take_all}
+use Rattle.subordinate.proofs.EffectLaws.{okay_is_good}
 use Rattle.tl_messages.specs.Operations.{has_data, reply_has_data}
 use Rattle.tl_messages.specs.Requests.{HeldMessage, WholeRequest, request_of}
 use Rattle.tl_messages.specs.declared.Operation.{Operation}
 use Rattle.tl_messages.specs.declared.Operation.TheVariants.{PutFull, PutPartial, Atomic, Get, Intent}
 use Rattle.tl_checker.specs.Sound.{IsSound}
-use Rattle.axi_beats.specs.Responses.{is_okay}
 use Rattle.axi_beats.specs.Transfers.{IsBusWidth}
 use Rattle.axi_beats.specs.declared.RBeat.{RBeat}
 use Rattle.axi_beats.specs.declared.Resp.{Resp}
@@ -32,7 +32,7 @@ use Rattle.bridge_core.specs.Requests.{BridgedRequest, address_of, outline_in, r
 use Rattle.bridge_core.specs.declared.Config.{Config}
 use Rattle.bridge_core.proofs.PlannedPieces.{plan_known, some_pieces}
 use Rattle.bridge_core.proofs.ReadCounts.{config_parts, leads_there, reads_counted, uncorrupt_address}
-use Rattle.subordinate.specs.Faults.{Faults, IsAbsent, IsGood, IsSlaveError, Standing, is_bad, is_good, read_response_on, standing_at}
+use Rattle.subordinate.specs.Faults.{Faults, is_bad, is_good, standing_at}
 use Rattle.world_run.specs.InOrder.{HasGathered, IsGathered}
 use Rattle.world_run.specs.Meaning.{Bytes, Effect, denied, effect_at, meaning}
 use Rattle.world_run.specs.Serial.{Order, bytes_before}
@@ -149,11 +149,6 @@ pub no_responses : (order : Order) (bus_bytes : ℕ) (request : BridgedRequest) 
 no_responses order bus_bytes request address told few =
     nil_from_length told.responses (omega (arith, told.answered, length-take request.flight.answered (read_pieces request.flight), few))
 
-okay_good : (standing : Standing) (bad : Bool) → is_okay (read_response_on standing bad) ≡ true → is_good standing ≡ true
-okay_good IsGood bad okay = refl
-okay_good IsSlaveError bad okay = okay
-okay_good IsAbsent bad okay = okay
-
 -- all answers to a request that is done
 all_came : (order : Order) (config : Config) (limits : TableLimits) (accepted : ℕ) (request : BridgedRequest) (address : ℕ) → is_valid config ≡ true → IsServed config order.regions request
     → IsSoundRequest limits accepted request.flight → request.flight.done ≡ true → address_of order.regions (request_of request.message) ≡ Some address
@@ -193,7 +188,7 @@ all_came order config limits accepted request address valid served sound done at
 
     by_flag : (writing : Bool) → request.flight.writing ≡ writing → is_put request.flight.operation ≡ false → is_good (standing_at order.faults address) ≡ false → told.responses ≡ []
     by_flag true is isnt failed =
-        let good = okay_good (standing_at order.faults address) (is_bad order.faults address) (told.readable is) in
+        let good = okay_is_good (standing_at order.faults address) (is_bad order.faults address) (told.readable is) in
         absurd (cc (good, failed))
     by_flag false is isnt failed =
         let none : length (planned_writes request.flight) ≡ 0 = rw is (no_writes request.flight.operation request.flight.plan isnt) in

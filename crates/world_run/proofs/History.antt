@@ -27,6 +27,13 @@ pub found_here : (writing touching : ℕ → ℕ → Bool) (before : ℕ → Byt
 found_here writing touching before started finished wrote bytes j x history held begun unfinished touches unwritten =
     history.memory j x (cut_here writing touching before started finished wrote bytes j x history held begun unfinished touches unwritten)
 
+-- before one writes a byte, each writer of it with a smaller number has written it
+pub written_in_turn : (writing touching : ℕ → ℕ → Bool) (before : ℕ → Bytes) (started finished : ℕ → Bool) (wrote : ℕ → ℕ → Bool) (bytes : Bytes)
+    → IsHistory writing before started finished wrote bytes → HoldsBack writing touching started finished
+    → ((j x : ℕ) → writing j x ≡ true → touching j x ≡ true) → (i j x : ℕ) → i < j → wrote j x ≡ true → writing i x ≡ true → wrote i x ≡ true
+written_in_turn writing touching before started finished wrote bytes history held touches i j x below wrote_it writes_it =
+    history.all_written i x (held.earlier i j x below (history.began j x wrote_it) writes_it (touches j x (history.writer j x wrote_it))) writes_it
+
 -- ---- where nobody writes, nothing changes
 
 abbrev pub StaysUnwritten : (ℕ → ℕ → Bool) → (ℕ → Bytes) → Type 0

@@ -1,16 +1,14 @@
 -- The open bursts of an ID after an answer to one of them, and those of the other IDs. It knows the memory's list of open bursts and the
 -- holder's outstanding pieces; bytes are hidden.
-use Rattle.std.proofs.Common.{◌≡◌, ℕ, ◌≤◌, Bool, true, false, List, [], length, Option, Some, None, refl, ap, sym, ◌∙◌, subst, inl, inr, ◌⊎◌}
+use Rattle.std.proofs.Common.{◌≡◌, ℕ, ◌≤◌, Bool, true, false, List, [], length, Option, Some, None, ap, sym, ◌∙◌, subst, inl, inr, ◌⊎◌}
 use Rattle.std.specs.List.{filter}
-use Rattle.std.proofs.lemmas.Bool.{eq-eqb}
 use Rattle.bus_words.specs.Places.{change_first}
 use Rattle.burst_plan.specs.declared.Piece.{Piece}
 use Rattle.flight_table.specs.LiveRequests.{planned}
-use Rattle.flight_table.specs.Order.{is_id}
 use Rattle.bridge_core.specs.Laws.{outstanding}
 use Rattle.bridge_core.specs.Requests.{BridgedRequest, holder, holds, settled}
 use Rattle.bridge_core.proofs.HolderChanges.{find-changed, find-changed-gone, part-empty}
-use Rattle.bridge_core.proofs.ResponseLinks.{finished_one, nothing_left, settled_as, with_its_write}
+use Rattle.bridge_core.proofs.ResponseLinks.{finished_one, holds_it, nothing_left, settled_as, with_its_write}
 use Rattle.subordinate.specs.FreeMemory.{Pending}
 use Rattle.world_run.specs.InOrder.{AreBurstsOf, AreOfHolder}
 use Rattle.world_run.specs.Serial.{Order}
@@ -27,9 +25,6 @@ of_same_holder order bus_bytes wrote mine held other same are = subst (AreOfHold
 
 nothing_planned : (request : BridgedRequest) → request.flight.sent ≤ request.flight.answered → outstanding request.flight ≡ []
 nothing_planned request past = part-empty (planned request.flight) request.flight.answered request.flight.sent past
-
-holds_it : (id : ℕ) (own : Option ℕ) → own ≡ Some id → is_id id own ≡ true
-holds_it id own is = rw is (eq-eqb id id refl)
 
 -- the request that holds the ID was answered and is settled: it goes on, plans its write, or is finished and gives the ID free
 pub of_answered : (order : Order) (bus_bytes : ℕ) (wrote : ℕ → ℕ → Bool) (mine : List Pending) (id : ℕ) (live : List BridgedRequest) (change : BridgedRequest → BridgedRequest) (old answered : BridgedRequest)

@@ -90,15 +90,3 @@ readable_is faults address = by_both (standing_at faults address) (is_bad faults
     by_both IsGood false = refl
     by_both IsSlaveError bad = refl
     by_both IsAbsent bad = refl
-
-found_okay : (okay : Bool) (number : ℕ) → okay ≡ true → (if okay then Some number else None) ≡ Some number
-found_okay true number is = refl
-found_okay false number is = absurd (cc (is))
-
--- the old value that a live atomic writes from is the number that it finds
-pub old_value_of_write : (order : Order) (config : Config) (limits : TableLimits) (accepted : ℕ) (request : BridgedRequest) (address : ℕ) → is_valid config ≡ true → IsServed config order.regions request
-    → IsSoundRequest limits accepted request.flight → request.flight.done ≡ false → request.flight.writing ≡ true → address_of order.regions (request_of request.message) ≡ Some address
-    → HasGathered order config.axi_bytes request address → value_found request ≡ Some (value (bytes_at (bytes_before order request.flight.number) address (2 ^ request.message.size)))
-old_value_of_write order config limits accepted request address valid served sound live writing at told =
-    old_value_served order config request address valid served at (atomic_is request.message.operation (sym (ap (λ operation. reply_has_data operation && has_data operation) served.flight.operation) ∙ (served.writing writing).0)) (writes_unanswered order config limits accepted request valid served sound live writing) told
-    ∙ found_okay (is_okay (read_response order.faults address)) (value (bytes_at (bytes_before order request.flight.number) address (2 ^ request.message.size))) (told.readable writing)

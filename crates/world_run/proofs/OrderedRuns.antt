@@ -1,13 +1,14 @@
 -- A whole run: its replies are those of the accepted requests one at a time, and once it is quiet its memory is theirs. It knows that each
 -- event keeps the order, as a premise, and fixes the list of all requests; which event came is hidden.
-use Rattle.std.proofs.Common.{◌≡◌, ℕ, ◌==◌, ◌<◌, nat_lt, Bool, true, false, not, List, [], ◌∷◌, length, Option, Some, None, refl, sym, subst, ◌∙◌, ap, arith}
+use Rattle.std.proofs.Common.{◌≡◌, ℕ, zero, suc, ◌==◌, ◌<◌, ◌≤◌, ◌^◌, nat_lt, Bool, true, false, not, List, [], ◌∷◌, length, Option, Some, None, refl, sym, subst, ◌∙◌, ap, arith}
 use Rattle.std.specs.Prelude.{filter, find, is_some, nat_le, option_map, slice_get, unwrap_or, if◌then◌else◌}
 use Rattle.std.specs.List.{AllByRecursion, cons_option}
 use Rattle.std.proofs.lemmas.Bool.Decides.{nat_tests}
 use Rattle.std.proofs.lemmas.Bool.{and_parts, eqb-true}
 use Rattle.std.proofs.lemmas.List.{append-nil}
+use Rattle.std.proofs.lemmas.Option.{same_Some}
 use Rattle.bus_words.proofs.PlaceChanges.{all-find, find-passes}
-use Rattle.tl_messages.specs.Requests.{WholeRequest, request_of}
+use Rattle.tl_messages.specs.Requests.{HeldMessage, WholeRequest, held_of, request_of}
 use Rattle.burst_plan.specs.declared.Region.{Region}
 use Rattle.flight_table.specs.Laws.{IsSoundRequest}
 use Rattle.flight_table.specs.Tables.{is_undone}
@@ -19,12 +20,12 @@ use Rattle.bridge_core.specs.Requests.{BridgedRequest, address_of, first_done, f
 use Rattle.bridge_core.proofs.HolderChanges.{all-mapped}
 use Rattle.subordinate.specs.Faults.{Faults, is_good, standing_at}
 use Rattle.world_run.specs.Headline.{IsReplyTo, byte_shown, bytes_of_all, replies_of}
-use Rattle.world_run.specs.InOrder.{IsGathered, IsForeseen, IsForeseenBy, IsInOrder, KeepsOrder, finished, is_over, memory_bytes, started}
+use Rattle.world_run.specs.InOrder.{IsGathered, IsForeseen, IsForeseenBy, IsInOrder, IsOrdered, KeepsOrder, finished, is_over, memory_bytes, order_of, started}
 use Rattle.world_run.specs.Laws.{AreSoundAlong, IsSoundWorld}
 use Rattle.world_run.specs.Meaning.{Bytes, bytes_after_all, meaning, replies_in_order, zeros}
-use Rattle.world_run.specs.Runs.{HandedReply, accepted_in, answers_of, handed_at, handed_in}
-use Rattle.world_run.specs.Serial.{Order, asked, bytes_before, writes}
-use Rattle.world_run.specs.Setups.{SetupLists, faults_of}
+use Rattle.world_run.specs.Runs.{AcceptedMessage, HandedReply, answers_of, handed_at, handed_in, messages_in, requests_of}
+use Rattle.world_run.specs.Serial.{Order, asked, bytes_before, touches, writes}
+use Rattle.world_run.specs.Setups.{SetupLists}
 use Rattle.world_run.specs.World.{IsQuiet, Outcome, WorldState, after, byte_of, leaves_all, next, opening_world}
 use Rattle.world_run.specs.declared.Answer.{Answer}
 use Rattle.world_run.specs.declared.Answer.TheVariants.{Accepted, Reply}
@@ -34,9 +35,9 @@ use Rattle.world_run.proofs.AcceptedRequests.{HasAccepted, has_accepted-here, ha
 use Rattle.world_run.proofs.Events.{EachWay, each_way}
 use Rattle.world_run.proofs.GatheredInOrder.{reply_served_by}
 use Rattle.world_run.proofs.HeldOrder.{unaccepted}
-use Rattle.world_run.proofs.History.{quiet_memory}
+use Rattle.world_run.proofs.History.{quiet_memory, written_in_turn}
 use Rattle.world_run.proofs.OrderOpens.{keeps_opening}
-use Rattle.world_run.proofs.SerialBytes.{all_carried_out, replies_at}
+use Rattle.world_run.proofs.SerialBytes.{all_carried_out, message_within, replies_at, writer_touches}
 
 -- ---- what is accepted is foreseen
 
@@ -230,8 +231,18 @@ module _ (order : Order) (kept : EachKeeps order) where
 
 -- the requests that a run accepts, in their order
 abbrev pub order_of_run : SetupLists → List Step → Order
-order_of_run setup steps =
-    record { faults = faults_of setup; regions = setup.regions; requests = accepted_in steps (answers_of (opening_world setup) steps) }
+order_of_run setup steps = order_of setup steps (answers_of (opening_world setup) steps)
+
+-- each of them has no more bytes than it may, so it touches what it writes
+requests_within : (messages : List AcceptedMessage) (n : ℕ) (q : WholeRequest) → slice_get (requests_of messages) n ≡ Some q → length q.bytes ≤ 2 ^ q.size
+requests_within [] n q is = absurd (cc)
+requests_within (message ∷ messages) n q is = one_more (held_of message.client message.beats) n (requests_within messages) is
+  where
+    one_more : (o : Option HeldMessage) (k : ℕ) → ((k : ℕ) (p : WholeRequest) → slice_get (requests_of messages) k ≡ Some p → length p.bytes ≤ 2 ^ p.size)
+        → slice_get (cons_option (option_map request_of o) (requests_of messages)) k ≡ Some q → length q.bytes ≤ 2 ^ q.size
+    one_more None k later there = later k q there
+    one_more (Some held) zero later there = subst (λ (p : WholeRequest). length p.bytes ≤ 2 ^ p.size) (same_Some (request_of held) q there) (message_within held)
+    one_more (Some held) (suc k) later there = later k q there
 
 module _ (setup : SetupLists) (steps : List Step) (along : AreSoundAlong (opening_world setup) steps) (kept : EachKeeps (order_of_run setup steps)) where
   opens : KeepsOrder (order_of_run setup steps) (opening_world setup)
@@ -248,3 +259,14 @@ module _ (setup : SetupLists) (steps : List Step) (along : AreSoundAlong (openin
   memory_in_turn quiet address =
       let ends = end_along (order_of_run setup steps) kept (opening_world setup) steps (has_accepted-opening setup steps) along opens in
       quiet_shown (order_of_run setup steps) (after (opening_world setup) steps) ends.sound ends.keeps quiet ends.count address
+
+  -- which is in order after the last event
+  pub ordered_at_end : IsOrdered (order_of_run setup steps) (after (opening_world setup) steps)
+  ordered_at_end =
+      let ends = end_along (order_of_run setup steps) kept (opening_world setup) steps (has_accepted-opening setup steps) along opens in
+      record {
+        keeps = ends.keeps;
+        sound = ends.sound;
+        first_writers = written_in_turn (writes (order_of_run setup steps)) (touches (order_of_run setup steps)) _ _ _ ends.keeps.wrote _ ends.keeps.history ends.keeps.held
+            (λ n x. writer_touches (order_of_run setup steps) n x (λ q. requests_within (messages_in steps (answers_of (opening_world setup) steps)) n q));
+      }

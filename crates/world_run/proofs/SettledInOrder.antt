@@ -1,15 +1,15 @@
 -- A request is settled after an answer: it goes on, plans its write, or is finished. What it has written is as before. It knows one live
 -- request; the answer and the memory are hidden.
-use Rattle.std.proofs.Common.{◌≡◌, ℕ, zero, suc, ◌+◌, ◌<◌, ◌≤◌, Bool, true, false, not, ◌||◌, List, [], ◌∷◌, length, Some, refl, ap, sym, ◌∙◌, subst, arith, inl, inr, ◌⊎◌}
+use Rattle.std.proofs.Common.{◌≡◌, ℕ, suc, ◌+◌, ◌<◌, ◌≤◌, Bool, true, false, not, ◌||◌, List, [], ◌∷◌, length, Some, refl, ap, sym, ◌∙◌, subst, arith, inl, inr, ◌⊎◌}
 use Rattle.std.specs.Prelude.{if◌then◌else◌}
 use Rattle.std.specs.List.{slice_get}
-use Rattle.std.proofs.lemmas.Option.{same_Some}
 use Rattle.axi_beats.specs.Transfers.{transfer_has}
 use Rattle.burst_plan.specs.declared.Piece.{Piece}
 use Rattle.flight_table.specs.LiveRequests.{course, is_atomic, is_settled, planned, read_pieces, write_pieces}
 use Rattle.tl_messages.specs.Requests.{request_of}
 use Rattle.bridge_core.specs.Requests.{BridgedRequest, address_of, settled}
 use Rattle.bridge_core.proofs.ResponseLinks.{finished_one, settled_as, with_its_write}
+use Rattle.bridge_core.proofs.ServedRequests.{write_past}
 use Rattle.world_run.specs.InOrder.{IsGathered, IsInOrder}
 use Rattle.world_run.specs.Serial.{Order, asked, writes}
 
@@ -35,14 +35,6 @@ settled_message request = settled_has (λ r. r.message ≡ request.message) requ
 
 -- ---- its planned bursts
 
--- among bursts that read at first, a write isn't one of the reads
-write_past_reads : (reads writes : List Piece) (k : ℕ) (piece : Piece) → slice_get (course reads writes) k ≡ Some (true, piece) → length reads ≤ k
-write_past_reads [] writes k piece there = omega arith
-write_past_reads (r ∷ reads) writes zero piece there =
-    let sides : false ≡ true = ap (λ (burst : Bool × Piece). burst.0) (same_Some (false, r) (true, piece) there) in
-    absurd (cc (sides))
-write_past_reads (r ∷ reads) writes (suc k) piece there = let rest = write_past_reads reads writes k piece there in omega (arith, rest)
-
 length_reads : (reads : List Piece) → length (course reads []) ≡ length reads
 length_reads [] = refl
 length_reads (r ∷ reads) = ap suc (length_reads reads)
@@ -53,7 +45,7 @@ planned_before : (reads writes : List Piece) (atomic writing : Bool) (k : ℕ) (
 planned_before reads writes false writing k piece below there = there
 planned_before reads writes true true k piece below there = there
 planned_before reads writes true false k piece below there =
-    let past = write_past_reads reads writes k piece there in
+    let past = write_past reads writes k piece there in
     absurd (omega (arith, past, below, length_reads reads))
 
 -- ---- it is in order

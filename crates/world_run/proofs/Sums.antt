@@ -1,5 +1,5 @@
--- Sums and lengths of lists of which one item changes or goes. Lists alone: no requests, no bursts.
-use Rattle.std.proofs.Common.{◌≡◌, ℕ, suc, ◌+◌, Bool, true, false, List, [], ◌∷◌, length, Some, refl, ap, sym, subst, arith}
+-- Sums over lists of which one item changes or goes. Lists alone: no requests, no bursts.
+use Rattle.std.proofs.Common.{◌≡◌, ℕ, ◌+◌, Bool, true, false, List, [], ◌∷◌, Some, refl, ap, sym, subst, arith}
 use Rattle.std.specs.Prelude.{find, if◌then◌else◌, sum_by}
 use Rattle.std.proofs.lemmas.List.Sums.{sum_by-cons}
 use Rattle.std.proofs.lemmas.Option.{same_Some}
@@ -37,20 +37,3 @@ sum_without {X = X} measure test (y ∷ ys) x found = by_test (test y) found (λ
         → sum_by measure (if here then ys else y ∷ without_first test ys) + measure x ≡ sum_by measure (y ∷ ys)
     by_test true found later = omega (arith, sum_by-cons measure y ys, ap measure (same_Some y x found))
     by_test false found later = omega (arith, sum_by-cons measure y (without_first test ys), sum_by-cons measure y ys, later found)
-
-pub length_changed : {X : Type 0} (test : X → Bool) (change : X → X) (xs : List X) → length (change_first test change xs) ≡ length xs
-length_changed test change [] = refl
-length_changed test change (y ∷ ys) = by_test (test y) (length_changed test change ys)
-  where
-    by_test : (here : Bool) → length (change_first test change ys) ≡ length ys → length (if here then change y ∷ ys else y ∷ change_first test change ys) ≡ length (y ∷ ys)
-    by_test true later = refl
-    by_test false later = ap suc later
-
-pub length_without : {X : Type 0} (test : X → Bool) (xs : List X) (x : X) → find test xs ≡ Some x → length (without_first test xs) + 1 ≡ length xs
-length_without test [] x found = absurd (cc)
-length_without {X = X} test (y ∷ ys) x found = by_test (test y) found (λ later. length_without test ys x later)
-  where
-    by_test : (here : Bool) → (if here then Some y else find test ys) ≡ Some x → (find test ys ≡ Some x → length (without_first test ys) + 1 ≡ length ys)
-        → length (if here then ys else y ∷ without_first test ys) + 1 ≡ length (y ∷ ys)
-    by_test true found later = omega arith
-    by_test false found later = omega (arith, later found)

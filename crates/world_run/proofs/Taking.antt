@@ -1,6 +1,7 @@
 -- Bridge and memory after an event that concerns one of them alone. It knows which of their laws look at the other part.
 use Rattle.std.proofs.Common.{◌≡◌, ℕ, ◌∙◌, Bool, true, false, length, Option, Some, None, ap, sym, refl, subst, arith}
 use Rattle.std.specs.Prelude.{if◌then◌else◌, nat_le, find}
+use Rattle.bus_words.proofs.PlaceChanges.{length-change_first}
 use Rattle.tl_messages.specs.declared.ABeat.{ABeat}
 use Rattle.bridge_core.specs.Bridge.{BridgeState, StockedBridge, after_take, boxes_of, offered, reply_taken, taken, taken_of}
 use Rattle.bridge_core.specs.declared.Taken.TheVariants as take
@@ -14,7 +15,6 @@ use Rattle.subordinate.specs.declared.BeatState.TheVariants.{Captured, Waiting, 
 use Rattle.world_run.specs.Inside.{ArePaired}
 use Rattle.world_run.specs.Laws.{Agree}
 use Rattle.world_run.proofs.Agreeing.{agree_offered, agree_performed, agree_taken, config_offered}
-use Rattle.world_run.proofs.Sums.{length_changed}
 
 -- the bridge alone changes, and has as many boxes in stock as before
 bridge_changed : (bridge new : StockedBridge) (device : DeviceState) → ArePaired bridge device → new.stock ≡ bridge.stock → new.state.requests.config ≡ bridge.state.requests.config → Agree new.state device.memory
@@ -64,7 +64,7 @@ as_many_performed memory serial beat = by_found (find (has_serial serial) memory
   where
     by_beat : (pending : Pending) (at : Option BeatState) → length (performed_beat memory pending beat at).0.pending ≡ length memory.pending
     by_beat pending None = refl
-    by_beat pending (Some Waiting) = length_changed (has_serial pending.serial) _ memory.pending
+    by_beat pending (Some Waiting) = length-change_first (has_serial pending.serial) _ memory.pending
     by_beat pending (Some Written) = refl
     by_beat pending (Some (Captured payload resp)) = refl
 

@@ -68,11 +68,6 @@ paired_along state (step ∷ steps) = each_way Goes state ways step (paired_alon
 
 -- ---- each burst, and each answer, in its place
 
--- the laws hold now
-sound_now : (state : WorldState) (steps : List Step) → AreSoundAlong state steps → IsSoundWorld state
-sound_now state [] along = along
-sound_now state (step ∷ steps) along = along.0
-
 module _ (state : WorldState) (sound : IsSoundWorld state) where
   -- a burst that is sent goes well
   sent_well : (sending : Sending) → next_sending state.bridge.requests ≡ Some sending → GoesWell state sending.burst

@@ -24,8 +24,11 @@ use Rattle.subordinate.specs.Faults.{is_good, read_response, standing_at, write_
 use Rattle.subordinate.specs.FreeMemory.{Pending, is_read_of, is_waiting, is_write_of}
 use Rattle.subordinate.specs.declared.BeatState.{BeatState}
 use Rattle.subordinate.specs.declared.BeatState.TheVariants.{Captured}
+use Rattle.world_run.specs.Laws.{IsSoundWorld}
 use Rattle.world_run.specs.Meaning.{Bytes}
+use Rattle.world_run.specs.Runs.{accepted_in}
 use Rattle.world_run.specs.Serial.{Order, asked, byte_left, bytes_before, touches, writes}
+use Rattle.world_run.specs.Setups.{SetupLists, faults_of}
 use Rattle.world_run.specs.World.{WorldState, byte_of, next}
 use Rattle.world_run.specs.declared.Answer.{Answer}
 use Rattle.world_run.specs.declared.Answer.TheVariants.{Accepted}
@@ -230,3 +233,17 @@ IsForeseenBy order bridge _ _ = ⊤
 -- what an event accepts is foreseen: the list of all requests has it under its number
 abbrev pub IsForeseen : Order → WorldState → Step → Type 0
 IsForeseen order state step = IsForeseenBy order state.bridge step (next state step).answer
+
+-- ---- after a run
+
+-- the requests that a run accepted, over its page map and faults
+abbrev pub order_of : SetupLists → List Step → List Answer → Order
+order_of setup steps answers = record { faults = faults_of setup; regions = setup.regions; requests = accepted_in steps answers }
+
+-- what holds of a world after a list of events
+pub record IsOrdered (order : Order) (state : WorldState) : Type 0 where
+  pub keeps : KeepsOrder order state
+  -- bridge and memory are as their laws say: of two live requests that conflict and aren't done, the later has sent nothing (`in_order` of the table)
+  pub sound : IsSoundWorld state
+  -- so those that wrote a byte are the first so many of its writers: before one wrote it, each earlier one had
+  pub first_writers : (i j x : ℕ) → i < j → keeps.wrote j x ≡ true → writes order i x ≡ true → keeps.wrote i x ≡ true

@@ -1,5 +1,5 @@
--- The accepted requests one at a time, by number: which bytes each writes, and the bytes that it finds. It knows what one request means, and
--- no bridge, bursts or memory.
+-- The accepted requests one at a time, by number: which bytes each writes, and the bytes that it finds. It knows what one request means; no
+-- state of a bridge or a memory plays a part.
 use Rattle.std.specs.Prelude.{ℕ, ◌+◌, ◌^◌, zero, suc, Bool, true, false, ◌&&◌, not, List, Option, Some, None, is_some, nat_le, nat_lt, slice_get}
 use Rattle.bus_words.specs.Lanes.{given_at}
 use Rattle.tl_messages.specs.Requests.{WholeRequest}

@@ -41,8 +41,8 @@ impl World {
         answer_at(&self.device, place - performs)
     }
 
-    /// Makes the first of these steps until there is none, and answers how many steps these were. With each of them the work
-    /// left is one less; with the last read of an atomic that failed, the work of its write goes too.
+    /// Makes the first of these steps until there is none, and answers how many steps these were. It takes no reply. With each
+    /// of them the work left is one less; with the last read of an atomic that failed, the work of its write goes too.
     pub fn drain(&mut self) -> u64
         ensures answer { result ≡ (drained self.old).0 }
         ensures state { self.new ≡ (drained self.old).1 }

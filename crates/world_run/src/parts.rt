@@ -9,7 +9,7 @@ use bridge_core::Bridge;
 use subordinate::Device;
 
 /// The next burst of the bridge goes to the memory, under this serial.
-pub fn send(bridge: &mut Bridge, device: &mut Device) -> Option<u64>
+pub(crate) fn send(bridge: &mut Bridge, device: &mut Device) -> Option<u64>
     requires { ArePaired bridge.old device.old }
     ensures idle { burst_to_send bridge.old.state ≡ None → (result ≡ None) × (bridge.new ≡ bridge.old) × (device.new ≡ device.old) }
     ensures sent { IfSome (burst_to_send bridge.old.state) (λ burst. (result ≡ Some device.old.memory.sent) × (bridge.new.state ≡ after_pump bridge.old.state) × (device.new.memory ≡ with_burst device.old.memory burst)) }
@@ -23,7 +23,7 @@ pub fn send(bridge: &mut Bridge, device: &mut Device) -> Option<u64>
 }
 
 /// The B that an ID may give goes from the memory to the bridge; the box of the write that it closes goes back into stock.
-pub fn give_b(bridge: &mut Bridge, device: &mut Device, id: u8) -> Option<BBeat>
+pub(crate) fn give_b(bridge: &mut Bridge, device: &mut Device, id: u8) -> Option<BBeat>
     requires { ArePaired bridge.old device.old }
     ensures answer { result ≡ b_of device.old.memory id }
     ensures nothing { result ≡ None → (bridge.new ≡ bridge.old) × (device.new ≡ device.old) }
@@ -39,7 +39,7 @@ pub fn give_b(bridge: &mut Bridge, device: &mut Device, id: u8) -> Option<BBeat>
 }
 
 /// The R that an ID may give goes from the memory to the bridge; the box of the read that it closes goes back into stock.
-pub fn give_r(bridge: &mut Bridge, device: &mut Device, id: u8) -> Option<RBeat>
+pub(crate) fn give_r(bridge: &mut Bridge, device: &mut Device, id: u8) -> Option<RBeat>
     requires { ArePaired bridge.old device.old }
     ensures answer { result ≡ r_of device.old.memory id }
     ensures nothing { result ≡ None → (bridge.new ≡ bridge.old) × (device.new ≡ device.old) }

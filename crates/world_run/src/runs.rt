@@ -2,6 +2,7 @@
 ghost use Rattle.std.specs.Prelude.{◌≡◌, ◌⊎◌, ◌++◌, ◌∷◌, List, [], length, map, flat_map, option_to_list, Some, IfSome, IfOk, IfErr, OnOk};
 ghost use Rattle.axi_beats.specs.Boxes.{w_beats_of};
 ghost use Rattle.world_run.specs.Headline.{IsOneAtATime};
+ghost use Rattle.world_run.specs.InOrder.{IsOrdered, order_of};
 ghost use Rattle.world_run.specs.Laws.{AreSoundAlong, IsSoundWorld};
 ghost use Rattle.world_run.specs.Runs.{handed_of, sent_beats, IsRunOf};
 ghost use Rattle.world_run.specs.Setups.{SetupLists, lists_of, setup_fault};
@@ -126,6 +127,10 @@ pub fn run(alloc: Global, setup: &Setup, steps: &[Step]) -> Result<RunRecord, Se
     // order of acceptance, each at most once; once nothing is in flight the memory is theirs too; every burst sent obeys the
     // AXI4 rules.
     ensures one_at_a_time { IfOk result (λ ran. IsOneAtATime (lists_of setup.now) steps.now ran.answers.items (handed_of ran.replies.items ran.d_beats.items) ran.sent.items ran.world) }
+
+    // Why: at each byte those that wrote it are the first so many of its writers, and what is captured, gathered or about to be
+    // written is that of its request's own turn among them.
+    ensures in_order { IfOk result (λ ran. IsOrdered (order_of (lists_of setup.now) steps.now ran.answers.items) ran.world) }
 {
     let world = match World::new(alloc, setup) {
         Ok(world) => world,

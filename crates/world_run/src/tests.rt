@@ -101,13 +101,15 @@ enum Event {
     Write(u64, AwBeat),
     /// The payload and the strobes of a W beat of the write that went last.
     Data(u8, u64, u8),
-    /// Whether the world shows no burst.
-    NoBurst(bool),
+    /// The world shows no burst.
+    NoBurst,
+    /// The world shows this read.
+    Shown(ArBeat),
     /// So many beats of the burst with a serial are performed, from the first on.
     PerformAll(u64, u16),
-    /// The memory gives so many Rs of an ID whose payload is zero, the last of which has last set.
+    /// The memory gives so many Rs of an ID whose payload is zero, none of which is the last of its burst.
     ZeroReads(u8, u16),
-    /// The reply that was taken last: how many beats, and what the first has but its payload.
+    /// The reply that was taken last: how many beats, and what each has but for what Shows tells of it.
     Reply(u16, DBeat),
     /// A beat of that reply: its payload, and whether it is corrupt.
     Shows(u16, u64, bool),
@@ -128,7 +130,7 @@ enum Event {
 
 use Event::{
     Byte, Choices, Choose, Data, Does, Drain, FirstDone, InFlight, NoBurst, OfferAll, PerformAll,
-    Read, Reply, Shows, Word, Work, Write, ZeroReads,
+    Read, Reply, Shown, Shows, Word, Work, Write, ZeroReads,
 };
 
 /// The fields of an A beat, in the order of a trace's line; it isn't corrupt.
@@ -320,13 +322,13 @@ fn performs_all(bench: &mut Bench, serial: u64, beats: u16) -> bool {
 }
 
 fn reads_zeros(bench: &mut Bench, id: u8, beats: u16) -> bool {
-    for k in 0..beats {
-        let beat = RBeat {
-            id,
-            payload: 0,
-            resp: Resp::Okay,
-            last: k == beats - 1,
-        };
+    let beat = RBeat {
+        id,
+        payload: 0,
+        resp: Resp::Okay,
+        last: false,
+    };
+    for _ in 0..beats {
         if bench.world.step(&Step::AnswerR(id), &mut bench.reply) != Answer::R(beat) {
             return false;
         }
@@ -334,18 +336,23 @@ fn reads_zeros(bench: &mut Bench, id: u8, beats: u16) -> bool {
     true
 }
 
-/// Whether the reply has so many beats, the first of which is this but for what it shows.
-fn replied(reply: &ReplyBox, beats: u16, first: DBeat) -> bool {
+/// Whether the reply has so many beats, each of which is this but for what it shows.
+fn replied(reply: &ReplyBox, beats: u16, fields: DBeat) -> bool {
     if reply.beats() != beats || beats == 0 {
         return false;
     }
-    let found = reply.beat(0);
-    let expected = DBeat {
-        payload: found.payload,
-        corrupt: found.corrupt,
-        ..first
-    };
-    found == expected
+    for k in 0..reply.beats() {
+        let found = reply.beat(k);
+        let expected = DBeat {
+            payload: found.payload,
+            corrupt: found.corrupt,
+            ..fields
+        };
+        if found != expected {
+            return false;
+        }
+    }
+    true
 }
 
 fn shows(reply: &ReplyBox, k: u16, payload: u64, corrupt: bool) -> bool {
@@ -380,10 +387,11 @@ fn carries(bench: &mut Bench, event: Event) -> bool {
         Read(serial, ar) => sends(bench, serial) && shows_read(&bench.world, ar),
         Write(serial, aw) => sends(bench, serial) && shows_write(&bench.world, aw),
         Data(k, payload, strobes) => shows_data(&bench.world, k, payload, strobes),
-        NoBurst(empty) => bench.world.last_burst().is_empty() == empty,
+        NoBurst => bench.world.last_burst().is_empty(),
+        Shown(ar) => shows_read(&bench.world, ar),
         PerformAll(serial, beats) => performs_all(bench, serial, beats),
         ZeroReads(id, beats) => reads_zeros(bench, id, beats),
-        Reply(beats, first) => replied(&bench.reply, beats, first),
+        Reply(beats, fields) => replied(&bench.reply, beats, fields),
         Shows(k, payload, corrupt) => shows(&bench.reply, k, payload, corrupt),
         Byte(address, byte) => bench.world.byte(address) == byte,
         Word(address, word) => holds_word(&bench.world, address, word),

@@ -3,7 +3,7 @@ ghost use Rattle.std.specs.Prelude.{◌≡◌, ◌+◌, ◌≤◌, ◌<◌, ◌�
 ghost use Rattle.world_run.specs.Laws.{IsSoundWorld, TakeAll};
 ghost use Rattle.world_run.specs.InOrder.{IsForeseen, KeepsOrder};
 ghost use Rattle.world_run.specs.Serial.{Order};
-ghost use Rattle.world_run.specs.Setups.{lists_of, setup_fault};
+ghost use Rattle.world_run.specs.Setups.{faults_of, lists_of, setup_fault};
 ghost use Rattle.world_run.specs.declared.SetupFault.TheVariants.{NoMemory};
 ghost use Rattle.world_run.specs.declared.Step.TheVariants.{Offer, Pump, Perform, AnswerB, AnswerR, Take};
 
@@ -44,12 +44,16 @@ impl World {
     ghost use Rattle.std.specs.Prelude.{is_some};
     ghost use Rattle.world_run.specs.World.{byte_of, in_flight, is_reply, leaves_all, next, opening_world, work_left};
 
-    /// The opening world of a set-up. Memory is asked for only where the set-up isn't refused.
+    /// The opening world of a set-up. Refuses what `setup_fault` does, with that fault; its one other error is NoMemory, and
+    /// memory is asked for only where the set-up isn't refused.
     pub fn new(alloc: Global, setup: &Setup) -> Result<World, SetupFault>
         ensures refused { IfSome (setup_fault (lists_of setup.now)) (λ fault. result ≡ Err fault) }
         ensures want { IfErr result (λ fault. (setup_fault (lists_of setup.now) ≡ Some fault) ⊎ (fault ≡ NoMemory)) }
         ensures opens { IfOk result (λ world. world ≡ opening_world (lists_of setup.now)) }
         ensures laws { IfOk result IsSoundWorld }
+
+        // It is in order beside any requests to come.
+        ensures order { IfOk result (λ world. (order : Order) → order.faults ≡ faults_of (lists_of setup.now) → order.regions ≡ (lists_of setup.now).regions → KeepsOrder order world) }
     {
         if let Some(fault) = setup_fault(setup) {
             return Err(fault);
@@ -112,7 +116,8 @@ impl World {
         self.bridge.first_done(client)
     }
 
-    /// The burst that the last step sent, where the last step that changed the world was a Pump; else an empty box.
+    /// The burst sent by the last step that changed the world, where that was a Pump; else an empty box. A `drain` that makes a
+    /// step leaves it empty, since its last step is an answer.
     pub fn last_burst(&self) -> &BurstBox
         ensures { result.now ≡ self.now.last_sent }
     {

@@ -17,8 +17,9 @@ struct Case {
     after: u64,
 }
 
-/// The bytes are put, and then the atomic is made on them. With a bus of four bytes the Put's burst has one beat more.
-fn events(case: Case) -> [Event; 22] {
+/// The bytes are put, and then the atomic is made on them; the byte after their word stays zero. With a bus of four
+/// bytes the Put's burst has one beat more.
+fn events(case: Case) -> [Event; 23] {
     let address = case.beat.address.wrapping_add(0x10000);
     let size = case.beat.size;
     let put_work = if case.axi_bytes == 4 { 4 } else { 3 };
@@ -44,6 +45,7 @@ fn events(case: Case) -> [Event; 22] {
         Reply(1, d(1, size, case.beat.source, false)),
         Shows(0, case.reply, false),
         Word(0x10010, case.after),
+        Byte(0x10018, Some(0)),
         Work(0),
     ]
 }

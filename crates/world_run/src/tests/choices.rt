@@ -6,7 +6,7 @@ fn the_work_of_a_put(rt: HostRuntime) -> Result<(), Fail> {
     let events = [
         Choices(0),
         Drain(0),
-        NoBurst(true),
+        NoBurst,
         offer(0, put(3, 5, 0x08, 0x1122334455667788), Answer::Accepted(0)),
         Work(3),
         Choices(1),
@@ -108,13 +108,8 @@ fn a_drain_answers_the_work(rt: HostRuntime) -> Result<(), Fail> {
             FirstDone(0, true),
             take(0, 0),
         ];
-        assert_eq!(rt;
-            carried(rt.alloc(), PLAIN, &events)?,
-            events.len(),
-            "{beat:?}"
-        );
         let mut bench = fresh(rt.alloc(), PLAIN)?.expect(&rt, "a world");
-        assert_eq!(rt; carried_by(&mut bench, &events), events.len());
+        assert_eq!(rt; carried_by(&mut bench, &events), events.len(), "{beat:?}");
         assert_eq!(rt; bench.reply.beats(), beats, "{beat:?}");
     }
     Ok(())
@@ -174,27 +169,24 @@ fn who_has_a_reply_to_take(rt: HostRuntime) -> Result<(), Fail> {
 /// The burst is shown until the next step that changes the world.
 #[test]
 fn the_burst_that_went_last(rt: HostRuntime) -> Result<(), Fail> {
-    let sent = Read(0, ar(0, 0x10000, 0, 3));
+    let burst = ar(0, 0x10000, 0, 3);
+    let sent = Read(0, burst);
     let offered = offer(0, get(3, 0, 0), Answer::Accepted(0));
+    let config = Config { quota: 1, ..USUAL };
+    let of_one = Lists { config, ..PLAIN };
     for kept in [
         idle(),
         offer(2, get(3, 1, 0), Answer::NoClient),
         offer(0, get(3, 0, 0), Answer::Refused(TlRule::SourceBusy)),
+        offer(0, get(3, 1, 0), Answer::NotReady),
         Does(Step::Perform(0, 1), Answer::NoSuch),
         Does(Step::AnswerB(0), Answer::Nothing),
         Does(Step::AnswerR(0), Answer::Nothing),
         take_none(0),
         Does(Step::Take(2), Answer::NoClient),
     ] {
-        let events = [
-            NoBurst(true),
-            offered,
-            NoBurst(true),
-            sent,
-            kept,
-            NoBurst(false),
-        ];
-        assert_eq!(rt; carried(rt.alloc(), PLAIN, &events)?, events.len());
+        let events = [NoBurst, offered, NoBurst, sent, kept, Shown(burst)];
+        assert_eq!(rt; carried(rt.alloc(), of_one, &events)?, events.len());
     }
     for changes in [
         offer(1, put(4, 0, 0, 0), Answer::More),
@@ -202,7 +194,7 @@ fn the_burst_that_went_last(rt: HostRuntime) -> Result<(), Fail> {
         perform(0, 0),
         Drain(2),
     ] {
-        let events = [offered, sent, changes, NoBurst(true)];
+        let events = [offered, sent, changes, NoBurst];
         assert_eq!(rt; carried(rt.alloc(), PLAIN, &events)?, events.len());
     }
     let events = [
@@ -211,17 +203,18 @@ fn the_burst_that_went_last(rt: HostRuntime) -> Result<(), Fail> {
         sent,
         perform(0, 0),
         Read(1, ar(1, 0x10008, 0, 3)),
+        Does(Step::Perform(0, 0), Answer::Already),
+        Shown(ar(1, 0x10008, 0, 3)),
         last_r(0, 0, Resp::Okay),
-        NoBurst(true),
+        NoBurst,
         offer(1, get(3, 1, 8), Answer::Accepted(2)),
         Read(2, ar(0, 0x10008, 0, 3)),
-        NoBurst(false),
         take(0, 0),
-        NoBurst(true),
+        NoBurst,
         // A drain with nothing to do leaves no burst either, where there was none.
         Drain(4),
         Drain(0),
-        NoBurst(true),
+        NoBurst,
     ];
     assert_eq!(rt; carried(rt.alloc(), PLAIN, &events)?, events.len());
     Ok(())

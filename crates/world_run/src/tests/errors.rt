@@ -1,9 +1,13 @@
 //! Pages and words that answer with errors, and requests that are denied at once.
 use super::*;
 
-/// The first page is good, the second gives slave errors, and behind the third is no page.
+/// The first page and the fourth are good, the second gives slave errors, and behind the third is no page.
 const WITH_ERRORS: Lists = Lists {
-    pages: &[(0x10, PageKind::Good), (0x11, PageKind::SlaveError)],
+    pages: &[
+        (0x10, PageKind::Good),
+        (0x11, PageKind::SlaveError),
+        (0x13, PageKind::Good),
+    ],
     ..PLAIN
 };
 

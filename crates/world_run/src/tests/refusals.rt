@@ -11,135 +11,51 @@ fn refuses(alloc: Global, lists: Lists, fault: Option<SetupFault>) -> bool {
         && run(alloc, &setup, &[]).err() == fault
 }
 
+/// One of a configuration's limits, with a value.
+#[derive(Clone, Copy)]
+enum Limit {
+    Clients(u8),
+    Quota(u8),
+    Ids(u8),
+    Depth(u8),
+    MaxLen(u16),
+    MaxSize(u8),
+    AxiBytes(u8),
+}
+
+/// A configuration with one limit changed.
+fn limited(config: Config, limit: Limit) -> Config {
+    match limit {
+        Limit::Clients(clients) => Config { clients, ..config },
+        Limit::Quota(quota) => Config { quota, ..config },
+        Limit::Ids(ids) => Config { ids, ..config },
+        Limit::Depth(depth) => Config { depth, ..config },
+        Limit::MaxLen(max_len) => Config { max_len, ..config },
+        Limit::MaxSize(max_size) => Config { max_size, ..config },
+        Limit::AxiBytes(axi_bytes) => Config {
+            axi_bytes,
+            ..config
+        },
+    }
+}
+
+/// A bad value of each limit, and the least burst of two beats that a bus of four bytes needs.
 #[test]
 fn limits(rt: HostRuntime) {
-    let narrow = Config {
-        axi_bytes: 4,
-        ..USUAL
-    };
-    for (config, valid) in [
-        (
-            Config {
-                clients: 0,
-                ..USUAL
-            },
-            false,
-        ),
-        (
-            Config {
-                clients: 1,
-                ..USUAL
-            },
-            true,
-        ),
-        (
-            Config {
-                clients: 8,
-                ..USUAL
-            },
-            true,
-        ),
-        (
-            Config {
-                clients: 9,
-                ..USUAL
-            },
-            false,
-        ),
-        (Config { quota: 0, ..USUAL }, false),
-        (Config { quota: 8, ..USUAL }, true),
-        (Config { quota: 9, ..USUAL }, false),
-        (Config { ids: 0, ..USUAL }, false),
-        (Config { ids: 1, ..USUAL }, true),
-        (Config { ids: 17, ..USUAL }, false),
-        (Config { depth: 0, ..USUAL }, false),
-        (Config { depth: 4, ..USUAL }, true),
-        (Config { depth: 5, ..USUAL }, false),
-        (
-            Config {
-                max_len: 0,
-                ..USUAL
-            },
-            false,
-        ),
-        (
-            Config {
-                max_len: 1,
-                ..USUAL
-            },
-            true,
-        ),
-        (
-            Config {
-                max_len: 3,
-                ..USUAL
-            },
-            false,
-        ),
-        (
-            Config {
-                max_len: 256,
-                ..USUAL
-            },
-            true,
-        ),
-        (
-            Config {
-                max_len: 512,
-                ..USUAL
-            },
-            false,
-        ),
-        (
-            Config {
-                max_size: 2,
-                ..USUAL
-            },
-            false,
-        ),
-        (
-            Config {
-                max_size: 3,
-                ..USUAL
-            },
-            true,
-        ),
-        (
-            Config {
-                max_size: 13,
-                ..USUAL
-            },
-            false,
-        ),
-        (
-            Config {
-                axi_bytes: 2,
-                ..USUAL
-            },
-            false,
-        ),
-        (
-            Config {
-                axi_bytes: 16,
-                ..USUAL
-            },
-            false,
-        ),
-        (
-            Config {
-                max_len: 1,
-                ..narrow
-            },
-            false,
-        ),
-        (
-            Config {
-                max_len: 2,
-                ..narrow
-            },
-            true,
-        ),
+    let narrow = limited(USUAL, Limit::AxiBytes(4));
+    for (config, limit, valid) in [
+        (USUAL, Limit::Clients(8), true),
+        (USUAL, Limit::Clients(9), false),
+        (USUAL, Limit::Quota(0), false),
+        (USUAL, Limit::Ids(17), false),
+        (USUAL, Limit::Depth(5), false),
+        (USUAL, Limit::MaxLen(3), false),
+        (USUAL, Limit::MaxSize(13), false),
+        (USUAL, Limit::AxiBytes(16), false),
+        (narrow, Limit::MaxLen(1), false),
+        (narrow, Limit::MaxLen(2), true),
     ] {
+        let config = limited(config, limit);
         let fault = if valid {
             None
         } else {

@@ -1,4 +1,4 @@
-//! A long run of two clients whose turns come by lot, beside a plain replayer: it carries out each request as it is
+//! Long runs of two clients whose turns come by lot, beside a plain replayer: it carries out each request as it is
 //! accepted, one after another, on an array of bytes. Every reply and the memory at the end have to be the same.
 use super::*;
 
@@ -15,12 +15,11 @@ const fn script(place: u8) -> (ABeat, u8) {
     }
 }
 
-/// Where a client is in its script: which of the four requests, which beat of it, and its source.
+/// Where a client is: how many requests it has behind it, which say the request and its source, and which beat.
 #[derive(Clone, Copy)]
 struct Client {
-    place: u8,
+    count: u32,
     beat: u8,
-    source: u8,
     /// The payload of the beat that is to be offered again.
     offered: Option<u64>,
     /// The payload of the first beat of a request of two.
@@ -28,12 +27,30 @@ struct Client {
 }
 
 const AT_THE_START: Client = Client {
-    place: 0,
+    count: 0,
     beat: 0,
-    source: 0,
     offered: None,
     first: 0,
 };
+
+/// Which of the four requests a client is at.
+fn place(at: Client) -> u8 {
+    (at.count % 4) as u8
+}
+
+fn source(at: Client) -> u8 {
+    (at.count % 8) as u8
+}
+
+/// How far the addresses of a client's request are from those of the script: where the requests are spread they go
+/// round in five blocks of 64 bytes.
+fn base(at: Client, spread: bool) -> u32 {
+    if spread {
+        (at.count % 5).wrapping_mul(64)
+    } else {
+        0
+    }
+}
 
 /// The reply to a request: its first eight payloads are all that a reply of this script has.
 #[derive(Clone, Copy, PartialEq, Eq)]
@@ -44,12 +61,13 @@ struct Expected {
     payloads: [u64; 8],
 }
 
-/// A plain memory, and the reply to each request by its number.
+/// A plain memory, and by its number the reply to each request, until it is taken.
 #[derive(Drop)]
 struct Replayer {
     bytes: Vec<u8>,
-    expected: Vec<Expected>,
+    expected: Vec<Option<Expected>>,
     taken: u64,
+    spread: bool,
 }
 
 /// Both sides, and the two clients.
@@ -60,7 +78,7 @@ struct Race {
     clients: [Client; 2],
 }
 
-fn start(alloc: Global, lists: Lists) -> Result<Option<Race>, AllocError> {
+fn start(alloc: Global, lists: Lists, spread: bool) -> Result<Option<Race>, AllocError> {
     let Some(bench) = fresh(alloc, lists)? else {
         return Ok(None);
     };
@@ -74,6 +92,7 @@ fn start(alloc: Global, lists: Lists) -> Result<Option<Race>, AllocError> {
         bytes,
         expected: Vec::new(alloc),
         taken: 0,
+        spread,
     };
     Ok(Some(Race {
         bench,
@@ -109,38 +128,40 @@ fn store(bytes: &mut Vec<u8>, address: u32, word: u64, mask: u8) {
     }
 }
 
-/// The first eight words of memory.
-fn words(bytes: &[u8]) -> [u64; 8] {
+/// Eight words of memory.
+fn words(bytes: &[u8], address: u32) -> [u64; 8] {
     [
-        load(bytes, 0),
-        load(bytes, 8),
-        load(bytes, 16),
-        load(bytes, 24),
-        load(bytes, 32),
-        load(bytes, 40),
-        load(bytes, 48),
-        load(bytes, 56),
+        load(bytes, address),
+        load(bytes, address.wrapping_add(8)),
+        load(bytes, address.wrapping_add(16)),
+        load(bytes, address.wrapping_add(24)),
+        load(bytes, address.wrapping_add(32)),
+        load(bytes, address.wrapping_add(40)),
+        load(bytes, address.wrapping_add(48)),
+        load(bytes, address.wrapping_add(56)),
     ]
 }
 
-/// Carries out a request of the script, and answers the opcode, the beats and the payloads of its reply.
-fn carry_out(bytes: &mut Vec<u8>, place: u8, first: u64, last: u64) -> (u8, u16, [u64; 8]) {
+/// Carries out the request that a client is at, of which this is the last payload, and answers the opcode, the beats
+/// and the payloads of its reply.
+fn carry_out(bytes: &mut Vec<u8>, at: Client, base: u32, last: u64) -> (u8, u16, [u64; 8]) {
     let none = [0; 8];
-    match place {
+    let second = base.wrapping_add(8);
+    match place(at) {
         0 => {
-            store(bytes, 0, first, 0xff);
-            store(bytes, 8, last, 0xff);
+            store(bytes, base, at.first, 0xff);
+            store(bytes, second, last, 0xff);
             (0, 1, none)
         }
-        1 => (1, 8, words(bytes.as_slice())),
+        1 => (1, 8, words(bytes.as_slice(), base)),
         2 => {
-            let old = (load(bytes.as_slice(), 8) % 0x1_0000_0000) as u32;
+            let old = (load(bytes.as_slice(), second) % 0x1_0000_0000) as u32;
             let new = old.wrapping_add((last % 0x1_0000_0000) as u32);
-            store(bytes, 8, u64::from(new), 0x0f);
+            store(bytes, second, u64::from(new), 0x0f);
             (1, 1, [u64::from(old), 0, 0, 0, 0, 0, 0, 0])
         }
         _ => {
-            store(bytes, 8, last, 0x3c);
+            store(bytes, second, last, 0x3c);
             (0, 1, none)
         }
     }
@@ -151,20 +172,21 @@ fn replay(replayer: &mut Replayer, client: u8, at: Client, last: u64, number: u6
     if replayer.expected.len() as u64 != number {
         return false;
     }
-    let (opcode, beats, payloads) = carry_out(&mut replayer.bytes, at.place, at.first, last);
-    let (beat, _) = script(at.place);
+    let base = base(at, replayer.spread);
+    let (opcode, beats, payloads) = carry_out(&mut replayer.bytes, at, base, last);
+    let (beat, _) = script(place(at));
     let expected = Expected {
         client,
-        first: d(opcode, beat.size, at.source, false),
+        first: d(opcode, beat.size, source(at), false),
         beats,
         payloads,
     };
-    replayer.expected.push(expected).is_ok()
+    replayer.expected.push(Some(expected)).is_ok()
 }
 
 /// Where a client is once its beat was taken.
 fn after(at: Client, payload: u64) -> Client {
-    let (_, beats) = script(at.place);
+    let (_, beats) = script(place(at));
     if at.beat.wrapping_add(1) < beats {
         return Client {
             beat: at.beat.wrapping_add(1),
@@ -174,11 +196,23 @@ fn after(at: Client, payload: u64) -> Client {
         };
     }
     Client {
-        place: at.place.wrapping_add(1) % 4,
+        count: at.count.wrapping_add(1),
         beat: 0,
-        source: at.source.wrapping_add(1) % 8,
         offered: None,
         first: 0,
+    }
+}
+
+/// The beat that a client is at but for its payload. Where the requests are spread client 1 goes by another way to the
+/// same bytes.
+fn next_beat(client: u8, at: Client, spread: bool) -> ABeat {
+    let (form, _) = script(place(at));
+    let way = if spread && client == 1 { 0x8000 } else { 0 };
+    let address = form.address.wrapping_add(base(at, spread));
+    ABeat {
+        source: source(at),
+        address: address.wrapping_add(way),
+        ..form
     }
 }
 
@@ -187,16 +221,14 @@ fn offer_next(race: &mut Race, client: u8, x: u64) -> bool {
     let Some(at) = race.clients.get(usize::from(client)).copied() else {
         return false;
     };
-    let (form, _) = script(at.place);
-    let payload = if at.place == 1 {
+    let payload = if place(at) == 1 {
         0
     } else {
         at.offered.unwrap_or(x)
     };
     let beat = ABeat {
-        source: at.source,
         payload,
-        ..form
+        ..next_beat(client, at, race.replayer.spread)
     };
     let next = match race
         .bench
@@ -240,7 +272,7 @@ fn is_expected(reply: &ReplyBox, expected: Expected) -> bool {
     true
 }
 
-/// A client takes a reply, if there is one; whether it is the replayer's.
+/// A client takes a reply, if there is one; whether it is the replayer's, and wasn't taken before.
 fn take_next(race: &mut Race, client: u8) -> bool {
     match race
         .bench
@@ -249,8 +281,11 @@ fn take_next(race: &mut Race, client: u8) -> bool {
     {
         Answer::Nothing => true,
         Answer::Reply(number) => {
-            let expected = race.replayer.expected.get(number as usize).copied();
             race.replayer.taken = race.replayer.taken.wrapping_add(1);
+            let Some(kept) = race.replayer.expected.get_mut(number as usize) else {
+                return false;
+            };
+            let expected = kept.take();
             expected.is_some_and(|e| e.client == client && is_expected(&race.bench.reply, e))
         }
         _ => false,
@@ -302,7 +337,7 @@ fn turns(race: &mut Race, count: u32) -> u32 {
     count
 }
 
-/// Whether the clients take what is left, and these are the replayer's replies.
+/// Whether the clients take what is left, these are the replayer's replies, and none of them stays.
 fn takes_the_rest(race: &mut Race) -> bool {
     for _ in 0..4 {
         if !take_next(race, 0) || !take_next(race, 1) {
@@ -322,17 +357,42 @@ fn first_other(race: &Race) -> Option<u32> {
 
 #[test]
 fn ten_thousand_turns(rt: HostRuntime) -> Result<(), Fail> {
-    for axi_bytes in [8, 4] {
+    // With the bus's bytes go how many replies are taken, and how many steps the drain makes.
+    for (axi_bytes, replies, left) in [(8, 674, 32), (4, 416, 82)] {
         let config = Config { axi_bytes, ..USUAL };
-        let race = start(rt.alloc(), Lists { config, ..PLAIN })?;
+        let race = start(rt.alloc(), Lists { config, ..PLAIN }, false)?;
         let mut race = race.expect(&rt, "a world");
         assert_eq!(rt; turns(&mut race, 10_000), 10_000);
-        let left = race.bench.world.work_left();
+        assert_eq!(rt; race.bench.world.work_left(), left);
         assert_eq!(rt; race.bench.world.drain(), left);
         assert_eq!(rt; first_other(&race), None);
         assert!(rt; takes_the_rest(&mut race));
-        // The lots let each client go through its script many times.
-        assert!(rt; race.replayer.taken > 100);
+        assert_eq!(rt; race.replayer.taken, replies);
+    }
+    Ok(())
+}
+
+/// Bursts of at most four beats to places apart, of which many are open at once.
+#[test]
+fn two_thousand_turns_with_many_bursts(rt: HostRuntime) -> Result<(), Fail> {
+    for (axi_bytes, replies, left) in [(8, 133, 44), (4, 84, 96)] {
+        let lists = Lists {
+            config: Config {
+                axi_bytes,
+                max_len: 4,
+                ..USUAL
+            },
+            regions: &[FOUR_PAGES, ALIAS],
+            ..PLAIN
+        };
+        let race = start(rt.alloc(), lists, true)?;
+        let mut race = race.expect(&rt, "a world");
+        assert_eq!(rt; turns(&mut race, 2_000), 2_000);
+        assert_eq!(rt; race.bench.world.work_left(), left);
+        assert_eq!(rt; race.bench.world.drain(), left);
+        assert_eq!(rt; first_other(&race), None);
+        assert!(rt; takes_the_rest(&mut race));
+        assert_eq!(rt; race.replayer.taken, replies);
     }
     Ok(())
 }

@@ -6,7 +6,7 @@ use Rattle.world_run.specs.Runs.{IsRunOf}
 use Rattle.world_run.specs.Setups.{lists_of, setup_fault}
 use Rattle.world_run.specs.World.{opening_world}
 use Rattle.world_run.specs.declared.Step.{Step}
-use Rattle.world_run.proofs.CarriedOut.{run_in_order}
+use Rattle.world_run.proofs.CarriedOut.{run_in_order, run_ordered}
 use Rattle.world_run.proofs.RunLoop.{ran_whole, refused_later, sound_after}
 use Rattle.world_run.proofs.runs.run.Goals as goal
 
@@ -37,5 +37,11 @@ returns-in_default-one_step-clause-refused c = refused_later (setup_fault (lists
 pub returns-clause-one_at_a_time : goal.returns-clause-one_at_a_time
 returns-clause-one_at_a_time c =
     run_in_order (lists_of c.args.setup.now) c.args.steps.now c.loop-step.ran.answers.items c.loop-step.ran.replies.items c.loop-step.ran.d_beats.items c.loop-step.ran.sent.items c.loop-step.ran.world
+    (subst (λ (steps : List Step). AreSoundAlong (opening_world (lists_of c.args.setup.now)) steps) (take_all c.loop-step.step-index c.args.steps.now c.loop-step-test.false) c.loop-step.invariant.1)
+    (ran_whole c.args.steps.now c.loop-step.step-index c.loop-step-test.false c.loop-step.invariant.0)
+
+pub returns-clause-in_order : goal.returns-clause-in_order
+returns-clause-in_order c =
+    run_ordered (lists_of c.args.setup.now) c.args.steps.now c.loop-step.ran.answers.items c.loop-step.ran.replies.items c.loop-step.ran.d_beats.items c.loop-step.ran.sent.items c.loop-step.ran.world
     (subst (λ (steps : List Step). AreSoundAlong (opening_world (lists_of c.args.setup.now)) steps) (take_all c.loop-step.step-index c.args.steps.now c.loop-step-test.false) c.loop-step.invariant.1)
     (ran_whole c.args.steps.now c.loop-step.step-index c.loop-step-test.false c.loop-step.invariant.0)
