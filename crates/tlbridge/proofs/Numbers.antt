@@ -1,15 +1,11 @@
 -- What a library's parser reads of digits is their number.
 use Rattle.std.proofs.Common.{◌≡◌, ◌<◌, ◌≤◌, ◌==◌, ℕ, List, [], ◌∷◌, length, Bool, true, false, ◌&&◌, nat_le, nat_lt, Some, None, refl, arith, slice_index, if◌then◌else◌}
+use Rattle.std.proofs.lemmas.Bool.{and_parts}
 use Rattle.std.proofs.lemmas.Bool.Decides.{nat_tests}
 use Rattle.std.specs.Char.{is_digit, digit_value}
 use Rattle.std.specs.List.{list_all}
 use Rattle.std.specs.Str.Parse.{AllDigits, IsNumeral, digits_value, without_leading_plus}
 use Rattle.tlbridge.specs.Words.{are_digits, number_of}
-
-both : (a b : Bool) → (a && b) ≡ true → (a ≡ true) × (b ≡ true)
-both true true all = (refl, refl)
-both true false all = (refl, all)
-both false b all = absurd (grind (arith, all))
 
 is_digit-small : (c radix : ℕ) → is_digit c radix ≡ true → digit_value c < radix
 is_digit-small c radix digit = grind (arith, nat_tests, digit)
@@ -20,7 +16,7 @@ small-is_digit c radix small = grind (arith, nat_tests, small)
 all-digits : (radix : ℕ) (word : List ℕ) → list_all (λ digit. is_digit digit radix) word ≡ true → AllDigits radix word
 all-digits radix [] all = tt
 all-digits radix (c ∷ cs) all =
-    let parts = both (is_digit c radix) (list_all (λ digit. is_digit digit radix) cs) all in
+    let parts = and_parts (is_digit c radix) (list_all (λ digit. is_digit digit radix) cs) all in
     (is_digit-small c radix parts.0, all-digits radix cs parts.1)
 
 digits-all : (radix : ℕ) (word : List ℕ) → AllDigits radix word → list_all (λ digit. is_digit digit radix) word ≡ true
@@ -52,9 +48,9 @@ pub number_of-none : (radix most : ℕ) (word : List ℕ) → without_leading_pl
 number_of-none radix most word plain never =
     none_unless _ (digits_value radix word)
     (λ tests.
-    let parts = both (are_digits radix most word) _ tests in
-    let form = both (nat_le 1 (length word) && nat_le (length word) most) (list_all (λ digit. is_digit digit radix) word) parts.0 in
-    let sizes = both (nat_le 1 (length word)) (nat_le (length word) most) form.0 in
+    let parts = and_parts (are_digits radix most word) _ tests in
+    let form = and_parts (nat_le 1 (length word) && nat_le (length word) most) (list_all (λ digit. is_digit digit radix) word) parts.0 in
+    let sizes = and_parts (nat_le 1 (length word)) (nat_le (length word) most) form.0 in
     let some : 0 < length word = grind (arith, nat_tests, sizes.0) in
     let small : digits_value radix word < 18446744073709551616 = grind (arith, nat_tests, parts.1) in
     never (rw plain ((some, all-digits radix word form.1), small)))

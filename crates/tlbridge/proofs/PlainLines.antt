@@ -1,5 +1,6 @@
 -- A line that may stand is text.
-use Rattle.std.proofs.Common.{◌≡◌, ◌<◌, ℕ, List, [], ◌∷◌, Bool, true, false, ◌&&◌, refl, arith}
+use Rattle.std.proofs.Common.{◌≡◌, ◌<◌, ℕ, List, [], ◌∷◌, true, arith}
+use Rattle.std.proofs.lemmas.Bool.{and_parts}
 use Rattle.std.proofs.lemmas.Bool.Decides.{nat_tests}
 use Rattle.std.proofs.lemmas.Str.{IsUtf8-from_ascii}
 use Rattle.std.proofs.lemmas.Str.Ascii.{IsAscii-nil, IsAscii-cons}
@@ -7,18 +8,13 @@ use Rattle.std.specs.List.{list_all}
 use Rattle.std.specs.Str.{IsAscii, IsUtf8}
 use Rattle.tlbridge.specs.Words.{is_plain_byte}
 
-both : (a b : Bool) → (a && b) ≡ true → (a ≡ true) × (b ≡ true)
-both true true all = (refl, refl)
-both true false all = (refl, all)
-both false b all = absurd (grind (arith, all))
-
 small : (byte : ℕ) → is_plain_byte byte ≡ true → byte < 128
 small byte plain = grind (arith, nat_tests, plain)
 
 plain-ascii : (bytes : List ℕ) → list_all is_plain_byte bytes ≡ true → IsAscii bytes
 plain-ascii [] plain = IsAscii-nil
 plain-ascii (byte ∷ bytes) plain =
-    let parts = both (is_plain_byte byte) (list_all is_plain_byte bytes) plain in
+    let parts = and_parts (is_plain_byte byte) (list_all is_plain_byte bytes) plain in
     IsAscii-cons byte bytes (small byte parts.0) (plain-ascii bytes parts.1)
 
 pub plain-utf8 : (bytes : List ℕ) → list_all is_plain_byte bytes ≡ true → IsUtf8 bytes

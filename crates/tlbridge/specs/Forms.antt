@@ -22,13 +22,15 @@ form_of word = option_map (λ row. row.1) (find (λ row. bytes_eq word row.0) fo
 abbrev pub Field : Type 0
 Field = List ℕ → Bool
 
--- a decimal number to 255, to 65,535, and to 2^32 - 1
+-- a decimal number to 255
 abbrev pub byte_field : Field
 byte_field = is_dec_to 255
 
+-- a decimal number to 65,535
 abbrev pub short_field : Field
 short_field = is_dec_to 65535
 
+-- a decimal number to 2^32 - 1
 abbrev pub long_field : Field
 long_field = is_dec_to (2 ^ 32 - 1)
 

@@ -1,5 +1,5 @@
 //! `tlbridge check`: a script of beats, judged by a port for each client.
-ghost use Rattle.std.specs.Prelude.{◌≡◌, ◌++◌, OnOk};
+ghost use Rattle.std.specs.Prelude.{◌≡◌, OnOk};
 ghost use Rattle.std.specs.Io.KnownBytes.{Appends};
 ghost use Rattle.tlbridge.specs.Check.{CheckStage, Opening, Judging, check_reading, command_step, is_misplaced, line_in, nothing_judged, ports_at};
 ghost use Rattle.tlbridge.specs.ClientPorts.{check_text, table_after, verdict_text};

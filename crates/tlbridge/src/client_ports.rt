@@ -7,7 +7,7 @@ use crate::check_lines::CheckCommand;
 use bridge_core::Config;
 use std::alloc::{AllocError, Global};
 use std::marker::Model;
-use tl_checker::{Level, Port, Progress, TlRule};
+use tl_checker::{Port, Progress, TlRule};
 use tl_messages::ABeat;
 
 /// What is said of a command.
@@ -64,7 +64,7 @@ impl ClientPort {
         requires { is_valid config.now ≡ true }
         ensures { IfOk result (λ port. port ≡ opening_sources (port_of config.now client)) }
     {
-        let level = level_of(config, client);
+        let level = config.level_of(client);
         let port = Port::new(alloc, client, level, config.max_size)?;
         Ok(ClientPort {
             port,
@@ -104,15 +104,6 @@ fn all_free() -> [bool; 256]
     ensures { result ≡ replicate 256 false }
 {
     [false; 256]
-}
-
-fn level_of(config: &Config, client: u8) -> Level
-    ensures { result ≡ (port_of config.now client).level }
-{
-    match config.levels.get(usize::from(client)) {
-        Some(level) => *level,
-        None => Level::Ul,
-    }
 }
 
 fn offer(clients: &mut Vec<ClientPort>, client: u8, beat: &ABeat) -> Verdict

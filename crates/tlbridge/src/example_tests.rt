@@ -2,7 +2,7 @@ use crate::run::run_text;
 use std::test::Fail;
 
 /// The examples: the name of each, its script and its trace.
-const EXAMPLES: [(&str, &str, &str); 7] = [
+const EXAMPLES: [(&str, &str, &str); 10] = [
     (
         "regions",
         "# TileLink page 8 leads to the same AXI page as page 0, so the Get waits for the Put; page 9 leads there for Gets alone.
@@ -321,6 +321,167 @@ AR 0 00011800 255 3 1
 = idle
 = drained 1024
 = work 0
+",
+    ),
+    (
+        "masks-and-hints",
+        "# A partial Put writes the lanes of its mask, which may be none. An Intent is answered without the memory.
+config 1 4 16 2 16 12 h
+region 0 4 10 gpah
+page 10 4 good
+a 0 0 0 3 0 8 ff 1111111111111111 0
+drain
+take 0
+a 0 1 0 3 1 8 3c 2222222222222222 0
+pump
+do 1 0
+b 0
+take 0
+a 0 1 0 3 2 8 00 3333333333333333 0
+pump
+do 2 0
+b 0
+take 0
+a 0 4 0 3 3 8 ff 0 0
+pump
+do 3 0
+r 0
+take 0
+a 0 5 1 12 4 1000 ff 0 0
+pump
+take 0
+mem 10009
+mem 1000a
+",
+        "A 0 0 0 3 0 00000008 ff 1111111111111111 0
+= accepted 0
+= drained 3
+= reply 0
+D 0 0 0 3 0 0 0000000000000000 0
+A 0 1 0 3 1 00000008 3c 2222222222222222 0
+= accepted 1
+= sent 1
+AW 0 00010008 0 3 1
+W 0000222222220000 3c 1
+= done
+B 0 OKAY
+= reply 1
+D 0 0 0 3 1 0 0000000000000000 0
+A 0 1 0 3 2 00000008 00 3333333333333333 0
+= accepted 2
+= sent 2
+AW 0 00010008 0 3 1
+W 0000000000000000 00 1
+= done
+B 0 OKAY
+= reply 2
+D 0 0 0 3 2 0 0000000000000000 0
+A 0 4 0 3 3 00000008 ff 0000000000000000 0
+= accepted 3
+= sent 3
+AR 0 00010008 0 3 1
+= done
+R 0 1111222222221111 OKAY 1
+= reply 3
+D 0 1 0 3 3 0 1111222222221111 0
+A 0 5 1 12 4 00001000 ff 0000000000000000 0
+= accepted 4
+= idle
+= reply 4
+D 0 2 0 12 4 0 0000000000000000 0
+= mem 11
+= mem 22
+",
+    ),
+    (
+        "denied",
+        "# A Put with a corrupt beat, a Get of a page in no region, and an atomic and an Intent that their region doesn't permit:
+# each is denied at once and sends nothing.
+config 1 4 16 2 16 12 h
+region 0 4 10 gpah
+region 8 1 10 gp--
+page 10 4 good
+a 0 0 0 3 0 8 ff 1 1
+a 0 4 0 4 1 5000 ff 0 0
+a 0 2 4 3 2 8000 ff 1 0
+a 0 5 0 3 3 8000 ff 0 0
+work
+pump
+take 0
+take 0
+take 0
+take 0
+mem 10008
+",
+        "A 0 0 0 3 0 00000008 ff 0000000000000001 1
+= accepted 0
+A 0 4 0 4 1 00005000 ff 0000000000000000 0
+= accepted 1
+A 0 2 4 3 2 00008000 ff 0000000000000001 0
+= accepted 2
+A 0 5 0 3 3 00008000 ff 0000000000000000 0
+= accepted 3
+= work 0
+= idle
+= reply 0
+D 0 0 0 3 0 1 0000000000000000 0
+= reply 1
+D 0 1 0 4 1 1 0000000000000000 1
+D 0 1 0 4 1 1 0000000000000000 1
+= reply 2
+D 0 1 0 3 2 1 0000000000000000 1
+= reply 3
+D 0 2 0 3 3 1 0000000000000000 0
+= mem 00
+",
+    ),
+    (
+        "refused-beats",
+        "# A refused beat changes nothing, so the Put goes on with its second beat. With a quota of 2 a third request isn't
+# taken before a reply is.
+config 1 2 16 2 16 12 h
+region 0 4 10 gpah
+page 10 4 good
+a 0 0 0 4 0 0 ff 1111111111111111 0
+a 0 0 0 4 0 8 ff 2222222222222222 0
+a 0 0 0 4 0 0 ff 2222222222222222 0
+a 0 4 0 3 0 10 ff 0 0
+a 0 4 0 3 1 14 ff 0 0
+a 0 4 0 3 1 10 ff 0 0
+a 0 4 0 3 2 18 ff 0 0
+drain
+a 0 4 0 3 2 18 ff 0 0
+take 0
+a 0 4 0 3 2 18 ff 0 0
+a 1 4 0 3 0 8 ff 0 0
+work
+mem 1000f
+",
+        "A 0 0 0 4 0 00000000 ff 1111111111111111 0
+= more
+A 0 0 0 4 0 00000008 ff 2222222222222222 0
+= refused 10 BURST_CONTROL
+A 0 0 0 4 0 00000000 ff 2222222222222222 0
+= accepted 0
+A 0 4 0 3 0 00000010 ff 0000000000000000 0
+= refused 9 SOURCE_BUSY
+A 0 4 0 3 1 00000014 ff 0000000000000000 0
+= refused 5 ALIGN
+A 0 4 0 3 1 00000010 ff 0000000000000000 0
+= accepted 1
+A 0 4 0 3 2 00000018 ff 0000000000000000 0
+= notready
+= drained 7
+A 0 4 0 3 2 00000018 ff 0000000000000000 0
+= notready
+= reply 0
+D 0 0 0 4 0 0 0000000000000000 0
+A 0 4 0 3 2 00000018 ff 0000000000000000 0
+= accepted 2
+A 1 4 0 3 0 00000008 ff 0000000000000000 0
+= noclient
+= work 3
+= mem 22
 ",
     ),
 ];

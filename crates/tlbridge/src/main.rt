@@ -8,9 +8,13 @@ mod check_tests;
 mod client_ports;
 #[cfg(test)]
 mod example_tests;
+#[cfg(test)]
+mod fault_tests;
 mod faults;
 mod forms;
 mod lines;
+#[cfg(test)]
+mod mode_tests;
 mod offer_lines;
 mod run;
 mod run_lines;

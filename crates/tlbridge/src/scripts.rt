@@ -18,7 +18,7 @@ const MOST_LINES: u32 = 65_536;
 
 /// The state of a script that is read line by line.
 pub trait Script {
-    ghost use Rattle.std.specs.Prelude.{ℕ, Bool};
+    ghost use Rattle.std.specs.Prelude.{Bool};
     ghost use Rattle.tlbridge.specs.Scripts.{Reading};
 
     /// What its lines do.

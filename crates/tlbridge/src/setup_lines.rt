@@ -3,7 +3,7 @@ ghost use Rattle.std.specs.Prelude.{◌≡◌, ◌==◌, ◌||◌, not, false};
 ghost use Rattle.std.specs.List.{list_all};
 ghost use Rattle.tlbridge.specs.Forms.{Reads, levels_field, permissions_field, count_field, first_wrong, kind_field, unless_wrong};
 ghost use Rattle.tlbridge.specs.SetupLines.{config_line, region_line, page_line, bad_line, bus_fields, bus_in, kind_in, level_at, levels_in, permissions_in};
-ghost use Rattle.tlbridge.specs.Words.{word_at, dec_at, hex_at};
+ghost use Rattle.tlbridge.specs.Words.{word_at, dec_at};
 
 use crate::words::Words;
 use bridge_core::Config;

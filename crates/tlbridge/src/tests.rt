@@ -271,38 +271,47 @@ fn faults_of_scripts(rt: HostRuntime) -> Result<(), Fail> {
     Ok(())
 }
 
-/// What follows a set-up, what it ends with, and the trace.
-const CARRIED_OUT: [(&str, u32, &str); 7] = [
-    ("mem 10000\nregion 8 1 20 gpah", 5, "= mem 00\n"),
-    ("mem 0000000000010000\r\nmem G\n", 5, "= mem 00\n"),
+/// What follows a set-up, the line and the word at fault, and the trace.
+const CARRIED_OUT: [(&str, u32, u32, &str); 8] = [
+    ("mem 10000\nregion 8 1 20 gpah", 5, 1, "= mem 00\n"),
+    ("mem 0000000000010000\r\nmem G\n", 5, 2, "= mem 00\n"),
     (
         "do 00000000000000000007 0\npump\nr 3\n\n#\nb 255\ntake 1\ntake 2\nx",
         12,
+        1,
         "= nosuch\n= idle\n= nothing\n= nothing\n= nothing\n= noclient\n",
     ),
     (
         "  a 2  4 0 3 0 8 FF 0 0 \na 1 4 0 3 0 8 ff 0 1\nx",
         6,
+        1,
         "A 2 4 0 3 0 00000008 ff 0000000000000000 0\n= noclient\nA 1 4 0 3 0 00000008 ff 0000000000000000 1\n= refused 8 CORRUPT\n",
     ),
     (
         "a 0 4 0 3 5 8 ff 0 0\npump\npump\nr 0\ndo 0 0\ndo 0 0\nr 0\ntake 0\npage 20 1 good\n",
         12,
+        1,
         "A 0 4 0 3 5 00000008 ff 0000000000000000 0\n= accepted 0\n= sent 0\nAR 0 00010008 0 3 1\n= idle\n= nothing\n= done\n= already\nR 0 0000000000000000 OKAY 1\n= reply 0\nD 0 1 0 3 5 0 0000000000000000 0\n",
     ),
-    ("mem 0\nconfig 1 1 1 1 1 12 h", 5, "= mem --\n"),
-    ("mem 0\nbad 0", 5, "= mem --\n"),
+    // The quota is 4 requests.
+    (
+        "a 0 4 0 3 0 8 ff 0 0\na 0 4 0 3 1 8 ff 0 0\na 0 4 0 3 2 8 ff 0 0\na 0 4 0 3 3 8 ff 0 0\na 0 4 0 3 4 8 ff 0 0\nx",
+        9,
+        1,
+        "A 0 4 0 3 0 00000008 ff 0000000000000000 0\n= accepted 0\nA 0 4 0 3 1 00000008 ff 0000000000000000 0\n= accepted 1\nA 0 4 0 3 2 00000008 ff 0000000000000000 0\n= accepted 2\nA 0 4 0 3 3 00000008 ff 0000000000000000 0\n= accepted 3\nA 0 4 0 3 4 00000008 ff 0000000000000000 0\n= notready\n",
+    ),
+    ("mem 0\nconfig 1 1 1 1 1 12 h", 5, 1, "= mem --\n"),
+    ("mem 0\nbad 0", 5, 1, "= mem --\n"),
 ];
 
 #[test]
 fn traces_of_scripts(rt: HostRuntime) -> Result<(), Fail> {
     let alloc = rt.alloc();
-    for (commands, line, trace) in CARRIED_OUT {
+    for (commands, line, word, trace) in CARRIED_OUT {
         let input = joined(alloc, SET_UP.as_bytes(), commands.as_bytes())?;
         let mut reader = input.as_slice();
         let mut output = Vec::new(alloc);
         let ending = run_text(alloc, &mut reader, &mut output);
-        let word = if commands.ends_with("G\n") { 2 } else { 1 };
         assert_eq!(rt; ending, script_fault(line, word), "{commands}");
         assert_eq!(rt; output.as_slice(), trace.as_bytes(), "{commands}");
     }
@@ -376,17 +385,32 @@ fn set_ups(rt: HostRuntime) -> Result<(), Fail> {
     Ok(())
 }
 
-/// Lines that add to a set-up, how many of them have room, and one line more.
-const FULL: [(&str, u32, &str); 3] = [
-    ("region 0 1 10 gpah", 16, "region"),
-    ("page 10 1 slverr", 64, "page 10 x"),
-    ("bad 10000", 64, "bad x y"),
+/// Lines that add to a set-up, how many of them have room, what a set-up of so many is refused for, and one line more.
+const FULL: [(&str, u32, SetupFault, &str); 3] = [
+    (
+        "region 0 1 10 gpah",
+        16,
+        SetupFault::Map(MapFault::RegionOverlap(1)),
+        "region",
+    ),
+    (
+        "page 10 1 slverr",
+        64,
+        SetupFault::Device(DeviceFault::PageTwice(1)),
+        "page 10 x",
+    ),
+    (
+        "bad 10000",
+        64,
+        SetupFault::Device(DeviceFault::BadWord(0)),
+        "bad x y",
+    ),
 ];
 
 #[test]
 fn lists_that_are_full(rt: HostRuntime) -> Result<(), Fail> {
     let alloc = rt.alloc();
-    for (line, most, more) in FULL {
+    for (line, most, fault, more) in FULL {
         let mut input = joined(alloc, b"config 1 1 1 1 1 12 h", b"\n")?;
         for _ in 0..most {
             input.extend_from_slice(line.as_bytes())?;
@@ -394,7 +418,7 @@ fn lists_that_are_full(rt: HostRuntime) -> Result<(), Fail> {
         }
         let mut output = Vec::new(alloc);
         let ending = run_text(alloc, &mut input.as_slice(), &mut output);
-        assert!(rt; matches!(ending, Err(TextFault::Setup(_))), "{line}");
+        assert_eq!(rt; ending, Err(TextFault::Setup(fault)), "{line}");
         input.extend_from_slice(more.as_bytes())?;
         let ending = run_text(alloc, &mut input.as_slice(), &mut output);
         assert_eq!(rt; ending, script_fault(most.saturating_add(2), 1), "{more}");
@@ -404,7 +428,7 @@ fn lists_that_are_full(rt: HostRuntime) -> Result<(), Fail> {
 }
 
 /// Results, the exit status of each, and its text on standard error.
-const STATUSES: [(Result<bool, TextFault>, u8, &str); 9] = [
+const STATUSES: [(Result<bool, TextFault>, u8, &str); 13] = [
     (Ok(false), 0, ""),
     (Ok(true), 1, ""),
     (
@@ -418,9 +442,29 @@ const STATUSES: [(Result<bool, TextFault>, u8, &str); 9] = [
         "set-up fault: BadConfig 0",
     ),
     (
+        Err(TextFault::Setup(SetupFault::Map(MapFault::RegionEmpty(0)))),
+        2,
+        "set-up fault: RegionEmpty 0",
+    ),
+    (
+        Err(TextFault::Setup(SetupFault::Map(MapFault::RegionRange(15)))),
+        2,
+        "set-up fault: RegionRange 15",
+    ),
+    (
         Err(TextFault::Setup(SetupFault::Map(MapFault::RegionOverlap(1)))),
         2,
         "set-up fault: RegionOverlap 1",
+    ),
+    (
+        Err(TextFault::Setup(SetupFault::Device(DeviceFault::PageRange(63)))),
+        2,
+        "set-up fault: PageRange 63",
+    ),
+    (
+        Err(TextFault::Setup(SetupFault::Device(DeviceFault::PageTwice(2)))),
+        2,
+        "set-up fault: PageTwice 2",
     ),
     (
         Err(TextFault::Setup(SetupFault::Device(DeviceFault::BadWord(7)))),

@@ -1,5 +1,5 @@
 //! The lines of a trace. A fault of the writer is answered as it is.
-ghost use Rattle.std.specs.Prelude.{◌≡◌, OnOk, flat_map};
+ghost use Rattle.std.specs.Prelude.{OnOk, flat_map};
 ghost use Rattle.std.specs.Io.KnownBytes.{Appends};
 ghost use Rattle.tlbridge.specs.Names.{answer_text, refused_text, held_text, reply_text, drained_text, mem_text, work_text};
 ghost use Rattle.axi_beats.specs.Boxes.{w_beats_of};

@@ -1,5 +1,5 @@
 //! The words of a line, and the fields that they write.
-ghost use Rattle.std.specs.Prelude.{◌≡◌, ◌≤◌, ◌<◌, ◌^◌, ◌-◌, ◌+◌, ◌++◌, ◌∷◌, [], true, false, filter, length, nat_le, MatchResult, IfOk};
+ghost use Rattle.std.specs.Prelude.{◌≡◌, ◌≤◌, ◌<◌, ◌-◌, ◌+◌, ◌++◌, ◌∷◌, [], true, false, filter, length, nat_le, MatchResult, IfOk};
 ghost use Rattle.arrayvec.specs.ArrayVec.{array_vec_len};
 ghost use Rattle.tlbridge.specs.Words.{texts_of, is_word, words_of, word_at, is_skipped, number_of, dec_at, hex_at, is_dec_to, is_hex_to};
 ghost use Rattle.tlbridge.specs.Forms.{Reads, byte_field, short_field, long_field, address_field, flag_field, is_set};
