@@ -10,8 +10,8 @@ from pathlib import Path
 
 HEAD = """# Definitions
 
-The contracts cite these definitions. Each stands in `crates/NAME/specs/FILE.antt`, below the comment that is shown here
-as its words. This page is written by `docs/definitions.py`.
+The contracts cite these definitions. Each stands in `crates/NAME/specs/FILE.antt`, below the comment, if it has one, that is
+shown here as its words. This page is written by `docs/definitions.py`.
 
 Numbers are natural numbers without a bound, lists are lists, and `Option` is Rust's. A definition whose type ends in
 `Bool` is a test, one whose type ends in `Type 0` is a fact. What a Rust type is in a contract is told in
