@@ -239,14 +239,14 @@ impl Flight {
         ensures named { IfSome result (λ key. IsSomeAnd (request_at key self.now) (λ request. IsTrue request.done)) }
         ensures laws { IsSound self.now }
     {
-        self.live.first_done(client)
+        self.live.oldest_done(client)
     }
 
     /// Whether a live request of a client is done.
     pub fn first_done(&self, client: u8) -> bool
         ensures { result ≡ is_some (oldest_done (table_of self.now) client) }
     {
-        self.live.first_done(client).is_some()
+        self.live.oldest_done(client).is_some()
     }
 
     /// Takes a done request out, and answers its number. Its source is free again.

@@ -12,8 +12,8 @@ ghost use Rattle.flight_table.specs.Work.{unsent_work, work_of};
 use crate::TableLimits;
 use crate::request::LiveRequest;
 use crate::scans::{
-    count_holders, count_of, count_undone, first_done, first_ready, free_id, has_source, of_id,
-    of_number, stored, unsent_work, work,
+    count_holders, count_of, count_undone, first_ready, free_id, has_source, of_id, of_number,
+    oldest_done, stored, unsent_work, work,
 };
 use slab::Slab;
 use std::alloc::{AllocError, Global};
@@ -208,11 +208,11 @@ impl Live {
     }
 
     /// The key of a client's first request that is done.
-    pub(crate) fn first_done(&self, client: u8) -> Option<Key>
+    pub(crate) fn oldest_done(&self, client: u8) -> Option<Key>
         ensures key { result ≡ key_in (is_done_of client) self.now }
         ensures keys { HaveOwnKeys self.now }
     {
-        first_done(&self.requests, &self.order, client)
+        oldest_done(&self.requests, &self.order, client)
     }
 
     /// The key of the first request that may send its next burst.

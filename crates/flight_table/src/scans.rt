@@ -155,7 +155,7 @@ pub(crate) fn of_id(requests: &Slab<LiveRequest>, order: &[Key], id: u8) -> Opti
 }
 
 /// The place of a client's first request that is done.
-fn place_first_done(requests: &Slab<LiveRequest>, order: &[Key], client: u8) -> Option<usize>
+fn place_oldest_done(requests: &Slab<LiveRequest>, order: &[Key], client: u8) -> Option<usize>
     ensures { result ≡ position (λ k. is_done_of client (stored requests.now k)) order.now }
 {
     order
@@ -164,10 +164,10 @@ fn place_first_done(requests: &Slab<LiveRequest>, order: &[Key], client: u8) -> 
 }
 
 /// The key of a client's first request that is done.
-pub(crate) fn first_done(requests: &Slab<LiveRequest>, order: &[Key], client: u8) -> Option<Key>
+pub(crate) fn oldest_done(requests: &Slab<LiveRequest>, order: &[Key], client: u8) -> Option<Key>
     ensures { result ≡ find (λ k. is_done_of client (stored requests.now k)) order.now }
 {
-    key_at(order, place_first_done(requests, order, client))
+    key_at(order, place_oldest_done(requests, order, client))
 }
 
 /// Whether a request may send its next burst, by whether an ID is free.

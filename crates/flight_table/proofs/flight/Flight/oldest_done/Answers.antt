@@ -4,7 +4,7 @@ use Rattle.flight_table.proofs.KeyLaws.{answer_names, answer_passes}
 use Rattle.flight_table.proofs.flight.Flight.oldest_done.Goals as goal
 
 pub returns-clause-request : goal.returns-clause-request
-returns-clause-request c = rw (← c.self.view_is) (answer_names (is_done_of c.args.client) c.self.inside.live c.first_done.result c.first_done.ensures.keys c.first_done.ensures.key)
+returns-clause-request c = rw (← c.self.view_is) (answer_names (is_done_of c.args.client) c.self.inside.live c.oldest_done.result c.oldest_done.ensures.keys c.oldest_done.ensures.key)
 
 pub returns-clause-named : goal.returns-clause-named
-returns-clause-named c = rw (← c.self.view_is) (answer_passes (is_done_of c.args.client) _ c.self.inside.live c.first_done.result (λ r passes. (and_parts (is_of c.args.client r) r.done passes).1) c.first_done.ensures.keys c.first_done.ensures.key)
+returns-clause-named c = rw (← c.self.view_is) (answer_passes (is_done_of c.args.client) _ c.self.inside.live c.oldest_done.result (λ r passes. (and_parts (is_of c.args.client r) r.done passes).1) c.oldest_done.ensures.keys c.oldest_done.ensures.key)

@@ -2,11 +2,11 @@ use Rattle.std.proofs.Common.{List, ◌∙◌, ap}
 use Rattle.flight_table.specs.Tables.{KeyedRequest, key_in, is_done_of}
 use Rattle.flight_table.proofs.Index.{keys_of}
 use Rattle.flight_table.proofs.SlabScans.{find_scan}
-use Rattle.flight_table.proofs.live.Live.first_done.Goals as goal
+use Rattle.flight_table.proofs.live.Live.oldest_done.Goals as goal
 
 pub returns-clause-key : goal.returns-clause-key
 returns-clause-key c =
-    (rw c.deref.ensures.value at c.first_done.ensures) ∙ find_scan c.self.inside.requests (is_done_of c.args.client) c.self.inside.order.items
+    (rw c.deref.ensures.value at c.oldest_done.ensures) ∙ find_scan c.self.inside.requests (is_done_of c.args.client) c.self.inside.order.items
     ∙ ap (λ (entries : List KeyedRequest). key_in (is_done_of c.args.client) entries) c.self.view_is
 
 pub returns-clause-keys : goal.returns-clause-keys
