@@ -26,6 +26,7 @@ use Rattle.bridge_core.specs.Laws.{AreLinked, IsLinked, IsPartWay, IsServed, IsS
 use Rattle.bridge_core.specs.Requests.{BridgedRequest, RequestTable, after_sending, flights_of, holder, holds, is_numbered, may_send}
 use Rattle.bridge_core.specs.Sending.{Sending, burst_of_piece, next_sending}
 use Rattle.bridge_core.proofs.NextSending.{IsNext, next_found}
+use Rattle.bridge_core.proofs.ResponseLinks.{part_way-zero}
 use Rattle.bridge_core.proofs.SendingLinks.{sound_requests}
 
 -- ---- searches, where one entry is changed
@@ -153,19 +154,13 @@ open_writes-append id [] burst = refl
 open_writes-append id ((true, piece) ∷ bursts) burst = ap (λ (ws : List OpenWrite). open_write id piece ∷ ws) (open_writes-append id bursts burst)
 open_writes-append id ((false, piece) ∷ bursts) burst = open_writes-append id bursts burst
 
--- where no beat came, a list of bursts is on its way
-pub none_came : (bursts : List (Bool × Piece)) → IsPartWay 0 bursts
-none_came [] = refl
-none_came ((true, piece) ∷ bursts) = refl
-none_came ((false, piece) ∷ bursts) = omega arith
-
 open_reads-append : (id came : ℕ) (bursts : List (Bool × Piece)) (burst : Bool × Piece) → IsPartWay came bursts → open_reads id came (bursts ++ burst ∷ []) ≡ open_reads id came bursts ++ open_reads id 0 (burst ∷ [])
 open_reads-append id came [] burst way = ap (λ n. open_reads id n (burst ∷ [])) way
 open_reads-append id came ((true, piece) ∷ bursts) burst way =
     ap (λ n. open_reads id n (bursts ++ burst ∷ [])) way
-    ∙ open_reads-append id 0 bursts burst (none_came bursts)
+    ∙ open_reads-append id 0 bursts burst (part_way-zero bursts)
     ∙ ap (λ n. open_reads id n bursts ++ open_reads id 0 (burst ∷ [])) (sym way)
-open_reads-append id came ((false, piece) ∷ bursts) burst way = ap (λ (rs : List OpenRead). open_read id came piece ∷ rs) (open_reads-append id 0 bursts burst (none_came bursts))
+open_reads-append id came ((false, piece) ∷ bursts) burst way = ap (λ (rs : List OpenRead). open_read id came piece ∷ rs) (open_reads-append id 0 bursts burst (part_way-zero bursts))
 
 pub outstanding_sent : (id : ℕ) (request : BridgedRequest) (burst : Bool × Piece) → request.flight.answered ≤ request.flight.sent → next_burst request.flight ≡ Some burst
     → outstanding (after_sending id request).flight ≡ outstanding request.flight ++ burst ∷ []

@@ -21,10 +21,9 @@ use Rattle.flight_table.specs.Laws.{IsSoundRequest}
 use Rattle.flight_table.specs.LiveRequests.{LiveRequest, course, finished, is_atomic, is_settled, plan_for, planned, planned_writes, read_pieces, with_answered, with_write, write_pieces}
 use Rattle.flight_table.specs.declared.TableLimits.{TableLimits}
 use Rattle.flight_table.proofs.CourseLaws.{length_course}
-use Rattle.std.specs.Option.{option_flatten}
-use Rattle.data_unit.specs.Words.{operand_in}
-use Rattle.responses.specs.Gathered.{after_b, after_r, holds_number, reads_of}
+use Rattle.responses.specs.Gathered.{Gathering, after_b, after_r, old_value, reads_of}
 use Rattle.responses.specs.Gathered as gathered
+use Rattle.responses.specs.declared.gather.Outline.{Outline}
 use Rattle.bridge_core.specs.Configs.{is_valid, port_of}
 use Rattle.bridge_core.specs.Laws.{IsOfMessage, IsPartWay, IsServed, answered_pieces, beats_in, came_of_next, outstanding}
 use Rattle.bridge_core.specs.Requests.{BridgedRequest, RequestTable, address_of, after_read, after_response, after_sending, newly_live, outline_in, range_of, settled, value_found}
@@ -75,18 +74,15 @@ atomic_both (Atomic Swap) is = refl
 atomic_both Get is = absurd (cc (is))
 atomic_both (Intent write) is = absurd (cc (is))
 
-found_in_atomic : (config : Config) (regions : List Region) (request : BridgedRequest) → IsOfMessage config regions request → is_some (value_found request) ≡ true → is_atomic request.flight ≡ true
-found_in_atomic config regions request of_message found = rw (of_message.operation) (by_test (gathered.is_atomic request.message.operation) refl found)
-  where
-    by_atomic : Bool → Option ℕ
-    by_atomic b =
-        if b && not request.gathering.denied && holds_number (outline_in request)
-        then option_map (λ word. operand_in word request.message.address request.message.size) (option_flatten (slice_get request.gathering.words 0))
-        else None
+atomic_only : (b : Bool) (outline : Outline) (gathering : Gathering) → gathered.is_atomic outline.operation ≡ b → is_some (old_value outline gathering) ≡ true → b ≡ true
+atomic_only true outline gathering is some = refl
+atomic_only false outline gathering is some = absurd (cc (rw is at some))
 
-    by_test : (b : Bool) → gathered.is_atomic request.message.operation ≡ b → is_some (by_atomic b) ≡ true → (reply_has_data request.message.operation && has_data request.message.operation) ≡ true
-    by_test true is found = atomic_both request.message.operation is
-    by_test false is found = absurd (cc (found))
+pub found_is_atomic : (config : Config) (regions : List Region) (request : BridgedRequest) (gathering : Gathering) → IsOfMessage config regions request
+    → is_some (old_value (outline_in request) gathering) ≡ true → is_atomic request.flight ≡ true
+found_is_atomic config regions request gathering of_message some =
+    let atomic : gathered.is_atomic request.message.operation ≡ true = atomic_only (gathered.is_atomic request.message.operation) (outline_in request) gathering refl some in
+    rw of_message.operation (atomic_both request.message.operation atomic)
 
 -- ---- an answer was counted, and the request is settled
 
@@ -129,7 +125,7 @@ to_write : (config : Config) (regions : List Region) (request : BridgedRequest) 
 to_write config regions request valid counted settles test =
     let parts = and_parts (not request.flight.writing) (is_some (value_found request)) test in
     let isnt : request.flight.writing ≡ false = is_not request.flight.writing parts.0 in
-    let atomic : is_atomic request.flight ≡ true = found_in_atomic config regions request counted.flight parts.1 in
+    let atomic : is_atomic request.flight ≡ true = found_is_atomic config regions request request.gathering counted.flight parts.1 in
     let plan = atomic_plan config regions request valid counted.message counted.flight counted.has atomic in
     let all = leb-true (length (planned request.flight)) request.flight.answered settles in
     let before = planned_before request.flight atomic isnt in

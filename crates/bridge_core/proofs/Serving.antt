@@ -10,13 +10,11 @@ use Rattle.axi_beats.specs.declared.RBeat.{RBeat}
 use Rattle.axi_beats.specs.declared.Resp.{Resp}
 use Rattle.burst_plan.specs.declared.Region.{Region}
 use Rattle.flight_table.specs.Laws.{IsSound, IsSoundRequest}
-use Rattle.flight_table.specs.LiveRequests.{LiveRequest, finished, is_atomic, is_settled, planned, with_answered, with_write}
+use Rattle.flight_table.specs.LiveRequests.{LiveRequest, finished, is_settled, planned, with_answered, with_write}
 use Rattle.flight_table.specs.Order.{holds_id}
 use Rattle.flight_table.specs.Tables.{KeyedTable, change_key, request_at, requests_of}
 use Rattle.flight_table.specs.declared.TableLimits.{TableLimits}
 use Rattle.responses.specs.Gathered.{Gathering, after_b, after_r, old_value, outline_of}
-use Rattle.responses.specs.Gathered as gathered
-use Rattle.responses.specs.declared.gather.Outline.{Outline}
 use Rattle.bridge_core.specs.Configs.{is_valid, table_limits_of}
 use Rattle.bridge_core.specs.Inside.{AwaitsAnswer, AwaitsBeat, HeldRequest, IsFirstAt, IsKept, IsUndone, answered_flight, bridged, is_held, settled_flight, table_kept, together, value_held}
 use Rattle.bridge_core.specs.Laws.{IsServed, IsSoundRequestTable}
@@ -25,7 +23,7 @@ use Rattle.bridge_core.specs.declared.Config.{Config}
 use Rattle.bridge_core.proofs.HolderChanges.{find-changed}
 use Rattle.bridge_core.proofs.KeyChanges.{change_none}
 use Rattle.bridge_core.proofs.SendingLinks.{sound_requests}
-use Rattle.bridge_core.proofs.ServedRequests.{atomic_both, served_read, served_response}
+use Rattle.bridge_core.proofs.ServedRequests.{found_is_atomic, served_read, served_response}
 use Rattle.bridge_core.proofs.TableSteps.{IsChanged, IsStep, changed_table, rising}
 use Rattle.bridge_core.proofs.Together.{found_apart, found_together, held_there}
 
@@ -81,18 +79,6 @@ pub held_changed : (n : ℕ) (g : HeldRequest → HeldRequest) (helds : List Hel
     → find (is_held n) (change_first (is_held n) g helds) ≡ Some (g held)
 held_changed n g helds held keeps there =
     find-changed (is_held n) g helds held there (ap (λ (m : ℕ). m == n) (keeps held) ∙ find-passes (is_held n) helds held there)
-
--- ---- an old value is an atomic's
-
-atomic_only : (b : Bool) (outline : Outline) (gathering : Gathering) → gathered.is_atomic outline.operation ≡ b → is_some (old_value outline gathering) ≡ true → b ≡ true
-atomic_only true outline gathering is some = refl
-atomic_only false outline gathering is some = absurd (cc (rw is at some))
-
-pub found_is_atomic : (config : Config) (regions : List Region) (request : BridgedRequest) (gathering : Gathering) → IsServed config regions request
-    → is_some (old_value (outline_in request) gathering) ≡ true → is_atomic request.flight ≡ true
-found_is_atomic config regions request gathering served some =
-    let atomic : gathered.is_atomic request.message.operation ≡ true = atomic_only (gathered.is_atomic request.message.operation) (outline_in request) gathering refl some in
-    rw served.flight.operation (atomic_both request.message.operation atomic)
 
 -- ---- what an answer makes of it
 
@@ -210,7 +196,7 @@ pub undone : (config : Config) (regions : List Region) (flight : KeyedTable) (he
     → (at : IsFirstAt test flight key n) → IsServed config regions (bridged at.request held) → at.request.done ≡ false → found ≡ is_some (old_value (outline_in (bridged at.request held)) gathering)
     → IsSomeAnd (request_at key flight) (IsUndone found)
 undone config regions flight helds test key n found gathering held at served live is =
-    rw at.named (record { live = live; atomic = λ some. found_is_atomic config regions (bridged at.request held) gathering served (sym is ∙ some) })
+    rw at.named (record { live = live; atomic = λ some. found_is_atomic config regions (bridged at.request held) gathering served.flight (sym is ∙ some) })
 
 pub unanswered_at : (flight : KeyedTable) (test : LiveRequest → Bool) (key n : ℕ) → (at : IsFirstAt test flight key n) → at.request.answered < at.request.sent
     → IsSomeAnd (request_at key flight) (λ request. request.answered < request.sent)

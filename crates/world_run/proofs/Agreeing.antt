@@ -41,7 +41,7 @@ use Rattle.world_run.specs.Laws.{Agree, bursts_sent}
 use Rattle.world_run.proofs.Serials.{most_sent}
 use Rattle.world_run.proofs.Outstanding.{HasBeatsToCome, outstanding_after_b, outstanding_after_r, outstanding_performed, outstanding_sent}
 use Rattle.world_run.proofs.Plain.{plain_after_b, plain_after_r, plain_performed, plain_sent}
-use Rattle.world_run.proofs.Sums.{sum_changed, sum_unseen, sum_without}
+use Rattle.world_run.proofs.Sums.{sum_between, sum_unseen, sum_without}
 
 -- ---- a burst is sent
 
@@ -49,7 +49,9 @@ sent_counted : (state : BridgeState) (sending : Sending) → IsSoundBridge state
 sent_counted state sending sound is =
     let next = next_found state.requests sending is in
     let there = found_by_number _ state.requests.live sending.request sound.requests.flights.rising next.found in
-    sum_changed (λ (r : BridgedRequest). r.flight.sent) (is_numbered sending.request.flight.number) (after_sending sending.id) 1 state.requests.live sending.request there refl
+    let one_more : bursts_sent (after_sent state sending) + sending.request.flight.sent ≡ bursts_sent state + (sending.request.flight.sent + 1) =
+    sum_between (λ (r : BridgedRequest). r.flight.sent) (is_numbered sending.request.flight.number) (after_sending sending.id) state.requests.live sending.request there in
+    omega (arith, one_more)
 
 pub agree_sent : (state : BridgeState) (memory : FreeMemory) (sending : Sending) → Agree state memory → next_sending state.requests ≡ Some sending
     → IsSoundBridge (after_sent state sending) → IsSoundMemory (with_burst memory sending.burst) → Agree (after_sent state sending) (with_burst memory sending.burst)

@@ -13,7 +13,7 @@ use Rattle.burst_plan.specs.declared.Piece.{Piece}
 use Rattle.bus_words.specs.Places.{change_first}
 use Rattle.bridge_core.proofs.AnswerLinks.{AreOf}
 use Rattle.subordinate.specs.FreeMemory.{Pending, is_read_of, is_write_of, reads_as, writes_as}
-use Rattle.world_run.specs.InOrder.{AreBurstsOf, IsBurstOf, IsReadOf, IsWriteOf, is_of_id}
+use Rattle.world_run.specs.InOrder.{AreBurstsOf, IsBurstOf, is_of_id}
 use Rattle.world_run.specs.Serial.{Order}
 use Rattle.world_run.proofs.PerformedBytes.{burst_more, bursts_more}
 
@@ -104,49 +104,41 @@ read_is_of id pending is = by_test (is_write_of id pending)
 
 -- ---- the first of an ID is answered
 
--- an open burst of an ID whose piece is written is a write of it, and one whose piece is read a read
-record IsOnSide (id : ℕ) (side : Bool) (burst : Burst) : Type 0 where
-  writes : writes_as id burst ≡ side
-  reads : reads_as id burst ≡ not side
+-- the test for the open bursts of an ID on one side; true is a write
+abbrev pub is_on : Bool → ℕ → Pending → Bool
+is_on true = is_write_of
+is_on false = is_read_of
 
-write_side : (id : ℕ) (burst : Burst) (aw : AwBeat) (w_beats : List WBeat) → burst ≡ WriteBurst aw w_beats → (writes_as id burst || reads_as id burst) ≡ true → IsOnSide id true burst
+-- an open burst of an ID is on the side of its piece
+write_side : (id : ℕ) (burst : Burst) (aw : AwBeat) (w_beats : List WBeat) → burst ≡ WriteBurst aw w_beats → (writes_as id burst || reads_as id burst) ≡ true → (writes_as id burst ≡ true) × (reads_as id burst ≡ false)
 write_side id burst aw w_beats is one =
-    subst (λ (b : Burst). (writes_as id b || reads_as id b) ≡ true → IsOnSide id true b) (sym is) (by_test (aw.id == id) refl) one
+    subst (λ (b : Burst). (writes_as id b || reads_as id b) ≡ true → (writes_as id b ≡ true) × (reads_as id b ≡ false)) (sym is) (by_test (aw.id == id) refl) one
   where
-    by_test : (b : Bool) → (aw.id == id) ≡ b → (b || false) ≡ true → IsOnSide id true (WriteBurst aw w_beats)
-    by_test true here one = record { writes = here; reads = refl }
+    by_test : (b : Bool) → (aw.id == id) ≡ b → (b || false) ≡ true → ((aw.id == id) ≡ true) × (false ≡ false)
+    by_test true here one = (here, refl)
     by_test false here one = absurd (cc (one))
 
-read_side : (id : ℕ) (burst : Burst) (ar : ArBeat) → burst ≡ ReadBurst ar → (writes_as id burst || reads_as id burst) ≡ true → IsOnSide id false burst
+read_side : (id : ℕ) (burst : Burst) (ar : ArBeat) → burst ≡ ReadBurst ar → (writes_as id burst || reads_as id burst) ≡ true → (writes_as id burst ≡ false) × (reads_as id burst ≡ true)
 read_side id burst ar is one =
-    subst (λ (b : Burst). (writes_as id b || reads_as id b) ≡ true → IsOnSide id false b) (sym is) (λ here. record { writes = refl; reads = here }) one
+    subst (λ (b : Burst). (writes_as id b || reads_as id b) ≡ true → (writes_as id b ≡ false) × (reads_as id b ≡ true)) (sym is) (λ here. (refl, here)) one
 
 on_side : (order : Order) (bus_bytes : ℕ) (wrote : ℕ → ℕ → Bool) (number id : ℕ) (pending : Pending) (side : Bool) (piece : Piece) → is_of_id id pending ≡ true
-    → IsBurstOf order bus_bytes wrote number pending (side, piece) → IsOnSide id side pending.burst
+    → IsBurstOf order bus_bytes wrote number pending (side, piece) → (is_on side id pending ≡ true) × (is_on (not side) id pending ≡ false)
 on_side order bus_bytes wrote number id pending true piece one is = write_side id pending.burst is.aw is.w_beats is.burst one
-on_side order bus_bytes wrote number id pending false piece one is = read_side id pending.burst is.ar is.burst one
+on_side order bus_bytes wrote number id pending false piece one is = let sides = read_side id pending.burst is.ar is.burst one in (sides.1, sides.0)
 
 -- an ID's open bursts are on the side of the outstanding ones
 abbrev IsOne : ℕ → Pending → Type 0
 IsOne id pending = is_of_id id pending ≡ true
 
-no_writes : (order : Order) (bus_bytes : ℕ) (wrote : ℕ → ℕ → Bool) (number id : ℕ) (mine : List Pending) (bursts : List (Bool × Piece)) → AllByRecursion (IsOne id) mine → AreOf false bursts
-    → AreBurstsOf order bus_bytes wrote number mine bursts → find (is_write_of id) mine ≡ None
-no_writes order bus_bytes wrote number id [] bursts ones sides are = refl
-no_writes order bus_bytes wrote number id (first ∷ mine) [] ones sides are = absurd are
-no_writes order bus_bytes wrote number id (first ∷ mine) ((true, piece) ∷ bursts) ones sides are = absurd (cc (sides.0))
-no_writes order bus_bytes wrote number id (first ∷ mine) ((false, piece) ∷ bursts) ones sides are =
-    let first_on = on_side order bus_bytes wrote number id first false piece ones.0 are.0 in
-    rw first_on.writes (no_writes order bus_bytes wrote number id mine bursts ones.1 sides.1 are.1)
-
-no_reads : (order : Order) (bus_bytes : ℕ) (wrote : ℕ → ℕ → Bool) (number id : ℕ) (mine : List Pending) (bursts : List (Bool × Piece)) → AllByRecursion (IsOne id) mine → AreOf true bursts
-    → AreBurstsOf order bus_bytes wrote number mine bursts → find (is_read_of id) mine ≡ None
-no_reads order bus_bytes wrote number id [] bursts ones sides are = refl
-no_reads order bus_bytes wrote number id (first ∷ mine) [] ones sides are = absurd are
-no_reads order bus_bytes wrote number id (first ∷ mine) ((false, piece) ∷ bursts) ones sides are = absurd (cc (sides.0))
-no_reads order bus_bytes wrote number id (first ∷ mine) ((true, piece) ∷ bursts) ones sides are =
-    let first_on = on_side order bus_bytes wrote number id first true piece ones.0 are.0 in
-    rw first_on.reads (no_reads order bus_bytes wrote number id mine bursts ones.1 sides.1 are.1)
+none_across : (order : Order) (bus_bytes : ℕ) (wrote : ℕ → ℕ → Bool) (number id : ℕ) (side : Bool) (mine : List Pending) (bursts : List (Bool × Piece)) → AllByRecursion (IsOne id) mine → AreOf side bursts
+    → AreBurstsOf order bus_bytes wrote number mine bursts → find (is_on (not side) id) mine ≡ None
+none_across order bus_bytes wrote number id side [] bursts ones sides are = refl
+none_across order bus_bytes wrote number id side (first ∷ mine) [] ones sides are = absurd are
+none_across order bus_bytes wrote number id side (first ∷ mine) ((on, piece) ∷ bursts) ones sides are =
+    let across : is_on (not side) id first ≡ false =
+    subst (λ s. is_on (not s) id first ≡ false) sides.0 (on_side order bus_bytes wrote number id first on piece ones.0 are.0).1 in
+    rw across (none_across order bus_bytes wrote number id side mine bursts ones.1 sides.1 are.1)
 
 -- an open burst is the first of its ID, and that of the first outstanding piece
 pub record IsFirstOf (order : Order) (bus_bytes : ℕ) (wrote : ℕ → ℕ → Bool) (number : ℕ) (side : Bool) (mine : List Pending) (bursts : List (Bool × Piece)) (pending : Pending) : Type 0 where
@@ -158,44 +150,36 @@ pub record IsFirstOf (order : Order) (bus_bytes : ℕ) (wrote : ℕ → ℕ → 
   pub is : IsBurstOf order bus_bytes wrote number pending (side, piece)
   pub others : AreBurstsOf order bus_bytes wrote number later rest
 
-pub first_write : (order : Order) (bus_bytes : ℕ) (wrote : ℕ → ℕ → Bool) (number id : ℕ) (side : Bool) (mine : List Pending) (bursts : List (Bool × Piece)) (pending : Pending) → AllByRecursion (IsOne id) mine
-    → AreOf side bursts → AreBurstsOf order bus_bytes wrote number mine bursts → find (is_write_of id) mine ≡ Some pending → IsFirstOf order bus_bytes wrote number true mine bursts pending
-first_write order bus_bytes wrote number id side [] bursts pending ones sides are found = absurd (cc (found))
-first_write order bus_bytes wrote number id side (first ∷ mine) [] pending ones sides are found = absurd are
-first_write order bus_bytes wrote number id side (first ∷ mine) ((false, piece) ∷ bursts) pending ones sides are found =
-    let none = no_writes order bus_bytes wrote number id (first ∷ mine) ((false, piece) ∷ bursts) ones (subst (λ s. AreOf s ((false, piece) ∷ bursts)) (sym sides.0) sides) are in
-    absurd (cc (none, found))
-first_write order bus_bytes wrote number id side (first ∷ mine) ((true, piece) ∷ bursts) pending ones sides are found =
-    let first_on = on_side order bus_bytes wrote number id first true piece ones.0 are.0 in
-    let here : find (is_write_of id) (first ∷ mine) ≡ Some first = rw first_on.writes refl in
+-- on the side where one is found the outstanding ones are
+found_side : (order : Order) (bus_bytes : ℕ) (wrote : ℕ → ℕ → Bool) (number id : ℕ) (found_on side : Bool) (mine : List Pending) (bursts : List (Bool × Piece)) (pending : Pending) → AllByRecursion (IsOne id) mine
+    → AreOf side bursts → AreBurstsOf order bus_bytes wrote number mine bursts → find (is_on found_on id) mine ≡ Some pending → side ≡ found_on
+found_side order bus_bytes wrote number id true true mine bursts pending ones sides are found = refl
+found_side order bus_bytes wrote number id false false mine bursts pending ones sides are found = refl
+found_side order bus_bytes wrote number id true false mine bursts pending ones sides are found =
+    absurd (cc (none_across order bus_bytes wrote number id false mine bursts ones sides are, found))
+found_side order bus_bytes wrote number id false true mine bursts pending ones sides are found =
+    absurd (cc (none_across order bus_bytes wrote number id true mine bursts ones sides are, found))
+
+first_found : (order : Order) (bus_bytes : ℕ) (wrote : ℕ → ℕ → Bool) (number id : ℕ) (side : Bool) (mine : List Pending) (bursts : List (Bool × Piece)) (pending : Pending) → AllByRecursion (IsOne id) mine
+    → AreOf side bursts → AreBurstsOf order bus_bytes wrote number mine bursts → find (is_on side id) mine ≡ Some pending → IsFirstOf order bus_bytes wrote number side mine bursts pending
+first_found order bus_bytes wrote number id side [] bursts pending ones sides are found = absurd (cc (found))
+first_found order bus_bytes wrote number id side (first ∷ mine) [] pending ones sides are found = absurd are
+first_found order bus_bytes wrote number id side (first ∷ mine) ((on, piece) ∷ bursts) pending ones sides are found =
+    let its : is_on side id first ≡ true = subst (λ s. is_on s id first ≡ true) sides.0 (on_side order bus_bytes wrote number id first on piece ones.0 are.0).0 in
+    let here : find (is_on side id) (first ∷ mine) ≡ Some first = rw its refl in
     let same : first ≡ pending = same_Some first pending (sym here ∙ found) in
     record {
       piece = piece;
       later = mine;
       rest = bursts;
       listed = ap (λ (p : Pending). p ∷ mine) same;
-      outstanding = refl;
-      is = subst (λ (p : Pending). IsWriteOf order bus_bytes wrote number p piece) same are.0;
+      outstanding = ap (λ s. (s, piece) ∷ bursts) sides.0;
+      is = subst (λ s. IsBurstOf order bus_bytes wrote number pending (s, piece)) sides.0 (subst (λ (p : Pending). IsBurstOf order bus_bytes wrote number p (on, piece)) same are.0);
       others = are.1;
     }
 
-pub first_read : (order : Order) (bus_bytes : ℕ) (wrote : ℕ → ℕ → Bool) (number id : ℕ) (side : Bool) (mine : List Pending) (bursts : List (Bool × Piece)) (pending : Pending) → AllByRecursion (IsOne id) mine
-    → AreOf side bursts → AreBurstsOf order bus_bytes wrote number mine bursts → find (is_read_of id) mine ≡ Some pending → IsFirstOf order bus_bytes wrote number false mine bursts pending
-first_read order bus_bytes wrote number id side [] bursts pending ones sides are found = absurd (cc (found))
-first_read order bus_bytes wrote number id side (first ∷ mine) [] pending ones sides are found = absurd are
-first_read order bus_bytes wrote number id side (first ∷ mine) ((true, piece) ∷ bursts) pending ones sides are found =
-    let none = no_reads order bus_bytes wrote number id (first ∷ mine) ((true, piece) ∷ bursts) ones (subst (λ s. AreOf s ((true, piece) ∷ bursts)) (sym sides.0) sides) are in
-    absurd (cc (none, found))
-first_read order bus_bytes wrote number id side (first ∷ mine) ((false, piece) ∷ bursts) pending ones sides are found =
-    let first_on = on_side order bus_bytes wrote number id first false piece ones.0 are.0 in
-    let here : find (is_read_of id) (first ∷ mine) ≡ Some first = rw first_on.reads refl in
-    let same : first ≡ pending = same_Some first pending (sym here ∙ found) in
-    record {
-      piece = piece;
-      later = mine;
-      rest = bursts;
-      listed = ap (λ (p : Pending). p ∷ mine) same;
-      outstanding = refl;
-      is = subst (λ (p : Pending). IsReadOf order bus_bytes number p piece) same are.0;
-      others = are.1;
-    }
+pub first_on : (order : Order) (bus_bytes : ℕ) (wrote : ℕ → ℕ → Bool) (number id : ℕ) (found_on side : Bool) (mine : List Pending) (bursts : List (Bool × Piece)) (pending : Pending) → AllByRecursion (IsOne id) mine
+    → AreOf side bursts → AreBurstsOf order bus_bytes wrote number mine bursts → find (is_on found_on id) mine ≡ Some pending → IsFirstOf order bus_bytes wrote number found_on mine bursts pending
+first_on order bus_bytes wrote number id found_on side mine bursts pending ones sides are found =
+    let same : side ≡ found_on = found_side order bus_bytes wrote number id found_on side mine bursts pending ones sides are found in
+    first_found order bus_bytes wrote number id found_on mine bursts pending ones (subst (λ s. AreOf s bursts) same sides) are found

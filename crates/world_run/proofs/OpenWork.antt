@@ -11,7 +11,6 @@ use Rattle.axi_beats.specs.Bursts.{Burst, IsLegal, ReadBurst, WriteBurst, is_leg
 use Rattle.axi_beats.specs.Transfers.{fits_bus, in_one_page}
 use Rattle.axi_beats.specs.declared.BBeat.{BBeat}
 use Rattle.axi_beats.specs.declared.RBeat.{RBeat}
-use Rattle.bus_words.specs.Places.{change_first}
 use Rattle.axi_checker.proofs.Few.{length-few}
 use Rattle.bus_words.proofs.PlaceChanges.{all-find, find-passes}
 use Rattle.subordinate.specs.Faults.{standing_at, write_response}
@@ -23,22 +22,7 @@ use Rattle.subordinate.specs.declared.BeatState.TheVariants.{Waiting, Written, C
 use Rattle.subordinate.proofs.BeatStates.{count_waiting-le, count_waiting-put, count_waiting-replicate, length-waiting_in, none_waiting, slice_get-append-after, slice_get-append-before, waiting_in-is}
 use Rattle.subordinate.proofs.OpenBursts.{pending_after_r-last, pending_after_r-more}
 use Rattle.subordinate.proofs.SoundDevices.{beat_after-performed}
-use Rattle.world_run.proofs.Sums.{sum_without}
-
--- ---- sums
-
--- the first item that passes a test changes: so does the sum
-pub sum_between : {X : Type 0} (measure : X → ℕ) (test : X → Bool) (change : X → X) (xs : List X) (x : X) → find test xs ≡ Some x
-    → sum_by measure (change_first test change xs) + measure x ≡ sum_by measure xs + measure (change x)
-sum_between measure test change [] x found = absurd (cc (found))
-sum_between {X = X} measure test change (y ∷ ys) x found = by_test (test y) found (λ later. sum_between measure test change ys x later)
-  where
-    by_test : (b : Bool) → (if b then Some y else find test ys) ≡ Some x → (find test ys ≡ Some x → sum_by measure (change_first test change ys) + measure x ≡ sum_by measure ys + measure (change x))
-        → sum_by measure (if b then change y ∷ ys else y ∷ change_first test change ys) + measure x ≡ sum_by measure (y ∷ ys) + measure (change x)
-    by_test true here rest =
-        let same : y ≡ x = cc in
-        rw same (omega (arith, sum_by-cons measure (change x) ys, sum_by-cons measure x ys))
-    by_test false later rest = omega (arith, rest later, sum_by-cons measure y ys, sum_by-cons measure y (change_first test change ys))
+use Rattle.world_run.proofs.Sums.{sum_between, sum_without}
 
 -- ---- how much there is
 

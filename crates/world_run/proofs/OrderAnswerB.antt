@@ -34,7 +34,7 @@ use Rattle.world_run.proofs.GatheredAnswers.{response_in_order}
 use Rattle.world_run.proofs.HeldOrder.{MovesOn}
 use Rattle.world_run.proofs.ListChanges.{all_kept, filter-without-kept, find-kept, without_head}
 use Rattle.world_run.proofs.LiveNumbers.{HoldsBackIn}
-use Rattle.world_run.proofs.OpenOfHolder.{IsFirstOf, first_write, of_one, write_is_of}
+use Rattle.world_run.proofs.OpenOfHolder.{IsFirstOf, first_on, of_one, write_is_of}
 use Rattle.world_run.proofs.OpenRequests.{HasOpen, has_open}
 use Rattle.world_run.proofs.OrderAnswers.{LeavesInOrder, answered_keeps}
 use Rattle.world_run.proofs.PerformedBytes.{answered_written}
@@ -84,7 +84,7 @@ module _ (order : Order) (state : WorldState) (id : ℕ) (pending : Pending) (so
 
   abbrev first : IsFirstOf order state.memory.bus_bytes keeps.wrote request.flight.number true mine (outstanding request.flight) pending
   first =
-      first_write order state.memory.bus_bytes keeps.wrote request.flight.number id (side_of request.flight) mine (outstanding request.flight) pending (all_kept (is_of_id id) state.memory.pending)
+      first_on order state.memory.bus_bytes keeps.wrote request.flight.number id true (side_of request.flight) mine (outstanding request.flight) pending (all_kept (is_of_id id) state.memory.pending)
       has.known.one_side has.are found_mine
 
   next : IsNextOf (planned request.flight) request.flight.answered request.flight.sent (true, first.piece) first.rest

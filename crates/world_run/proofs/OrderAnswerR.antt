@@ -39,7 +39,7 @@ use Rattle.world_run.proofs.GatheredAnswers.{read_in_order}
 use Rattle.world_run.proofs.HeldOrder.{MovesOn}
 use Rattle.world_run.proofs.ListChanges.{all_kept, change_head, filter-change-kept, filter-change-other, filter-without-kept, find-kept, without_head}
 use Rattle.world_run.proofs.LiveNumbers.{HoldsBackIn}
-use Rattle.world_run.proofs.OpenOfHolder.{IsFirstOf, first_read, of_one, read_is_of}
+use Rattle.world_run.proofs.OpenOfHolder.{IsFirstOf, first_on, of_one, read_is_of}
 use Rattle.world_run.proofs.OpenRequests.{HasOpen, has_open}
 use Rattle.world_run.proofs.OrderAnswers.{LeavesInOrder, answered_keeps}
 use Rattle.world_run.proofs.SettledInOrder.{HasWritten, settled_in_order}
@@ -122,7 +122,7 @@ module _ (order : Order) (state : WorldState) (id : ℕ) (pending : Pending) (pa
 
   abbrev first : IsFirstOf order state.memory.bus_bytes keeps.wrote request.flight.number false mine (outstanding request.flight) pending
   first =
-      first_read order state.memory.bus_bytes keeps.wrote request.flight.number id (side_of request.flight) mine (outstanding request.flight) pending (all_kept (is_of_id id) state.memory.pending)
+      first_on order state.memory.bus_bytes keeps.wrote request.flight.number id false (side_of request.flight) mine (outstanding request.flight) pending (all_kept (is_of_id id) state.memory.pending)
       has.known.one_side has.are found_mine
 
   abbrev open_one : OpenRead

@@ -1,22 +1,22 @@
 -- Sums over lists of which one item changes or goes. Lists alone: no requests, no bursts.
-use Rattle.std.proofs.Common.{◌≡◌, ℕ, ◌+◌, Bool, true, false, List, [], ◌∷◌, Some, refl, ap, sym, subst, arith}
+use Rattle.std.proofs.Common.{◌≡◌, ℕ, ◌+◌, Bool, true, false, List, [], ◌∷◌, Some, refl, ap, arith}
 use Rattle.std.specs.Prelude.{find, if◌then◌else◌, sum_by}
 use Rattle.std.proofs.lemmas.List.Sums.{sum_by-cons}
 use Rattle.std.proofs.lemmas.Option.{same_Some}
 use Rattle.bus_words.specs.Places.{change_first, without_first}
 
--- the first item that passes a test changes, and its measure by so much
-pub sum_changed : {X : Type 0} (measure : X → ℕ) (test : X → Bool) (change : X → X) (more : ℕ) (xs : List X) (x : X) → find test xs ≡ Some x → measure (change x) ≡ measure x + more
-    → sum_by measure (change_first test change xs) ≡ sum_by measure xs + more
-sum_changed measure test change more [] x found grows = absurd (cc)
-sum_changed {X = X} measure test change more (y ∷ ys) x found grows = by_test (test y) found (λ later. sum_changed measure test change more ys x later grows)
+-- the first item that passes a test changes: so does the sum
+pub sum_between : {X : Type 0} (measure : X → ℕ) (test : X → Bool) (change : X → X) (xs : List X) (x : X) → find test xs ≡ Some x
+    → sum_by measure (change_first test change xs) + measure x ≡ sum_by measure xs + measure (change x)
+sum_between measure test change [] x found = absurd (cc (found))
+sum_between {X = X} measure test change (y ∷ ys) x found = by_test (test y) found (λ later. sum_between measure test change ys x later)
   where
-    by_test : (here : Bool) → (if here then Some y else find test ys) ≡ Some x → (find test ys ≡ Some x → sum_by measure (change_first test change ys) ≡ sum_by measure ys + more)
-        → sum_by measure (if here then change y ∷ ys else y ∷ change_first test change ys) ≡ sum_by measure (y ∷ ys) + more
-    by_test true found later =
-        let grown : measure (change y) ≡ measure y + more = subst (λ (z : X). measure (change z) ≡ measure z + more) (sym (same_Some y x found)) grows in
-        omega (arith, sum_by-cons measure (change y) ys, sum_by-cons measure y ys, grown)
-    by_test false found later = omega (arith, sum_by-cons measure y (change_first test change ys), sum_by-cons measure y ys, later found)
+    by_test : (b : Bool) → (if b then Some y else find test ys) ≡ Some x → (find test ys ≡ Some x → sum_by measure (change_first test change ys) + measure x ≡ sum_by measure ys + measure (change x))
+        → sum_by measure (if b then change y ∷ ys else y ∷ change_first test change ys) + measure x ≡ sum_by measure (y ∷ ys) + measure (change x)
+    by_test true here rest =
+        let same : y ≡ x = cc in
+        rw same (omega (arith, sum_by-cons measure (change x) ys, sum_by-cons measure x ys))
+    by_test false later rest = omega (arith, rest later, sum_by-cons measure y ys, sum_by-cons measure y (change_first test change ys))
 
 -- a change that a measure doesn't see
 pub sum_unseen : {X : Type 0} (measure : X → ℕ) (test : X → Bool) (change : X → X) (xs : List X) → ((x : X) → measure (change x) ≡ measure x) → sum_by measure (change_first test change xs) ≡ sum_by measure xs

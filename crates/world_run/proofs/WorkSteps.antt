@@ -29,7 +29,8 @@ use Rattle.world_run.specs.Laws.{IsSoundWorld, work_spared}
 use Rattle.world_run.specs.World.{WorldState, enabled, next, perform_at, pumps_enabled, work_left}
 use Rattle.world_run.specs.declared.Step.{Step}
 use Rattle.world_run.specs.declared.Step.TheVariants.{AnswerB, AnswerR, Perform, Pump}
-use Rattle.world_run.proofs.OpenWork.{sum_between, waiting_found, work_open-b, work_open-performed, work_open-r, work_open-sent}
+use Rattle.world_run.proofs.Sums.{sum_between}
+use Rattle.world_run.proofs.OpenWork.{waiting_found, work_open-b, work_open-performed, work_open-r, work_open-sent}
 use Rattle.world_run.proofs.TakesAll.{takes_all}
 
 -- ---- the work of the live requests
