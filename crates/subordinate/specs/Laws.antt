@@ -21,13 +21,20 @@ IsBeatOf (ReadBurst ar) Waiting = ⊤
 IsBeatOf (ReadBurst ar) Written = ⊥
 IsBeatOf (ReadBurst ar) (Captured payload resp) = ⊤
 
--- an open burst: legal, with a state of each of its beats, which is one of its side; and of a read the beats that were answered are performed
+-- beats are answered one by one in a read alone; the B of a write answers all of them, and closes it
+abbrev pub HasAnswered : Burst → ℕ → Type 0
+HasAnswered (WriteBurst aw data_beats) answered = answered ≡ 0
+HasAnswered (ReadBurst ar) answered = ⊤
+
+-- an open burst: legal, with a state of each of its beats, which is one of its side; of a read the beats that were answered are performed, and of
+-- a write none was
 pub record IsSoundPending (bus_bytes : ℕ) (pending : Pending) : Type 0 where
   pub legal : IsLegal bus_bytes pending.burst
   pub whole : length pending.beats ≡ transfers_in pending.burst
   pub beats : AllByRecursion (IsBeatOf pending.burst) pending.beats
   pub answered : AllByRecursion IsPerformed (take pending.answered pending.beats)
   pub most : pending.answered ≤ length pending.beats
+  pub one_by_one : HasAnswered pending.burst pending.answered
 
 -- the ID and the side of a burst as one number: the writes of an ID i are queue 2 i, its reads queue 2 i + 1
 abbrev pub queue_of_burst : Burst → ℕ

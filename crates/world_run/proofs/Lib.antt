@@ -7,6 +7,7 @@ pub mod Boxes
 pub mod BurstBytes
 pub mod BytesLeft
 pub mod CarriedOut
+pub mod CountsAgree
 pub mod Drained
 pub mod EnabledSteps
 pub mod Events
