@@ -5,7 +5,7 @@ use Rattle.std.specs.Prelude.{sum_by}
 use Rattle.std.specs.List.{AllByRecursion, cons_option}
 use Rattle.std.proofs.lemmas.List.Sums.{sum_by-cons}
 use Rattle.axi_beats.specs.Bursts.{Burst, ReadBurst, WriteBurst}
-use Rattle.axi_checker.specs.OpenBursts.{OpenRead, OpenWrite}
+use Rattle.axi_checker.specs.OpenBursts.{OpenRead}
 use Rattle.bridge_core.specs.Bridge as bridges
 use Rattle.bridge_core.specs.Bridge.{answered_reads}
 use Rattle.bridge_core.proofs.WorkLeft.{whole_open, whole_read, whole_write, work_apart}

@@ -3,6 +3,7 @@ pub mod Agreeing
 pub mod AllDone
 pub mod AllWritten
 pub mod Answering
+pub mod ApartWrites
 pub mod Boxes
 pub mod BurstBytes
 pub mod BytesLeft

@@ -7,9 +7,7 @@ use Rattle.std.proofs.lemmas.Bool.{false≢true, leb-false}
 use Rattle.tl_messages.specs.Requests.{request_of}
 use Rattle.tl_messages.specs.declared.ABeat.{ABeat}
 use Rattle.tl_messages.specs.declared.DBeat.{DBeat}
-use Rattle.tl_checker.specs.Requests.{Spells}
 use Rattle.bridge_core.specs.Bridge.{BridgeState, message_with}
-use Rattle.bridge_core.specs.Configs.{port_of}
 use Rattle.bridge_core.specs.declared.Config.{Config}
 use Rattle.world_run.specs.Headline.{IsSpelled}
 use Rattle.world_run.specs.Runs.{Heard, heard_nothing, HandedReply, AcceptedMessage, messages_from, messages_in, requests_of, accepted_numbers, accepted_in, answers_of, whose, replies_told, handed_at, handed_by, handed_in}
