@@ -1,0 +1,188 @@
+-- The open bursts as a monitor of the port knows them: a burst that is sent is open there too, a beat that is performed is none of the port's,
+-- and an answer goes on as the monitor does that takes it. It knows both lists of bursts; bytes are hidden.
+use Rattle.std.proofs.Common.{◌≡◌, ℕ, ◌+◌, ◌==◌, ◌<◌, Bool, true, false, List, [], ◌∷◌, refl, ap, sym, ◌∙◌, subst, arith}
+use Rattle.std.specs.Prelude.{Option, Some, None, IfSome, filter_map, find, if◌then◌else◌, nat_lt, not, ⊤}
+use Rattle.std.specs.List.{cons_option}
+use Rattle.std.proofs.lemmas.Bool.Decides.{nat_tests}
+use Rattle.std.proofs.lemmas.List.{append-nil}
+use Rattle.std.proofs.lemmas.List.Elements.{filter_map-append}
+use Rattle.std.proofs.lemmas.Option.{slice_get_within}
+use Rattle.bus_words.specs.Places.{change_first, without_first}
+use Rattle.axi_beats.specs.Bursts.{Burst, WriteBurst, ReadBurst}
+use Rattle.axi_beats.specs.declared.BBeat.{BBeat}
+use Rattle.axi_beats.specs.declared.RBeat.{RBeat}
+use Rattle.axi_checker.proofs.LegalBursts.{open_after_all-burst}
+use Rattle.axi_checker.specs.OpenBursts.{OnB, OnR, open_after, OpenBursts, OpenRead, OpenWrite, reads_after, write_of_id}
+use Rattle.axi_checker.specs.Rules.{beats_sent, open_after_all, open_with_burst}
+use Rattle.subordinate.specs.FreeMemory.{FreeMemory, Pending, after_b_of, after_r_of, beat_after, beat_at, device_port, performed, performed_beat, performed_in, reads_as, send_fault, with_performed, writes_as, gives_last, has_serial, is_read_of, is_write_of, open_bursts_of, open_read_in, open_write_in, pending_after_r, transfers_in, with_beat, with_burst}
+use Rattle.subordinate.specs.Inside.{burst_in}
+use Rattle.subordinate.specs.Laws.{IsSoundPending}
+use Rattle.subordinate.specs.declared.BeatState.{BeatState}
+use Rattle.subordinate.specs.declared.BeatState.TheVariants.{Waiting, Written, Captured}
+use Rattle.subordinate.proofs.OpenBursts.{writes_have_data}
+
+-- the open writes, and the open reads, that it knows
+abbrev pub writes_in : List Pending → List OpenWrite
+writes_in pending = filter_map (λ p. open_write_in p.burst) pending
+
+abbrev pub reads_in : List Pending → List OpenRead
+reads_in pending = filter_map (λ p. open_read_in p.answered p.burst) pending
+
+-- one item before both
+same_after : {Y : Type 0} (h : Pending → Option Y) (p : Pending) (ps qs : List Pending) → filter_map h ps ≡ filter_map h qs → filter_map h (p ∷ ps) ≡ filter_map h (p ∷ qs)
+same_after h p ps qs same = ap (cons_option (h p)) same
+
+-- ---- one is sent
+
+same_bursts : (a b : OpenBursts) → a.writes ≡ b.writes → a.reads ≡ b.reads → a ≡ b
+same_bursts a b writes reads = λ i. record { writes = writes i; reads = reads i }
+
+pub outstanding_sent : (memory : FreeMemory) (burst : Burst) → open_with_burst (open_bursts_of memory) burst ≡ open_bursts_of (with_burst memory burst)
+outstanding_sent memory (WriteBurst aw ws) =
+    same_bursts _ _ (sym (filter_map-append (λ (p : Pending). open_write_in p.burst) memory.pending _))
+    (sym (filter_map-append (λ (p : Pending). open_read_in p.answered p.burst) memory.pending _ ∙ append-nil (reads_in memory.pending)))
+outstanding_sent memory (ReadBurst ar) =
+    same_bursts _ _ (sym (filter_map-append (λ (p : Pending). open_write_in p.burst) memory.pending _ ∙ append-nil (writes_in memory.pending)))
+    (sym (filter_map-append (λ (p : Pending). open_read_in p.answered p.burst) memory.pending _))
+
+-- the same of a box's burst
+pub known_sent : (memory : FreeMemory) (held : Option Burst) → IfSome held (λ burst. open_bursts_of (with_burst memory (burst_in held)) ≡ open_with_burst (open_bursts_of memory) burst)
+known_sent memory None = tt
+known_sent memory (Some burst) = sym (outstanding_sent memory burst)
+
+-- and of its beats, which a monitor takes one by one, where the burst breaks no rule
+pub known_beats : (memory : FreeMemory) (held : Option Burst) → IfSome held (λ burst. None ≡ send_fault memory burst)
+    → IfSome held (λ burst. open_bursts_of (with_burst memory (burst_in held)) ≡ open_after_all (open_bursts_of memory) (beats_sent burst))
+known_beats memory None unbroken = tt
+known_beats memory (Some burst) unbroken =
+    sym (open_after_all-burst (device_port memory) (open_bursts_of memory) burst (writes_have_data memory.pending) (sym unbroken) ∙ outstanding_sent memory burst)
+
+-- ---- a beat is performed
+
+-- a change that a port doesn't see
+changed_unseen : {Y : Type 0} (h : Pending → Option Y) (test : Pending → Bool) (change : Pending → Pending) (pending : List Pending) → ((p : Pending) → h (change p) ≡ h p)
+    → filter_map h (change_first test change pending) ≡ filter_map h pending
+changed_unseen h test change [] unseen = refl
+changed_unseen {Y = Y} h test change (p ∷ ps) unseen =
+    by_test (test p) (changed_unseen h test change ps unseen)
+  where
+    by_test : (here : Bool) → filter_map h (change_first test change ps) ≡ filter_map h ps
+        → filter_map h (if here then change p ∷ ps else p ∷ change_first test change ps) ≡ filter_map h (p ∷ ps)
+    by_test true more = ap (λ (y : Option Y). cons_option y (filter_map h ps)) (unseen p)
+    by_test false more = same_after h p (change_first test change ps) ps more
+
+pub outstanding_performed : (memory : FreeMemory) (pending : Pending) (beat : ℕ) → open_bursts_of (with_performed memory pending beat) ≡ open_bursts_of memory
+outstanding_performed memory pending beat =
+    same_bursts _ _ (changed_unseen (λ (p : Pending). open_write_in p.burst) (has_serial pending.serial) (with_beat beat (beat_after memory pending.burst beat)) memory.pending (λ p. refl))
+    (changed_unseen (λ (p : Pending). open_read_in p.answered p.burst) (has_serial pending.serial) (with_beat beat (beat_after memory pending.burst beat)) memory.pending (λ p. refl))
+
+-- whatever the call answers
+pub known_performed : (memory : FreeMemory) (serial beat : ℕ) → open_bursts_of (performed memory serial beat).0 ≡ open_bursts_of memory
+known_performed memory serial beat = by_burst (find (has_serial serial) memory.pending)
+  where
+    by_beat : (p : Pending) (state : Option BeatState) → open_bursts_of (performed_beat memory p beat state).0 ≡ open_bursts_of memory
+    by_beat p None = refl
+    by_beat p (Some Waiting) = outstanding_performed memory p beat
+    by_beat p (Some Written) = refl
+    by_beat p (Some (Captured payload resp)) = refl
+
+    by_burst : (found : Option Pending) → open_bursts_of (performed_in memory beat found).0 ≡ open_bursts_of memory
+    by_burst None = refl
+    by_burst (Some p) = by_beat p (beat_at p beat)
+
+-- ---- a B comes
+
+-- the writes of an ID are those of the port, and the oldest is the oldest there
+write_burst_seen : (id : ℕ) (p : Pending) (burst : Burst) → p.burst ≡ burst → (ps : List Pending) → writes_in (without_first (is_write_of id) ps) ≡ without_first (write_of_id id) (writes_in ps)
+    → writes_in (if writes_as id burst then ps else p ∷ without_first (is_write_of id) ps) ≡ without_first (write_of_id id) (cons_option (open_write_in burst) (writes_in ps))
+write_burst_seen id p (WriteBurst aw ws) is ps more =
+    elim (aw.id == id) as (λ (here : Bool). writes_in (if here then ps else p ∷ without_first (is_write_of id) ps)
+    ≡ (if here then writes_in ps else record { aw = aw; came = aw.len + 1 } ∷ without_first (write_of_id id) (writes_in ps)))
+    [ true ↦ refl | false ↦ ap (λ (burst : Burst). cons_option (open_write_in burst) (writes_in (without_first (is_write_of id) ps))) is ∙ ap (λ (later : List OpenWrite). record { aw = aw; came = aw.len + 1 } ∷ later) more ]
+write_burst_seen id p (ReadBurst ar) is ps more = ap (λ (burst : Burst). cons_option (open_write_in burst) (writes_in (without_first (is_write_of id) ps))) is ∙ more
+
+writes_after_b : (id : ℕ) (pending : List Pending) → writes_in (without_first (is_write_of id) pending) ≡ without_first (write_of_id id) (writes_in pending)
+writes_after_b id [] = refl
+writes_after_b id (p ∷ ps) = write_burst_seen id p p.burst refl ps (writes_after_b id ps)
+
+write_burst_unseen : (id : ℕ) (p : Pending) (burst : Burst) → p.burst ≡ burst → (ps : List Pending) → reads_in (without_first (is_write_of id) ps) ≡ reads_in ps
+    → reads_in (if writes_as id burst then ps else p ∷ without_first (is_write_of id) ps) ≡ cons_option (open_read_in p.answered burst) (reads_in ps)
+write_burst_unseen id p (WriteBurst aw ws) is ps more =
+    elim (aw.id == id) as (λ (here : Bool). reads_in (if here then ps else p ∷ without_first (is_write_of id) ps) ≡ reads_in ps)
+    [ true ↦ refl | false ↦ ap (λ (burst : Burst). cons_option (open_read_in p.answered burst) (reads_in (without_first (is_write_of id) ps))) is ∙ more ]
+write_burst_unseen id p (ReadBurst ar) is ps more =
+    ap (λ (burst : Burst). cons_option (open_read_in p.answered burst) (reads_in (without_first (is_write_of id) ps))) is
+    ∙ ap (λ (later : List OpenRead). record { ar = ar; came = p.answered } ∷ later) more
+
+reads_after_b : (id : ℕ) (pending : List Pending) → reads_in (without_first (is_write_of id) pending) ≡ reads_in pending
+reads_after_b id [] = refl
+reads_after_b id (p ∷ ps) = write_burst_unseen id p p.burst refl ps (reads_after_b id ps)
+
+pub outstanding_after_b : (memory : FreeMemory) (b : BBeat) → open_after (open_bursts_of memory) (OnB b) ≡ open_bursts_of (after_b_of memory b.id)
+outstanding_after_b memory b = same_bursts _ _ (sym (writes_after_b b.id memory.pending)) (sym (reads_after_b b.id memory.pending))
+
+-- ---- an R comes
+
+-- the oldest read of an ID has beats to come
+abbrev pub HasBeatsToCome : Option Pending → Type 0
+HasBeatsToCome None = ⊤
+HasBeatsToCome (Some p) = p.answered < transfers_in p.burst
+
+last_seen : (answered len : ℕ) → answered < len + 1 → (answered + 1 == len + 1) ≡ not (nat_lt answered len)
+last_seen answered len below = grind (arith, nat_tests)
+
+read_burst_seen : (id : ℕ) (p : Pending) (burst : Burst) → p.burst ≡ burst → (ps : List Pending) → HasBeatsToCome (if reads_as id burst then Some p else find (is_read_of id) ps)
+    → (HasBeatsToCome (find (is_read_of id) ps) → reads_in (pending_after_r id ps) ≡ reads_after id (reads_in ps))
+    → reads_in (if reads_as id burst then (if gives_last p then ps else record p { answered = p.answered + 1 } ∷ ps) else p ∷ pending_after_r id ps)
+    ≡ reads_after id (cons_option (open_read_in p.answered burst) (reads_in ps))
+read_burst_seen id p (WriteBurst aw ws) is ps to_come more = ap (λ (burst : Burst). cons_option (open_read_in p.answered burst) (reads_in (pending_after_r id ps))) is ∙ more to_come
+read_burst_seen id p (ReadBurst ar) is ps to_come more = by_test (ar.id == id) to_come
+  where
+    by_last : (last more_come : Bool) → last ≡ not more_come
+        → reads_in (if last then ps else record p { answered = p.answered + 1 } ∷ ps) ≡ (if more_come then record { ar = ar; came = p.answered + 1 } ∷ reads_in ps else reads_in ps)
+    by_last true true same = absurd (cc)
+    by_last true false same = refl
+    by_last false true same = ap (λ (burst : Burst). cons_option (open_read_in (p.answered + 1) burst) (reads_in ps)) is
+    by_last false false same = absurd (cc)
+
+    by_test : (here : Bool) → HasBeatsToCome (if here then Some p else find (is_read_of id) ps)
+        → reads_in (if here then (if gives_last p then ps else record p { answered = p.answered + 1 } ∷ ps) else p ∷ pending_after_r id ps)
+        ≡ (if here then (if nat_lt p.answered ar.len then record { ar = ar; came = p.answered + 1 } ∷ reads_in ps else reads_in ps) else record { ar = ar; came = p.answered } ∷ reads_after id (reads_in ps))
+    by_test true below =
+        by_last (gives_last p) (nat_lt p.answered ar.len)
+        (ap (λ (burst : Burst). p.answered + 1 == transfers_in burst) is ∙ last_seen p.answered ar.len (subst (λ (burst : Burst). p.answered < transfers_in burst) is below))
+    by_test false later =
+        ap (λ (burst : Burst). cons_option (open_read_in p.answered burst) (reads_in (pending_after_r id ps))) is
+        ∙ ap (λ (reads : List OpenRead). record { ar = ar; came = p.answered } ∷ reads) (more later)
+
+reads_after_r : (id : ℕ) (pending : List Pending) → HasBeatsToCome (find (is_read_of id) pending) → reads_in (pending_after_r id pending) ≡ reads_after id (reads_in pending)
+reads_after_r id [] to_come = refl
+reads_after_r id (p ∷ ps) to_come = read_burst_seen id p p.burst refl ps to_come (reads_after_r id ps)
+
+read_burst_unseen : (id : ℕ) (p : Pending) (burst : Burst) → p.burst ≡ burst → (ps : List Pending) → writes_in (pending_after_r id ps) ≡ writes_in ps
+    → writes_in (if reads_as id burst then (if gives_last p then ps else record p { answered = p.answered + 1 } ∷ ps) else p ∷ pending_after_r id ps)
+    ≡ cons_option (open_write_in burst) (writes_in ps)
+read_burst_unseen id p (WriteBurst aw ws) is ps more =
+    ap (λ (burst : Burst). cons_option (open_write_in burst) (writes_in (pending_after_r id ps))) is
+    ∙ ap (λ (writes : List OpenWrite). record { aw = aw; came = aw.len + 1 } ∷ writes) more
+read_burst_unseen id p (ReadBurst ar) is ps more = by_test (ar.id == id) (gives_last p)
+  where
+    by_test : (here last : Bool)
+        → writes_in (if here then (if last then ps else record p { answered = p.answered + 1 } ∷ ps) else p ∷ pending_after_r id ps) ≡ writes_in ps
+    by_test true true = refl
+    by_test true false = ap (λ (burst : Burst). cons_option (open_write_in burst) (writes_in ps)) is
+    by_test false last = ap (λ (burst : Burst). cons_option (open_write_in burst) (writes_in (pending_after_r id ps))) is ∙ more
+
+writes_after_r : (id : ℕ) (pending : List Pending) → writes_in (pending_after_r id pending) ≡ writes_in pending
+writes_after_r id [] = refl
+writes_after_r id (p ∷ ps) = read_burst_unseen id p p.burst refl ps (writes_after_r id ps)
+
+pub outstanding_after_r : (memory : FreeMemory) (r : RBeat) → HasBeatsToCome (find (is_read_of r.id) memory.pending) → open_after (open_bursts_of memory) (OnR r) ≡ open_bursts_of (after_r_of memory r.id)
+outstanding_after_r memory r to_come = same_bursts _ _ (sym (writes_after_r r.id memory.pending)) (sym (reads_after_r r.id memory.pending to_come))
+
+-- the oldest read of the ID whose next beat is performed
+pub known_after_r : (bus_bytes : ℕ) (memory : FreeMemory) (r : RBeat) (p : Pending) → find (is_read_of r.id) memory.pending ≡ Some p → IsSoundPending bus_bytes p
+    → beat_at p p.answered ≡ Some (Captured r.payload r.resp) → open_bursts_of (after_r_of memory r.id) ≡ open_after (open_bursts_of memory) (OnR r)
+known_after_r bus_bytes memory r p found sound captured =
+    let within : p.answered < transfers_in p.burst = omega (arith, slice_get_within p.beats p.answered (Captured r.payload r.resp) captured, sound.whole) in
+    sym (outstanding_after_r memory r (subst HasBeatsToCome (sym found) within))
