@@ -1,22 +1,30 @@
 -- The open bursts as a monitor of the port knows them: a burst that is sent is open there too, a beat that is performed is none of the port's,
--- and an answer goes on as the monitor does that takes it. It knows both lists of bursts; bytes are hidden.
-use Rattle.std.proofs.Common.{◌≡◌, ℕ, ◌+◌, ◌==◌, ◌<◌, Bool, true, false, List, [], ◌∷◌, refl, ap, sym, ◌∙◌, subst, arith}
-use Rattle.std.specs.Prelude.{Option, Some, None, IfSome, filter_map, find, if◌then◌else◌, nat_lt, not, ⊤}
-use Rattle.std.specs.List.{cons_option}
+-- and an answer breaks no rule there, and goes on as the monitor does that takes it. It knows both lists of bursts; bytes are hidden.
+use Rattle.std.proofs.Common.{◌≡◌, ℕ, zero, suc, ◌+◌, ◌==◌, ◌<◌, Bool, true, false, List, [], ◌∷◌, refl, ap, sym, ◌∙◌, subst, arith}
+use Rattle.std.specs.Prelude.{Option, Some, None, IfSome, filter_map, find, if◌then◌else◌, nat_lt, not, slice_get, ⊤}
+use Rattle.std.specs.Bool.{beq}
+use Rattle.std.specs.List.{AllByRecursion, cons_option}
+use Rattle.std.proofs.lemmas.Bool.{eqb-true, lt-leb}
 use Rattle.std.proofs.lemmas.Bool.Decides.{nat_tests}
 use Rattle.std.proofs.lemmas.List.{append-nil}
 use Rattle.std.proofs.lemmas.List.Elements.{filter_map-append}
-use Rattle.std.proofs.lemmas.Option.{slice_get_within}
+use Rattle.std.proofs.lemmas.Option.{same_Some, slice_get_within}
 use Rattle.bus_words.specs.Places.{change_first, without_first}
 use Rattle.axi_beats.specs.Bursts.{Burst, WriteBurst, ReadBurst}
+use Rattle.bus_words.proofs.PlaceChanges.{all-find, find-passes}
+use Rattle.axi_beats.specs.Responses.{is_exokay}
+use Rattle.axi_beats.specs.declared.ArBeat.{ArBeat}
+use Rattle.axi_beats.specs.declared.AwBeat.{AwBeat}
 use Rattle.axi_beats.specs.declared.BBeat.{BBeat}
 use Rattle.axi_beats.specs.declared.RBeat.{RBeat}
-use Rattle.axi_checker.proofs.LegalBursts.{open_after_all-burst}
-use Rattle.axi_checker.specs.OpenBursts.{OnB, OnR, open_after, OpenBursts, OpenRead, OpenWrite, reads_after, write_of_id}
-use Rattle.axi_checker.specs.Rules.{beats_sent, open_after_all, open_with_burst}
+use Rattle.axi_beats.specs.declared.Resp.{Resp}
+use Rattle.axi_beats.specs.declared.WBeat.{WBeat}
+use Rattle.axi_checker.proofs.LegalBursts.{last_place, open_after_all-burst}
+use Rattle.axi_checker.specs.OpenBursts.{OnB, OnR, open_after, OpenBursts, OpenRead, OpenWrite, read_of_id, reads_after, write_of_id}
+use Rattle.axi_checker.specs.Rules.{axi_fault, beats_sent, open_after_all, open_with_burst}
 use Rattle.subordinate.specs.FreeMemory.{FreeMemory, Pending, after_b_of, after_r_of, beat_after, beat_at, device_port, performed, performed_beat, performed_in, reads_as, send_fault, with_performed, writes_as, gives_last, has_serial, is_read_of, is_write_of, open_bursts_of, open_read_in, open_write_in, pending_after_r, transfers_in, with_beat, with_burst}
 use Rattle.subordinate.specs.Inside.{burst_in}
-use Rattle.subordinate.specs.Laws.{IsSoundPending}
+use Rattle.subordinate.specs.Laws.{IsBeatOf, IsSoundMemory, IsSoundPending, queue_of, queue_of_burst}
 use Rattle.subordinate.specs.declared.BeatState.{BeatState}
 use Rattle.subordinate.specs.declared.BeatState.TheVariants.{Waiting, Written, Captured}
 use Rattle.subordinate.proofs.OpenBursts.{writes_have_data}
@@ -186,3 +194,124 @@ pub known_after_r : (bus_bytes : ℕ) (memory : FreeMemory) (r : RBeat) (p : Pen
 known_after_r bus_bytes memory r p found sound captured =
     let within : p.answered < transfers_in p.burst = omega (arith, slice_get_within p.beats p.answered (Captured r.payload r.resp) captured, sound.whole) in
     sym (outstanding_after_r memory r (subst HasBeatsToCome (sym found) within))
+
+-- ---- the oldest of an ID
+
+-- an open write of an ID, as the port knows it
+pub record IsOldestWrite (id : ℕ) (pending : List Pending) (p : Pending) : Type 0 where
+  pub aw : AwBeat
+  pub ws : List WBeat
+  pub burst : p.burst ≡ WriteBurst aw ws
+  pub seen : find (write_of_id id) (writes_in pending) ≡ Some (record { aw = aw; came = aw.len + 1 })
+
+pub oldest_write_seen : (id : ℕ) (pending : List Pending) (p : Pending) → find (is_write_of id) pending ≡ Some p → IsOldestWrite id pending p
+oldest_write_seen id [] p found = absurd (cc)
+oldest_write_seen id (q ∷ qs) p found = by_burst q.burst refl found (oldest_write_seen id qs p)
+  where
+    Later : Type 0
+    Later = find (is_write_of id) qs ≡ Some p → IsOldestWrite id qs p
+
+    by_burst : (burst : Burst) → q.burst ≡ burst → (if writes_as id burst then Some q else find (is_write_of id) qs) ≡ Some p → Later → IsOldestWrite id (q ∷ qs) p
+    by_burst (ReadBurst ar) is found later =
+        let more = later found in
+        record { aw = more.aw; ws = more.ws; burst = more.burst; seen = ap (λ (burst : Burst). find (write_of_id id) (cons_option (open_write_in burst) (writes_in qs))) is ∙ more.seen }
+    by_burst (WriteBurst aw ws) is found later = by_test (aw.id == id) refl found
+      where
+        by_test : (here : Bool) → (aw.id == id) ≡ here → (if here then Some q else find (is_write_of id) qs) ≡ Some p → IsOldestWrite id (q ∷ qs) p
+        by_test true same found =
+            record {
+              aw = aw;
+              ws = ws;
+              burst = ap (λ (x : Pending). x.burst) (sym (same_Some q p found)) ∙ is;
+              seen = ap (λ (burst : Burst). find (write_of_id id) (cons_option (open_write_in burst) (writes_in qs))) is ∙ rw same refl;
+            }
+        by_test false other found =
+            let more = later found in
+            record {
+              aw = more.aw;
+              ws = more.ws;
+              burst = more.burst;
+              seen = ap (λ (burst : Burst). find (write_of_id id) (cons_option (open_write_in burst) (writes_in qs))) is ∙ rw other more.seen;
+            }
+
+-- an open read of an ID, as the port knows it
+pub record IsOldestRead (id : ℕ) (pending : List Pending) (p : Pending) : Type 0 where
+  pub ar : ArBeat
+  pub burst : p.burst ≡ ReadBurst ar
+  pub seen : find (read_of_id id) (reads_in pending) ≡ Some (record { ar = ar; came = p.answered })
+
+pub oldest_read_seen : (id : ℕ) (pending : List Pending) (p : Pending) → find (is_read_of id) pending ≡ Some p → IsOldestRead id pending p
+oldest_read_seen id [] p found = absurd (cc)
+oldest_read_seen id (q ∷ qs) p found = by_burst q.burst refl found (oldest_read_seen id qs p)
+  where
+    Later : Type 0
+    Later = find (is_read_of id) qs ≡ Some p → IsOldestRead id qs p
+
+    by_burst : (burst : Burst) → q.burst ≡ burst → (if reads_as id burst then Some q else find (is_read_of id) qs) ≡ Some p → Later → IsOldestRead id (q ∷ qs) p
+    by_burst (WriteBurst aw ws) is found later =
+        let more = later found in
+        record { ar = more.ar; burst = more.burst; seen = ap (λ (burst : Burst). find (read_of_id id) (cons_option (open_read_in q.answered burst) (reads_in qs))) is ∙ more.seen }
+    by_burst (ReadBurst ar) is found later = by_test (ar.id == id) refl found
+      where
+        by_test : (here : Bool) → (ar.id == id) ≡ here → (if here then Some q else find (is_read_of id) qs) ≡ Some p → IsOldestRead id (q ∷ qs) p
+        by_test true same found =
+            let it : q ≡ p = same_Some q p found in
+            record {
+              ar = ar;
+              burst = ap (λ (x : Pending). x.burst) (sym it) ∙ is;
+              seen =
+                  ap (λ (burst : Burst). find (read_of_id id) (cons_option (open_read_in q.answered burst) (reads_in qs))) is ∙ rw same refl
+                  ∙ ap (λ (x : Pending). Some (record { ar = ar; came = x.answered })) it;
+            }
+        by_test false other found =
+            let more = later found in
+            record { ar = more.ar; burst = more.burst; seen = ap (λ (burst : Burst). find (read_of_id id) (cons_option (open_read_in q.answered burst) (reads_in qs))) is ∙ rw other more.seen }
+
+-- ---- an answer breaks no rule
+
+-- no ID is above the device's
+id_of_write : (memory : FreeMemory) (id : ℕ) (p : Pending) → IsSoundMemory memory → find (is_write_of id) memory.pending ≡ Some p → id < 16
+id_of_write memory id p sound found =
+    by_burst p.burst (all-find (λ (q : Pending). queue_of q < 32) (is_write_of id) memory.pending p sound.few.known found) (find-passes (is_write_of id) memory.pending p found)
+  where
+    by_burst : (burst : Burst) → queue_of_burst burst < 32 → writes_as id burst ≡ true → id < 16
+    by_burst (WriteBurst aw ws) known same = omega (arith, known, eqb-true aw.id id same)
+    by_burst (ReadBurst ar) known same = absurd (cc)
+
+id_of_read : (memory : FreeMemory) (id : ℕ) (p : Pending) → IsSoundMemory memory → find (is_read_of id) memory.pending ≡ Some p → id < 16
+id_of_read memory id p sound found =
+    by_burst p.burst (all-find (λ (q : Pending). queue_of q < 32) (is_read_of id) memory.pending p sound.few.known found) (find-passes (is_read_of id) memory.pending p found)
+  where
+    by_burst : (burst : Burst) → queue_of_burst burst < 32 → reads_as id burst ≡ true → id < 16
+    by_burst (WriteBurst aw ws) known same = absurd (cc)
+    by_burst (ReadBurst ar) known same = omega (arith, known, eqb-true ar.id id same)
+
+pub takes_b : (memory : FreeMemory) (id : ℕ) (resp : Resp) (p : Pending) → IsSoundMemory memory → find (is_write_of id) memory.pending ≡ Some p → is_exokay resp ≡ false
+    → axi_fault (device_port memory) (open_bursts_of memory) (OnB (record { id = id; resp = resp })) ≡ None
+takes_b memory id resp p sound found plain =
+    let oldest = oldest_write_seen id memory.pending p found in
+    rw (lt-leb 16 id (id_of_write memory id p sound found), oldest.seen, lt-leb (oldest.aw.len + 1) oldest.aw.len (omega arith), plain) refl
+
+-- what a read captured, and so answers, isn't EXOKAY
+captured_plain : (burst : Burst) (beats : List BeatState) (n payload : ℕ) (resp : Resp) → AllByRecursion (IsBeatOf burst) beats → slice_get beats n ≡ Some (Captured payload resp) → is_exokay resp ≡ false
+captured_plain burst [] n payload resp all there = absurd (cc)
+captured_plain burst (beat ∷ beats) zero payload resp all there = of_burst burst (subst (IsBeatOf burst) (same_Some beat (Captured payload resp) there) all.0)
+  where
+    of_burst : (burst : Burst) → IsBeatOf burst (Captured payload resp) → is_exokay resp ≡ false
+    of_burst (WriteBurst aw ws) never = absurd never
+    of_burst (ReadBurst ar) plain = plain
+captured_plain burst (beat ∷ beats) (suc n) payload resp all there = captured_plain burst beats n payload resp all.1 there
+
+same_flag : (b : Bool) → not (beq b b) ≡ false
+same_flag true = refl
+same_flag false = refl
+
+pub takes_r : (memory : FreeMemory) (id payload : ℕ) (resp : Resp) (last : Bool) (p : Pending) → IsSoundMemory memory → find (is_read_of id) memory.pending ≡ Some p
+    → beat_at p p.answered ≡ Some (Captured payload resp) → last ≡ gives_last p
+    → axi_fault (device_port memory) (open_bursts_of memory) (OnR (record { id = id; payload = payload; resp = resp; last = last })) ≡ None
+takes_r memory id payload resp last p sound found captured is_last =
+    let oldest = oldest_read_seen id memory.pending p found in
+    let each = all-find (IsSoundPending memory.bus_bytes) (is_read_of id) memory.pending p sound.each found in
+    let place : last ≡ (p.answered == oldest.ar.len) = is_last ∙ ap (λ (burst : Burst). p.answered + 1 == transfers_in burst) oldest.burst ∙ last_place p.answered oldest.ar.len in
+    let plain = captured_plain p.burst p.beats p.answered payload resp each.beats captured in
+    rw (lt-leb 16 id (id_of_read memory id p sound found), oldest.seen, place, same_flag (p.answered == oldest.ar.len), plain) refl

@@ -5,8 +5,8 @@ ghost use Rattle.std.specs.Vec.{vec_capacity, vec_len};
 ghost use Rattle.axi_beats.specs.Bursts.{IsLegal};
 ghost use Rattle.axi_beats.specs.Transfers.{IsBusWidth};
 ghost use Rattle.axi_checker.specs.OpenBursts.{OnB, OnR, nothing_open, open_after};
-ghost use Rattle.axi_checker.specs.Rules.{beats_sent, id_of, open_after_all, open_with_burst, outstanding_beside};
-ghost use Rattle.subordinate.specs.FreeMemory.{Pending, beat_after, beat_at, has_serial, is_read_of, is_write_of, memory_after, open_bursts_of, transfers_in};
+ghost use Rattle.axi_checker.specs.Rules.{axi_fault, beats_sent, id_of, open_after_all, open_with_burst, outstanding_beside};
+ghost use Rattle.subordinate.specs.FreeMemory.{Pending, beat_after, beat_at, device_port, has_serial, is_read_of, is_write_of, memory_after, open_bursts_of, transfers_in};
 ghost use Rattle.subordinate.specs.Inside.{after_closing, after_counting, after_performing, captured_at, is_beside, memory_over};
 ghost use Rattle.subordinate.specs.Laws.{IsSoundMemory, IsSoundPending};
 
@@ -293,7 +293,8 @@ impl Device {
         // Write responses of one ID come in the order of its addresses.
         ensures order { IsSome result → AnswersOldestWrite id self.old.memory.pending self.new.memory.pending }
 
-        // The monitor takes the B.
+        // The monitor takes the B: it breaks no rule of a port of 16 IDs, and closes the same write.
+        ensures takes { IfSome result (λ beat. axi_fault (device_port self.old.memory) (open_bursts_of self.old.memory) (OnB beat) ≡ None) }
         ensures monitor { IfSome result (λ beat. open_bursts_of self.new.memory ≡ open_after (open_bursts_of self.old.memory) (OnB beat)) }
         ensures laws { IsSoundMemory self.new.memory }
     {
@@ -315,7 +316,8 @@ impl Device {
         // Read data of one ID come in the order of its addresses, each as its beat captured it.
         ensures order { IfSome result (λ beat. AnswersNextBeat id beat self.old.memory.pending self.new.memory.pending) }
 
-        // The monitor takes the R.
+        // The monitor takes the R: it breaks no rule of a port of 16 IDs, and is counted at the same read.
+        ensures takes { IfSome result (λ beat. axi_fault (device_port self.old.memory) (open_bursts_of self.old.memory) (OnR beat) ≡ None) }
         ensures monitor { IfSome result (λ beat. open_bursts_of self.new.memory ≡ open_after (open_bursts_of self.old.memory) (OnR beat)) }
         ensures laws { IsSoundMemory self.new.memory }
     {
