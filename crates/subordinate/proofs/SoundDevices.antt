@@ -23,6 +23,8 @@ use Rattle.subordinate.specs.Laws.{HasAnswered, IsBeatOf, IsPerformed, IsSoundMe
 use Rattle.subordinate.proofs.GoodPages.{has_good_pages-kept, keeps_good_pages-after}
 use Rattle.subordinate.specs.declared.BeatState.{BeatState}
 use Rattle.subordinate.specs.declared.BeatState.TheVariants.{Waiting, Written, Captured}
+use Rattle.subordinate.proofs.FaultLaws.{read_plain}
+use Rattle.subordinate.specs.Faults.{is_bad, standing_at}
 use Rattle.subordinate.proofs.OpenBursts.{all-at, count_in_queue, known_beside, pending_after_r-last, pending_after_r-more, position-serial, rises-append, rises-change_first, rises-without_first, serial_at}
 
 -- ---- lists
@@ -208,7 +210,7 @@ beat_after-performed memory (ReadBurst ar) beat = refl
 -- and is one of its burst
 pub beat_after-of : (memory : FreeMemory) (burst : Burst) (beat : ℕ) → IsBeatOf burst (beat_after memory burst beat)
 beat_after-of memory (WriteBurst aw ws) beat = tt
-beat_after-of memory (ReadBurst ar) beat = tt
+beat_after-of memory (ReadBurst ar) beat = read_plain (standing_at memory.faults _) (is_bad memory.faults _)
 
 captured-is : (state : Option BeatState) → IsSome (captured_at state) → (payload : ℕ) × (resp : Resp) × (state ≡ Some (Captured payload resp))
 captured-is None captured = absurd (cc)

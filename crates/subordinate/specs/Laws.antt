@@ -2,6 +2,7 @@
 use Rattle.std.specs.Prelude.{◌≡◌, ℕ, ◌+◌, ◌*◌, ◌≤◌, false, List, [], ◌∷◌, length, take, ⊤}
 use Rattle.std.specs.List.{AllByRecursion}
 use Rattle.axi_beats.specs.Bursts.{Burst, ReadBurst, WriteBurst, IsLegal}
+use Rattle.axi_beats.specs.Responses.{is_exokay}
 use Rattle.axi_beats.specs.Transfers.{IsBusWidth}
 use Rattle.axi_checker.specs.Monitors.{HasFewOfEach}
 use Rattle.subordinate.specs.Effects.{HasGoodPages}
@@ -12,14 +13,15 @@ use Rattle.subordinate.specs.declared.BeatState.TheVariants.{Waiting, Written, C
 abbrev pub IsPerformed : BeatState → Type 0
 IsPerformed beat = is_waiting beat ≡ false
 
--- what a beat of a burst may be: a performed beat of a write is written, and that of a read is captured
+-- what a beat of a burst may be: a performed beat of a write is written, and that of a read is captured, with no EXOKAY, which only an
+-- exclusive access would bring
 abbrev pub IsBeatOf : Burst → BeatState → Type 0
 IsBeatOf (WriteBurst aw data_beats) Waiting = ⊤
 IsBeatOf (WriteBurst aw data_beats) Written = ⊤
 IsBeatOf (WriteBurst aw data_beats) (Captured payload resp) = ⊥
 IsBeatOf (ReadBurst ar) Waiting = ⊤
 IsBeatOf (ReadBurst ar) Written = ⊥
-IsBeatOf (ReadBurst ar) (Captured payload resp) = ⊤
+IsBeatOf (ReadBurst ar) (Captured payload resp) = is_exokay resp ≡ false
 
 -- beats are answered one by one in a read alone; the B of a write answers all of them, and closes it
 abbrev pub HasAnswered : Burst → ℕ → Type 0

@@ -15,7 +15,7 @@ use Rattle.subordinate.specs.Laws.{HasAnswered, IsSoundMemory, IsSoundPending}
 use Rattle.subordinate.proofs.BeatStates.{length-waiting_in, performed_waiting-count}
 use Rattle.world_run.specs.Laws.{IsSoundWorld}
 use Rattle.world_run.specs.World.{WorldState, work_left}
-use Rattle.world_run.proofs.Outstanding.{reads_in, writes_in}
+use Rattle.subordinate.proofs.Monitors.{reads_in, writes_in}
 
 -- all beats and answers of a list of open bursts, and the read beats that came
 abbrev whole_of : List Pending → ℕ

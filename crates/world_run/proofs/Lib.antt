@@ -40,7 +40,6 @@ pub mod OrderPump
 pub mod OrderSteps
 pub mod OrderTake
 pub mod OrderedRuns
-pub mod Outstanding
 pub mod Passing
 pub mod PerformedBytes
 pub mod PlacesOfReads

@@ -18,12 +18,11 @@ use Rattle.flight_table.specs.Order.{is_id}
 use Rattle.bridge_core.specs.Laws.{outstanding}
 use Rattle.bridge_core.specs.Requests.{BridgedRequest, RequestTable, holder, holds}
 use Rattle.bridge_core.proofs.AnswerLinks.{read_at}
-use Rattle.subordinate.specs.FreeMemory.{FreeMemory, Pending, Performs, beat_after, beat_at, has_serial, memory_after, performed, performed_beat, performed_in, with_beat, with_performed, reads_as, writes_as}
+use Rattle.subordinate.specs.FreeMemory.{FreeMemory, Pending, beat_after, beat_at, has_serial, memory_after, performed, with_beat, with_performed, reads_as, writes_as}
+use Rattle.subordinate.proofs.PerformedBeats.{performs_done}
 use Rattle.subordinate.specs.Laws.{IsSoundPending}
 use Rattle.subordinate.specs.Pages.{byte_at_address}
-use Rattle.subordinate.specs.declared.BeatState.{BeatState}
-use Rattle.subordinate.specs.declared.BeatState.TheVariants.{Captured, Waiting, Written}
-use Rattle.subordinate.specs.declared.Performed.{Performed}
+use Rattle.subordinate.specs.declared.BeatState.TheVariants.{Waiting}
 use Rattle.subordinate.specs.declared.Performed.TheVariants as perform
 use Rattle.world_run.specs.InOrder.{AreOfHolder, IsHistory, IsInOrder, KeepsOrder, finished, is_of_id, memory_bytes, started}
 use Rattle.world_run.specs.Laws.{IsSoundWorld}
@@ -41,26 +40,6 @@ use Rattle.world_run.proofs.OpenOfHolder.{IsOneOf, of_one, open_one}
 use Rattle.world_run.proofs.OpenRequests.{HasOpen, IsGoingOn, going_on, going_on-place, has_open, part_at, transfer_touches}
 use Rattle.world_run.proofs.PerformedBytes.{LeavesBurst, LeavesOthers, PerformsSerially, beat_within, in_order_more, of_holder_same, performs_serially, stores_by}
 use Rattle.world_run.proofs.SerialBytes.{left_alone, message_touches}
-
--- ---- which beat was performed
-
-pub performs_done : (state : FreeMemory) (serial beat : ℕ) (memory : FreeMemory) → performed state serial beat ≡ (memory, perform.Done) → Performs state serial beat memory
-performs_done state serial beat memory is = by_found (find (has_serial serial) state.pending) refl is
-  where
-    never : (answer : Performed) → (answer ≡ perform.Done → ⊥) → ◌≡◌ {A = FreeMemory × Performed} (state, answer) (memory, perform.Done) → Performs state serial beat memory
-    never answer other same = absurd (other (ap (λ (result : FreeMemory × Performed). result.1) same))
-
-    by_state : (pending : Pending) → find (has_serial serial) state.pending ≡ Some pending → (there : Option BeatState) → beat_at pending beat ≡ there
-        → performed_beat state pending beat there ≡ (memory, perform.Done) → Performs state serial beat memory
-    by_state pending found None at same = never perform.NoSuch (λ other. cc) same
-    by_state pending found (Some Waiting) at same =
-        record { pending = pending; is_open = found; waits = at; becomes = sym (ap (λ (result : FreeMemory × Performed). result.0) same) }
-    by_state pending found (Some Written) at same = never perform.Already (λ other. cc) same
-    by_state pending found (Some (Captured payload resp)) at same = never perform.Already (λ other. cc) same
-
-    by_found : (found : Option Pending) → find (has_serial serial) state.pending ≡ found → performed_in state beat found ≡ (memory, perform.Done) → Performs state serial beat memory
-    by_found None none same = never perform.NoSuch (λ other. cc) same
-    by_found (Some pending) found same = by_state pending found (beat_at pending beat) refl same
 
 -- ---- what its request hasn't written
 
