@@ -9,6 +9,7 @@ is_okay ExOkay = false
 is_okay SlvErr = false
 is_okay DecErr = false
 
+-- whether a response is EXOKAY, which only an exclusive access brings
 abbrev pub is_exokay : Resp → Bool
 is_exokay Okay = false
 is_exokay ExOkay = true

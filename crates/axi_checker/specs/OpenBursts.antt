@@ -30,6 +30,7 @@ pub data AxiBeat : Type 0 where
   OnAr : ArBeat → AxiBeat
   OnR : RBeat → AxiBeat
 
+-- nothing is outstanding
 abbrev pub nothing_open : OpenBursts
 nothing_open = record { writes = []; reads = [] }
 
@@ -37,10 +38,11 @@ nothing_open = record { writes = []; reads = [] }
 abbrev pub lacks_data : OpenWrite → Bool
 lacks_data write = nat_le write.came write.aw.len
 
--- whether a write, or a read, has this ID
+-- whether a write has this ID
 abbrev pub write_of_id : ℕ → OpenWrite → Bool
 write_of_id id write = write.aw.id == id
 
+-- whether a read has this ID
 abbrev pub read_of_id : ℕ → OpenRead → Bool
 read_of_id id read = read.ar.id == id
 
@@ -48,10 +50,11 @@ read_of_id id read = read.ar.id == id
 abbrev pub write_to_fill : OpenBursts → Option OpenWrite
 write_to_fill open_bursts = find lacks_data open_bursts.writes
 
--- the oldest write, and the oldest read, of an ID: the next B or R beat of the ID is its
+-- the oldest write of an ID: the next B of the ID is its
 abbrev pub oldest_write : ℕ → OpenBursts → Option OpenWrite
 oldest_write id open_bursts = find (write_of_id id) open_bursts.writes
 
+-- the oldest read of an ID: the next R beat of the ID is its
 abbrev pub oldest_read : ℕ → OpenBursts → Option OpenRead
 oldest_read id open_bursts = find (read_of_id id) open_bursts.reads
 

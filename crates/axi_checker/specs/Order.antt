@@ -8,16 +8,17 @@ use Rattle.axi_checker.specs.OpenBursts.{AxiBeat, OnAw, OnW, OnB, OnAr, OnR, Ope
 abbrev pub lasts_from : ℕ → ℕ → List Bool
 lasts_from came len = map (λ k. k == len) (range_with_len came (len + 1 - came))
 
--- what the reads of an ID still owe, the oldest first, and what writes still lack
+-- what the reads of an ID still owe, the oldest first
 abbrev pub reads_owe : ℕ → List OpenRead → List Bool
 reads_owe id [] = []
 reads_owe id (read ∷ reads) = if read_of_id id read then lasts_from read.came read.ar.len ++ reads_owe id reads else reads_owe id reads
 
+-- what the writes still lack, the oldest first
 abbrev pub writes_lack : List OpenWrite → List Bool
 writes_lack [] = []
 writes_lack (write ∷ writes) = lasts_from write.came write.aw.len ++ writes_lack writes
 
--- the R beats that an address asks for under an ID, and the one that a beat gives
+-- the R beats that an address asks for under an ID
 abbrev pub reads_asked : ℕ → AxiBeat → List Bool
 reads_asked id (OnAw aw) = []
 reads_asked id (OnW w) = []
@@ -25,6 +26,7 @@ reads_asked id (OnB b) = []
 reads_asked id (OnAr ar) = if ar.id == id then lasts_from 0 ar.len else []
 reads_asked id (OnR r) = []
 
+-- the R beat that a beat gives under an ID
 abbrev pub read_given : ℕ → AxiBeat → List Bool
 read_given id (OnAw aw) = []
 read_given id (OnW w) = []
@@ -32,7 +34,7 @@ read_given id (OnB b) = []
 read_given id (OnAr ar) = []
 read_given id (OnR r) = if r.id == id then r.last ∷ [] else []
 
--- the W beats that an address announces, and the one that a beat is
+-- the W beats that an address announces
 abbrev pub data_announced : AxiBeat → List Bool
 data_announced (OnAw aw) = lasts_from 0 aw.len
 data_announced (OnW w) = []
@@ -40,6 +42,7 @@ data_announced (OnB b) = []
 data_announced (OnAr ar) = []
 data_announced (OnR r) = []
 
+-- the W beat that a beat is
 abbrev pub data_given : AxiBeat → List Bool
 data_given (OnAw aw) = []
 data_given (OnW w) = w.last ∷ []
@@ -47,7 +50,7 @@ data_given (OnB b) = []
 data_given (OnAr ar) = []
 data_given (OnR r) = []
 
--- whether a beat is the address of a write, or a response, of an ID
+-- whether a beat is the address of a write of an ID
 abbrev pub opens_write : ℕ → AxiBeat → Bool
 opens_write id (OnAw aw) = aw.id == id
 opens_write id (OnW w) = false
@@ -55,6 +58,7 @@ opens_write id (OnB b) = false
 opens_write id (OnAr ar) = false
 opens_write id (OnR r) = false
 
+-- whether a beat is the response to a write of an ID
 abbrev pub closes_write : ℕ → AxiBeat → Bool
 closes_write id (OnAw aw) = false
 closes_write id (OnW w) = false

@@ -12,10 +12,20 @@ use Rattle.std.proofs.Math.Nat.{mul-le-mul_right, mul-mod_left}
 use Rattle.std.proofs.Math.Pow.{pow_mono}
 use Rattle.axi_beats.specs.Transfers.{last_byte}
 use Rattle.axi_beats.proofs.Ranges.{range_with_len-append-range_with_len}
-use Rattle.burst_plan.specs.Pieces.{PlannedRange, IsPlannable, widest_size, cut_bytes, part_start, part_end, first_cut, range_end, piece_from_cut, pieces, piece_addresses, piece_bytes, piece_end, IsPartOf, IsPlan}
-use Rattle.burst_plan.specs.PlannedTransfers.{beat_bytes, burst_bytes, burst_beats, burst_count, piece_at}
+use Rattle.burst_plan.specs.Pieces.{PlannedRange, beat_size, IsPlannable, widest_size, cut_bytes, part_start, part_end, first_cut, range_end, piece_from_cut, pieces, piece_addresses, piece_bytes, piece_end, IsPartOf, IsPlan}
+use Rattle.burst_plan.specs.PlannedTransfers.{beat_bytes, burst_bytes, burst_beats}
 use Rattle.burst_plan.specs.declared.Piece.{Piece}
 use Rattle.burst_plan.proofs.Cuts.{IsDivided, divided, held_between}
+
+-- ---- pieces by their number
+
+-- how many bursts there are
+abbrev pub burst_count : PlannedRange → ℕ
+burst_count range = 2 ^ range.size / burst_bytes range
+
+-- burst k, from 0: all bursts of a plan have the same bytes
+abbrev pub piece_at : PlannedRange → ℕ → Piece
+piece_at range k = record { address = range.address + k * burst_bytes range; len = burst_beats range - 1; size = beat_size range }
 
 -- ---- powers of two
 

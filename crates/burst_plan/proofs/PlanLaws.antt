@@ -3,10 +3,10 @@ use Rattle.std.proofs.Common.{◌≡◌, ℕ, zero, suc, ◌+◌, ◌-◌, ◌*�
 use Rattle.std.specs.List.{slice_get, range_with_len, sum_by}
 use Rattle.std.proofs.lemmas.Nat.{one_shl, div-mul-add}
 use Rattle.burst_plan.specs.Pieces.{PlannedRange, IsPlannable, beat_size, pieces}
-use Rattle.burst_plan.specs.PlannedTransfers.{beat_bytes, burst_beats, burst_bytes, burst_count, piece_at}
+use Rattle.burst_plan.specs.PlannedTransfers.{beat_bytes, burst_beats, burst_bytes}
 use Rattle.burst_plan.specs.declared.Piece.{Piece}
 use Rattle.std.proofs.lemmas.List.Sums.{sum_by-cons}
-use Rattle.burst_plan.proofs.PieceLaws.{divides_evenly, length-pieces, pieces_are, slice_get-pieces, piece_within, range_in_page}
+use Rattle.burst_plan.proofs.PieceLaws.{burst_count, divides_evenly, length-pieces, piece_at, piece_within, pieces_are, range_in_page, slice_get-pieces}
 
 -- how many bursts the code counts
 pub bursts_counted : (range : PlannedRange) (bytes : ℕ) → IsPlannable range → bytes ≡ burst_bytes range → 1 * 2 ^ range.size % 2 ^ 32 / bytes ≡ length (pieces range)

@@ -24,9 +24,9 @@ use Rattle.data_unit.proofs.WordLaws.{lane_byte-placed_at}
 use Rattle.std.specs.Int.{byte_at}
 use Rattle.burst_plan.specs.Pieces.{PlannedRange, IsPlannable, beat_size, pieces}
 use Rattle.burst_plan.specs.PlannedBursts.{byte_to_write, given_by_word, w_beat}
-use Rattle.burst_plan.specs.PlannedTransfers.{beat_bytes, burst_beats, burst_bytes, piece_at}
+use Rattle.burst_plan.specs.PlannedTransfers.{beat_bytes, burst_beats, burst_bytes}
 use Rattle.burst_plan.specs.declared.Piece.{Piece}
-use Rattle.burst_plan.proofs.PieceLaws.{DividesEvenly, divides_evenly, piece_listed, pow-split}
+use Rattle.burst_plan.proofs.PieceLaws.{DividesEvenly, divides_evenly, piece_at, piece_listed, pow-split}
 use Rattle.burst_plan.proofs.TransferPlaces.{holds_each_byte_once, transfer_start-at, transfer_end-at}
 
 -- a W beat is known from the bytes that are given in its transfer

@@ -7,9 +7,9 @@ use Rattle.std.proofs.lemmas.Nat.{div-mul-add, mod-mul-add, div-add-mod', mod_be
 use Rattle.axi_beats.specs.Transfers.{transfer_address, transfer_end, transfer_has}
 use Rattle.axi_beats.proofs.TransferLaws.{covers_lane-mod, lane_address-mod, transfer_address-aligned}
 use Rattle.burst_plan.specs.Pieces.{PlannedRange, IsPlannable, beat_size, pieces}
-use Rattle.burst_plan.specs.PlannedTransfers.{beat_bytes, burst_bytes, burst_beats, burst_count, piece_at, beat_of, piece_of, transfer_of, HasAddress, HoldsByte, HoldsEachByteOnce}
+use Rattle.burst_plan.specs.PlannedTransfers.{beat_bytes, burst_bytes, burst_beats, beat_of, piece_of, transfer_of, HasAddress, HoldsByte, HoldsEachByteOnce}
 use Rattle.burst_plan.specs.declared.Piece.{Piece}
-use Rattle.burst_plan.proofs.PieceLaws.{DividesEvenly, divides_evenly, piece_aligned, piece_listed, piece_within, slice_get-pieces}
+use Rattle.burst_plan.proofs.PieceLaws.{DividesEvenly, burst_count, divides_evenly, piece_aligned, piece_at, piece_listed, piece_within, slice_get-pieces}
 
 -- the last of a piece's transfers
 last_transfer : (range : PlannedRange) → DividesEvenly range → (k : ℕ) → (piece_at range k).len + 1 ≡ burst_beats range

@@ -16,14 +16,6 @@ burst_bytes range = min (2 ^ range.size) (cut_bytes range)
 abbrev pub burst_beats : PlannedRange → ℕ
 burst_beats range = burst_bytes range / beat_bytes range
 
--- how many bursts there are
-abbrev pub burst_count : PlannedRange → ℕ
-burst_count range = 2 ^ range.size / burst_bytes range
-
--- burst k, from 0: all bursts of a plan have the same bytes
-abbrev pub piece_at : PlannedRange → ℕ → Piece
-piece_at range k = record { address = range.address + k * burst_bytes range; len = burst_beats range - 1; size = beat_size range }
-
 -- the transfer that holds the byte at an address, counted from 0 through all bursts
 abbrev pub beat_of : PlannedRange → ℕ → ℕ
 beat_of range x = (x - range.address) / beat_bytes range

@@ -6,9 +6,9 @@ use Rattle.std.specs.List.{AllByRecursion, range_with_len, slice_get, sum_by}
 use Rattle.std.proofs.lemmas.List.Sums.{sum_by-cons}
 use Rattle.std.proofs.lemmas.Option.{slice_get-map}
 use Rattle.burst_plan.specs.Pieces.{IsPlannable, PlannedRange, pieces}
-use Rattle.burst_plan.specs.PlannedTransfers.{burst_beats, burst_count, piece_at}
+use Rattle.burst_plan.specs.PlannedTransfers.{burst_beats}
 use Rattle.burst_plan.specs.declared.Piece.{Piece}
-use Rattle.burst_plan.proofs.PieceLaws.{divides_evenly, piece_listed, pieces_are}
+use Rattle.burst_plan.proofs.PieceLaws.{burst_count, divides_evenly, piece_at, piece_listed, pieces_are}
 use Rattle.flight_table.specs.LiveRequests.{LiveRequest, course, is_atomic, next_burst, pieces_planned, planned, planned_writes, read_pieces, whole_course, write_pieces}
 use Rattle.tl_messages.specs.Operations.{has_data, reply_has_data}
 use Rattle.flight_table.specs.Work.{answers_of_burst, beats_of_burst}

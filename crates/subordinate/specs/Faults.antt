@@ -21,10 +21,12 @@ pub data Standing : Type 0 where
   IsSlaveError : Standing
   IsAbsent : Standing
 
+-- what a page is that is listed as of a kind
 abbrev pub standing_of_kind : PageKind → Standing
 standing_of_kind Good = IsGood
 standing_of_kind SlaveError = IsSlaveError
 
+-- what a page is by its entry in the list, if it has one
 abbrev pub standing_of_listed : Option (ℕ × PageKind) → Standing
 standing_of_listed None = IsAbsent
 standing_of_listed (Some listed) = standing_of_kind listed.1
@@ -37,6 +39,7 @@ lists_page number listed = listed.0 == number
 abbrev pub standing_at : Faults → ℕ → Standing
 standing_at faults address = standing_of_listed (find (lists_page (address / 4096)) faults.pages)
 
+-- whether a page is good
 abbrev pub is_good : Standing → Bool
 is_good IsGood = true
 is_good IsSlaveError = false

@@ -3,8 +3,7 @@ use Rattle.std.proofs.Common.{◌≡◌, ℕ, zero, suc, ◌+◌, ◌^◌, ◌<�
 use Rattle.std.specs.Prelude.{slice_get}
 use Rattle.std.proofs.lemmas.Bool.{cases_lt}
 use Rattle.std.proofs.lemmas.Option.{same_Some}
-use Rattle.world_run.specs.Choices.{IsDraining}
-use Rattle.world_run.specs.Laws.{IsDrained, IsSoundWorld}
+use Rattle.world_run.specs.Laws.{IsDrained, IsSoundWorld, work_spared}
 use Rattle.world_run.specs.World.{Drains, WorldState, drained, drained_within, enabled, next, one_more, work_left}
 use Rattle.world_run.specs.declared.Step.{Step}
 use Rattle.world_run.proofs.AllDone.{nothing_enabled}
@@ -22,6 +21,15 @@ drains_within (suc n) (suc most) old new (step, rest, is, drains) fits =
     rw (is, drained_within) (ap one_more (drains_within n most (next old step).state new drains (omega (arith, fits))) ∙ ap (λ (m : ℕ). (m, new)) more)
 
 -- ---- a drain begins, goes on and ends
+
+-- from old to now by so many steps, each the first that was enabled and one less of the work: what drains now drains old, and the work that was
+-- left at the start is a number of 63 bits
+pub record IsDraining (old : WorldState) (made : ℕ) (now : WorldState) : Type 0 where
+  pub leads : (more : ℕ) (end : WorldState) → Drains now more end → Drains old (made + more) end
+  pub work : work_left old + work_spared old ≡ made + (work_left now + work_spared now)
+  pub spared : work_spared old ≤ work_spared now
+  pub begins : made ≡ 0 → now ≡ old
+  pub few : 0 < made → work_left old < 2 ^ 63
 
 pub draining_begins : (old : WorldState) → IsDraining old 0 old
 draining_begins old =

@@ -9,9 +9,9 @@ use Rattle.tl_messages.specs.Requests.{request_of}
 use Rattle.axi_beats.specs.Transfers.{transfer_address, transfer_end, transfer_has}
 use Rattle.axi_beats.specs.declared.RBeat.{RBeat}
 use Rattle.burst_plan.specs.Pieces.{PlannedRange, beat_size, pieces}
-use Rattle.burst_plan.specs.PlannedTransfers.{beat_bytes, burst_beats, burst_bytes, burst_count, piece_at}
+use Rattle.burst_plan.specs.PlannedTransfers.{beat_bytes, burst_beats, burst_bytes}
 use Rattle.burst_plan.specs.declared.Piece.{Piece}
-use Rattle.burst_plan.proofs.PieceLaws.{DividesEvenly, divides_evenly, piece_listed, slice_get-pieces}
+use Rattle.burst_plan.proofs.PieceLaws.{DividesEvenly, burst_count, divides_evenly, piece_at, piece_listed, slice_get-pieces}
 use Rattle.burst_plan.proofs.TransferPlaces.{transfer_end-at, transfer_start-at}
 use Rattle.flight_table.specs.LiveRequests.{pieces_planned, planned_writes, read_pieces}
 use Rattle.bridge_core.specs.Configs.{is_valid}

@@ -6,9 +6,9 @@ use Rattle.std.proofs.Math.Pow.{pow_mono}
 use Rattle.tl_messages.specs.Operations.{has_data, reply_has_data}
 use Rattle.std.proofs.lemmas.Bool.{cases_lt}
 use Rattle.burst_plan.specs.Pieces.{IsPlannable, PlannedRange, pieces}
-use Rattle.burst_plan.specs.PlannedTransfers.{beat_bytes, burst_beats, burst_bytes, burst_count}
+use Rattle.burst_plan.specs.PlannedTransfers.{beat_bytes, burst_beats, burst_bytes}
 use Rattle.burst_plan.specs.declared.Piece.{Piece}
-use Rattle.burst_plan.proofs.PieceLaws.{divides_evenly, length-pieces}
+use Rattle.burst_plan.proofs.PieceLaws.{burst_count, divides_evenly, length-pieces}
 use Rattle.burst_plan.specs.declared.Region.{Region}
 use Rattle.bridge_core.specs.Configs.{is_valid}
 use Rattle.bridge_core.specs.Laws.{IsServed}

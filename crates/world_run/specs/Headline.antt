@@ -19,10 +19,11 @@ use Rattle.world_run.specs.declared.Answer.{Answer}
 use Rattle.world_run.specs.declared.SentBeat.{SentBeat}
 use Rattle.world_run.specs.declared.Step.{Step}
 
--- the replies to the accepted requests, carried out one at a time from zero, and the bytes they leave
+-- the replies to the accepted requests, carried out one at a time from zero
 abbrev pub replies_of : SetupLists → List WholeRequest → List Reply
 replies_of setup requests = replies_in_order (faults_of setup) setup.regions requests zeros
 
+-- the bytes that the accepted requests leave, carried out one at a time from zero
 abbrev pub bytes_of_all : SetupLists → List WholeRequest → Bytes
 bytes_of_all setup requests = bytes_after_all (faults_of setup) setup.regions requests zeros
 

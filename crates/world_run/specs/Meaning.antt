@@ -27,6 +27,7 @@ pub record Effect : Type 0 where
   pub reply : Reply
   pub after : Bytes
 
+-- a denied reply, which gives no byte
 abbrev pub denied : Reply
 denied = record { denied = true; bytes = [] }
 

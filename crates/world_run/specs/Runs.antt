@@ -24,9 +24,11 @@ use Rattle.world_run.specs.declared.Step.TheVariants.{Offer, Take}
 abbrev pub Heard : Type 0
 Heard = ℕ → List ABeat
 
+-- before the first event no beat was
 abbrev pub heard_nothing : Heard
 heard_nothing client = []
 
+-- with other beats in the place of a client's
 abbrev pub with_heard : ℕ → List ABeat → Heard → Heard
 with_heard client beats heard other = if other == client then beats else heard other
 
@@ -35,6 +37,7 @@ pub record AcceptedMessage : Type 0 where
   pub client : ℕ
   pub beats : List ABeat
 
+-- the messages that events complete, by number, after what was heard before them
 abbrev pub messages_from : Heard → List (Step × Answer) → List AcceptedMessage
 messages_from heard [] = []
 messages_from heard ((Offer client beat, More) ∷ rest) = messages_from (with_heard client (heard client ++ beat ∷ []) heard) rest
@@ -50,6 +53,7 @@ messages_in steps answers = messages_from heard_nothing (zip steps answers)
 abbrev pub request_in : AcceptedMessage → Option WholeRequest
 request_in message = option_map request_of (held_of message.client message.beats)
 
+-- the requests that messages spell
 abbrev pub requests_of : List AcceptedMessage → List WholeRequest
 requests_of [] = []
 requests_of (message ∷ messages) = cons_option (request_in message) (requests_of messages)

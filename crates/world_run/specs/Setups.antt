@@ -12,6 +12,7 @@ use Rattle.world_run.specs.declared.Setup.{Setup}
 use Rattle.world_run.specs.declared.SetupFault.{SetupFault}
 use Rattle.world_run.specs.declared.SetupFault.TheVariants.{BadConfig, Map, Device}
 
+-- a set-up: the limits of the bridge, the page map, the pages of the memory and its bad words
 pub record SetupLists : Type 0 where
   pub config : Config
   pub regions : List Region
@@ -23,6 +24,7 @@ abbrev pub lists_of : Setup → SetupLists
 lists_of setup =
     record { config = setup.config; regions = setup.regions.items; pages = setup.pages.items; bad_words = setup.bad_words.items }
 
+-- the faults of its memory
 abbrev pub faults_of : SetupLists → Faults
 faults_of setup = record { pages = setup.pages; bad_words = setup.bad_words }
 

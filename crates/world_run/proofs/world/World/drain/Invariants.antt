@@ -1,5 +1,5 @@
 -- What drains from here drains from the start.
-use Rattle.world_run.specs.Choices.{IsDraining}
+use Rattle.world_run.proofs.Drained.{IsDraining}
 use Rattle.world_run.specs.World.{work_left}
 use Rattle.world_run.proofs.world.World.drain.Given as goal
 
