@@ -24,6 +24,7 @@ pub mod SentBursts
 pub mod SentLinks
 pub mod ServedRequests
 pub mod Serving
+pub mod SmallestNumbers
 pub mod TableSteps
 pub mod TakenRequests
 pub mod Together

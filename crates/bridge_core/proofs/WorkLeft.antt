@@ -1,20 +1,21 @@
--- The read beats that came of outstanding bursts are among the work that is left.
-use Rattle.std.proofs.Common.{◌≡◌, ℕ, zero, suc, ◌+◌, ◌*◌, ◌==◌, ◌≤◌, Bool, true, false, not, ◌||◌, List, [], ◌∷◌, length, drop, take, Option, Some, None, refl, ap, sym, ◌∙◌, arith}
+-- The work that is left is that of the bursts that aren't sent, and that of the outstanding ones, of which some read beats came. It knows how
+-- the outstanding bursts of an ID are those of its holder; what they carry is hidden.
+use Rattle.std.proofs.Common.{◌≡◌, ℕ, zero, suc, ◌+◌, ◌*◌, ◌==◌, ◌≤◌, Bool, true, false, not, ◌||◌, List, [], ◌∷◌, ◌++◌, map, length, drop, take, Option, Some, None, refl, ap, sym, ◌∙◌, arith}
 use Rattle.std.specs.Prelude.{if◌then◌else◌}
-use Rattle.std.specs.List.{AllByRecursion, filter, slice_get, sum_by}
+use Rattle.std.specs.List.{AllByRecursion, filter, sum_by}
 use Rattle.std.proofs.lemmas.Bool.{eq-eqb, eqb-true}
+use Rattle.std.proofs.lemmas.List.{append-nil, take-append-le}
 use Rattle.std.proofs.lemmas.List.Sums.{sum_by-cons}
-use Rattle.std.proofs.lemmas.Option.{same_Some}
 use Rattle.burst_plan.specs.declared.Piece.{Piece}
 use Rattle.flight_table.specs.Laws.{IsSoundRequest}
-use Rattle.flight_table.specs.LiveRequests.{LiveRequest, course, is_atomic, planned, read_pieces, whole_course, write_pieces}
+use Rattle.flight_table.specs.LiveRequests.{LiveRequest, course, is_atomic, read_pieces, whole_course, write_pieces}
 use Rattle.flight_table.specs.Order.{holds_id}
-use Rattle.flight_table.specs.Work.{answers_of_burst, beats_of_burst, work, work_of}
+use Rattle.flight_table.specs.Work.{answers_of_burst, beats_of_burst, unsent, unsent_work, work, work_of}
 use Rattle.flight_table.specs.declared.TableLimits.{TableLimits}
-use Rattle.axi_checker.specs.OpenBursts.{OpenRead, read_of_id}
+use Rattle.axi_checker.specs.OpenBursts.{OpenBursts, OpenRead, OpenWrite, read_of_id, write_of_id}
 use Rattle.bridge_core.specs.Bridge.{BridgeState, answered_reads}
 use Rattle.bridge_core.specs.Configs.{table_limits_of}
-use Rattle.bridge_core.specs.Laws.{IsPartWay, IsServed, IsSoundBridge, came_of, came_of_next, open_reads, outstanding, outstanding_of}
+use Rattle.bridge_core.specs.Laws.{AreLinked, IsLinked, IsPartWay, IsServed, IsSoundBridge, came_of, came_of_next, open_reads, open_writes, outstanding, outstanding_of}
 use Rattle.bridge_core.specs.Requests.{BridgedRequest, flight_table_of, flights_of, holder, holds}
 use Rattle.bridge_core.specs.declared.Config.{Config}
 use Rattle.burst_plan.specs.declared.Region.{Region}
@@ -22,103 +23,165 @@ use Rattle.bridge_core.proofs.HolderChanges.{find-none-kept}
 use Rattle.bridge_core.proofs.SendingLinks.{sound_requests}
 use Rattle.bridge_core.proofs.SentLinks.{holders_counted}
 
--- ---- the reads of an ID, and the others
+-- ---- the items of an ID, and the others
+
+module _ {X : Type 0} (key measure : X → ℕ) where
+  abbrev is_of : ℕ → X → Bool
+  is_of id x = key x == id
+
+  abbrev is_other : ℕ → X → Bool
+  is_other id x = not (key x == id)
+
+  sum_apart : (id : ℕ) (xs : List X) → sum_by measure xs ≡ sum_by measure (filter (is_of id) xs) + sum_by measure (filter (is_other id) xs)
+  sum_apart id [] = omega arith
+  sum_apart id (x ∷ xs) = by_test (key x == id) (sum_apart id xs)
+    where
+      by_test : (b : Bool) → sum_by measure xs ≡ sum_by measure (filter (is_of id) xs) + sum_by measure (filter (is_other id) xs)
+          → sum_by measure (x ∷ xs) ≡ sum_by measure (if b then x ∷ filter (is_of id) xs else filter (is_of id) xs)
+          + sum_by measure (if not b then x ∷ filter (is_other id) xs else filter (is_other id) xs)
+      by_test true rest = omega (arith, sum_by-cons measure x xs, sum_by-cons measure x (filter (is_of id) xs), rest)
+      by_test false rest = omega (arith, sum_by-cons measure x xs, sum_by-cons measure x (filter (is_other id) xs), rest)
+
+  own_of_others : (id : ℕ) (xs : List X) → filter (is_of id) (filter (is_other id) xs) ≡ []
+  own_of_others id [] = refl
+  own_of_others id (x ∷ xs) = by_test (key x == id) refl (own_of_others id xs)
+    where
+      by_test : (b : Bool) → (key x == id) ≡ b → filter (is_of id) (filter (is_other id) xs) ≡ []
+          → filter (is_of id) (if not b then x ∷ filter (is_other id) xs else filter (is_other id) xs) ≡ []
+      by_test true is rest = rest
+      by_test false is rest = rw is rest
+
+  others_of_others : (id j : ℕ) (xs : List X) → (j == id) ≡ false → filter (is_of id) (filter (is_other j) xs) ≡ filter (is_of id) xs
+  others_of_others id j [] other = refl
+  others_of_others id j (x ∷ xs) other = by_test (key x == j) refl (others_of_others id j xs other)
+    where
+      each : (b : Bool) → filter (is_of id) (filter (is_other j) xs) ≡ filter (is_of id) xs
+          → (if b then x ∷ filter (is_of id) (filter (is_other j) xs) else filter (is_of id) (filter (is_other j) xs)) ≡ (if b then x ∷ filter (is_of id) xs else filter (is_of id) xs)
+      each true rest = ap (λ (ys : List X). x ∷ ys) rest
+      each false rest = rest
+
+      by_test : (b : Bool) → (key x == j) ≡ b → filter (is_of id) (filter (is_other j) xs) ≡ filter (is_of id) xs
+          → filter (is_of id) (if not b then x ∷ filter (is_other j) xs else filter (is_other j) xs) ≡ filter (is_of id) (x ∷ xs)
+      by_test true is rest =
+          let same : key x ≡ j = eqb-true (key x) j is in
+          let fails : (key x == id) ≡ false = ap (λ n. n == id) same ∙ other in
+          rest ∙ sym (rw fails refl)
+      by_test false is rest = each (key x == id) rest
+
+  none_left : (xs : List X) → ((id : ℕ) → filter (is_of id) xs ≡ []) → xs ≡ []
+  none_left [] none = refl
+  none_left (x ∷ xs) none = absurd (cc (rw (eq-eqb (key x) (key x) refl) at (none (key x))))
+
+abbrev key_of_read : OpenRead → ℕ
+key_of_read read = read.ar.id
+
+abbrev key_of_write : OpenWrite → ℕ
+key_of_write write = write.aw.id
+
+-- ---- the work of outstanding bursts
+
+-- all beats and answers of an open write, and of an open read
+abbrev pub whole_write : OpenWrite → ℕ
+whole_write write = write.aw.len + 2
+
+abbrev pub whole_read : OpenRead → ℕ
+whole_read read = 2 * (read.ar.len + 1)
 
 abbrev came_in : OpenRead → ℕ
 came_in read = read.came
 
-abbrev is_other : ℕ → OpenRead → Bool
-is_other id read = not (read_of_id id read)
+-- of all of them
+abbrev pub whole_open : OpenBursts → ℕ
+whole_open open_bursts = sum_by whole_write open_bursts.writes + sum_by whole_read open_bursts.reads
 
-sum_apart : (id : ℕ) (reads : List OpenRead) → sum_by came_in reads ≡ sum_by came_in (filter (read_of_id id) reads) + sum_by came_in (filter (is_other id) reads)
-sum_apart id [] = omega arith
-sum_apart id (read ∷ reads) = by_test (read_of_id id read) (sum_apart id reads)
+-- of planned bursts
+abbrev whole_planned : List (Bool × Piece) → ℕ
+whole_planned bursts = sum_by beats_of_burst bursts + sum_by answers_of_burst bursts
+
+whole_of_open : (id came : ℕ) (bursts : List (Bool × Piece)) → sum_by whole_write (open_writes id bursts) + sum_by whole_read (open_reads id came bursts) ≡ whole_planned bursts
+whole_of_open id came [] = refl
+whole_of_open id came ((true, piece) ∷ bursts) =
+    omega (
+      arith,
+      whole_of_open id came bursts,
+      sum_by-cons whole_write (record { aw = record { id = id; address = piece.address; len = piece.len; size = piece.size; burst = 1 }; came = piece.len + 1 }) (open_writes id bursts),
+      sum_by-cons beats_of_burst (true, piece) bursts,
+      sum_by-cons answers_of_burst (true, piece) bursts,
+    )
+whole_of_open id came ((false, piece) ∷ bursts) =
+    omega (
+      arith,
+      whole_of_open id 0 bursts,
+      sum_by-cons whole_read (record { ar = record { id = id; address = piece.address; len = piece.len; size = piece.size; burst = 1 }; came = came }) (open_reads id 0 bursts),
+      sum_by-cons beats_of_burst (false, piece) bursts,
+      sum_by-cons answers_of_burst (false, piece) bursts,
+    )
+
+-- no more beats came of a request's reads than they have
+came_of_none : (id : ℕ) (bursts : List (Bool × Piece)) → 2 * sum_by came_in (open_reads id 0 bursts) ≤ sum_by whole_read (open_reads id 0 bursts)
+came_of_none id [] = omega arith
+came_of_none id ((true, piece) ∷ bursts) = came_of_none id bursts
+came_of_none id ((false, piece) ∷ bursts) =
+    let first : OpenRead = record { ar = record { id = id; address = piece.address; len = piece.len; size = piece.size; burst = 1 }; came = 0 } in
+    omega (arith, came_of_none id bursts, sum_by-cons came_in first (open_reads id 0 bursts), sum_by-cons whole_read first (open_reads id 0 bursts))
+
+came_few : (id came : ℕ) (bursts : List (Bool × Piece)) → IsPartWay came bursts → 2 * sum_by came_in (open_reads id came bursts) ≤ sum_by whole_read (open_reads id came bursts)
+came_few id came [] way = omega arith
+came_few id came ((true, piece) ∷ bursts) way = rw way (came_of_none id bursts)
+came_few id came ((false, piece) ∷ bursts) way =
+    let first : OpenRead = record { ar = record { id = id; address = piece.address; len = piece.len; size = piece.size; burst = 1 }; came = came } in
+    omega (arith, way, came_of_none id bursts, sum_by-cons came_in first (open_reads id 0 bursts), sum_by-cons whole_read first (open_reads id 0 bursts))
+
+-- ---- the work of one request
+
+sum_from : {X : Type 0} (measure : X → ℕ) (a s : ℕ) (xs : List X) → a ≤ s → sum_by measure (drop a xs) ≡ sum_by measure (drop a (take s xs)) + sum_by measure (drop s xs)
+sum_from measure zero zero [] within = omega arith
+sum_from measure (suc a) zero [] within = absurd (omega (arith, within))
+sum_from measure zero (suc s) [] within = omega arith
+sum_from measure (suc a) (suc s) [] within = omega arith
+sum_from measure zero zero (x ∷ xs) within = omega arith
+sum_from measure (suc a) zero (x ∷ xs) within = absurd (omega (arith, within))
+sum_from measure zero (suc s) (x ∷ xs) within = omega (arith, sum_from measure zero s xs (omega arith), sum_by-cons measure x xs, sum_by-cons measure x (take s xs))
+sum_from measure (suc a) (suc s) (x ∷ xs) within = sum_from measure a s xs (omega (arith, within))
+
+-- what is planned is the front of what may come
+planned_first : (writes_planned : Bool) (reads writes : List Piece) (n : ℕ) → n ≤ length (course reads (if writes_planned then writes else []))
+    → take n (course reads (if writes_planned then writes else [])) ≡ take n (course reads writes)
+planned_first true reads writes n within = refl
+planned_first false reads writes n within =
+    let before : List (Bool × Piece) = map (λ piece. (false, piece)) reads in
+    let alone : before ++ [] ≡ before = append-nil before in
+    let few : n ≤ length before = rw alone at within in
+    ap (take n) alone ∙ sym (take-append-le n before (map (λ piece. (true, piece)) writes) few)
+
+-- a request that isn't done: the bursts that it has still to send, and those that are outstanding
+work_of_undone : (limits : TableLimits) (accepted : ℕ) (flight : LiveRequest) → IsSoundRequest limits accepted flight → flight.done ≡ false
+    → work_of flight ≡ unsent_work flight + whole_planned (outstanding flight)
+work_of_undone limits accepted flight sound undone =
+    let sent = planned_first (not (is_atomic flight) || flight.writing) (read_pieces flight) (write_pieces flight) flight.sent sound.sent in
+    let beats = sum_from beats_of_burst flight.answered flight.sent (whole_course flight) sound.answered in
+    let answers = sum_from answers_of_burst flight.answered flight.sent (whole_course flight) sound.answered in
+    rw (undone, sent) (omega (arith, beats, answers))
+
+-- one without an ID has nothing outstanding
+work_without_id : (limits : TableLimits) (accepted : ℕ) (flight : LiveRequest) → IsSoundRequest limits accepted flight → flight.id ≡ None → work_of flight ≡ unsent_work flight
+work_without_id limits accepted flight sound none = by_done flight.done refl
   where
-    by_test : (b : Bool) → sum_by came_in reads ≡ sum_by came_in (filter (read_of_id id) reads) + sum_by came_in (filter (is_other id) reads)
-        → sum_by came_in (read ∷ reads) ≡ sum_by came_in (if b then read ∷ filter (read_of_id id) reads else filter (read_of_id id) reads)
-        + sum_by came_in (if not b then read ∷ filter (is_other id) reads else filter (is_other id) reads)
-    by_test true rest = omega (arith, sum_by-cons came_in read reads, sum_by-cons came_in read (filter (read_of_id id) reads), rest)
-    by_test false rest = omega (arith, sum_by-cons came_in read reads, sum_by-cons came_in read (filter (is_other id) reads), rest)
+    nothing_sent : flight.done ≡ false → flight.sent ≡ 0
+    nothing_sent undone = by_count flight.sent refl
+      where
+        by_count : (n : ℕ) → flight.sent ≡ n → flight.sent ≡ 0
+        by_count zero is = is
+        by_count (suc n) is = let some = sound.holds undone (omega (arith, is)) in absurd (cc (none, some))
 
-own_of_others : (id : ℕ) (reads : List OpenRead) → filter (read_of_id id) (filter (is_other id) reads) ≡ []
-own_of_others id [] = refl
-own_of_others id (read ∷ reads) = by_test (read_of_id id read) refl (own_of_others id reads)
-  where
-    by_test : (b : Bool) → read_of_id id read ≡ b → filter (read_of_id id) (filter (is_other id) reads) ≡ []
-        → filter (read_of_id id) (if not b then read ∷ filter (is_other id) reads else filter (is_other id) reads) ≡ []
-    by_test true is rest = rest
-    by_test false is rest = rw is rest
-
-others_of_others : (id j : ℕ) (reads : List OpenRead) → (j == id) ≡ false → filter (read_of_id id) (filter (is_other j) reads) ≡ filter (read_of_id id) reads
-others_of_others id j [] other = refl
-others_of_others id j (read ∷ reads) other = by_test (read_of_id j read) refl (others_of_others id j reads other)
-  where
-    each : (b : Bool) → filter (read_of_id id) (filter (is_other j) reads) ≡ filter (read_of_id id) reads
-        → (if b then read ∷ filter (read_of_id id) (filter (is_other j) reads) else filter (read_of_id id) (filter (is_other j) reads)) ≡ (if b then read ∷ filter (read_of_id id) reads else filter (read_of_id id) reads)
-    each true rest = ap (λ (rs : List OpenRead). read ∷ rs) rest
-    each false rest = rest
-
-    by_test : (b : Bool) → read_of_id j read ≡ b → filter (read_of_id id) (filter (is_other j) reads) ≡ filter (read_of_id id) reads
-        → filter (read_of_id id) (if not b then read ∷ filter (is_other j) reads else filter (is_other j) reads) ≡ filter (read_of_id id) (read ∷ reads)
-    by_test true is rest =
-        let same : read.ar.id ≡ j = eqb-true read.ar.id j is in
-        let fails : read_of_id id read ≡ false = ap (λ n. n == id) same ∙ other in
-        rest ∙ sym (rw fails refl)
-    by_test false is rest = each (read_of_id id read) rest
-
-none_open : (reads : List OpenRead) → ((id : ℕ) → filter (read_of_id id) reads ≡ []) → sum_by came_in reads ≡ 0
-none_open [] none = refl
-none_open (read ∷ reads) none = absurd (cc (rw (eq-eqb read.ar.id read.ar.id refl) at (none read.ar.id)))
-
-sum_open_reads : (id came : ℕ) (bursts : List (Bool × Piece)) → sum_by came_in (open_reads id came bursts) ≤ came
-sum_open_reads id came [] = omega arith
-sum_open_reads id came ((true, piece) ∷ bursts) = sum_open_reads id came bursts
-sum_open_reads id came ((false, piece) ∷ bursts) =
-    omega (arith, sum_by-cons came_in (record { ar = record { id = id; address = piece.address; len = piece.len; size = piece.size; burst = 1 }; came = came }) (open_reads id 0 bursts), sum_open_reads id 0 bursts)
-
--- ---- what came of a request's next read is among its work
-
-pub first_dropped : {X : Type 0} (xs : List X) (k : ℕ) (x : X) → slice_get xs k ≡ Some x → drop k xs ≡ x ∷ drop (suc k) xs
-first_dropped [] k x there = absurd (cc (there))
-first_dropped {X = X} (y ∷ ys) zero x there = ap (λ (z : X). z ∷ ys) (same_Some y x there)
-first_dropped (y ∷ ys) (suc k) x there = first_dropped ys k x there
-
-first_of_dropped : {X : Type 0} (xs : List X) (a s : ℕ) (x : X) (rest : List X) → drop a (take s xs) ≡ x ∷ rest → slice_get xs a ≡ Some x
-first_of_dropped [] zero zero x rest is = absurd (cc (is))
-first_of_dropped [] (suc a) zero x rest is = absurd (cc (is))
-first_of_dropped [] zero (suc s) x rest is = absurd (cc (is))
-first_of_dropped [] (suc a) (suc s) x rest is = absurd (cc (is))
-first_of_dropped (y ∷ ys) zero zero x rest is = absurd (cc (is))
-first_of_dropped (y ∷ ys) (suc a) zero x rest is = absurd (cc (is))
-first_of_dropped (y ∷ ys) zero (suc s) x rest is = let same : y ≡ x = cc (is) in ap Some same
-first_of_dropped (y ∷ ys) (suc a) (suc s) x rest is = first_of_dropped ys a s x rest is
-
-pub in_whole_course : (b : Bool) (reads writes : List Piece) (k : ℕ) (burst : Bool × Piece) → slice_get (course reads (if b then writes else [])) k ≡ Some burst → slice_get (course reads writes) k ≡ Some burst
-in_whole_course true reads writes k burst there = there
-in_whole_course false [] writes k burst there = absurd (cc (there))
-in_whole_course false (r ∷ reads) writes zero burst there = there
-in_whole_course false (r ∷ reads) writes (suc k) burst there = in_whole_course false reads writes k burst there
-
-undone_work : (flight : LiveRequest) (piece : Piece) → flight.done ≡ false → slice_get (whole_course flight) flight.answered ≡ Some (false, piece) → 2 * (piece.len + 1) ≤ work_of flight
-undone_work flight piece undone there =
-    let rest = drop (suc flight.answered) (whole_course flight) in
-    let first : drop flight.answered (whole_course flight) ≡ (false, piece) ∷ rest = first_dropped (whole_course flight) flight.answered (false, piece) there in
-    let beats : sum_by beats_of_burst (drop flight.answered (whole_course flight)) ≡ piece.len + 1 + sum_by beats_of_burst rest = ap (sum_by beats_of_burst) first ∙ sum_by-cons beats_of_burst (false, piece) rest in
-    let answers : sum_by answers_of_burst (drop flight.answered (whole_course flight)) ≡ piece.len + 1 + sum_by answers_of_burst rest = ap (sum_by answers_of_burst) first ∙ sum_by-cons answers_of_burst (false, piece) rest in
-    rw undone (omega (arith, beats, answers))
-
-came_within : (flight : LiveRequest) (came : ℕ) (bursts : List (Bool × Piece)) → flight.done ≡ false → outstanding flight ≡ bursts → IsPartWay came bursts → 2 * came ≤ work_of flight
-came_within flight came [] undone is way = omega (arith, way)
-came_within flight came ((true, piece) ∷ bursts) undone is way = omega (arith, way)
-came_within flight came ((false, piece) ∷ bursts) undone is way =
-    let there = first_of_dropped (planned flight) flight.answered flight.sent (false, piece) bursts is in
-    let whole = in_whole_course (not (is_atomic flight) || flight.writing) (read_pieces flight) (write_pieces flight) flight.answered (false, piece) there in
-    omega (arith, way, undone_work flight piece undone whole)
+    by_done : (done : Bool) → flight.done ≡ done → work_of flight ≡ unsent_work flight
+    by_done true is = rw is refl
+    by_done false is =
+        let nothing : flight.sent ≡ 0 = nothing_sent is in
+        let answered : flight.answered ≡ 0 = omega (arith, nothing, sound.answered) in
+        work_of_undone limits accepted flight sound is ∙ rw (nothing, answered) (omega arith)
 
 -- ---- all of them
-
-abbrev AreReadsLinked : List BridgedRequest → List OpenRead → Type 0
-AreReadsLinked live reads = (id : ℕ) → filter (read_of_id id) reads ≡ open_reads id (came_of (holder id live)) (outstanding_of (holder id live))
 
 fewer_after : {X : Type 0} (q : X → Bool) (x : X) (xs : List X) → length (filter q xs) ≤ length (filter q (x ∷ xs))
 fewer_after {X = X} q x xs = by_test (q x)
@@ -127,26 +190,30 @@ fewer_after {X = X} q x xs = by_test (q x)
     by_test true = omega arith
     by_test false = omega arith
 
-not_here : (id : ℕ) (request : BridgedRequest) (live : List BridgedRequest) → holds id request ≡ false → holder id (request ∷ live) ≡ holder id live
-not_here id request live fails = rw fails refl
-
-here : (id : ℕ) (request : BridgedRequest) (live : List BridgedRequest) → holds id request ≡ true → holder id (request ∷ live) ≡ Some request
-here id request live passes = rw passes refl
-
 alone_here : {X : Type 0} (q : X → Bool) (x : X) (xs : List X) → q x ≡ true → length (filter q (x ∷ xs)) ≤ 1 → length (filter q xs) ≡ 0
 alone_here {X = X} q x xs passes few = let count : length (filter q (x ∷ xs)) ≡ suc (length (filter q xs)) = rw passes refl in omega (arith, few, count)
 
--- the reads that came of a list of reads are within the work of the requests that hold their IDs
-reads_within : (limits : TableLimits) (accepted : ℕ) (config : Config) (regions : List Region) (live : List BridgedRequest) (reads : List OpenRead)
-    → AllByRecursion (λ (r : BridgedRequest). IsSoundRequest limits accepted r.flight) live → AllByRecursion (IsServed config regions) live → ((id : ℕ) → length (filter (holds id) live) ≤ 1)
-    → AreReadsLinked live reads → 2 * sum_by came_in reads ≤ sum_by work_of (flights_of live)
-reads_within limits accepted config regions [] reads all served one linked = omega (arith, none_open reads linked)
-reads_within limits accepted config regions (r ∷ live) reads all served one linked =
-    by_id r.flight.id refl (λ some linked_to. reads_within limits accepted config regions live some all.1 served.1 (λ id. omega (arith, one id, fewer_after (holds id) r live)) linked_to)
-  where
-    by_held : (id : ℕ) → holder id (r ∷ live) ≡ holder id live → open_reads id (came_of (holder id (r ∷ live))) (outstanding_of (holder id (r ∷ live))) ≡ open_reads id (came_of (holder id live)) (outstanding_of (holder id live))
-    by_held id same = ap (λ h. open_reads id (came_of h) (outstanding_of h)) same
+-- open bursts beside live requests: the work of these is what they have still to send, and all of the open bursts, of whose reads no more beats
+-- came than they have
+record IsWorkOf (live : List BridgedRequest) (open_bursts : OpenBursts) : Type 0 where
+  pub whole : sum_by work_of (flights_of live) ≡ sum_by unsent_work (flights_of live) + whole_open open_bursts
+  pub came : 2 * answered_reads open_bursts ≤ sum_by whole_read open_bursts.reads
 
+-- the open bursts without those of an ID
+abbrev without_id : ℕ → OpenBursts → OpenBursts
+without_id id open_bursts =
+    record { writes = filter (is_other key_of_write whole_write id) open_bursts.writes; reads = filter (is_other key_of_read whole_read id) open_bursts.reads }
+
+work_of_all : (limits : TableLimits) (accepted : ℕ) (config : Config) (regions : List Region) (live : List BridgedRequest) (open_bursts : OpenBursts)
+    → AllByRecursion (λ (r : BridgedRequest). IsSoundRequest limits accepted r.flight) live → AllByRecursion (IsServed config regions) live → ((id : ℕ) → length (filter (holds id) live) ≤ 1)
+    → AreLinked live open_bursts → IsWorkOf live open_bursts
+work_of_all limits accepted config regions [] open_bursts all served one linked =
+    let no_writes : open_bursts.writes ≡ [] = none_left key_of_write whole_write open_bursts.writes (λ id. (linked id).writes) in
+    let no_reads : open_bursts.reads ≡ [] = none_left key_of_read whole_read open_bursts.reads (λ id. (linked id).reads) in
+    record { whole = rw (no_writes, no_reads) refl; came = rw no_reads (omega arith) }
+work_of_all limits accepted config regions (r ∷ live) open_bursts all served one linked =
+    by_id r.flight.id refl (λ some linked_to. work_of_all limits accepted config regions live some all.1 served.1 (λ id. omega (arith, one id, fewer_after (holds id) r live)) linked_to)
+  where
     undone : (j : ℕ) (b : Bool) → r.flight.id ≡ Some j → r.flight.done ≡ b → r.flight.done ≡ false
     undone j true some is = absurd (cc (all.0.freed is, some))
     undone j false some is = is
@@ -154,28 +221,83 @@ reads_within limits accepted config regions (r ∷ live) reads all served one li
     own : (j : ℕ) → r.flight.id ≡ Some j → holds j r ≡ true
     own j some = rw some (eq-eqb j j refl)
 
-    others_linked : (j : ℕ) → r.flight.id ≡ Some j → (id : ℕ) (b : Bool) → (j == id) ≡ b
-        → filter (read_of_id id) (filter (is_other j) reads) ≡ open_reads id (came_of (holder id live)) (outstanding_of (holder id live))
-    others_linked j some id true is =
-        let same : j ≡ id = eqb-true j id is in
-        let none : holder id live ≡ None = find-none-kept (holds id) live (alone_here (holds id) r live (rw some is) (one id)) in
-        ap (λ n. filter (read_of_id id) (filter (is_other n) reads)) same ∙ own_of_others id reads ∙ sym (ap (λ h. open_reads id (came_of h) (outstanding_of h)) none)
-    others_linked j some id false is =
-        others_of_others id j reads is ∙ linked id ∙ by_held id (not_here id r live (rw some is))
+    -- where another holds the ID, or nobody does
+    later : (id : ℕ) → holds id r ≡ false → holder id (r ∷ live) ≡ holder id live
+    later id fails = rw fails refl
 
-    by_id : (own_id : Option ℕ) → r.flight.id ≡ own_id → ((some : List OpenRead) → AreReadsLinked live some → 2 * sum_by came_in some ≤ sum_by work_of (flights_of live))
-        → 2 * sum_by came_in reads ≤ sum_by work_of (flights_of (r ∷ live))
+    others_linked : (j : ℕ) → r.flight.id ≡ Some j → AreLinked live (without_id j open_bursts)
+    others_linked j some id = by_test (j == id) refl
+      where
+        by_test : (b : Bool) → (j == id) ≡ b → IsLinked id live (without_id j open_bursts)
+        by_test true is =
+            let same : j ≡ id = eqb-true j id is in
+            let none : holder id live ≡ None = find-none-kept (holds id) live (alone_here (holds id) r live (rw some is) (one id)) in
+            record {
+              writes =
+                  ap (λ n. filter (write_of_id id) (filter (is_other key_of_write whole_write n) open_bursts.writes)) same ∙ own_of_others key_of_write whole_write id open_bursts.writes
+                  ∙ sym (ap (λ h. open_writes id (outstanding_of h)) none);
+              reads =
+                  ap (λ n. filter (read_of_id id) (filter (is_other key_of_read whole_read n) open_bursts.reads)) same ∙ own_of_others key_of_read whole_read id open_bursts.reads
+                  ∙ sym (ap (λ h. open_reads id (came_of h) (outstanding_of h)) none);
+            }
+        by_test false is =
+            let same = later id (rw some is) in
+            record {
+              writes = others_of_others key_of_write whole_write id j open_bursts.writes is ∙ (linked id).writes ∙ ap (λ h. open_writes id (outstanding_of h)) same;
+              reads = others_of_others key_of_read whole_read id j open_bursts.reads is ∙ (linked id).reads ∙ ap (λ h. open_reads id (came_of h) (outstanding_of h)) same;
+            }
+
+    by_id : (own_id : Option ℕ) → r.flight.id ≡ own_id → ((some : OpenBursts) → AreLinked live some → IsWorkOf live some) → IsWorkOf (r ∷ live) open_bursts
     by_id None none rest =
-        omega (arith, rest reads (λ id. linked id ∙ by_held id (not_here id r live (rw none refl))), sum_by-cons work_of r.flight (flights_of live))
+        let others = rest open_bursts (λ id. let same = later id (rw none refl) in record {
+          writes = (linked id).writes ∙ ap (λ h. open_writes id (outstanding_of h)) same;
+          reads = (linked id).reads ∙ ap (λ h. open_reads id (came_of h) (outstanding_of h)) same;
+        }) in
+        record {
+          whole = omega (arith, others.whole, work_without_id limits accepted r.flight all.0 none, sum_by-cons work_of r.flight (flights_of live), sum_by-cons unsent_work r.flight (flights_of live));
+          came = others.came;
+        }
     by_id (Some j) some rest =
-        let its : filter (read_of_id j) reads ≡ open_reads j (came_of_next r) (outstanding r.flight) = linked j ∙ ap (λ h. open_reads j (came_of h) (outstanding_of h)) (here j r live (own j some)) in
-        let few : sum_by came_in (filter (read_of_id j) reads) ≤ came_of_next r = rw its (sum_open_reads j (came_of_next r) (outstanding r.flight)) in
-        let others = rest (filter (is_other j) reads) (λ id. others_linked j some id (j == id) refl) in
-        omega (arith, sum_apart j reads, few, others, came_within r.flight (came_of_next r) (outstanding r.flight) (undone j r.flight.done some refl) refl served.0.next, sum_by-cons work_of r.flight (flights_of live))
+        let mine : holder j (r ∷ live) ≡ Some r = rw (own j some) refl in
+        let writes : filter (write_of_id j) open_bursts.writes ≡ open_writes j (outstanding r.flight) = (linked j).writes ∙ ap (λ h. open_writes j (outstanding_of h)) mine in
+        let reads : filter (read_of_id j) open_bursts.reads ≡ open_reads j (came_of_next r) (outstanding r.flight) = (linked j).reads ∙ ap (λ h. open_reads j (came_of h) (outstanding_of h)) mine in
+        let others = rest (without_id j open_bursts) (others_linked j some) in
+        record {
+          whole =
+              omega (
+                arith,
+                others.whole,
+                work_of_undone limits accepted r.flight all.0 (undone j r.flight.done some refl),
+                whole_of_open j (came_of_next r) (outstanding r.flight),
+                sum_apart key_of_write whole_write j open_bursts.writes,
+                sum_apart key_of_read whole_read j open_bursts.reads,
+                ap (sum_by whole_write) writes,
+                ap (sum_by whole_read) reads,
+                sum_by-cons work_of r.flight (flights_of live),
+                sum_by-cons unsent_work r.flight (flights_of live),
+              );
+          came =
+              omega (
+                arith,
+                others.came,
+                came_few j (came_of_next r) (outstanding r.flight) served.0.next,
+                sum_apart key_of_read whole_read j open_bursts.reads,
+                sum_apart key_of_read came_in j open_bursts.reads,
+                ap (sum_by whole_read) reads,
+                ap (sum_by came_in) reads,
+              );
+        }
 
-pub work_covers_reads : (state : BridgeState) → IsSoundBridge state → 2 * answered_reads state.open_bursts ≤ work (flight_table_of state.requests)
-work_covers_reads state sound =
-    reads_within (table_limits_of state.requests.config) state.requests.accepted state.requests.config state.requests.regions state.requests.live state.open_bursts.reads
+work_of_bridge : (state : BridgeState) → IsSoundBridge state → IsWorkOf state.requests.live state.open_bursts
+work_of_bridge state sound =
+    work_of_all (table_limits_of state.requests.config) state.requests.accepted state.requests.config state.requests.regions state.requests.live state.open_bursts
     (sound_requests state.requests sound.requests) sound.requests.served
-    (λ id. omega (arith, sound.requests.flights.one_holder id, holders_counted (holds_id id) state.requests.live))
-    (λ id. (sound.linked id).reads)
+    (λ id. omega (arith, sound.requests.flights.one_holder id, holders_counted (holds_id id) state.requests.live)) sound.linked
+
+-- the work that the table counts is that of the bursts to send, and all of the outstanding ones
+pub work_apart : (state : BridgeState) → IsSoundBridge state → work (flight_table_of state.requests) ≡ unsent (flight_table_of state.requests) + whole_open state.open_bursts
+work_apart state sound = (work_of_bridge state sound).whole
+
+-- the read beats that came of outstanding bursts are among it
+pub work_covers_reads : (state : BridgeState) → IsSoundBridge state → 2 * answered_reads state.open_bursts ≤ work (flight_table_of state.requests)
+work_covers_reads state sound = let apart = work_of_bridge state sound in omega (arith, apart.whole, apart.came)

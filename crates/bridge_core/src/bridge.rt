@@ -1,5 +1,5 @@
 //! The bridge.
-ghost use Rattle.std.specs.Prelude.{◌≡◌, ◌+◌, ◌-◌, ◌*◌, ◌^◌, ◌<◌, ◌≤◌, true, false, None, Some, Ok, Err, IfOk, IfSome, IsErr, IsOk, IsSome, IsSomeAnd, MatchOption, is_some, option_map, slice_get};
+ghost use Rattle.std.specs.Prelude.{◌≡◌, ◌↔◌, ◌+◌, ◌-◌, ◌*◌, ◌^◌, ◌<◌, ◌≤◌, true, false, None, Some, Ok, Err, IfOk, IfSome, IsErr, IsOk, IsSome, IsSomeAnd, MatchOption, is_some, option_map, slice_get};
 ghost use Rattle.std.specs.Vec.{vec_capacity, vec_len};
 ghost use Rattle.axi_beats.specs.Bursts.{IsLegal};
 ghost use Rattle.responses.specs.Gathered.{gathered};
@@ -51,11 +51,13 @@ impl Model for Bridge {
 
 impl Bridge {
     ghost use Rattle.axi_checker.specs.Rules.{burst_fault};
+    ghost use Rattle.flight_table.specs.Order.{IsSmallestDone, next_ready};
     ghost use Rattle.flight_table.specs.Work as flight_work;
     ghost use Rattle.bridge_core.specs.Bridge.{after_b_beat, after_pump, after_r_beat, after_take, b_fault, boxes_of, burst_to_send, in_flight, offered, opening_bridge, r_fault, refuses_beat, reply_taken, taken, work_left};
     ghost use Rattle.bridge_core.specs.Configs.{axi_port_of, is_valid};
     ghost use Rattle.bridge_core.specs.Laws.{IsSoundBridge};
     ghost use Rattle.bridge_core.specs.Requests.{first_done, flight_table_of, outline_in, reply_beats};
+    ghost use Rattle.bridge_core.specs.Sending.{SendsSmallest, next_sending};
 
     /// A bridge with these limits and this page map, on which no beat has come, with a box for each burst that may be
     /// outstanding on a side of the memory's port.
@@ -122,7 +124,8 @@ impl Bridge {
 
     /// Whether a request is ready to send its next burst.
     pub fn can_pump(&self) -> bool
-        ensures { result ≡ is_some (burst_to_send self.now.state) }
+        ensures burst { result ≡ is_some (burst_to_send self.now.state) }
+        ensures ready { result ≡ is_some (next_ready (flight_table_of self.now.state.requests)) }
     {
         self.requests.flight().next_ready().is_some()
     }
@@ -134,6 +137,13 @@ impl Bridge {
         ensures burst { result ≡ option_map Some (burst_to_send self.old.state) }
         ensures sent { IsSome result → self.new ≡ record { state = after_pump self.old.state; stock = self.old.stock - 1 } }
         ensures kept { result ≡ None → self.new ≡ self.old }
+
+        // No burst goes exactly where no request is ready.
+        ensures idle { (result ≡ None) ↔ (next_ready (flight_table_of self.old.state.requests) ≡ None) }
+
+        // Of those that are ready it is the one of the smallest number that sends.
+        ensures smallest { IfSome (next_sending self.old.state.requests)
+            (λ sending. (result ≡ Some (Some sending.burst)) × SendsSmallest self.old.state.requests self.new.state.requests sending) }
 
         // It is legal, and breaks no rule on the memory's port.
         ensures legal { IfSome (burst_to_send self.old.state) (IsLegal self.old.state.requests.config.axi_bytes) }
@@ -193,6 +203,10 @@ impl Bridge {
     /// its source is free again. Where there is no such client or none is done, nothing changes, nor does the box.
     pub fn take(&mut self, client: u8, reply: &mut ReplyBox) -> Taken
         ensures answer { result ≡ taken self.old.state client }
+
+        // The number that is answered is that of a done request of the client, and no other such request has a smaller one.
+        ensures smallest { IfSome (reply_taken self.old.state client)
+            (λ request. (result ≡ Taken.Reply request.flight.number) × IsSmallestDone (flight_table_of self.old.state.requests) client request.flight) }
         ensures shown { IfSome (reply_taken self.old.state client) (λ request. reply.new ≡ reply_beats request) }
         ensures right { IfSome (reply_taken self.old.state client) (λ request. ShowsReply (request_of request.message) (gathered (outline_in request) request.gathering) reply.new) }
         ensures left { IsSome (reply_taken self.old.state client) → self.new ≡ record self.old { state = after_take self.old.state client } }

@@ -2,13 +2,13 @@
 use Rattle.std.proofs.Common.{◌≡◌, ◌≢◌, ℕ, ◌==◌, ◌<◌, ◌≤◌, is_some, subst, Bool, true, false, List, [], ◌∷◌, map, Option, Some, None, refl, ap, sym, ◌∙◌, arith}
 use Rattle.std.specs.Prelude.{if◌then◌else◌, option_map, option_and_then, IfSome, IsSomeAnd}
 use Rattle.std.specs.List.{AllByRecursion, find}
-use Rattle.std.proofs.lemmas.Bool.{eqb-true, eq-eqb}
+use Rattle.std.proofs.lemmas.Bool.{and_parts, eqb-true, eq-eqb}
 use Rattle.bus_words.specs.Places.{change_first, without_first}
 use Rattle.bus_words.proofs.PlaceChanges.{find-passes}
 use Rattle.flight_table.specs.Laws.{AreRising, HaveOwnKeys, IsSound}
-use Rattle.flight_table.specs.Order.{IsSmallestReady, is_ready}
+use Rattle.flight_table.specs.Order.{IsSmallestDone, IsSmallestReady, is_ready, next_ready}
 use Rattle.flight_table.specs.LiveRequests.{LiveRequest}
-use Rattle.flight_table.specs.Tables.{KeyedRequest, KeyedTable, change_entry, has_key, has_number, key_in, request_in, request_named, requests_of, table_of}
+use Rattle.flight_table.specs.Tables.{FlightTable, KeyedRequest, KeyedTable, change_entry, has_key, has_number, is_done_of, is_of, key_in, oldest_done, request_in, request_named, requests_of, table_of}
 
 -- a key that a search found is one of the keys
 key_listed : (P : ℕ → Type 0) (test : LiveRequest → Bool) (entries : List KeyedRequest) (k : ℕ) → AllByRecursion P (map (λ entry. entry.key) entries) → key_in test entries ≡ Some k → P k
@@ -177,19 +177,39 @@ some_found test (entry ∷ entries) = by_test (test entry.request) (some_found t
     by_test true rest = refl
     by_test false rest = rest
 
+-- what is known of the first request that passes a test is known of the one that the answer names
+first_named : (P : FlightTable → LiveRequest → Type 0) (test : LiveRequest → Bool) (old now : KeyedTable) (answer : Option ℕ) → old ≡ now → HaveOwnKeys old.entries → answer ≡ key_in test old.entries
+    → ((r : LiveRequest) → find test (table_of old).live ≡ Some r → P (table_of old) r) → IfSome (request_named answer now) (P (table_of now))
+first_named P test old now answer same own is so =
+    subst (λ t. IfSome (request_named answer t) (P (table_of t))) same (by_answer (request_named answer old) (answer_names test old.entries answer own is))
+  where
+    by_answer : (o : Option LiveRequest) → o ≡ find test (table_of old).live → IfSome o (P (table_of old))
+    by_answer None found = tt
+    by_answer (Some r) found = so r (sym found)
+
 -- the smallest ready number
+pub found_ready : (table : FlightTable) (r : LiveRequest) → AreRising (map (λ (o : LiveRequest). o.number) table.live) → next_ready table ≡ Some r → IsSmallestReady table r
+found_ready table r rising found = record { ready = find-passes (is_ready table) table.live r found; smallest = smallest (is_ready table) table.live r rising found }
+
 pub smallest_ready : (old now : KeyedTable) (answer : Option ℕ) → old ≡ now → IsSound old → HaveOwnKeys old.entries → answer ≡ key_in (is_ready (table_of old)) old.entries
     → IfSome (request_named answer now) (IsSmallestReady (table_of now))
 smallest_ready old now answer same sound own is =
-    subst (λ t. IfSome (request_named answer t) (IsSmallestReady (table_of t))) same (by_answer (request_named answer old) (answer_names (is_ready (table_of old)) old.entries answer own is))
+    first_named IsSmallestReady (is_ready (table_of old)) old now answer same own is (λ r found. found_ready (table_of old) r sound.table.rising found)
+
+-- the smallest number of a client that is done
+pub found_done : (table : FlightTable) (client : ℕ) (r : LiveRequest) → AreRising (map (λ (o : LiveRequest). o.number) table.live) → oldest_done table client ≡ Some r → IsSmallestDone table client r
+found_done table client r rising found =
+    let parts = and_parts (is_of client r) r.done (find-passes (is_done_of client) table.live r found) in
+    record { done = parts.1; whose = eqb-true r.client client parts.0; smallest = each table.live (smallest (is_done_of client) table.live r rising found) }
   where
-    by_answer : (o : Option LiveRequest) → o ≡ find (is_ready (table_of old)) (requests_of old.entries) → IfSome o (IsSmallestReady (table_of old))
-    by_answer None found = tt
-    by_answer (Some r) found =
-        record {
-          ready = find-passes (is_ready (table_of old)) (requests_of old.entries) r (sym found);
-          smallest = smallest (is_ready (table_of old)) (requests_of old.entries) r sound.table.rising (sym found);
-        }
+    each : (live : List LiveRequest) → AllByRecursion (λ o. is_done_of client o ≡ true → r.number ≤ o.number) live → AllByRecursion (λ o. o.client ≡ client → o.done ≡ true → r.number ≤ o.number) live
+    each [] all = tt
+    each (o ∷ live) all = (λ whose done. all.0 (rw (eq-eqb o.client client whose, done) refl), each live all.1)
+
+pub smallest_done : (client : ℕ) (old now : KeyedTable) (answer : Option ℕ) → old ≡ now → IsSound old → HaveOwnKeys old.entries → answer ≡ key_in (is_done_of client) old.entries
+    → IfSome (request_named answer now) (IsSmallestDone (table_of now) client)
+smallest_done client old now answer same sound own is =
+    first_named (λ table. IsSmallestDone table client) (is_done_of client) old now answer same own is (λ r found. found_done (table_of old) client r sound.table.rising found)
 
 pub none_ready : (old now : KeyedTable) (answer : Option ℕ) → old ≡ now → answer ≡ key_in (is_ready (table_of old)) old.entries → answer ≡ None
     → AllByRecursion (λ request. is_ready (table_of now) request ≡ false) (table_of now).live

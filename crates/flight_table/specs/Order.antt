@@ -87,3 +87,9 @@ next_ready table = find (is_ready table) table.live
 pub record IsSmallestReady (table : FlightTable) (request : LiveRequest) : Type 0 where
   pub ready : IsTrue (is_ready table request)
   pub smallest : AllByRecursion (λ other. is_ready table other ≡ true → request.number ≤ other.number) table.live
+
+-- a request is done and its client is this one, and every other done request of the client has a larger number
+pub record IsSmallestDone (table : FlightTable) (client : ℕ) (request : LiveRequest) : Type 0 where
+  pub done : request.done ≡ true
+  pub whose : request.client ≡ client
+  pub smallest : AllByRecursion (λ other. other.client ≡ client → other.done ≡ true → request.number ≤ other.number) table.live

@@ -3,7 +3,7 @@ ghost use Rattle.std.specs.Prelude.{◌≡◌, ℕ, ◌<◌, ◌≤◌, ◌^◌,
 ghost use Rattle.std.specs.List.{AllByRecursion};
 ghost use Rattle.flight_table.specs.LiveRequests.{finished, flight_for, awaits_write, is_settled, next_burst, with_answered, with_sent, with_write};
 ghost use Rattle.flight_table.specs.Laws.{IsSound};
-ghost use Rattle.flight_table.specs.Order.{IsSmallestReady, holder_of, holders, holds_id, id_for, is_ready, next_ready};
+ghost use Rattle.flight_table.specs.Order.{IsSmallestDone, IsSmallestReady, holder_of, holders, holds_id, id_for, is_ready, next_ready};
 ghost use Rattle.flight_table.specs.Tables.{change_key, change_number, flight_of, has_number, has_room, in_flight, is_busy, is_done_of, key_where, oldest_done, request_at, request_named, table_of, with_entry, with_request, without_key, without_number};
 ghost use Rattle.flight_table.specs.Work.{unsent, work};
 
@@ -236,6 +236,9 @@ impl Flight {
     pub fn oldest_done(&self, client: u8) -> Option<Key>
         ensures key { result ≡ key_where (is_done_of client) self.now }
         ensures request { request_named result self.now ≡ oldest_done (table_of self.now) client }
+
+        // That request is done and the client's, and no other such request has a smaller number.
+        ensures smallest { IfSome (request_named result self.now) (IsSmallestDone (table_of self.now) client) }
         ensures named { IfSome result (λ key. IsSomeAnd (request_at key self.now) (λ request. IsTrue request.done)) }
         ensures laws { IsSound self.now }
     {

@@ -1,8 +1,9 @@
--- Tables of rules one after another, and the standing of a page by the list of pages.
+-- Tables of rules one after another, the standing of a page by the list of pages, and that no response is EXOKAY.
 use Rattle.std.proofs.Common.{◌≡◌, ℕ, Bool, true, false, List, [], ◌∷◌, ◌++◌, get_or, refl, ap, ◌∙◌}
 use Rattle.std.specs.Prelude.{Some, None, position, find}
 use Rattle.bus_words.specs.Tables.{first_broken}
-use Rattle.subordinate.specs.Faults.{IsAbsent, lists_page, standing_of_kind, standing_of_listed}
+use Rattle.axi_beats.specs.Responses.{is_exokay}
+use Rattle.subordinate.specs.Faults.{IsAbsent, IsGood, IsSlaveError, Standing, lists_page, read_response_on, standing_of_kind, standing_of_listed, write_response}
 use Rattle.bus_words.proofs.FirstPlaces.{position_is_first, find-first, find-none}
 use Rattle.subordinate.specs.declared.PageKind.{PageKind}
 use Rattle.subordinate.specs.declared.DeviceFault.{DeviceFault}
@@ -25,3 +26,15 @@ standing-found pages number place d kind found is =
 
 pub standing-missing : (pages : List (ℕ × PageKind)) (number : ℕ) → position (lists_page number) pages ≡ None → standing_of_listed (find (lists_page number) pages) ≡ IsAbsent
 standing-missing pages number missing = ap standing_of_listed (find-none (lists_page number) pages missing)
+
+-- the device never answers EXOKAY
+pub write_plain : (standing : Standing) → is_exokay (write_response standing) ≡ false
+write_plain IsGood = refl
+write_plain IsSlaveError = refl
+write_plain IsAbsent = refl
+
+pub read_plain : (standing : Standing) (bad : Bool) → is_exokay (read_response_on standing bad) ≡ false
+read_plain IsGood true = refl
+read_plain IsGood false = refl
+read_plain IsSlaveError bad = refl
+read_plain IsAbsent bad = refl

@@ -8,10 +8,12 @@ pub mod Changes
 pub mod EffectLaws
 pub mod FaultLaws
 pub mod GoodPages
+pub mod Monitors
 pub mod OpenBursts
 pub mod OrderLaws
 pub mod PageLaws
 pub mod PageWrites
 pub mod PagesOf
+pub mod PerformedBeats
 pub mod SoundDevices
 pub mod TransferWords

@@ -5,23 +5,26 @@ use Rattle.std.proofs.lemmas.List.{append-nil, length-append, length-set, map-ap
 use Rattle.std.specs.List.{AllByRecursion, remove}
 use Rattle.std.specs.Prelude.{Option, Some, None, IfSome, IsSome, filter, find, position, slice_get, take}
 use Rattle.axi_beats.specs.Bursts.{Burst, IsLegal, ReadBurst, WriteBurst}
+use Rattle.axi_beats.specs.declared.Resp.{Resp}
 use Rattle.axi_checker.proofs.Few.{few-append, few-change_first, few-without_first, length-few}
 use Rattle.axi_checker.specs.Monitors.{HasFewOfEach}
 use Rattle.axi_checker.specs.Rules.{id_of, outstanding_beside}
 use Rattle.bus_words.proofs.FirstPlaces.{IsFirst, change_first-first, find-first, position_is_first, without_first-first}
 use Rattle.bus_words.proofs.PlaceChanges.{all-append, all-without_first, find-passes}
 use Rattle.std.proofs.lemmas.Bool.{eqb-true}
-use Rattle.std.proofs.lemmas.Option.{slice_get-get_or}
+use Rattle.std.proofs.lemmas.Option.{same_Some, slice_get-get_or}
 use Rattle.bus_words.specs.Places.{change_first}
 use Rattle.subordinate.specs.Device.{DeviceState, after_r}
 use Rattle.subordinate.specs.FreeMemory.{FreeMemory, Pending, beat_after, beat_at, gives_last, has_serial, is_read_of, is_waiting, memory_after, newly_pending, open_bursts_of, performed, transfers_in, with_beat, with_burst}
 use Rattle.subordinate.specs.Effects.{HasGoodPages}
 use Rattle.subordinate.specs.Inside.{HasRoom, after_closing, after_counting, after_performing, burst_in, captured_at, device_state, is_beside, memory_of, memory_over, with_answer}
 use Rattle.subordinate.specs.InsidePages.{KeepsGoodPages, PagesState}
-use Rattle.subordinate.specs.Laws.{IsBeatOf, IsPerformed, IsSoundMemory, IsSoundPending, RisesWithin, queue_of, queue_of_burst}
+use Rattle.subordinate.specs.Laws.{HasAnswered, IsBeatOf, IsPerformed, IsSoundMemory, IsSoundPending, RisesWithin, queue_of, queue_of_burst}
 use Rattle.subordinate.proofs.GoodPages.{has_good_pages-kept, keeps_good_pages-after}
 use Rattle.subordinate.specs.declared.BeatState.{BeatState}
 use Rattle.subordinate.specs.declared.BeatState.TheVariants.{Waiting, Written, Captured}
+use Rattle.subordinate.proofs.FaultLaws.{read_plain}
+use Rattle.subordinate.specs.Faults.{is_bad, standing_at}
 use Rattle.subordinate.proofs.OpenBursts.{all-at, count_in_queue, known_beside, pending_after_r-last, pending_after_r-more, position-serial, rises-append, rises-change_first, rises-without_first, serial_at}
 
 -- ---- lists
@@ -61,13 +64,28 @@ sound-with_beat bus_bytes beat state p sound performed of_burst =
       beats = all-set (IsBeatOf p.burst) p.beats beat state sound.beats of_burst;
       answered = performed-set p.answered beat p.beats state sound.answered performed;
       most = omega (arith, sound.most, length-set p.beats beat state);
+      one_by_one = sound.one_by_one;
     }
 
-pub sound-with_answer : (bus_bytes : ℕ) (state : BeatState) (p : Pending) → IsSoundPending bus_bytes p → slice_get p.beats p.answered ≡ Some state → is_waiting state ≡ false → IsSoundPending bus_bytes (with_answer p)
-sound-with_answer bus_bytes state p sound there performed =
-    let more = performed-more p.answered p.beats state sound.answered there performed in
+-- a beat that captured is one of a read
+captured-read : (burst : Burst) (beats : List BeatState) (n answered payload : ℕ) (resp : Resp) → AllByRecursion (IsBeatOf burst) beats → slice_get beats n ≡ Some (Captured payload resp) → HasAnswered burst answered
+captured-read (ReadBurst ar) beats n answered payload resp all there = tt
+captured-read (WriteBurst aw ws) [] n answered payload resp all there = absurd (cc)
+captured-read (WriteBurst aw ws) (beat ∷ beats) zero answered payload resp all there = absurd (subst (IsBeatOf (WriteBurst aw ws)) (same_Some beat (Captured payload resp) there) all.0)
+captured-read (WriteBurst aw ws) (beat ∷ beats) (suc n) answered payload resp all there = captured-read (WriteBurst aw ws) beats n answered payload resp all.1 there
+
+pub sound-with_answer : (bus_bytes payload : ℕ) (resp : Resp) (p : Pending) → IsSoundPending bus_bytes p → slice_get p.beats p.answered ≡ Some (Captured payload resp) → IsSoundPending bus_bytes (with_answer p)
+sound-with_answer bus_bytes payload resp p sound there =
+    let more = performed-more p.answered p.beats (Captured payload resp) sound.answered there refl in
     let next : suc p.answered ≡ p.answered + 1 = omega arith in
-    record { legal = sound.legal; whole = sound.whole; beats = sound.beats; answered = subst (λ (n : ℕ). AllByRecursion IsPerformed (take n p.beats)) next more.0; most = omega (arith, more.1) }
+    record {
+      legal = sound.legal;
+      whole = sound.whole;
+      beats = sound.beats;
+      answered = subst (λ (n : ℕ). AllByRecursion IsPerformed (take n p.beats)) next more.0;
+      most = omega (arith, more.1);
+      one_by_one = captured-read p.burst p.beats p.answered (p.answered + 1) payload resp sound.beats there;
+    }
 
 -- a beat that waits is one of any burst
 all_waiting : (burst : Burst) (n : ℕ) → AllByRecursion (IsBeatOf burst) (replicate n Waiting)
@@ -77,7 +95,18 @@ all_waiting (ReadBurst ar) (suc n) = (tt, all_waiting (ReadBurst ar) n)
 
 sound-newly : (bus_bytes serial : ℕ) (burst : Burst) → IsLegal bus_bytes burst → IsSoundPending bus_bytes (newly_pending serial burst)
 sound-newly bus_bytes serial burst legal =
-    record { legal = legal; whole = length-replicate (transfers_in burst) Waiting; beats = all_waiting burst (transfers_in burst); answered = tt; most = omega arith }
+    record {
+      legal = legal;
+      whole = length-replicate (transfers_in burst) Waiting;
+      beats = all_waiting burst (transfers_in burst);
+      answered = tt;
+      most = omega arith;
+      one_by_one = none_answered burst;
+    }
+  where
+    none_answered : (burst : Burst) → HasAnswered burst 0
+    none_answered (WriteBurst aw ws) = refl
+    none_answered (ReadBurst ar) = tt
 
 -- ---- all of them
 
@@ -181,21 +210,21 @@ beat_after-performed memory (ReadBurst ar) beat = refl
 -- and is one of its burst
 pub beat_after-of : (memory : FreeMemory) (burst : Burst) (beat : ℕ) → IsBeatOf burst (beat_after memory burst beat)
 beat_after-of memory (WriteBurst aw ws) beat = tt
-beat_after-of memory (ReadBurst ar) beat = tt
+beat_after-of memory (ReadBurst ar) beat = read_plain (standing_at memory.faults _) (is_bad memory.faults _)
 
-captured-performed : (state : Option BeatState) → IsSome (captured_at state) → (beat : BeatState) × (state ≡ Some beat) × (is_waiting beat ≡ false)
-captured-performed None captured = absurd (cc)
-captured-performed (Some Waiting) captured = absurd (cc)
-captured-performed (Some Written) captured = absurd (cc)
-captured-performed (Some (Captured payload resp)) captured = (Captured payload resp, refl, refl)
+captured-is : (state : Option BeatState) → IsSome (captured_at state) → (payload : ℕ) × (resp : Resp) × (state ≡ Some (Captured payload resp))
+captured-is None captured = absurd (cc)
+captured-is (Some Waiting) captured = absurd (cc)
+captured-is (Some Written) captured = absurd (cc)
+captured-is (Some (Captured payload resp)) captured = (payload, resp, refl)
 
 -- an R of the open read at a place
 pub sound-answered : (memory : FreeMemory) (k : ℕ) (p : Pending) → IsSoundMemory memory → k < length memory.pending → p ≡ get_or memory.pending k p
     → IfSome (slice_get memory.pending k) (λ q. IsSome (captured_at (beat_at q q.answered))) → IsSoundMemory (record memory { pending = set memory.pending k (with_answer p) })
 sound-answered memory k p sound within is captured =
     let here : slice_get memory.pending k ≡ Some p = slice_get-get_or memory.pending k p within ∙ ap Some (sym is) in
-    let beat = captured-performed (beat_at p p.answered) (subst (λ (found : Option Pending). IfSome found (λ q. IsSome (captured_at (beat_at q q.answered)))) here captured) in
-    let new = sound-with_answer memory.bus_bytes beat.0 p (all-at (IsSoundPending memory.bus_bytes) memory.pending k p sound.each within is) beat.1 beat.2 in
+    let beat = captured-is (beat_at p p.answered) (subst (λ (found : Option Pending). IfSome found (λ q. IsSome (captured_at (beat_at q q.answered)))) here captured) in
+    let new = sound-with_answer memory.bus_bytes beat.0 beat.1 p (all-at (IsSoundPending memory.bus_bytes) memory.pending k p sound.each within is) beat.2 in
     let same : PagesState = record { faults = memory.faults; memory = memory.memory } in
     subst (λ (q : Pending). IsSoundMemory (record memory { pending = set memory.pending k (with_answer q) })) (sym is)
     (sound-set memory same k with_answer p (λ q. refl) (λ q. refl) sound within (subst (λ (q : Pending). IsSoundPending memory.bus_bytes (with_answer q)) is new)

@@ -1,7 +1,7 @@
 -- A free AXI4 memory at the end point: it performs the beats of outstanding bursts in any order, every beat of a write before its B and each
 -- beat of a read before its R; it answers as AXI4's ordering allows (AXI4, A5, transaction ordering). That a response never comes from a buffer on
 -- the way, and that a write answered with an error changes nothing, is this project's profile: AXI4 allows more.
-use Rattle.std.specs.Prelude.{ℕ, ◌+◌, ◌-◌, ◌==◌, ◌≡◌, Bool, true, false, ◌&&◌, List, [], ◌∷◌, ◌++◌, length, replicate, Option, Some, None, Result, Ok, Err, is_some, find, filter, filter_map, if◌then◌else◌, slice_get, slice_set, fold, flat_map, sum_by, drop, not}
+use Rattle.std.specs.Prelude.{ℕ, ◌+◌, ◌-◌, ◌==◌, Bool, true, false, ◌&&◌, List, [], ◌∷◌, ◌++◌, length, replicate, Option, Some, None, is_some, find, filter, filter_map, if◌then◌else◌, slice_get, slice_set, fold, flat_map, sum_by, drop, not}
 use Rattle.std.specs.List.{list_any, range_with_len, enumerate_from}
 use Rattle.bus_words.specs.Lanes.{has_lane, lane_byte, payload_of}
 use Rattle.bus_words.specs.Places.{change_first, without_first}
@@ -67,7 +67,8 @@ abbrev pub open_read_in : ℕ → Burst → Option OpenRead
 open_read_in answered (WriteBurst aw data_beats) = None
 open_read_in answered (ReadBurst ar) = Some (record { ar = ar; came = answered })
 
--- the open bursts as a monitor of the port knows them
+-- the open bursts as a monitor of the port knows them that took all beats sent and answered so far: the clauses `monitor` of the device's calls say that
+-- they go on as it does
 abbrev pub open_bursts_of : FreeMemory → OpenBursts
 open_bursts_of state =
     record {
@@ -75,21 +76,13 @@ open_bursts_of state =
       reads = filter_map (λ pending. open_read_in pending.answered pending.burst) state.pending;
     }
 
--- the device takes what a monitor of 16 IDs and depth 4 lets through (this project's profile)
+-- the port of the device: that of a monitor of 16 IDs and depth 4 (this project's profile)
 abbrev pub device_port : FreeMemory → AxiPortLimits
 device_port state = record { bus_bytes = state.bus_bytes; ids = 16; depth = 4 }
 
--- why a burst is refused, if it is
+-- why a burst is refused, if it is: the first rule that this monitor finds broken, beat by beat
 abbrev pub send_fault : FreeMemory → Burst → Option AxiRule
 send_fault state burst = burst_fault (device_port state) (open_bursts_of state) burst
-
--- the memory after a burst was sent, and its serial, by the rule that it breaks
-abbrev pub sent_unless : FreeMemory → Burst → Option AxiRule → FreeMemory × Result ℕ AxiRule
-sent_unless state burst None = (with_burst state burst, Ok state.sent)
-sent_unless state burst (Some rule) = (state, Err rule)
-
-abbrev pub sent_to : FreeMemory → Burst → FreeMemory × Result ℕ AxiRule
-sent_to state burst = sent_unless state burst (send_fault state burst)
 
 -- ---- performing
 
@@ -155,14 +148,7 @@ with_performed state pending beat =
 abbrev pub beat_at : Pending → ℕ → Option BeatState
 beat_at pending beat = slice_get pending.beats beat
 
--- from a state to the next by performing any beat of any open burst that isn't performed
-pub record Performs (old : FreeMemory) (serial beat : ℕ) (new : FreeMemory) : Type 0 where
-  pub pending : Pending
-  pub is_open : find (has_serial serial) old.pending ≡ Some pending
-  pub waits : beat_at pending beat ≡ Some Waiting
-  pub becomes : new ≡ with_performed old pending beat
-
--- the same as an answer, by what the beat is: no such beat, performed before, or done
+-- performing a beat of an open burst, by what the beat is: there is none, it was performed before, or it waits and is done; any that waits may be next
 abbrev pub performed_beat : FreeMemory → Pending → ℕ → Option BeatState → FreeMemory × Performed
 performed_beat state pending beat None = (state, NoSuch)
 performed_beat state pending beat (Some Waiting) = (with_performed state pending beat, Done)

@@ -4,8 +4,9 @@ ghost use Rattle.std.specs.Option.{option_copied};
 ghost use Rattle.std.specs.Vec.{vec_capacity, vec_len};
 ghost use Rattle.axi_beats.specs.Bursts.{IsLegal};
 ghost use Rattle.axi_beats.specs.Transfers.{IsBusWidth};
-ghost use Rattle.axi_checker.specs.Rules.{id_of, outstanding_beside};
-ghost use Rattle.subordinate.specs.FreeMemory.{Pending, beat_after, beat_at, has_serial, is_read_of, is_write_of, memory_after, open_bursts_of, transfers_in};
+ghost use Rattle.axi_checker.specs.OpenBursts.{OnB, OnR, nothing_open, open_after};
+ghost use Rattle.axi_checker.specs.Rules.{axi_fault, beats_sent, id_of, open_after_all, open_with_burst, outstanding_beside};
+ghost use Rattle.subordinate.specs.FreeMemory.{Pending, beat_after, beat_at, device_port, has_serial, is_read_of, is_write_of, memory_after, open_bursts_of, transfers_in};
 ghost use Rattle.subordinate.specs.Inside.{after_closing, after_counting, after_performing, captured_at, is_beside, memory_over};
 ghost use Rattle.subordinate.specs.Laws.{IsSoundMemory, IsSoundPending};
 
@@ -89,6 +90,9 @@ impl Device {
             (MatchResult result (λ device. device ≡ opening_device bus_bytes pages.now bad.now) (λ fault. fault ≡ NoMemory))
             (λ fault. result ≡ Err fault) }
         ensures laws { IfOk result (λ device. IsSoundMemory device.memory) }
+
+        // A monitor of its port begins with nothing open.
+        ensures monitor { IfOk result (λ device. open_bursts_of device.memory ≡ nothing_open) }
     {
         if let Some(fault) = device_fault(pages, bad) {
             return Err(fault);
@@ -235,6 +239,10 @@ impl Device {
 
         // Its answers are owed after those of all bursts of its ID before it.
         ensures order { IsOk result → IfSome burst (λ b. OwesAfterOthers self.old.memory.sent b self.old.memory.pending self.new.memory.pending) }
+
+        // The monitor that judges the next burst has this one open, which is the same as that it took the beats one by one.
+        ensures monitor { IsOk result → IfSome burst (λ b. open_bursts_of self.new.memory ≡ open_with_burst (open_bursts_of self.old.memory) b) }
+        ensures beats { IsOk result → IfSome burst (λ b. open_bursts_of self.new.memory ≡ open_after_all (open_bursts_of self.old.memory) (beats_sent b)) }
         ensures laws { IsSoundMemory self.new.memory }
     {
         if let Some(rule) = self.send_fault(&burst) {
@@ -258,6 +266,9 @@ impl Device {
 
         // No answer is given, and the order of those to come stays.
         ensures order { OwesTheSame self.old.memory.pending self.new.memory.pending }
+
+        // It is no beat of the port: the monitor knows what it knew.
+        ensures monitor { open_bursts_of self.new.memory ≡ open_bursts_of self.old.memory }
         ensures laws { IsSoundMemory self.new.memory }
     {
         let Some(place) = self.place_of(serial) else {
@@ -281,6 +292,10 @@ impl Device {
 
         // Write responses of one ID come in the order of its addresses.
         ensures order { IsSome result → AnswersOldestWrite id self.old.memory.pending self.new.memory.pending }
+
+        // The monitor takes the B: it breaks no rule of a port of 16 IDs, and closes the same write.
+        ensures takes { IfSome result (λ beat. axi_fault (device_port self.old.memory) (open_bursts_of self.old.memory) (OnB beat) ≡ None) }
+        ensures monitor { IfSome result (λ beat. open_bursts_of self.new.memory ≡ open_after (open_bursts_of self.old.memory) (OnB beat)) }
         ensures laws { IsSoundMemory self.new.memory }
     {
         let place = self.oldest_write(id)?;
@@ -300,6 +315,10 @@ impl Device {
 
         // Read data of one ID come in the order of its addresses, each as its beat captured it.
         ensures order { IfSome result (λ beat. AnswersNextBeat id beat self.old.memory.pending self.new.memory.pending) }
+
+        // The monitor takes the R: it breaks no rule of a port of 16 IDs, and is counted at the same read.
+        ensures takes { IfSome result (λ beat. axi_fault (device_port self.old.memory) (open_bursts_of self.old.memory) (OnR beat) ≡ None) }
+        ensures monitor { IfSome result (λ beat. open_bursts_of self.new.memory ≡ open_after (open_bursts_of self.old.memory) (OnR beat)) }
         ensures laws { IsSoundMemory self.new.memory }
     {
         let place = self.oldest_read(id)?;

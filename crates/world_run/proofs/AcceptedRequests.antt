@@ -142,7 +142,7 @@ with_requests_heard config old new heard config_same same is =
     }
 
 -- a client of the bridge is one of the set-up
-known_heard : (config : Config) (bridge : BridgeState) (heard : Heard) (client : ℕ) → IsHeard config bridge heard → nat_le bridge.requests.config.clients client ≡ false → nat_le config.clients client ≡ false
+pub known_heard : (config : Config) (bridge : BridgeState) (heard : Heard) (client : ℕ) → IsHeard config bridge heard → nat_le bridge.requests.config.clients client ≡ false → nat_le config.clients client ≡ false
 known_heard config bridge heard client is known = ap (λ kept. nat_le kept.clients client) (sym is.config_kept) ∙ known
 
 -- what is heard of a client, with a beat that its port takes

@@ -39,7 +39,7 @@ use Rattle.subordinate.specs.FreeMemory.{FreeMemory, Pending, after_b_of, after_
 use Rattle.subordinate.specs.Laws.{IsSoundMemory}
 use Rattle.world_run.specs.Laws.{Agree, bursts_sent}
 use Rattle.world_run.proofs.Serials.{most_sent}
-use Rattle.world_run.proofs.Outstanding.{HasBeatsToCome, outstanding_after_b, outstanding_after_r, outstanding_performed, outstanding_sent}
+use Rattle.subordinate.proofs.Monitors.{HasBeatsToCome, outstanding_after_b, outstanding_after_r, outstanding_performed, outstanding_sent}
 use Rattle.world_run.proofs.Plain.{plain_after_b, plain_after_r, plain_performed, plain_sent}
 use Rattle.world_run.proofs.Sums.{sum_between, sum_unseen, sum_without}
 

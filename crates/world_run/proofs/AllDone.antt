@@ -39,7 +39,7 @@ use Rattle.world_run.specs.Laws.{IsSoundWorld}
 use Rattle.world_run.specs.World.{IsQuiet, WorldState, enabled, perform_at, pumps_enabled, work_left}
 use Rattle.world_run.specs.declared.Step.{Step}
 use Rattle.world_run.specs.declared.Step.TheVariants.{AnswerB, AnswerR, Pump}
-use Rattle.world_run.proofs.Outstanding.{oldest_read_seen}
+use Rattle.subordinate.proofs.Monitors.{oldest_read_seen}
 use Rattle.world_run.proofs.Plain.{all-at}
 
 -- ---- searches

@@ -20,7 +20,7 @@ use Rattle.subordinate.specs.declared.BeatState.TheVariants.{Captured, Waiting, 
 use Rattle.world_run.specs.Inside.{ArePaired}
 use Rattle.world_run.specs.Laws.{Agree}
 use Rattle.world_run.proofs.Agreeing.{agree_after_b, agree_after_r}
-use Rattle.world_run.proofs.Outstanding.{HasBeatsToCome}
+use Rattle.subordinate.proofs.Monitors.{HasBeatsToCome}
 use Rattle.world_run.proofs.Passing.{world_of}
 use Rattle.world_run.proofs.TakesAll.{takes_all}
 

@@ -227,8 +227,9 @@ no_capture count n payload resp there = absurd (cc (still_waiting count n (Captu
 pub burst_of_write : (order : Order) (config : Config) (wrote : ℕ → ℕ → Bool) (serial id : ℕ) (request : BridgedRequest) (range : PlannedRange) (piece : Piece) → is_valid config ≡ true → IsPageMap order.regions
     → IsServed config order.regions request → asked order request.flight.number ≡ Some (request_of request.message) → request.flight.done ≡ false → request.flight.plan ≡ Some range
     → next_burst request.flight ≡ Some (true, piece) → (is_atomic request.flight ≡ true → FindsSerially order request range.address)
+    → ((n x : ℕ) → n ≤ piece.len → transfer_has piece.address piece.size (n + 1) x ≡ true → wrote request.flight.number x ≡ false)
     → IsWriteOf order range.bus_bytes wrote request.flight.number (newly_pending serial (burst_of_piece id request range (true, piece))) piece
-burst_of_write order config wrote serial id request range piece valid pages served is_asked live plan next finds =
+burst_of_write order config wrote serial id request range piece valid pages served is_asked live plan next finds none =
     record {
       aw = record { id = id; address = piece.address; len = piece.len; size = piece.size; burst = 1 };
       w_beats = map (w_beat range.bus_bytes (given_at (bytes_to_write request) range.address) piece) (range_with_len 1 (piece.len + 1));
@@ -238,6 +239,7 @@ burst_of_write order config wrote serial id request range piece valid pages serv
       len = refl;
       puts = λ n w there. puts_serially order config request range piece n w valid pages served is_asked live plan next finds there;
       written = λ n x beat there performed has written. absurd (cc (performed, still_waiting (piece.len + 1) n beat there));
+      unwritten = λ n x waits within has. none n x within has;
     }
 
 -- a read just sent
@@ -257,10 +259,11 @@ burst_of_read order bus_bytes number serial id request range piece =
 pub burst_of_next : (order : Order) (config : Config) (wrote : ℕ → ℕ → Bool) (serial id : ℕ) (request : BridgedRequest) (range : PlannedRange) (write : Bool) (piece : Piece) → is_valid config ≡ true → IsPageMap order.regions
     → IsServed config order.regions request → asked order request.flight.number ≡ Some (request_of request.message) → request.flight.done ≡ false → request.flight.plan ≡ Some range
     → next_burst request.flight ≡ Some (write, piece) → (is_atomic request.flight ≡ true → write ≡ true → FindsSerially order request range.address)
+    → (write ≡ true → (n x : ℕ) → n ≤ piece.len → transfer_has piece.address piece.size (n + 1) x ≡ true → wrote request.flight.number x ≡ false)
     → IsBurstOf order config.axi_bytes wrote request.flight.number (newly_pending serial (burst_of_piece id request range (write, piece))) (write, piece)
-burst_of_next order config wrote serial id request range true piece valid pages served is_asked live plan next finds =
+burst_of_next order config wrote serial id request range true piece valid pages served is_asked live plan next finds none =
     subst (λ bus_bytes. IsWriteOf order bus_bytes wrote request.flight.number (newly_pending serial (burst_of_piece id request range (true, piece))) piece)
     (planned_at config order.regions request range valid pages served plan).bus
-    (burst_of_write order config wrote serial id request range piece valid pages served is_asked live plan next (λ atomic. finds atomic refl))
-burst_of_next order config wrote serial id request range false piece valid pages served is_asked live plan next finds =
+    (burst_of_write order config wrote serial id request range piece valid pages served is_asked live plan next (λ atomic. finds atomic refl) (none refl))
+burst_of_next order config wrote serial id request range false piece valid pages served is_asked live plan next finds none =
     burst_of_read order config.axi_bytes request.flight.number serial id request range piece

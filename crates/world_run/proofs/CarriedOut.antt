@@ -9,7 +9,7 @@ use Rattle.tl_messages.specs.declared.DBeat.{DBeat}
 use Rattle.world_run.specs.Headline.{IsOneAtATime}
 use Rattle.world_run.specs.InOrder.{IsOrdered, order_of}
 use Rattle.world_run.specs.Runs.{IsRunOf, handed_of}
-use Rattle.world_run.specs.World.{WorldState}
+use Rattle.world_run.specs.World.{WorldState, byte_of, in_flight}
 use Rattle.world_run.specs.declared.Answer.{Answer}
 use Rattle.world_run.specs.declared.Handed.{Handed}
 use Rattle.world_run.specs.declared.SentBeat.{SentBeat}
@@ -27,7 +27,7 @@ is_carried_out setup steps along =
 -- the sentence, of a record that is that of the run
 pub run_in_order :
     (setup : SetupLists) (steps : List Step) (answers : List Answer) (replies : List Handed) (d_beats : List DBeat) (sent : List SentBeat) (world : WorldState)
-    → AreSoundAlong (opening_world setup) steps → IsRunOf setup steps answers replies d_beats sent world → IsOneAtATime setup steps answers (handed_of replies d_beats) sent world
+    → AreSoundAlong (opening_world setup) steps → IsRunOf setup steps answers replies d_beats sent world → IsOneAtATime setup steps answers (handed_of replies d_beats) sent (in_flight world) (byte_of world)
 run_in_order setup steps answers replies d_beats sent world along ran =
     one_at_a_time_of setup steps answers replies d_beats sent world along (is_carried_out setup steps along) ran
 

@@ -6,10 +6,12 @@ pub mod Agreeing
 pub mod AllDone
 pub mod AllWritten
 pub mod Answering
+pub mod ApartWrites
 pub mod Boxes
 pub mod BurstBytes
 pub mod BytesLeft
 pub mod CarriedOut
+pub mod CountsAgree
 pub mod Drained
 pub mod EnabledSteps
 pub mod Events
@@ -41,7 +43,6 @@ pub mod OrderPump
 pub mod OrderSteps
 pub mod OrderTake
 pub mod OrderedRuns
-pub mod Outstanding
 pub mod Passing
 pub mod PerformedBytes
 pub mod PlacesOfReads

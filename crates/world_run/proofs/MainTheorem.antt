@@ -8,7 +8,7 @@ use Rattle.world_run.specs.Headline.{IsOneAtATime, IsReplyTo, replies_of, bytes_
 use Rattle.world_run.specs.Laws.{AreSoundAlong}
 use Rattle.world_run.specs.Runs.{IsRunOf, accepted_in, answers_of, handed_in, handed_of, sent_in}
 use Rattle.world_run.specs.Setups.{SetupLists}
-use Rattle.world_run.specs.World.{WorldState, IsQuiet, after, byte_of, opening_world}
+use Rattle.world_run.specs.World.{WorldState, IsQuiet, after, byte_of, in_flight, opening_world}
 use Rattle.world_run.specs.declared.Answer.{Answer}
 use Rattle.world_run.specs.declared.Handed.{Handed}
 use Rattle.world_run.specs.declared.SentBeat.{SentBeat}
@@ -31,7 +31,8 @@ pub record IsCarriedOut (setup : SetupLists) (steps : List Step) : Type 0 where
 -- of the definitions, for every list of events
 pub one_at_a_time :
     (setup : SetupLists) (steps : List Step) → AreSoundAlong (opening_world setup) steps → IsCarriedOut setup steps
-    → IsOneAtATime setup steps (answers_of (opening_world setup) steps) (handed_in (opening_world setup) steps) (sent_in (opening_world setup) steps) (after (opening_world setup) steps)
+    → IsOneAtATime setup steps (answers_of (opening_world setup) steps) (handed_in (opening_world setup) steps) (sent_in (opening_world setup) steps) (in_flight (after (opening_world setup) steps))
+    (byte_of (after (opening_world setup) steps))
 one_at_a_time setup steps along carried_out =
     record {
       answered = answered setup steps;
@@ -49,12 +50,12 @@ one_at_a_time setup steps along carried_out =
 pub one_at_a_time_of :
     (setup : SetupLists) (steps : List Step) (answers : List Answer) (replies : List Handed) (d_beats : List DBeat) (sent : List SentBeat) (world : WorldState)
     → AreSoundAlong (opening_world setup) steps → IsCarriedOut setup steps → IsRunOf setup steps answers replies d_beats sent world
-    → IsOneAtATime setup steps answers (handed_of replies d_beats) sent world
+    → IsOneAtATime setup steps answers (handed_of replies d_beats) sent (in_flight world) (byte_of world)
 one_at_a_time_of setup steps answers replies d_beats sent world along carried_out ran =
-    subst (λ given. IsOneAtATime setup steps given (handed_of replies d_beats) sent world) (sym ran.answers_kept)
-    (subst (λ handed. IsOneAtATime setup steps (answers_of (opening_world setup) steps) handed sent world) (sym ran.replies_kept)
-    (subst (λ beats. IsOneAtATime setup steps (answers_of (opening_world setup) steps) (handed_in (opening_world setup) steps) beats world) (sym ran.sent_kept)
+    subst (λ given. IsOneAtATime setup steps given (handed_of replies d_beats) sent (in_flight world) (byte_of world)) (sym ran.answers_kept)
+    (subst (λ handed. IsOneAtATime setup steps (answers_of (opening_world setup) steps) handed sent (in_flight world) (byte_of world)) (sym ran.replies_kept)
+    (subst (λ beats. IsOneAtATime setup steps (answers_of (opening_world setup) steps) (handed_in (opening_world setup) steps) beats (in_flight world) (byte_of world)) (sym ran.sent_kept)
     (subst
-    (λ state. IsOneAtATime setup steps (answers_of (opening_world setup) steps) (handed_in (opening_world setup) steps) (sent_in (opening_world setup) steps) state)
+    (λ state. IsOneAtATime setup steps (answers_of (opening_world setup) steps) (handed_in (opening_world setup) steps) (sent_in (opening_world setup) steps) (in_flight state) (byte_of state))
     (sym ran.world_kept)
     (one_at_a_time setup steps along carried_out))))

@@ -1,6 +1,6 @@
 -- The open bursts of an ID are the outstanding ones of the request that holds it: what is left of this where one is sent, performed or
 -- answered. It knows the two lists, entry by entry; which event it was, and the memory's bytes, are hidden.
-use Rattle.std.proofs.Common.{◌≡◌, ◌≢◌, ℕ, suc, ◌==◌, Bool, true, false, not, ◌||◌, List, [], ◌∷◌, ◌++◌, refl, ap, sym, ◌∙◌, subst}
+use Rattle.std.proofs.Common.{◌≡◌, ◌≢◌, ℕ, suc, ◌==◌, Bool, true, false, not, ◌||◌, List, [], ◌∷◌, ◌++◌, refl, ap, sym, ◌∙◌, subst, arith}
 use Rattle.std.specs.Prelude.{None, Some, if◌then◌else◌}
 use Rattle.std.specs.List.{AllByRecursion, find, slice_get}
 use Rattle.std.proofs.lemmas.Bool.{eqb-true, ne_eqb}
@@ -15,7 +15,7 @@ use Rattle.bridge_core.proofs.AnswerLinks.{AreOf}
 use Rattle.subordinate.specs.FreeMemory.{Pending, is_read_of, is_write_of, reads_as, writes_as}
 use Rattle.world_run.specs.InOrder.{AreBurstsOf, IsBurstOf, is_of_id}
 use Rattle.world_run.specs.Serial.{Order}
-use Rattle.world_run.proofs.PerformedBytes.{burst_more, bursts_more}
+use Rattle.world_run.proofs.PerformedBytes.{LeavesBurst, burst_more, bursts_more}
 
 -- ---- one is sent
 
@@ -42,7 +42,8 @@ pub record IsOneOf (order : Order) (bus_bytes : ℕ) (wrote : ℕ → ℕ → Bo
   pub there : slice_get bursts place ≡ Some burst
   pub is : IsBurstOf order bus_bytes wrote number pending burst
   pub changed :
-      (more : ℕ → ℕ → Bool) (change : Pending → Pending) → ((x : ℕ) → wrote number x ≡ true → more number x ≡ true) → IsBurstOf order bus_bytes more number (change pending) burst
+      (more : ℕ → ℕ → Bool) (change : Pending → Pending) → ((x : ℕ) → wrote number x ≡ true → more number x ≡ true)
+      → ((i : ℕ) (other : Bool × Piece) → slice_get bursts i ≡ Some other → i ≢ place → LeavesBurst wrote more number other) → IsBurstOf order bus_bytes more number (change pending) burst
       → AreBurstsOf order bus_bytes more number (change_first test change mine) bursts
 
 pub open_one : (order : Order) (bus_bytes : ℕ) (wrote : ℕ → ℕ → Bool) (number : ℕ) (mine : List Pending) (bursts : List (Bool × Piece)) (test : Pending → Bool) (pending : Pending)
@@ -62,8 +63,8 @@ open_one order bus_bytes wrote number (first ∷ mine) (burst ∷ bursts) test p
           burst = burst;
           there = refl;
           is = subst (λ (p : Pending). IsBurstOf order bus_bytes wrote number p burst) same are.0;
-          changed = λ more change kept new.
-              rw passes (subst (λ (p : Pending). IsBurstOf order bus_bytes more number (change p) burst) (sym same) new, bursts_more order bus_bytes wrote more number mine bursts kept are.1);
+          changed = λ more change kept leaves new.
+              rw passes (subst (λ (p : Pending). IsBurstOf order bus_bytes more number (change p) burst) (sym same) new, bursts_more order bus_bytes wrote more number mine bursts kept (λ i other there. leaves (suc i) other there (λ same. omega (arith, same))) are.1);
         }
     by_test false fails later rest =
         let one = rest later in
@@ -72,7 +73,11 @@ open_one order bus_bytes wrote number (first ∷ mine) (burst ∷ bursts) test p
           burst = one.burst;
           there = one.there;
           is = one.is;
-          changed = λ more change kept new. rw fails (burst_more order bus_bytes wrote more number first burst kept are.0, one.changed more change kept new);
+          changed = λ more change kept leaves new.
+              rw fails (
+                burst_more order bus_bytes wrote more number first burst kept (leaves 0 burst refl (λ same. omega (arith, same))) are.0,
+                one.changed more change kept (λ i other there apart. leaves (suc i) other there (λ same. apart (omega (arith, same)))) new,
+              );
         }
 
 -- ---- IDs

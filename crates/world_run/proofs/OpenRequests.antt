@@ -129,6 +129,12 @@ going_on order state id request k burst sound regions known there =
     neither : request.flight.done ≡ false → (nat_lt request.flight.number state.bridge.requests.accepted && request.flight.done) ≡ false
     neither undone = rw undone (last (nat_lt request.flight.number state.bridge.requests.accepted))
 
+-- its place is counted through all its bursts
+pub going_on-place : (order : Order) (state : WorldState) (id : ℕ) (request : BridgedRequest) (k : ℕ) (burst : Bool × Piece) (sound : IsSoundWorld state) (regions : state.bridge.requests.regions ≡ order.regions)
+    (known : IsHolder state.bridge.requests id request) (there : slice_get (outstanding request.flight) k ≡ Some burst) → (going_on order state id request k burst sound regions known there).place ≡ k + request.flight.answered
+unfolding going_on
+going_on-place order state id request k burst sound regions known there = refl
+
 -- the bytes of a burst's transfers are bytes that its request touches
 pub transfer_touches : (order : Order) (table : RequestTable) (request : BridgedRequest) (burst : Bool × Piece) (n x : ℕ) → IsGoingOn order table request burst
     → asked order request.flight.number ≡ Some (request_of request.message) → 1 ≤ n → n ≤ burst.1.len + 1 → transfer_has burst.1.address burst.1.size n x ≡ true

@@ -141,7 +141,7 @@ module _ (order : Order) (state : WorldState) (id : ℕ) (pending : Pending) (so
         number = refl;
         has_id = has.known.has_id;
         sent = has.known.sound.sent;
-        in_order = settled_in_order order state.memory.bus_bytes keeps.wrote answered (omega (arith, next.within, has.known.sound.sent)) of.asked of.unwritten written told;
+        in_order = settled_in_order order state.memory.bus_bytes keeps.wrote answered (omega (arith, next.within, has.known.sound.sent)) of.asked of.unwritten of.unsent written told;
         own = own;
         others = λ j other. filter-without-other (is_of_id j) (is_write_of id) state.memory.pending (λ p is. of_one id j p other (write_is_of id p is));
         held_by_others = λ j r fails. settled-other j (record r { flight = with_answered r.flight; gathering = after_b resp r.gathering }) fails;

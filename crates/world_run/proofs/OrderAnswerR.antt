@@ -222,7 +222,7 @@ module _ (order : Order) (state : WorldState) (id : ℕ) (pending : Pending) (pa
         has_id = has.known.has_id;
         sent = has.known.sound.sent;
         in_order =
-            settled_in_order order state.memory.bus_bytes keeps.wrote closed (omega (arith, reader.next.within, has.known.sound.sent)) of.asked of.unwritten closed_written (told_settled closed becomes);
+            settled_in_order order state.memory.bus_bytes keeps.wrote closed (omega (arith, reader.next.within, has.known.sound.sent)) of.asked of.unwritten of.unsent closed_written (told_settled closed becomes);
         own = closed_own;
         others = λ j other. filter-without-other (is_of_id j) (is_read_of id) state.memory.pending (λ p passes. of_one id j p other (read_is_of id p passes));
         held_by_others = λ j q fails. after_read-other table.config.axi_bytes r j q fails;
@@ -255,7 +255,7 @@ module _ (order : Order) (state : WorldState) (id : ℕ) (pending : Pending) (pa
         has_id = has.known.has_id;
         sent = has.known.sound.sent;
         in_order =
-            settled_in_order order state.memory.bus_bytes keeps.wrote counted (omega (arith, reader.next.within, has.known.sound.sent)) of.asked of.unwritten of.written (told_settled counted becomes);
+            settled_in_order order state.memory.bus_bytes keeps.wrote counted (omega (arith, reader.next.within, has.known.sound.sent)) of.asked of.unwritten of.unsent of.written (told_settled counted becomes);
         own = counted_own;
         others = λ j other.
             let fails = of_one id j pending other passes_mine in

@@ -1,7 +1,7 @@
 -- A beat that is performed keeps the order: a write's bytes are those that its request leaves, a read captures what its request finds. It
 -- knows that the request of the beat stands at a cut; what the beat does to single bytes comes from PerformedBytes.
 use Rattle.std.proofs.Common.{◌≡◌, ◌≢◌, ℕ, ◌+◌, ◌==◌, ◌≤◌, Bool, true, false, ◌&&◌, ◌||◌, List, [], Option, Some, None, refl, ap, sym, ◌∙◌, subst, arith, inl, inr}
-use Rattle.std.specs.Prelude.{if◌then◌else◌, unwrap_or}
+use Rattle.std.specs.Prelude.{if◌then◌else◌, unwrap_or, IfSome}
 use Rattle.std.specs.List.{AllByRecursion, filter, find, slice_get}
 use Rattle.std.proofs.lemmas.Bool.{and_parts, and_right, cases_eq, cases_Bool, eq-eqb, eqb-true, ne_eqb}
 use Rattle.std.proofs.lemmas.Option.{slice_get_within}
@@ -13,16 +13,16 @@ use Rattle.axi_checker.specs.Rules.{id_of}
 use Rattle.burst_plan.specs.declared.Piece.{Piece}
 use Rattle.tl_messages.specs.Operations.{has_data, reply_has_data}
 use Rattle.tl_messages.specs.Requests.{request_of}
-use Rattle.flight_table.specs.LiveRequests.{is_atomic, pieces_planned, planned_writes, read_pieces}
+use Rattle.flight_table.specs.LiveRequests.{is_atomic, pieces_planned, planned, planned_writes, read_pieces}
+use Rattle.flight_table.specs.Order.{is_id}
 use Rattle.bridge_core.specs.Laws.{outstanding}
 use Rattle.bridge_core.specs.Requests.{BridgedRequest, RequestTable, holder, holds}
 use Rattle.bridge_core.proofs.AnswerLinks.{read_at}
-use Rattle.subordinate.specs.FreeMemory.{FreeMemory, Pending, Performs, beat_after, beat_at, has_serial, memory_after, performed, performed_beat, performed_in, with_beat, with_performed, reads_as, writes_as}
+use Rattle.subordinate.specs.FreeMemory.{FreeMemory, Pending, beat_after, beat_at, has_serial, memory_after, performed, with_beat, with_performed, reads_as, writes_as}
+use Rattle.subordinate.proofs.PerformedBeats.{performs_done}
 use Rattle.subordinate.specs.Laws.{IsSoundPending}
 use Rattle.subordinate.specs.Pages.{byte_at_address}
-use Rattle.subordinate.specs.declared.BeatState.{BeatState}
-use Rattle.subordinate.specs.declared.BeatState.TheVariants.{Captured, Waiting, Written}
-use Rattle.subordinate.specs.declared.Performed.{Performed}
+use Rattle.subordinate.specs.declared.BeatState.TheVariants.{Waiting}
 use Rattle.subordinate.specs.declared.Performed.TheVariants as perform
 use Rattle.world_run.specs.InOrder.{AreOfHolder, IsHistory, IsInOrder, KeepsOrder, finished, is_of_id, memory_bytes, started}
 use Rattle.world_run.specs.Laws.{IsSoundWorld}
@@ -30,35 +30,16 @@ use Rattle.world_run.specs.Serial.{Order, byte_left, bytes_before, touches, writ
 use Rattle.world_run.specs.World.{WorldState, changed}
 use Rattle.world_run.specs.declared.Answer.TheVariants.{Done}
 use Rattle.world_run.proofs.AllWritten.{no_data_written}
+use Rattle.world_run.proofs.ApartWrites.{same_transfer}
 use Rattle.world_run.proofs.BurstBytes.{write_is_planned, writes_in_range}
 use Rattle.world_run.proofs.History.{found_here, history_stores, store_adds, store_keeps, with_written}
 use Rattle.world_run.proofs.HolderBursts.{of_same_holder}
 use Rattle.world_run.proofs.ListChanges.{all_both, filter-change-kept, filter-change-other, find-filter}
 use Rattle.world_run.proofs.LiveNumbers.{numbered_once}
 use Rattle.world_run.proofs.OpenOfHolder.{IsOneOf, of_one, open_one}
-use Rattle.world_run.proofs.OpenRequests.{HasOpen, IsGoingOn, going_on, has_open, transfer_touches}
-use Rattle.world_run.proofs.PerformedBytes.{PerformsSerially, beat_within, in_order_more, of_holder_more, performs_serially, stores_by}
+use Rattle.world_run.proofs.OpenRequests.{HasOpen, IsGoingOn, going_on, going_on-place, has_open, part_at, transfer_touches}
+use Rattle.world_run.proofs.PerformedBytes.{LeavesBurst, LeavesOthers, PerformsSerially, beat_within, in_order_more, of_holder_same, performs_serially, stores_by}
 use Rattle.world_run.proofs.SerialBytes.{left_alone, message_touches}
-
--- ---- which beat was performed
-
-pub performs_done : (state : FreeMemory) (serial beat : ℕ) (memory : FreeMemory) → performed state serial beat ≡ (memory, perform.Done) → Performs state serial beat memory
-performs_done state serial beat memory is = by_found (find (has_serial serial) state.pending) refl is
-  where
-    never : (answer : Performed) → (answer ≡ perform.Done → ⊥) → ◌≡◌ {A = FreeMemory × Performed} (state, answer) (memory, perform.Done) → Performs state serial beat memory
-    never answer other same = absurd (other (ap (λ (result : FreeMemory × Performed). result.1) same))
-
-    by_state : (pending : Pending) → find (has_serial serial) state.pending ≡ Some pending → (there : Option BeatState) → beat_at pending beat ≡ there
-        → performed_beat state pending beat there ≡ (memory, perform.Done) → Performs state serial beat memory
-    by_state pending found None at same = never perform.NoSuch (λ other. cc) same
-    by_state pending found (Some Waiting) at same =
-        record { pending = pending; is_open = found; waits = at; becomes = sym (ap (λ (result : FreeMemory × Performed). result.0) same) }
-    by_state pending found (Some Written) at same = never perform.Already (λ other. cc) same
-    by_state pending found (Some (Captured payload resp)) at same = never perform.Already (λ other. cc) same
-
-    by_found : (found : Option Pending) → find (has_serial serial) state.pending ≡ found → performed_in state beat found ≡ (memory, perform.Done) → Performs state serial beat memory
-    by_found None none same = never perform.NoSuch (λ other. cc) same
-    by_found (Some pending) found same = by_state pending found (beat_at pending beat) refl same
 
 -- ---- what its request hasn't written
 
@@ -138,7 +119,7 @@ module _ (order : Order) (state : WorldState) (pending : Pending) (beat : ℕ) (
   abbrev one : IsOneOf order state.memory.bus_bytes keeps.wrote number mine (outstanding has.request.flight) (has_serial pending.serial) pending
   one = open_one order state.memory.bus_bytes keeps.wrote number mine (outstanding has.request.flight) (has_serial pending.serial) pending has.are found_mine
 
-  going : IsGoingOn order table has.request one.burst
+  abbrev going : IsGoingOn order table has.request one.burst
   going = going_on order state id has.request one.place one.burst sound keeps.regions has.known one.there
 
   of : IsInOrder order state.memory.bus_bytes keeps.wrote has.request
@@ -207,9 +188,85 @@ module _ (order : Order) (state : WorldState) (pending : Pending) (beat : ℕ) (
         | inr other ↦ not_added number adds keeps.wrote r.flight.number x (rw (ne_eqb r.flight.number number other) refl)
       ]
 
+  -- nothing is added where another transfer of a planned write would put it
+  none_added : (burst : Bool × Piece) → one.burst ≡ burst → (k n x : ℕ) (piece : Piece) → slice_get (planned has.request.flight) k ≡ Some (true, piece) → n ≤ piece.len
+      → transfer_has piece.address piece.size (n + 1) x ≡ true → (k ≡ going.place → n ≡ beat → ⊥) → stores_by order number burst (beat + 1) x ≡ false
+  none_added (false, own) is k n x piece there fits has_it other = refl
+  none_added (true, own) is k n x piece there fits has_it other = by_store (stores_by order number (true, own) (beat + 1) x) refl
+    where
+      own_planned : slice_get (planned has.request.flight) going.place ≡ Some (true, own)
+      own_planned = going.planned ∙ ap (λ (burst : Bool × Piece). Some burst) is
+
+      own_within : beat + 1 ≤ own.len + 1
+      own_within = subst (λ (burst : Bool × Piece). beat + 1 ≤ burst.1.len + 1) is within
+
+      by_store : (b : Bool) → stores_by order number (true, own) (beat + 1) x ≡ b → b ≡ false
+      by_store false isnt = refl
+      by_store true stored =
+          let same =
+          same_transfer has.request.flight going.range k going.place (n + 1) (beat + 1) x piece own going.at.plannable going.plan there own_planned (omega arith) (omega (arith, fits)) (omega arith) own_within has_it
+          (and_parts (transfer_has own.address own.size (beat + 1) x) (writes order number x) stored).0 in
+          absurd (other same.0 (omega (arith, same.1)))
+
+  added_nowhere : (k n x : ℕ) (piece : Piece) → slice_get (planned has.request.flight) k ≡ Some (true, piece) → n ≤ piece.len → transfer_has piece.address piece.size (n + 1) x ≡ true
+      → (k ≡ going.place → n ≡ beat → ⊥) → keeps.wrote number x ≡ false → more number x ≡ false
+  added_nowhere k n x piece there fits has_it other none =
+      not_added number adds keeps.wrote number x (and_right (number == number) (adds x) (none_added one.burst refl k n x piece there fits has_it other)) ∙ none
+
+  -- the other beats of the burst, the other bursts, and what isn't sent
+  beats_left : (burst : Bool × Piece) → one.burst ≡ burst → LeavesOthers keeps.wrote more number beat burst
+  beats_left (false, piece) is = tt
+  beats_left (true, piece) is = λ k x other fits has_it none.
+      added_nowhere going.place k x piece (going.planned ∙ ap (λ (burst : Bool × Piece). Some burst) is) fits has_it (λ same at. other at) none
+
+  burst_left : (k : ℕ) (burst : Bool × Piece) → slice_get (planned has.request.flight) k ≡ Some burst → k ≢ going.place → LeavesBurst keeps.wrote more number burst
+  burst_left k (false, piece) there other = tt
+  burst_left k (true, piece) there other = λ n x fits has_it none. added_nowhere k n x piece there fits has_it (λ same at. other same) none
+
+  others_left : (i : ℕ) (burst : Bool × Piece) → slice_get (outstanding has.request.flight) i ≡ Some burst → i ≢ one.place → LeavesBurst keeps.wrote more number burst
+  others_left i burst there other =
+      let at_place = part_at (planned has.request.flight) has.request.flight.answered has.request.flight.sent i burst there in
+      let own : going.place ≡ one.place + has.request.flight.answered = going_on-place order state id has.request one.place one.burst sound keeps.regions has.known one.there in
+      burst_left (i + has.request.flight.answered) burst at_place.0 (λ same. other (omega (arith, same, own)))
+
+  unsent_left : (r : BridgedRequest) → (r.flight.number ≡ number → r ≡ has.request) → (k : ℕ) (burst : Bool × Piece) → r.flight.sent ≤ k → slice_get (planned r.flight) k ≡ Some burst
+      → LeavesBurst keeps.wrote more r.flight.number burst
+  unsent_left r alone k burst past there =
+      elim (cases_eq r.flight.number number) [
+        | inl its ↦
+            let same = alone its in
+            let own : LeavesBurst keeps.wrote more number burst =
+            burst_left k burst (ap (λ (q : BridgedRequest). slice_get (planned q.flight) k) (sym same) ∙ there)
+            (λ here. omega (arith, here, going.sent, past, ap (λ (q : BridgedRequest). q.flight.sent) same)) in
+            subst (λ i. LeavesBurst keeps.wrote more i burst) (sym its) own
+        | inr other ↦ left_alone_by burst (λ x. not_added number adds keeps.wrote r.flight.number x (rw (ne_eqb r.flight.number number other) refl))
+      ]
+    where
+      left_alone_by : (burst : Bool × Piece) → ((x : ℕ) → more r.flight.number x ≡ keeps.wrote r.flight.number x) → LeavesBurst keeps.wrote more r.flight.number burst
+      left_alone_by (true, piece) same = λ n x fits has_it none. same x ∙ none
+      left_alone_by (false, piece) same = tt
+
+  -- a request that holds another ID has written no more
+  another_same : (j : ℕ) → id ≢ j → (held : Option BridgedRequest) → holder j table.live ≡ held → IfSome held (λ r. (x : ℕ) → more r.flight.number x ≡ keeps.wrote r.flight.number x)
+  another_same j other None is = tt
+  another_same j other (Some r) is = λ x.
+      elim (cases_eq r.flight.number number) [
+        | inl its ↦
+            let alone = all-find (λ (q : BridgedRequest). q.flight.number ≡ number → q ≡ has.request) (holds j) table.live r
+            (numbered_once (holds id) table.live has.request sound.bridge_laws.requests.flights.rising has.known.held) is in
+            let same = alone its in
+            absurd (holds_one j other (subst (λ (q : BridgedRequest). holds j q ≡ true) same (find-passes (holds j) table.live r is)))
+        | inr apart ↦ not_added number adds keeps.wrote r.flight.number x (rw (ne_eqb r.flight.number number apart) refl)
+      ]
+    where
+      holds_one : (j : ℕ) → id ≢ j → holds j has.request ≡ true → ⊥
+      holds_one j apart held =
+          let its : (id == j) ≡ true = ap (λ (o : Option ℕ). is_id j o) (sym has.known.has_id) ∙ held in
+          apart (eqb-true id j its)
+
   live_more : AllByRecursion (IsInOrder order state.memory.bus_bytes more) table.live
   live_more = all_both (λ (r : BridgedRequest). r.flight.number ≡ number → r ≡ has.request) (IsInOrder order state.memory.bus_bytes keeps.wrote) (IsInOrder order state.memory.bus_bytes more) table.live
-      (λ r alone was. in_order_more order state.memory.bus_bytes keeps.wrote more r (kept r.flight.number) (same_unwritten r alone) was)
+      (λ r alone was. in_order_more order state.memory.bus_bytes keeps.wrote more r (kept r.flight.number) (same_unwritten r alone) (unsent_left r alone) was)
       (numbered_once (holds id) table.live has.request sound.bridge_laws.requests.flights.rising has.known.held) keeps.live
 
   abbrev change : Pending → Pending
@@ -219,13 +276,13 @@ module _ (order : Order) (state : WorldState) (pending : Pending) (beat : ℕ) (
   own_bursts =
       subst (λ (ps : List Pending). AreOfHolder order state.memory.bus_bytes more ps (holder id table.live)) (sym (filter-change-kept (has_serial pending.serial) (is_of_id id) change state.memory.pending pending found of_id of_id))
       (of_same_holder order state.memory.bus_bytes more (change_first (has_serial pending.serial) change mine) (Some has.request) (holder id table.live) (sym has.known.held)
-      (one.changed more change (kept number) (does.still more (kept number) (λ x hit. store_adds number adds keeps.wrote x hit))))
+      (one.changed more change (kept number) others_left (does.still more (kept number) (λ x hit. store_adds number adds keeps.wrote x hit) (beats_left one.burst refl))))
 
   other_bursts : (j : ℕ) → id ≢ j → AreOfHolder order state.memory.bus_bytes more (filter (is_of_id j) (change_first (has_serial pending.serial) change state.memory.pending)) (holder j table.live)
   other_bursts j other =
       let fails = of_one id j pending other of_id in
       subst (λ (ps : List Pending). AreOfHolder order state.memory.bus_bytes more ps (holder j table.live)) (sym (filter-change-other (has_serial pending.serial) (is_of_id j) change state.memory.pending pending found fails fails))
-      (of_holder_more order state.memory.bus_bytes keeps.wrote more (filter (is_of_id j) state.memory.pending) (holder j table.live) kept (keeps.bursts j))
+      (of_holder_same order state.memory.bus_bytes keeps.wrote more (filter (is_of_id j) state.memory.pending) (holder j table.live) (another_same j other (holder j table.live) refl) (keeps.bursts j))
 
   pub keeps_performed : KeepsOrder order (changed state.bridge (with_performed state.memory pending beat) Done).state
   keeps_performed =

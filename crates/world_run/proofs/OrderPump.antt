@@ -1,6 +1,6 @@
 -- A burst that is sent keeps the order: it is one more of its request, under the ID that the request holds. It knows which request sends
 -- and under which ID; what the burst will do to bytes comes from BurstBytes.
-use Rattle.std.proofs.Common.{◌≡◌, ℕ, ◌==◌, Bool, true, false, ◌||◌, List, [], ◌∷◌, ◌++◌, Option, Some, None, refl, ap, sym, ◌∙◌, subst, inl, inr, ◌⊎◌}
+use Rattle.std.proofs.Common.{◌≡◌, ℕ, ◌==◌, Bool, true, false, ◌||◌, List, [], ◌∷◌, ◌++◌, Option, Some, None, refl, ap, sym, ◌∙◌, subst, arith, inl, inr, ◌⊎◌}
 use Rattle.std.specs.Prelude.{if◌then◌else◌}
 use Rattle.std.specs.List.{filter, find}
 use Rattle.std.proofs.lemmas.Bool.{eq-eqb, eqb-true}
@@ -101,7 +101,7 @@ module _ (order : Order) (state : WorldState) (sending : Sending) (sent : IsNext
       subst (λ (burst : Burst). IsBurstOf order state.memory.bus_bytes keeps.wrote number (newly_pending state.memory.sent burst) (sent.write, sent.piece)) (sym sent.burst)
       (subst (λ bus. IsBurstOf order bus keeps.wrote number (newly_pending state.memory.sent (burst_of_piece sending.id request sent.range (sent.write, sent.piece))) (sent.write, sent.piece)) (sym sound.bus)
       (burst_of_next order table.config keeps.wrote state.memory.sent sending.id request sent.range sent.write sent.piece sound.bridge_laws.requests.config served.pages served of.asked sent.ready.undone sent.plan
-      sent.next finds))
+      sent.next finds (λ write n x within has. of.unsent request.flight.sent n x sent.piece (omega arith) (sent.next ∙ ap (λ (side : Bool). Some (side, sent.piece)) write) within has)))
 
   -- the request of the number has one burst more
   by_number : find (is_numbered number) table.live ≡ Some request
@@ -115,6 +115,7 @@ module _ (order : Order) (state : WorldState) (sending : Sending) (sent : IsNext
       record {
         asked = of.asked;
         unwritten = of.unwritten;
+        unsent = λ k n x piece past there within has. of.unsent k n x piece (omega (arith, past)) there within has;
         written = of.written;
         gathered = gathered-sent order state.memory.bus_bytes sending.id request (address_of order.regions (request_of request.message)) of.gathered;
       }

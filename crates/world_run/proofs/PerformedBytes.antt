@@ -1,8 +1,8 @@
 -- What performing a beat of an open burst does to single bytes: a write stores what its request leaves, and a read captures what its
 -- request finds. It knows one burst, its piece and the memory; that the memory has what the request finds is a premise, and other requests
 -- are hidden.
-use Rattle.std.proofs.Common.{◌≡◌, ℕ, zero, suc, ◌+◌, ◌-◌, ◌%◌, ◌<◌, ◌≤◌, ◌==◌, Bool, true, false, ◌&&◌, List, [], ◌∷◌, length, Option, Some, None, is_some, inl, inr, ◌⊎◌, refl, ap, sym, ◌∙◌, subst, arith}
-use Rattle.std.specs.Prelude.{unwrap_or, IfSome, slice_set}
+use Rattle.std.proofs.Common.{◌≡◌, ◌≢◌, ℕ, zero, suc, ◌+◌, ◌-◌, ◌%◌, ◌<◌, ◌≤◌, ◌==◌, Bool, true, false, ◌&&◌, List, [], ◌∷◌, length, Option, Some, None, is_some, inl, inr, ◌⊎◌, refl, ap, sym, ◌∙◌, subst, arith}
+use Rattle.std.specs.Prelude.{unwrap_or, IfSome, slice_set, ⊤}
 use Rattle.std.specs.List.{enumerate_from, list_all, list_any, slice_get}
 use Rattle.std.proofs.lemmas.Bool.{and_parts, and_from, eqb-true, or_parts}
 use Rattle.std.proofs.lemmas.Option.{same_Some, slice_get_within}
@@ -13,7 +13,7 @@ use Rattle.axi_beats.specs.declared.AwBeat.{AwBeat}
 use Rattle.axi_beats.specs.declared.Resp.{Resp}
 use Rattle.axi_beats.specs.declared.WBeat.{WBeat}
 use Rattle.burst_plan.specs.declared.Piece.{Piece}
-use Rattle.flight_table.specs.LiveRequests.{is_atomic}
+use Rattle.flight_table.specs.LiveRequests.{is_atomic, planned}
 use Rattle.bridge_core.specs.Laws.{outstanding}
 use Rattle.bridge_core.specs.Requests.{BridgedRequest}
 use Rattle.subordinate.specs.Effects.{HasEffect, IsCaptured, IsWritten}
@@ -25,22 +25,37 @@ use Rattle.subordinate.specs.Pages.{Memory, byte_at_address}
 use Rattle.subordinate.specs.declared.BeatState.{BeatState}
 use Rattle.subordinate.specs.declared.BeatState.TheVariants.{Captured, Waiting, Written}
 use Rattle.subordinate.proofs.EffectLaws.{has_effect}
+use Rattle.subordinate.proofs.SoundDevices.{beat_after-performed}
 use Rattle.world_run.specs.InOrder.{AreBurstsOf, AreOfHolder, IsBurstOf, IsInOrder, IsReadOf, IsWriteOf, PutsSerially, TellsSerially}
 use Rattle.world_run.specs.Serial.{Order, byte_left, bytes_before, writes}
 
 -- ---- one more beat performed
 
 -- the beats after one was set: that one, or as before
-beat_set : (beats : List BeatState) (k n : ℕ) (new beat : BeatState) → slice_get (slice_set beats k new) n ≡ Some beat → ((n ≡ k) × (beat ≡ new)) ⊎ (slice_get beats n ≡ Some beat)
+beat_set : (beats : List BeatState) (k n : ℕ) (new beat : BeatState) → slice_get (slice_set beats k new) n ≡ Some beat → ((n ≡ k) × (beat ≡ new)) ⊎ ((n ≢ k) × (slice_get beats n ≡ Some beat))
 beat_set [] k n new beat there = absurd (cc (there))
 beat_set (b ∷ beats) zero zero new beat there = inl (refl, sym (same_Some new beat there))
-beat_set (b ∷ beats) zero (suc n) new beat there = inr there
-beat_set (b ∷ beats) (suc k) zero new beat there = inr there
+beat_set (b ∷ beats) zero (suc n) new beat there = inr (λ same. omega (arith, same), there)
+beat_set (b ∷ beats) (suc k) zero new beat there = inr (λ same. omega (arith, same), there)
 beat_set (b ∷ beats) (suc k) (suc n) new beat there =
     elim (beat_set beats k n new beat there) [
       | inl here ↦ inl (ap suc here.0, here.1)
-      | inr before ↦ inr before
+      | inr before ↦ inr (λ same. before.0 (omega (arith, same)), before.1)
     ]
+
+-- ---- what isn't written yet
+
+-- more is written, and nothing of a write burst's transfers that wasn't before
+abbrev pub LeavesBurst : (ℕ → ℕ → Bool) → (ℕ → ℕ → Bool) → ℕ → Bool × Piece → Type 0
+LeavesBurst wrote more number (true, piece) =
+    (n x : ℕ) → n ≤ piece.len → transfer_has piece.address piece.size (n + 1) x ≡ true → wrote number x ≡ false → more number x ≡ false
+LeavesBurst wrote more number (false, piece) = ⊤
+
+-- but for the transfer of beat n, from 0
+abbrev pub LeavesOthers : (ℕ → ℕ → Bool) → (ℕ → ℕ → Bool) → ℕ → ℕ → Bool × Piece → Type 0
+LeavesOthers wrote more number n (true, piece) =
+    (k x : ℕ) → k ≢ n → k ≤ piece.len → transfer_has piece.address piece.size (k + 1) x ≡ true → wrote number x ≡ false → more number x ≡ false
+LeavesOthers wrote more number n (false, piece) = ⊤
 
 -- ---- a write
 
@@ -119,9 +134,9 @@ stores_serially order memory wrote number pending piece n beat sound sound_pendi
 
 -- that beat is written from then on, where the bytes that its request writes by it are
 pub write_performed : (order : Order) (memory : FreeMemory) (bus_bytes : ℕ) (wrote more : ℕ → ℕ → Bool) (number : ℕ) (pending : Pending) (piece : Piece) (n : ℕ)
-    → ((x : ℕ) → wrote number x ≡ true → more number x ≡ true) → ((x : ℕ) → writes_by order number piece (n + 1) x ≡ true → more number x ≡ true)
+    → ((x : ℕ) → wrote number x ≡ true → more number x ≡ true) → ((x : ℕ) → writes_by order number piece (n + 1) x ≡ true → more number x ≡ true) → LeavesOthers wrote more number n (true, piece)
     → IsWriteOf order bus_bytes wrote number pending piece → IsWriteOf order bus_bytes more number (with_beat n (beat_after memory pending.burst n) pending) piece
-write_performed order memory bus_bytes wrote more number pending piece n kept adds of =
+write_performed order memory bus_bytes wrote more number pending piece n kept adds others of =
     record {
       aw = of.aw;
       w_beats = of.w_beats;
@@ -133,7 +148,14 @@ write_performed order memory bus_bytes wrote more number pending piece n kept ad
       written = λ k x beat there performed has written.
           elim (beat_set pending.beats n k (beat_after memory pending.burst n) beat there) [
             | inl here ↦ adds x (and_from _ _ (ap (λ i. transfer_has piece.address piece.size (i + 1) x) (sym here.0) ∙ has) written)
-            | inr before ↦ kept x (of.written k x beat before performed has written)
+            | inr before ↦ kept x (of.written k x beat before.1 performed has written)
+          ];
+      unwritten = λ k x waits within has.
+          elim (beat_set pending.beats n k (beat_after memory pending.burst n) Waiting waits) [
+            | inl here ↦
+                let performed = ap is_waiting here.1 ∙ beat_after-performed memory pending.burst n in
+                absurd (cc (performed))
+            | inr before ↦ others k x before.0 within has (of.unwritten k x before.1 within has)
           ];
     }
 
@@ -182,7 +204,7 @@ read_performed order bus_bytes number pending piece n becomes captures of =
       tells = λ k payload resp there.
           elim (beat_set pending.beats n k becomes (Captured payload resp) there) [
             | inl here ↦ told k payload resp here.0 (captured_parts payload captures.payload resp captures.resp (here.1 ∙ captures.is))
-            | inr before ↦ of.tells k payload resp before
+            | inr before ↦ of.tells k payload resp before.1
           ];
     }
   where
@@ -219,7 +241,7 @@ pub record PerformsSerially (order : Order) (memory : FreeMemory) (wrote : ℕ �
   pub kept : (x : ℕ) → stores_by order number burst (n + 1) x ≡ false → byte_at_address (memory_after memory pending.burst n) x ≡ byte_at_address memory.memory x
   pub still :
       (more : ℕ → ℕ → Bool) → ((x : ℕ) → wrote number x ≡ true → more number x ≡ true) → ((x : ℕ) → stores_by order number burst (n + 1) x ≡ true → more number x ≡ true)
-      → IsBurstOf order memory.bus_bytes more number (with_beat n (beat_after memory pending.burst n) pending) burst
+      → LeavesOthers wrote more number n burst → IsBurstOf order memory.bus_bytes more number (with_beat n (beat_after memory pending.burst n) pending) burst
 
 pub performs_serially : (order : Order) (memory : FreeMemory) (wrote : ℕ → ℕ → Bool) (number : ℕ) (pending : Pending) (burst : Bool × Piece) (n : ℕ) (beat : BeatState) → IsSoundMemory memory
     → IsSoundPending memory.bus_bytes pending → memory.faults ≡ order.faults → IsBurstOf order memory.bus_bytes wrote number pending burst → slice_get pending.beats n ≡ Some beat
@@ -231,14 +253,14 @@ performs_serially order memory wrote number pending (true, piece) n beat sound s
     record {
       set = stores.set;
       kept = stores.kept;
-      still = λ more kept adds. write_performed order memory memory.bus_bytes wrote more number pending piece n kept adds of;
+      still = λ more kept adds others. write_performed order memory memory.bus_bytes wrote more number pending piece n kept adds others of;
     }
 performs_serially order memory wrote number pending (false, piece) n beat sound sound_pending faults of there good finds =
     let captures = captures_serially order memory number pending piece n sound sound_pending faults of (λ x has page. finds x has page refl) in
     record {
       set = λ x never. absurd (cc (never));
       kept = λ x same. ap (λ burst. byte_at_address (memory_after memory burst n) x) of.burst;
-      still = λ more kept adds. read_performed order memory.bus_bytes number pending piece n (beat_after memory pending.burst n) captures of;
+      still = λ more kept adds others. read_performed order memory.bus_bytes number pending piece n (beat_after memory pending.burst n) captures of;
     }
 
 -- an open burst has as many beats as its piece has transfers
@@ -273,8 +295,8 @@ answered_written order bus_bytes wrote number pending piece n x sound of none on
 
 -- what holds of an open burst holds on
 pub writes_more : (order : Order) (bus_bytes : ℕ) (wrote more : ℕ → ℕ → Bool) (number : ℕ) (pending : Pending) (piece : Piece) → ((x : ℕ) → wrote number x ≡ true → more number x ≡ true)
-    → IsWriteOf order bus_bytes wrote number pending piece → IsWriteOf order bus_bytes more number pending piece
-writes_more order bus_bytes wrote more number pending piece kept of =
+    → LeavesBurst wrote more number (true, piece) → IsWriteOf order bus_bytes wrote number pending piece → IsWriteOf order bus_bytes more number pending piece
+writes_more order bus_bytes wrote more number pending piece kept leaves of =
     record {
       aw = of.aw;
       w_beats = of.w_beats;
@@ -284,34 +306,44 @@ writes_more order bus_bytes wrote more number pending piece kept of =
       len = of.len;
       puts = of.puts;
       written = λ n x beat there performed has written. kept x (of.written n x beat there performed has written);
+      unwritten = λ n x waits within has. leaves n x within has (of.unwritten n x waits within has);
     }
 
 pub burst_more : (order : Order) (bus_bytes : ℕ) (wrote more : ℕ → ℕ → Bool) (number : ℕ) (pending : Pending) (burst : Bool × Piece) → ((x : ℕ) → wrote number x ≡ true → more number x ≡ true)
-    → IsBurstOf order bus_bytes wrote number pending burst → IsBurstOf order bus_bytes more number pending burst
-burst_more order bus_bytes wrote more number pending (true, piece) kept of = writes_more order bus_bytes wrote more number pending piece kept of
-burst_more order bus_bytes wrote more number pending (false, piece) kept of = of
+    → LeavesBurst wrote more number burst → IsBurstOf order bus_bytes wrote number pending burst → IsBurstOf order bus_bytes more number pending burst
+burst_more order bus_bytes wrote more number pending (true, piece) kept leaves of = writes_more order bus_bytes wrote more number pending piece kept leaves of
+burst_more order bus_bytes wrote more number pending (false, piece) kept leaves of = of
 
 pub bursts_more : (order : Order) (bus_bytes : ℕ) (wrote more : ℕ → ℕ → Bool) (number : ℕ) (mine : List Pending) (bursts : List (Bool × Piece)) → ((x : ℕ) → wrote number x ≡ true → more number x ≡ true)
-    → AreBurstsOf order bus_bytes wrote number mine bursts → AreBurstsOf order bus_bytes more number mine bursts
-bursts_more order bus_bytes wrote more number [] [] kept of = tt
-bursts_more order bus_bytes wrote more number [] (burst ∷ bursts) kept of = absurd of
-bursts_more order bus_bytes wrote more number (pending ∷ mine) [] kept of = absurd of
-bursts_more order bus_bytes wrote more number (pending ∷ mine) (burst ∷ bursts) kept of =
-    (burst_more order bus_bytes wrote more number pending burst kept of.0, bursts_more order bus_bytes wrote more number mine bursts kept of.1)
+    → ((i : ℕ) (burst : Bool × Piece) → slice_get bursts i ≡ Some burst → LeavesBurst wrote more number burst) → AreBurstsOf order bus_bytes wrote number mine bursts
+    → AreBurstsOf order bus_bytes more number mine bursts
+bursts_more order bus_bytes wrote more number [] [] kept leaves of = tt
+bursts_more order bus_bytes wrote more number [] (burst ∷ bursts) kept leaves of = absurd of
+bursts_more order bus_bytes wrote more number (pending ∷ mine) [] kept leaves of = absurd of
+bursts_more order bus_bytes wrote more number (pending ∷ mine) (burst ∷ bursts) kept leaves of =
+    (burst_more order bus_bytes wrote more number pending burst kept (leaves 0 burst refl) of.0, bursts_more order bus_bytes wrote more number mine bursts kept (λ i other there. leaves (suc i) other there) of.1)
 
-pub of_holder_more : (order : Order) (bus_bytes : ℕ) (wrote more : ℕ → ℕ → Bool) (mine : List Pending) (holds : Option BridgedRequest) → ((i x : ℕ) → wrote i x ≡ true → more i x ≡ true)
+-- those of a request that has written no more
+pub of_holder_same : (order : Order) (bus_bytes : ℕ) (wrote more : ℕ → ℕ → Bool) (mine : List Pending) (holds : Option BridgedRequest) → IfSome holds (λ r. (x : ℕ) → more r.flight.number x ≡ wrote r.flight.number x)
     → AreOfHolder order bus_bytes wrote mine holds → AreOfHolder order bus_bytes more mine holds
-of_holder_more order bus_bytes wrote more mine None kept of = of
-of_holder_more order bus_bytes wrote more mine (Some request) kept of = bursts_more order bus_bytes wrote more request.flight.number mine (outstanding request.flight) (kept request.flight.number) of
+of_holder_same order bus_bytes wrote more mine None same of = of
+of_holder_same order bus_bytes wrote more mine (Some request) same of =
+    bursts_more order bus_bytes wrote more request.flight.number mine (outstanding request.flight) (λ x there. same x ∙ there) (λ i burst there. leaves burst) of
+  where
+    leaves : (burst : Bool × Piece) → LeavesBurst wrote more request.flight.number burst
+    leaves (true, piece) = λ n x within has none. same x ∙ none
+    leaves (false, piece) = tt
 
--- and a live request stays in order, where an atomic that doesn't write yet still wrote nothing
+-- and a live request stays in order, where an atomic that doesn't write yet still wrote nothing, and nothing more is written of what isn't sent
 pub in_order_more : (order : Order) (bus_bytes : ℕ) (wrote more : ℕ → ℕ → Bool) (request : BridgedRequest) → ((x : ℕ) → wrote request.flight.number x ≡ true → more request.flight.number x ≡ true)
-    → (is_atomic request.flight ≡ true → request.flight.writing ≡ false → (x : ℕ) → more request.flight.number x ≡ wrote request.flight.number x) → IsInOrder order bus_bytes wrote request
-    → IsInOrder order bus_bytes more request
-in_order_more order bus_bytes wrote more request kept same of =
+    → (is_atomic request.flight ≡ true → request.flight.writing ≡ false → (x : ℕ) → more request.flight.number x ≡ wrote request.flight.number x)
+    → ((k : ℕ) (burst : Bool × Piece) → request.flight.sent ≤ k → slice_get (planned request.flight) k ≡ Some burst → LeavesBurst wrote more request.flight.number burst)
+    → IsInOrder order bus_bytes wrote request → IsInOrder order bus_bytes more request
+in_order_more order bus_bytes wrote more request kept same leaves of =
     record {
       asked = of.asked;
       unwritten = λ atomic isnt x. same atomic isnt x ∙ of.unwritten atomic isnt x;
+      unsent = λ k n x piece past there within has. leaves k (true, piece) past there n x within has (of.unsent k n x piece past there within has);
       written = λ k n x piece answered there first last has writes_there. kept x (of.written k n x piece answered there first last has writes_there);
       gathered = of.gathered;
     }

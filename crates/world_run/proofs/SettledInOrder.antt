@@ -70,13 +70,33 @@ settled_written order wrote request most written =
 settled_unwritten : (wrote : ℕ → ℕ → Bool) (request : BridgedRequest) → IsUnwritten wrote request → IsUnwritten wrote (settled request)
 settled_unwritten wrote request none = settled_has (IsUnwritten wrote) request none (λ all atomic isnt x. absurd (cc (isnt))) (λ all. none)
 
+-- of a write that isn't sent nothing is written
+abbrev pub IsUnsent : (ℕ → ℕ → Bool) → BridgedRequest → Type 0
+IsUnsent wrote request =
+    (k n x : ℕ) (piece : Piece) → request.flight.sent ≤ k → slice_get (planned request.flight) k ≡ Some (true, piece) → n ≤ piece.len
+    → transfer_has piece.address piece.size (n + 1) x ≡ true → wrote request.flight.number x ≡ false
+
+-- nor of one that an atomic plans now
+settled_unsent : (wrote : ℕ → ℕ → Bool) (request : BridgedRequest) → IsUnwritten wrote request → IsUnsent wrote request → IsUnsent wrote (settled request)
+settled_unsent wrote request none unsent =
+    settled_has (IsUnsent wrote) request unsent
+    (λ all k n x piece past there within has. by_plan (is_atomic request.flight) request.flight.writing refl refl k n x piece past there within has)
+    (λ all. unsent)
+  where
+    by_plan : (atomic writing : Bool) → is_atomic request.flight ≡ atomic → request.flight.writing ≡ writing → (k n x : ℕ) (piece : Piece) → request.flight.sent ≤ k
+        → slice_get (planned (with_its_write request).flight) k ≡ Some (true, piece) → n ≤ piece.len → transfer_has piece.address piece.size (n + 1) x ≡ true → wrote request.flight.number x ≡ false
+    by_plan true false atomic isnt k n x piece past there within has = none atomic isnt x
+    by_plan false writing atomic is k n x piece past there within has = unsent k n x piece past (rw atomic (rw atomic at there)) within has
+    by_plan true true atomic is k n x piece past there within has = unsent k n x piece past (rw (atomic, is) (rw atomic at there)) within has
+
 pub settled_in_order : (order : Order) (bus_bytes : ℕ) (wrote : ℕ → ℕ → Bool) (request : BridgedRequest) → request.flight.answered ≤ length (planned request.flight)
-    → asked order request.flight.number ≡ Some (request_of request.message) → IsUnwritten wrote request → HasWritten order wrote request
+    → asked order request.flight.number ≡ Some (request_of request.message) → IsUnwritten wrote request → IsUnsent wrote request → HasWritten order wrote request
     → IsGathered order bus_bytes (settled request) (address_of order.regions (request_of request.message)) → IsInOrder order bus_bytes wrote (settled request)
-settled_in_order order bus_bytes wrote request most is_asked none written told =
+settled_in_order order bus_bytes wrote request most is_asked none unsent written told =
     record {
       asked = ap (asked order) (settled_number request) ∙ is_asked ∙ ap (λ m. Some (request_of m)) (sym (settled_message request));
       unwritten = settled_unwritten wrote request none;
+      unsent = settled_unsent wrote request none unsent;
       written = settled_written order wrote request most written;
       gathered = subst (λ m. IsGathered order bus_bytes (settled request) (address_of order.regions (request_of m))) (sym (settled_message request)) told;
     }

@@ -32,7 +32,7 @@ use Rattle.subordinate.specs.declared.BeatState.TheVariants.{Captured, Waiting, 
 use Rattle.world_run.specs.Laws.{GoesWell, IsPlain, IsSoundWorld, TakeAll}
 use Rattle.world_run.specs.World.{WorldState}
 use Rattle.world_run.proofs.Plain.{captured_plain}
-use Rattle.world_run.proofs.Outstanding.{oldest_read_seen, oldest_write_seen}
+use Rattle.subordinate.proofs.Monitors.{oldest_read_seen, oldest_write_seen}
 
 -- ---- the limits
 

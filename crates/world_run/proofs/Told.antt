@@ -1,15 +1,13 @@
 -- What a run's answers tell: one answer for each event, the numbers of the requests that were accepted, what their beats spell, and who
 -- took which reply. It knows the bridge; the memory plays no part.
-use Rattle.std.proofs.Common.{◌≡◌, ℕ, suc, true, List, [], ◌∷◌, ◌++◌, map, length, Option, Some, None, option_to_list, refl, sym, subst, ap, ap₂, ◌∙◌}
+use Rattle.std.proofs.Common.{◌≡◌, ℕ, ◌<◌, suc, true, List, [], ◌∷◌, ◌++◌, map, length, Option, Some, None, option_to_list, refl, sym, subst, ap, ap₂, ◌∙◌}
 use Rattle.std.specs.Prelude.{zip}
 use Rattle.std.specs.List.{AllByRecursion, cons_option, range_with_len}
-use Rattle.std.proofs.lemmas.Bool.{false≢true}
+use Rattle.std.proofs.lemmas.Bool.{false≢true, leb-false}
 use Rattle.tl_messages.specs.Requests.{request_of}
 use Rattle.tl_messages.specs.declared.ABeat.{ABeat}
 use Rattle.tl_messages.specs.declared.DBeat.{DBeat}
-use Rattle.tl_checker.specs.Requests.{Spells}
 use Rattle.bridge_core.specs.Bridge.{BridgeState, message_with}
-use Rattle.bridge_core.specs.Configs.{port_of}
 use Rattle.bridge_core.specs.declared.Config.{Config}
 use Rattle.world_run.specs.Headline.{IsSpelled}
 use Rattle.world_run.specs.Runs.{Heard, heard_nothing, HandedReply, AcceptedMessage, messages_from, messages_in, requests_of, accepted_numbers, accepted_in, answers_of, whose, replies_told, handed_at, handed_by, handed_in}
@@ -19,7 +17,7 @@ use Rattle.world_run.specs.declared.Answer.{Answer}
 use Rattle.world_run.specs.declared.Answer.TheVariants.{Accepted, Reply}
 use Rattle.world_run.specs.declared.Step.{Step}
 use Rattle.world_run.specs.declared.Step.TheVariants.{Offer, Take}
-use Rattle.world_run.proofs.AcceptedRequests.{IsHeard, accepted_at_step, heard_after, heard_at_first, heard_next, message_at, messages_from-next, quiet_message, quiet_request, request_at, whole_heard}
+use Rattle.world_run.proofs.AcceptedRequests.{IsHeard, accepted_at_step, heard_after, heard_at_first, heard_next, known_heard, message_at, messages_from-next, quiet_message, quiet_request, request_at, whole_heard}
 use Rattle.world_run.proofs.Events.{EachWay, IsAccepted, each_way}
 
 -- ---- one answer for each event
@@ -115,10 +113,12 @@ numbered_along config state heard (step ∷ steps) is =
 
 -- ---- what the beats of an accepted request spell
 
--- a message that is completed spells the request that the bridge makes of it
-pub spelled_at : (config : Config) (state : WorldState) (heard : Heard) (client : ℕ) (beat : ABeat) → IsHeard config state.bridge heard → IsAccepted state.bridge client beat
-    → Spells (port_of config client) (heard client ++ beat ∷ []) (request_of (message_with state.bridge client beat))
-spelled_at config state heard client beat is accepted = (whole_heard is client beat accepted.taken).spells
+-- a message that is completed is one of a client that there is, and spells the request that the bridge makes of it
+pub spelled_at : (setup : SetupLists) (state : WorldState) (heard : Heard) (client : ℕ) (beat : ABeat) → IsHeard setup.config state.bridge heard → IsAccepted state.bridge client beat
+    → IsSpelled setup (record { client = client; beats = heard client ++ beat ∷ [] }, request_of (message_with state.bridge client beat))
+spelled_at setup state heard client beat is accepted =
+    let known : client < setup.config.clients = leb-false setup.config.clients client (known_heard setup.config state.bridge heard client is accepted.taken.known) in
+    record { client = known; spells = (whole_heard is client beat accepted.taken).spells }
 
 -- each accepted message of a run spells its request
 pub spelled_along : (setup : SetupLists) (state : WorldState) (heard : Heard) (steps : List Step) → IsHeard setup.config state.bridge heard
@@ -144,7 +144,7 @@ spelled_along setup state heard (step ∷ steps) is =
         record {
           quiet = λ event answer still rest. rw (quiet_request state.bridge event answer still, quiet_message heard event answer still) rest;
           begins = λ client beat taken rest. rest;
-          accepts = λ client beat accepted rest. (spelled_at setup.config state heard client beat is accepted, rest);
+          accepts = λ client beat accepted rest. (spelled_at setup state heard client beat is accepted, rest);
           sends = λ sending sent rest. rest;
           performs = λ serial beat memory done rest. rest;
           gives_b = λ id b given rest. rest;

@@ -7,9 +7,10 @@ use Rattle.std.proofs.lemmas.Bool.{and_from, false≢true}
 use Rattle.axi_beats.specs.Bursts.{Burst, is_legal}
 use Rattle.axi_beats.specs.declared.BBeat.{BBeat}
 use Rattle.axi_beats.specs.declared.RBeat.{RBeat}
-use Rattle.axi_checker.specs.OpenBursts.{AxiBeat, OnB, OnR, open_after}
+use Rattle.axi_checker.specs.OpenBursts.{AxiBeat, OnB, OnR, nothing_open, open_after}
 use Rattle.axi_checker.specs.Rules.{axi_fault, beats_sent, burst_fault, first_axi_fault, open_with_burst}
 use Rattle.axi_checker.proofs.Histories.{first_axi_fault-burst}
+use Rattle.axi_checker.proofs.InOrder.{unbroken_is_in_order}
 use Rattle.axi_checker.proofs.Judging.{first_axi_fault-none}
 use Rattle.bridge_core.specs.Bridge.{b_fault, r_fault}
 use Rattle.bridge_core.specs.Configs.{axi_port_of}
@@ -177,5 +178,9 @@ traffic setup steps along =
       whole = refl;
       paired = paired_along (opening_world setup) steps;
       legal = legal_along setup.config (opening_world setup) steps refl along;
-      in_place = fine_along setup.config (opening_world setup) steps refl along;
+      in_place = fine;
+      in_order = unbroken_is_in_order (axi_port_of setup.config) (axi_history (answers_of (opening_world setup) steps) (bursts_along (opening_world setup) steps)) fine;
     }
+  where
+    fine : first_axi_fault (axi_port_of setup.config) nothing_open (axi_history (answers_of (opening_world setup) steps) (bursts_along (opening_world setup) steps)) ≡ None
+    fine = fine_along setup.config (opening_world setup) steps refl along

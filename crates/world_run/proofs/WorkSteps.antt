@@ -20,7 +20,6 @@ use Rattle.bridge_core.specs.Sending.{Sending, burst_of_piece, next_sending}
 use Rattle.bridge_core.proofs.AnswerLinks.{answered_reader, answered_writer, holder_known}
 use Rattle.bridge_core.proofs.NextSending.{map_some, next_found}
 use Rattle.bridge_core.proofs.SentLinks.{found_by_number}
-use Rattle.bridge_core.proofs.WorkLeft.{first_dropped, in_whole_course}
 use Rattle.responses.specs.Gathered.{Gathering, after_b, after_r}
 use Rattle.subordinate.specs.FreeMemory.{Pending, after_b_of, after_r_of, answers_left, b_of, beat_at, has_serial, ids_with_b, ids_with_r, r_of, transfers_in, waiting_beats, with_burst, with_performed}
 use Rattle.subordinate.specs.declared.BeatState.TheVariants.{Waiting}
@@ -46,6 +45,17 @@ unsent_by_flight [] = refl
 unsent_by_flight (request ∷ live) = sum_by-cons unsent_work request.flight (flights_of live) ∙ omega (arith, unsent_by_flight live, sum_by-cons unsent_of request live)
 
 -- ---- a burst is sent
+
+first_dropped : {X : Type 0} (xs : List X) (k : ℕ) (x : X) → slice_get xs k ≡ Some x → drop k xs ≡ x ∷ drop (suc k) xs
+first_dropped [] k x there = absurd (cc (there))
+first_dropped {X = X} (y ∷ ys) zero x there = ap (λ (z : X). z ∷ ys) (same_Some y x there)
+first_dropped (y ∷ ys) (suc k) x there = first_dropped ys k x there
+
+in_whole_course : (b : Bool) (reads writes : List Piece) (k : ℕ) (burst : Bool × Piece) → slice_get (course reads (if b then writes else [])) k ≡ Some burst → slice_get (course reads writes) k ≡ Some burst
+in_whole_course true reads writes k burst there = there
+in_whole_course false [] writes k burst there = absurd (cc (there))
+in_whole_course false (r ∷ reads) writes zero burst there = there
+in_whole_course false (r ∷ reads) writes (suc k) burst there = in_whole_course false reads writes k burst there
 
 -- the next burst's own work is no longer unsent
 next_in_course : (flight : LiveRequest) (burst : Bool × Piece) → next_burst flight ≡ Some burst → slice_get (whole_course flight) flight.sent ≡ Some burst

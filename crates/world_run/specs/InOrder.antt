@@ -23,7 +23,7 @@ use Rattle.bridge_core.specs.Requests.{BridgedRequest, RequestTable, address_of,
 use Rattle.subordinate.specs.Faults.{is_good, read_response, standing_at, write_response}
 use Rattle.subordinate.specs.FreeMemory.{Pending, is_read_of, is_waiting, is_write_of}
 use Rattle.subordinate.specs.declared.BeatState.{BeatState}
-use Rattle.subordinate.specs.declared.BeatState.TheVariants.{Captured}
+use Rattle.subordinate.specs.declared.BeatState.TheVariants.{Captured, Waiting}
 use Rattle.world_run.specs.Laws.{IsSoundWorld}
 use Rattle.world_run.specs.Meaning.{Bytes}
 use Rattle.world_run.specs.Runs.{accepted_in}
@@ -119,6 +119,8 @@ pub record IsWriteOf (order : Order) (bus_bytes : ℕ) (wrote : ℕ → ℕ → 
   pub written :
       (n x : ℕ) (beat : BeatState) → slice_get pending.beats n ≡ Some beat → is_waiting beat ≡ false
       → transfer_has piece.address piece.size (n + 1) x ≡ true → writes order number x ≡ true → wrote number x ≡ true
+  -- and what a beat that waits would put doesn't
+  pub unwritten : (n x : ℕ) → slice_get pending.beats n ≡ Some Waiting → n ≤ piece.len → transfer_has piece.address piece.size (n + 1) x ≡ true → wrote number x ≡ false
 
 -- an open read of a piece: its performed beats tell what the request finds
 pub record IsReadOf (order : Order) (bus_bytes number : ℕ) (pending : Pending) (piece : Piece) : Type 0 where
@@ -187,13 +189,17 @@ abbrev pub IsGathered : Order → ℕ → BridgedRequest → Option ℕ → Type
 IsGathered order bus_bytes request None = request.gathering ≡ gathering_of (outline_in request) true
 IsGathered order bus_bytes request (Some address) = HasGathered order bus_bytes request address
 
--- a live request: it is the one of its number; what its answered writes put is written, and of an atomic whose write isn't planned nothing is; and
--- what it has gathered is what it finds
+-- a live request: it is the one of its number; what its answered writes put is written, and nothing is of a write that isn't sent, or of an atomic
+-- whose write isn't planned; and what it has gathered is what it finds
 pub record IsInOrder (order : Order) (bus_bytes : ℕ) (wrote : ℕ → ℕ → Bool) (request : BridgedRequest) : Type 0 where
   -- its message spells the request of its number
   pub asked : asked order request.flight.number ≡ Some (request_of request.message)
   -- an atomic that still reads has written nothing, so its reads find what the requests before it leave
   pub unwritten : is_atomic request.flight ≡ true → request.flight.writing ≡ false → (x : ℕ) → wrote request.flight.number x ≡ false
+  -- of a write that isn't sent nothing is written
+  pub unsent :
+      (k n x : ℕ) (piece : Piece) → request.flight.sent ≤ k → slice_get (planned request.flight) k ≡ Some (true, piece) → n ≤ piece.len
+      → transfer_has piece.address piece.size (n + 1) x ≡ true → wrote request.flight.number x ≡ false
   -- of an answered write all bytes are written, those of each of its transfers
   pub written :
       (k n x : ℕ) (piece : Piece) → k < request.flight.answered → slice_get (planned request.flight) k ≡ Some (true, piece) → 1 ≤ n → n ≤ piece.len + 1

@@ -6,7 +6,7 @@ ghost use Rattle.world_run.specs.InOrder.{IsOrdered, order_of};
 ghost use Rattle.world_run.specs.Laws.{AreSoundAlong, IsSoundWorld};
 ghost use Rattle.world_run.specs.Runs.{handed_of, sent_beats, IsRunOf};
 ghost use Rattle.world_run.specs.Setups.{SetupLists, lists_of, setup_fault};
-ghost use Rattle.world_run.specs.World.{opening_world};
+ghost use Rattle.world_run.specs.World.{byte_of, in_flight, opening_world};
 ghost use Rattle.world_run.specs.declared.SentBeat.TheVariants.{W};
 ghost use Rattle.world_run.specs.declared.SetupFault.TheVariants.{NoMemory};
 ghost use Rattle.world_run.specs.declared.Step.{Step};
@@ -126,7 +126,7 @@ pub fn run(alloc: Global, setup: &Setup, steps: &[Step]) -> Result<RunRecord, Se
     // For every list of steps: the replies handed out are those of the accepted requests carried out whole, one at a time, in
     // order of acceptance, each at most once; once nothing is in flight the memory is theirs too; every burst sent obeys the
     // AXI4 rules.
-    ensures one_at_a_time { IfOk result (λ ran. IsOneAtATime (lists_of setup.now) steps.now ran.answers.items (handed_of ran.replies.items ran.d_beats.items) ran.sent.items ran.world) }
+    ensures one_at_a_time { IfOk result (λ ran. IsOneAtATime (lists_of setup.now) steps.now ran.answers.items (handed_of ran.replies.items ran.d_beats.items) ran.sent.items (in_flight ran.world) (byte_of ran.world)) }
 
     // Why: at each byte those that wrote it are the first so many of its writers, and what is captured, gathered or about to be
     // written is that of its request's own turn among them.

@@ -42,6 +42,8 @@ impl Model for World {
 impl World {
     ghost use Rattle.bridge_core.specs.Requests.{first_done};
     ghost use Rattle.std.specs.Prelude.{is_some};
+    ghost use Rattle.bridge_core.specs.Bridge as bridges;
+    ghost use Rattle.subordinate.specs.FreeMemory.{performed_waiting};
     ghost use Rattle.world_run.specs.World.{byte_of, in_flight, is_reply, leaves_all, next, opening_world, work_left};
 
     /// The opening world of a set-up. Refuses what `setup_fault` does, with that fault; its one other error is NoMemory, and
@@ -104,7 +106,10 @@ impl World {
 
     /// The work left: bursts to send, beats to perform, answers to come. A fresh atomic counts its write from the start.
     pub fn work_left(&self) -> u64
-        ensures { result ≡ work_left self.now }
+        ensures work { result ≡ work_left self.now }
+
+        // With the performed beats that wait for their answer it is what the bridge counts, which sees no beat performed before.
+        ensures bridge { result + performed_waiting self.now.memory ≡ bridges.work_left self.now.bridge }
     {
         self.bridge.unsent_work() + self.device.work_left()
     }

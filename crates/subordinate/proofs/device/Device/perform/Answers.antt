@@ -4,11 +4,12 @@ use Rattle.std.specs.Prelude.{Some, IfSome, find}
 use Rattle.axi_beats.specs.Bursts.{IsLegal}
 use Rattle.subordinate.specs.Device.{DeviceState}
 use Rattle.subordinate.specs.Effects.{HasEffectAt}
-use Rattle.subordinate.specs.FreeMemory.{beat_at, has_serial, performed}
+use Rattle.subordinate.specs.FreeMemory.{beat_at, has_serial, open_bursts_of, performed}
 use Rattle.subordinate.specs.declared.BeatState.{BeatState}
 use Rattle.subordinate.specs.declared.BeatState.TheVariants.{Waiting}
 use Rattle.subordinate.proofs.EffectLaws.{has_effect-performed}
 use Rattle.subordinate.specs.Order.{OwesTheSame}
+use Rattle.subordinate.proofs.Monitors.{known_performed}
 use Rattle.subordinate.proofs.OpenBursts.{found_none}
 use Rattle.subordinate.proofs.OrderLaws.{owes_performed}
 use Rattle.subordinate.proofs.SoundDevices.{performing-serial}
@@ -40,3 +41,7 @@ returns-in-Some-Waiting-clause-effect c = λ is_done.
 pub returns-in-Some-Waiting-clause-order : goal.returns-in-Some-Waiting-clause-order
 returns-in-Some-Waiting-clause-order c =
     subst (λ (device : DeviceState). OwesTheSame c.args.self.now.memory.pending device.memory.pending) (sym (returns-in-Some-Waiting-clause-state c)) (owes_performed c.args.self.now.memory c.args.serial c.args.beat)
+
+pub returns-in-Some-Waiting-clause-monitor : goal.returns-in-Some-Waiting-clause-monitor
+returns-in-Some-Waiting-clause-monitor c =
+    ap (λ (device : DeviceState). open_bursts_of device.memory) (returns-in-Some-Waiting-clause-state c) ∙ known_performed c.args.self.now.memory c.args.serial c.args.beat

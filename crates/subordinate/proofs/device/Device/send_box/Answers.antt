@@ -1,16 +1,18 @@
 -- There is room for a burst that breaks no rule.
-use Rattle.std.proofs.Common.{◌≡◌, ◌<◌, ◌+◌, List, length, arith, sym, ap, subst}
+use Rattle.std.proofs.Common.{◌≡◌, ◌<◌, ◌+◌, List, length, arith, refl, sym, ap, subst}
 use Rattle.std.specs.Prelude.{Option, IfSome, IsSome}
 use Rattle.std.specs.Vec.{vec_len}
 use Rattle.std.proofs.lemmas.List.{length-map}
 use Rattle.axi_beats.specs.Bursts.{Burst, IsLegal}
+use Rattle.axi_checker.specs.declared.AxiRule.{AxiRule}
 use Rattle.axi_checker.specs.Rules.{id_of, outstanding_beside}
 use Rattle.subordinate.specs.Device.{DeviceState}
-use Rattle.subordinate.specs.FreeMemory.{open_bursts_of, with_burst}
-use Rattle.subordinate.specs.Inside.{burst_in}
+use Rattle.subordinate.specs.FreeMemory.{open_bursts_of, send_fault, with_burst}
+use Rattle.subordinate.specs.Inside.{burst_in, memory_of}
 use Rattle.subordinate.specs.Laws.{IsSoundMemory}
 use Rattle.subordinate.proofs.OrderLaws.{sent_owed}
 use Rattle.subordinate.proofs.SoundDevices.{room-send, sending}
+use Rattle.subordinate.proofs.Monitors.{known_beats, known_sent}
 use Rattle.subordinate.proofs.device.Device.send_box.Goals as goal
 
 -- a burst that isn't refused has room, and joins the others
@@ -45,6 +47,21 @@ returns-clause-order c = λ taken.
     let items : c.self.inside.«open».items ≡ c.args.self.now.memory.pending = ap (λ (device : DeviceState). device.memory.pending) c.self.view_is in
     let sent : c.self.inside.sent ≡ c.args.self.now.memory.sent = ap (λ (device : DeviceState). device.memory.sent) c.self.view_is in
     rw (c.push.ensures.items, c.new.ensures, items, sent) (sent_owed c.args.burst c.args.self.now.memory.sent c.args.self.now.memory.pending)
+
+-- the open bursts are those before it and the one sent
+joined_bursts : (c : goal.After-self-1) → open_bursts_of (memory_of c.self.inside.bus_bytes c.self.inside.pages c.push.new.items.items (c.self.inside.sent + 1)) ≡ open_bursts_of (with_burst c.args.self.now.memory (burst_in c.args.burst))
+joined_bursts c =
+    let items : c.self.inside.«open».items ≡ c.args.self.now.memory.pending = ap (λ (device : DeviceState). device.memory.pending) c.self.view_is in
+    let sent : c.self.inside.sent ≡ c.args.self.now.memory.sent = ap (λ (device : DeviceState). device.memory.sent) c.self.view_is in
+    rw (c.push.ensures.items, c.new.ensures, items, sent) refl
+
+pub returns-clause-monitor : goal.returns-clause-monitor
+returns-clause-monitor c = λ taken. rw (joined_bursts c) (known_sent c.args.self.now.memory c.args.burst)
+
+pub returns-clause-beats : goal.returns-clause-beats
+returns-clause-beats c = λ taken.
+    rw (joined_bursts c)
+    (known_beats c.args.self.now.memory c.args.burst (subst (λ (fault : Option AxiRule). IfSome c.args.burst (λ burst. fault ≡ send_fault c.args.self.now.memory burst)) c.in_default.is c.send_fault.ensures.rule))
 
 pub returns-clause-laws : goal.returns-clause-laws
 returns-clause-laws c =
