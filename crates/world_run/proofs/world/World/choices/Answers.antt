@@ -10,7 +10,7 @@ use Rattle.world_run.proofs.EnabledSteps.{all_counted, answers_counted, pump_byt
 use Rattle.world_run.proofs.world.World.choices.Goals as goal
 
 pumps : (c : goal.After-pending) → c.from-pumps.result ≡ pump_count (is_some (burst_to_send c.self.inside.bridge.state))
-pumps c = c.from-pumps.ensures ∙ pump_byte c.can_pump.result ∙ ap pump_count c.can_pump.ensures
+pumps c = c.from-pumps.ensures ∙ pump_byte c.can_pump.result ∙ ap pump_count c.can_pump.ensures.burst
 
 few_beats : (c : goal.After-pending) → c.pending.result ≤ 65536
 few_beats c = omega (arith, c.pending.ensures, waiting_few c.self.inside.device.memory c.self.invariant.0.agree.memory_laws)

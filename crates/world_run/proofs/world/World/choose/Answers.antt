@@ -12,7 +12,7 @@ pub answer_at-requires : goal.answer_at-requires
 answer_at-requires c =
     let memory = c.self.inside.device.memory in
     let pump = is_some (burst_to_send c.self.inside.bridge.state) in
-    let pumps : c.from-pumps.result ≡ pump_count pump = c.from-pumps.ensures ∙ pump_byte c.can_pump.result ∙ ap pump_count c.can_pump.ensures in
+    let pumps : c.from-pumps.result ≡ pump_count pump = c.from-pumps.ensures ∙ pump_byte c.can_pump.result ∙ ap pump_count c.can_pump.ensures.burst in
     omega (
       arith,
       pumps,
@@ -28,7 +28,7 @@ pub returns : goal.returns
 returns c =
     let memory = c.self.inside.device.memory in
     let pump = is_some (burst_to_send c.self.inside.bridge.state) in
-    let pumps : c.from-pumps.result ≡ pump_count pump = c.from-pumps.ensures ∙ pump_byte c.can_pump.result ∙ ap pump_count c.can_pump.ensures in
+    let pumps : c.from-pumps.result ≡ pump_count pump = c.from-pumps.ensures ∙ pump_byte c.can_pump.result ∙ ap pump_count c.can_pump.ensures.burst in
     let past : pump_count pump ≤ c.args.k = omega (arith, pumps, c.if-k-pumps.false) in
     let more : length (waiting_beats memory) ≤ c.args.k - pump_count pump = omega (arith, pumps, c.pending-performs.ensures, c.if-place-performs.false) in
     let place : c.args.k - c.from-pumps.result - c.pending-performs.result ≡ c.args.k - pump_count pump - length (waiting_beats memory) = omega (arith, pumps, c.pending-performs.ensures) in

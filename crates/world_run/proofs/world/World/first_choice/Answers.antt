@@ -12,7 +12,7 @@ pub returns-clause-first : goal.returns-clause-first
 returns-clause-first c =
     let memory = c.self.inside.device.memory in
     let pump = is_some (burst_to_send c.self.inside.bridge.state) in
-    let none : pump_count pump ≡ 0 = ap pump_count (sym c.can_pump.ensures ∙ c.if-can_pump.false) in
+    let none : pump_count pump ≡ 0 = ap pump_count (sym c.can_pump.ensures.burst ∙ c.if-can_pump.false) in
     let first : 0 - pump_count pump - length (waiting_beats memory) ≡ 0 = omega arith in
     c.first_answer.ensures.first
     ∙ ap (slice_get (answers_enabled memory)) (sym first)
