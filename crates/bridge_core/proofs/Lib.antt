@@ -1,3 +1,4 @@
+mod Examples
 pub mod AnswerLinks
 pub mod BridgeSteps
 pub mod BurstWrites

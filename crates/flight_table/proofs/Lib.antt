@@ -6,3 +6,4 @@ pub mod TableChanges
 pub mod Steps
 pub mod NewRequests
 pub mod Ranges
+mod Examples

@@ -1,3 +1,4 @@
+mod Examples
 pub mod BeatStates
 pub mod BoxTransfers
 pub mod ByteLaws

@@ -1,3 +1,6 @@
+mod Examples
+mod ExamplesOfMeaning
+mod ExamplesOfRuns
 pub mod AcceptedRequests
 pub mod Agreeing
 pub mod AllDone
