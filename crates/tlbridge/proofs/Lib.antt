@@ -10,5 +10,6 @@ mod Endings
 mod Progress
 mod LineRooms
 mod Openings
+mod Commands
 mod ClientTables
 mod ConfigLines

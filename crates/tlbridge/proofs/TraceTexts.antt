@@ -1,5 +1,5 @@
--- The lines of one beat more.
-use Rattle.std.proofs.Common.{◌≡◌, ℕ, zero, suc, ◌+◌, List, [], ◌∷◌, ◌++◌, take, flat_map, Some, slice_get, ap, sym, ◌∙◌, append_assoc, rules, arith}
+-- The lines of one beat more, and texts that aren't empty.
+use Rattle.std.proofs.Common.{◌≡◌, ◌≢◌, ℕ, zero, suc, ◌+◌, List, [], ◌∷◌, ◌++◌, take, flat_map, Some, slice_get, refl, ap, sym, ◌∙◌, append_assoc, rules, arith}
 
 flat_map-take-suc : {X : Type 0} (f : X → List ℕ) (xs : List X) (k : ℕ) (x : X) → slice_get xs k ≡ Some x → flat_map f (take (suc k) xs) ≡ flat_map f (take k xs) ++ f x
 flat_map-take-suc f [] k x found = search rules
@@ -11,3 +11,12 @@ pub flat_map-take : {X : Type 0} (f : X → List ℕ) (xs : List X) (k : ℕ) (x
 flat_map-take f xs k x found =
     let next : k + 1 ≡ suc k = omega arith in
     rw next (flat_map-take-suc f xs k x found)
+
+-- a text with a part that isn't empty
+pub some_before : (xs ys : List ℕ) → xs ≢ [] → xs ++ ys ≢ []
+some_before [] ys some none = some refl
+some_before (x ∷ xs) ys some none = search rules
+
+pub some_after : (xs ys : List ℕ) → ys ≢ [] → xs ++ ys ≢ []
+some_after [] ys some none = some none
+some_after (x ∷ xs) ys some none = search rules

@@ -1,5 +1,5 @@
 -- What the state of `tlbridge run` is in a clause, and what a line may add to it.
-use Rattle.std.specs.Prelude.{◌≡◌, ◌<◌, ◌≤◌, ◌+◌, ◌^◌, ⊤, Bool, true, length, Result, Ok, Err}
+use Rattle.std.specs.Prelude.{◌≡◌, ◌<◌, ◌≤◌, ◌+◌, ◌^◌, ⊤, Bool, true, length, Result, Ok, Err, IsOk}
 use Rattle.world_run.specs.Setups.{lists_of}
 use Rattle.tlbridge.specs.Run as run
 use Rattle.tlbridge.specs.declared.faults.TextFault.{TextFault}
@@ -22,11 +22,12 @@ HasRoom (run.SettingUp setup) (Pages first count kind) = (length setup.pages + c
 HasRoom (run.SettingUp setup) (BadWord address) = length setup.bad_words < 64
 HasRoom stage line = ⊥
 
--- what a script's commands work on was made where there was none, or why it wasn't; memory is asked for only while nothing was written
+-- what a script's commands work on was made where there was none, or why it wasn't; memory is asked for only where it may be made and nothing
+-- was written
 abbrev pub OpensAs : {S W : Type 0} → (W → S) → Result W TextFault → Bool → S → Result (Unit {0}) TextFault → Type 0
 OpensAs {S} {W} stage opened silent new (Ok done) = (world : W) × (opened ≡ Ok world) × (new ≡ stage world)
 OpensAs stage opened silent new (Err (Script line word)) = opened ≡ Err (Script line word)
 OpensAs stage opened silent new (Err (Setup fault)) = opened ≡ Err (Setup fault)
 OpensAs stage opened silent new (Err Read) = ⊥
 OpensAs stage opened silent new (Err Write) = ⊥
-OpensAs stage opened silent new (Err NoMemory) = silent ≡ true
+OpensAs stage opened silent new (Err NoMemory) = (silent ≡ true) × IsOk opened

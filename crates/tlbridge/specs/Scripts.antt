@@ -1,5 +1,5 @@
 -- How a script is read, whatever its lines do, and how a call that reads one ends (this project's profile).
-use Rattle.std.specs.Prelude.{◌≡◌, ◌≤◌, ◌⊎◌, ⊤, ℕ, ◌+◌, Bool, not, ◌||◌, List, [], ◌∷◌, ◌++◌, length, Option, Result, Ok, Err, if◌then◌else◌, nat_lt}
+use Rattle.std.specs.Prelude.{◌≡◌, ◌≢◌, ◌≤◌, ◌⊎◌, ℕ, ◌+◌, Bool, not, ◌||◌, List, [], ◌∷◌, ◌++◌, length, Option, Result, Ok, Err, IsOk, if◌then◌else◌, nat_lt}
 use Rattle.std.specs.Io.KnownBytes.{Appends, Consumes, Keeps, IsAtEnd}
 use Rattle.tlbridge.specs.Words.{lines_of, ended_lines_of, is_plain_line, is_skipped, words_of}
 use Rattle.tlbridge.specs.declared.faults.TextFault.{TextFault}
@@ -65,30 +65,52 @@ text_before_failure reading start input = lines_result reading (λ state number.
 abbrev pub Tells : TextResult → Option (List ℕ) → Option (List ℕ) → Result Bool TextFault → Type 0
 Tells text old new result = Appends old new text.output × (text.result ≡ result)
 
+-- a script that writes something
+abbrev pub HasText : TextResult → Type 0
+HasText text = text.output ≢ []
+
 -- a fault that stands whatever follows
 abbrev pub IsSettled : (List ℕ → TextResult) → List ℕ → Type 0
-IsSettled whole read = (rest : List ℕ) → whole (read ++ rest) ≡ whole read
+IsSettled whole judged = (more : List ℕ) → whole (judged ++ more) ≡ whole judged
 
--- how a call ends that has read these bytes: `whole` and `before_failure` are the texts of a whole input and of one whose reader failed
-abbrev pub EndsAfter : (List ℕ → TextResult) → (List ℕ → TextResult) → List ℕ → Option (List ℕ) → Option (List ℕ) → Option (List ℕ) → Result Bool TextFault → Type 0
+-- all of the input was judged: nothing was read ahead, and the reader is at its end
+abbrev pub IsAllJudged : List ℕ → Option (List ℕ) → Type 0
+IsAllJudged ahead rest = (ahead ≡ []) × IsAtEnd rest
+
+-- the last line, which its line feed ended, has text, and none before it has
+abbrev pub EndsSilence : (List ℕ → TextResult) → (List ℕ → TextResult) → List ℕ → Type 0
+EndsSilence whole before_failure judged = (front : List ℕ) × (judged ≡ front ++ 10 ∷ []) × ((before_failure front).output ≡ []) × HasText (whole judged)
+
+-- where a call asks for memory: before its first read, or where no line is at fault, at the first line that has text or at the input's end
+abbrev pub AsksForMemory : (List ℕ → TextResult) → (List ℕ → TextResult) → List ℕ → List ℕ → Option (List ℕ) → Type 0
+AsksForMemory whole before_failure judged ahead rest =
+    (judged ++ ahead ≡ [])
+    ⊎ (IsOk (whole judged).result × (EndsSilence whole before_failure judged ⊎ (IsAllJudged ahead rest × ((before_failure judged).output ≡ []))))
+
+-- how a call ends that has judged these bytes and read those ahead: `whole` and `before_failure` are the texts of a whole input and of one
+-- whose reader failed
+abbrev pub EndsAfter : (List ℕ → TextResult) → (List ℕ → TextResult) → List ℕ → List ℕ → Option (List ℕ) → Option (List ℕ) → Option (List ℕ) → Result Bool TextFault → Type 0
 -- to the end, with the text of all of it
-EndsAfter whole before_failure read rest old new (Ok refused) = IsAtEnd rest × Tells (whole read) old new (Ok refused)
+EndsAfter whole before_failure judged ahead rest old new (Ok refused) = IsAllJudged ahead rest × Tells (whole judged) old new (Ok refused)
 -- with the text of the lines before the fault, and no later than where the fault stands whatever follows
-EndsAfter whole before_failure read rest old new (Err (Script line word)) =
-    (IsAtEnd rest ⊎ IsSettled whole read) × Tells (whole read) old new (Err (Script line word))
-EndsAfter whole before_failure read rest old new (Err (Setup fault)) =
-    (IsAtEnd rest ⊎ IsSettled whole read) × Tells (whole read) old new (Err (Setup fault))
+EndsAfter whole before_failure judged ahead rest old new (Err (Script line word)) =
+    (IsAllJudged ahead rest ⊎ IsSettled whole judged) × Tells (whole judged) old new (Err (Script line word))
+EndsAfter whole before_failure judged ahead rest old new (Err (Setup fault)) =
+    (IsAllJudged ahead rest ⊎ IsSettled whole judged) × Tells (whole judged) old new (Err (Setup fault))
 -- with the text of the lines whose line feed was read
-EndsAfter whole before_failure read rest old new (Err Read) = Tells (before_failure read) old new (Err Read)
--- how much a writer took that failed isn't told
-EndsAfter whole before_failure read rest old new (Err Write) = ⊤
--- with nothing written
-EndsAfter whole before_failure read rest old new (Err NoMemory) = Keeps old new
+EndsAfter whole before_failure judged ahead rest old new (Err Read) = (ahead ≡ []) × Tells (before_failure judged) old new (Err Read)
+-- only where no line is at fault and one has text; how much a writer took that failed isn't told
+EndsAfter whole before_failure judged ahead rest old new (Err Write) = IsOk (whole judged).result × HasText (whole judged)
+-- with nothing written, and only where memory is asked for
+EndsAfter whole before_failure judged ahead rest old new (Err NoMemory) = Keeps old new × AsksForMemory whole before_failure judged ahead rest
 
--- how a call ends, by what the reader has left before and after it and what the writer holds before and after it, where these are known;
--- at most 65,536 lines of 128 bytes with their line ends, and one byte more, are read
+-- how a call ends, by what the reader has left before and after it and what the writer holds before and after it, where these are known. What
+-- left the reader was judged, at most 65,536 lines of 128 bytes with their line ends and one byte more; but for what was read ahead, at most a
+-- block of 65,536 bytes
 pub record EndsAs (whole before_failure : List ℕ → TextResult) (input rest old new : Option (List ℕ)) (result : Result Bool TextFault) : Type 0 where
-  pub read : List ℕ
-  pub consumed : Consumes input rest read
-  pub bound : length read ≤ 8519681
-  pub ends : EndsAfter whole before_failure read rest old new result
+  pub judged : List ℕ
+  pub ahead : List ℕ
+  pub consumed : Consumes input rest (judged ++ ahead)
+  pub bound : length judged ≤ 8519681
+  pub block : length ahead ≤ 65536
+  pub ends : EndsAfter whole before_failure judged ahead rest old new result

@@ -128,6 +128,7 @@ impl CheckScript {
         }
     }
 
+    #[tactic(auto, using(crate::proofs::Commands::check_command))]
     fn carry_out<W: Write>(
         &mut self,
         alloc: Global,
@@ -135,7 +136,7 @@ impl CheckScript {
         command: &CheckCommand,
         writer: &mut W,
     ) -> Result<(), TextFault>
-        ensures { TakesStep (command_step (ports_at self.old number) command.now) nothing_judged self.old self.new (W.contents writer.old) (W.contents writer.new) result }
+        ensures { TakesStep check_reading (command_step (ports_at self.old number) command.now) nothing_judged self.old self.new (W.contents writer.old) (W.contents writer.new) result }
     {
         self.open_ports(alloc, number)?;
         let Stage::Judging(ports) = &mut self.stage else {

@@ -230,6 +230,7 @@ impl RunScript {
         }
     }
 
+    #[tactic(auto, using(crate::proofs::Commands::run_command))]
     fn carry_out<W: Write>(
         &mut self,
         alloc: Global,
@@ -237,7 +238,7 @@ impl RunScript {
         asked: &Command,
         writer: &mut W,
     ) -> Result<(), TextFault>
-        ensures { TakesStep (command_step (world_at self.old number) asked.now) nothing_written self.old self.new (W.contents writer.old) (W.contents writer.new) result }
+        ensures { TakesStep run_reading (command_step (world_at self.old number) asked.now) nothing_written self.old self.new (W.contents writer.old) (W.contents writer.new) result }
     {
         self.open_world(alloc, number)?;
         let Stage::Running(world) = &mut self.stage else {
@@ -278,6 +279,7 @@ impl Script for RunScript {
 }
 
 /// Carries out a script and writes its trace, each command's text before the next line is read.
+/// Memory is asked for before the first read, and at the first command, or at the input's end where there is none.
 pub fn run_text<R: Read, W: Write>(
     alloc: Global,
     reader: &mut R,

@@ -35,7 +35,7 @@ pub trait Script {
         words: &Words<'_>,
         writer: &mut W,
     ) -> Result<(), TextFault>
-        ensures { TakesStep (reading.step self.old number words.now) is_silent self.old self.new (W.contents writer.old) (W.contents writer.new) result };
+        ensures { TakesStep reading (reading.step self.old number words.now) is_silent self.old self.new (W.contents writer.old) (W.contents writer.new) result };
 
     /// How the script ends, by the number of the line after the last.
     fn end(&mut self, alloc: Global, number: u32) -> Result<bool, TextFault>
@@ -77,7 +77,7 @@ fn take_line<S: Script, W: Write>(
     writer: &mut W,
 ) -> Result<(), TextFault>
     requires { number ≤ 65536 }
-    ensures { TakesStep (line_step S.reading script.old number (strip_carriage_return line.now)) S.is_silent script.old script.new (W.contents writer.old) (W.contents writer.new) result }
+    ensures { TakesStep S.reading (line_step S.reading script.old number (strip_carriage_return line.now)) S.is_silent script.old script.new (W.contents writer.old) (W.contents writer.new) result }
 {
     let Some(text) = plain(without_return(line)) else {
         return Err(TextFault::Script {

@@ -20,7 +20,7 @@ pub returns-in-Input : goal.returns-in-Input
 returns-in-Input g c =
     let part = rw c.in-Input.is at c.in-Ok.ensures in
     Ends-rest g.S.Script.reading g.S.Script.is_silent c.args.script.now c.loop-number.script c.loop-number.number _ _ _ _ _ _ c.read_line.new.line.items c.take_rest.result c.loop-number.invariant
-    (omega (arith, c.loop-number-test.true, part.1)) part.2.0 part.2.1 (rw c.as_slice.ensures.value at c.take_rest.ensures)
+    (omega (arith, c.loop-number-test.true, part.1)) part.0 part.2.0 part.2.1 (rw c.as_slice.ensures.value at c.take_rest.ensures)
 
 pub returns-in-Room : goal.returns-in-Room
 returns-in-Room g c =
@@ -34,7 +34,7 @@ returns-in-Err g c =
     Ends-fault g.S.Script.reading g.S.Script.is_silent c.args.script.now c.loop-number.script c.take_line.new.script c.loop-number.number _ _ _ _ _ _ c.read_line.new.line.items c.in-Err.fault c.loop-number.invariant
     (omega (arith, c.loop-number-test.true)) part.0 part.1 part.2
     (subst
-    (λ line. TakesStep (line_step g.S.Script.reading c.loop-number.script c.loop-number.number (strip_carriage_return line)) g.S.Script.is_silent c.loop-number.script c.take_line.new.script (g.W.Write.contents c.loop-number.writer) (g.W.Write.contents c.take_line.new.writer) (Err c.in-Err.fault))
+    (λ line. TakesStep g.S.Script.reading (line_step g.S.Script.reading c.loop-number.script c.loop-number.number (strip_carriage_return line)) g.S.Script.is_silent c.loop-number.script c.take_line.new.script (g.W.Write.contents c.loop-number.writer) (g.W.Write.contents c.take_line.new.writer) (Err c.in-Err.fault))
     c.as_slice-in-loop-number.ensures.value c.in-Err.ensures)
 
 pub loop-number-preserved : goal.loop-number-preserved
@@ -54,7 +54,7 @@ returns-in_default-next g c =
     let next = rw c.in_default-next.is at c.in-Ok-next_byte.ensures.byte in
     let last : c.loop-number.number ≡ 65537 = omega (arith, c.loop-number-test.false, c.loop-number.auto.number-end (omega arith)) in
     Ends-rest g.S.Script.reading g.S.Script.is_silent c.args.script.now c.loop-number.script 65537 _ _ _ _ _ _ [] c.end.result (rw last at c.loop-number.invariant)
-    (omega arith) (Consumes-kept _ _ _ [] (Consumes-nil _) next.0) next.1
+    (omega arith) (λ i within. absurd (omega (arith, within))) (Consumes-kept _ _ _ [] (Consumes-nil _) next.0) next.1
     (TakesRest-end g.S.Script.reading c.loop-number.script 65537 (g.S.Script.is_silent c.loop-number.script) (g.W.Write.contents c.loop-number.writer) c.end.result c.end.ensures)
 
 pub returns : goal.returns
