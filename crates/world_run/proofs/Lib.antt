@@ -1,6 +1,7 @@
 mod Examples
 mod ExamplesOfMeaning
 mod ExamplesOfRuns
+mod ExamplesOfStatements
 pub mod AcceptedRequests
 pub mod Agreeing
 pub mod AllDone
