@@ -1,5 +1,6 @@
 mod Examples
 mod ExamplesOfMeaning
+mod ExamplesOfOneRun
 mod ExamplesOfRuns
 pub mod AcceptedRequests
 pub mod Agreeing
