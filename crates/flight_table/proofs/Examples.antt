@@ -1,5 +1,5 @@
 -- Worked values of the definitions.
-use Rattle.std.proofs.Common.{◌≡◌, ℕ, true, false, List, [], ◌∷◌, map, length, filter, drop, Option, Some, None, refl}
+use Rattle.std.proofs.Common.{◌≡◌, ℕ, true, false, List, [], ◌∷◌, map, length, filter, drop, Option, Some, None, true≢false, refl, sym, arith}
 use Rattle.std.specs.Prelude.{option_map, replicate, take}
 use Rattle.std.specs.List.{range_with_len}
 use Rattle.tl_messages.specs.Requests.{HeldMessage}
@@ -10,7 +10,7 @@ use Rattle.burst_plan.specs.PageMap.{translated}
 use Rattle.burst_plan.specs.Pieces.{PlannedRange}
 use Rattle.burst_plan.specs.declared.Region.{Region}
 use Rattle.flight_table.specs.LiveRequests.{LiveRequest, awaits_write, finished, flight_for, next_burst, with_answered, with_sent, with_write}
-use Rattle.flight_table.specs.Order.{conflict, free_id, holder_of, holders, id_for, is_ready, next_ready}
+use Rattle.flight_table.specs.Order.{IsSmallestDone, IsSmallestReady, conflict, free_id, holder_of, holders, id_for, is_ready, next_ready}
 use Rattle.flight_table.specs.Tables.{FlightTable, KeyedTable, change_key, change_number, flight_of, has_room, in_flight, is_busy, key_where, oldest_done, request_at, table_of, with_entry, without_number}
 use Rattle.flight_table.specs.Work.{spared_work, unsent, work, work_of}
 use Rattle.flight_table.specs.declared.TableLimits.{TableLimits}
@@ -153,6 +153,16 @@ both_gets_sent = send 1 1 (send 0 0 gets_then_put)
 a_put_behind_two_gets : ready_number gets_then_put ∷ ready_number (send 0 0 gets_then_put) ∷ ready_number both_gets_sent ∷ ready_number (finish 1 (answer 1 both_gets_sent))
     ∷ ready_number (finish 0 (answer 0 (finish 1 (answer 1 both_gets_sent)))) ∷ [] ≡ Some 0 ∷ Some 1 ∷ None ∷ None ∷ Some 2 ∷ []
 a_put_behind_two_gets = refl
+
+-- the first Get is the smallest that is ready; the second is ready too, and the Put isn't
+first_is_the_smallest : IsSmallestReady gets_then_put (request 0 0 Get 0x10000 4)
+first_is_the_smallest = record { ready = refl; smallest = (λ is. omega arith, (λ is. omega arith, (λ is. omega arith, tt))) }
+
+second_is_not_the_smallest : IsSmallestReady gets_then_put (request 1 1 Get 0x10008 3) → ⊥
+second_is_not_the_smallest it = absurd (omega (arith, it.smallest.0 refl))
+
+a_held_put_is_none : IsSmallestReady gets_then_put (request 2 1 PutFull 0x10008 3) → ⊥
+a_held_put_is_none it = absurd (true≢false (sym it.ready))
 
 -- 512 bytes are four bursts, of which at most two are unanswered
 abbrev four_bursts : FlightTable
@@ -316,6 +326,14 @@ done_and_taken = refl
 oldest_of_the_done : map number_of (oldest_done four_gets 0 ∷ oldest_done (finish 2 four_gets) 0 ∷ oldest_done (finish 1 (finish 2 four_gets)) 0
     ∷ oldest_done (finish 2 four_gets) 1 ∷ []) ≡ None ∷ Some 2 ∷ Some 1 ∷ None ∷ []
 oldest_of_the_done = refl
+
+-- so the second is the smallest that is done, whatever another client's are
+second_is_the_oldest : IsSmallestDone (finish 1 (finish 2 four_gets)) 0 (finished (request 1 0 Get 0x10000 3))
+second_is_the_oldest =
+    record { done = refl; whose = refl; smallest = (λ whose is. absurd (true≢false (sym is)), (λ whose is. omega arith, (λ whose is. omega arith, (λ whose is. omega arith, tt)))) }
+
+third_is_not : IsSmallestDone (finish 1 (finish 2 four_gets)) 0 (finished (request 2 0 Get 0x10000 3)) → ⊥
+third_is_not it = absurd (omega (arith, it.smallest.1.0 refl refl))
 
 those_in_flight : in_flight four_gets ∷ in_flight (finish 2 four_gets) ∷ in_flight (table (unplanned 0 Get ∷ [])) ∷ [] ≡ 4 ∷ 3 ∷ 0 ∷ []
 those_in_flight = refl

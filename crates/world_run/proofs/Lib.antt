@@ -1,5 +1,6 @@
 mod Examples
 mod ExamplesOfMeaning
+mod ExamplesOfOneRun
 mod ExamplesOfRuns
 mod ExamplesOfStatements
 pub mod AcceptedRequests
