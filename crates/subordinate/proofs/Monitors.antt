@@ -293,7 +293,7 @@ takes_b memory id resp p sound found plain =
     rw (lt-leb 16 id (id_of_write memory id p sound found), oldest.seen, lt-leb (oldest.aw.len + 1) oldest.aw.len (omega arith), plain) refl
 
 -- what a read captured, and so answers, isn't EXOKAY
-captured_plain : (burst : Burst) (beats : List BeatState) (n payload : ℕ) (resp : Resp) → AllByRecursion (IsBeatOf burst) beats → slice_get beats n ≡ Some (Captured payload resp) → is_exokay resp ≡ false
+pub captured_plain : (burst : Burst) (beats : List BeatState) (n payload : ℕ) (resp : Resp) → AllByRecursion (IsBeatOf burst) beats → slice_get beats n ≡ Some (Captured payload resp) → is_exokay resp ≡ false
 captured_plain burst [] n payload resp all there = absurd (cc)
 captured_plain burst (beat ∷ beats) zero payload resp all there = of_burst burst (subst (IsBeatOf burst) (same_Some beat (Captured payload resp) there) all.0)
   where

@@ -40,7 +40,6 @@ use Rattle.subordinate.specs.Laws.{IsSoundMemory}
 use Rattle.world_run.specs.Laws.{Agree, bursts_sent}
 use Rattle.world_run.proofs.Serials.{most_sent}
 use Rattle.subordinate.proofs.Monitors.{HasBeatsToCome, outstanding_after_b, outstanding_after_r, outstanding_performed, outstanding_sent}
-use Rattle.world_run.proofs.Plain.{plain_after_b, plain_after_r, plain_performed, plain_sent}
 use Rattle.world_run.proofs.Sums.{sum_between, sum_unseen, sum_without}
 
 -- ---- a burst is sent
@@ -63,7 +62,6 @@ agree_sent state memory sending agree is bridge_laws memory_laws =
       memory_laws = memory_laws;
       bus = agree.bus;
       outstanding = ap (λ (outstanding : OpenBursts). open_with_burst outstanding sending.burst) agree.outstanding ∙ outstanding_sent memory sending.burst;
-      plain = plain_sent memory sending.burst agree.plain;
       serials = record {
         accepted = agree.serials.accepted;
         live = omega (arith, agree.serials.live, same);
@@ -81,7 +79,6 @@ agree_performed state memory pending beat agree memory_laws =
       memory_laws = memory_laws;
       bus = agree.bus;
       outstanding = agree.outstanding ∙ sym (outstanding_performed memory pending beat);
-      plain = plain_performed memory pending beat agree.plain;
       serials = record { accepted = agree.serials.accepted; live = agree.serials.live; sent = agree.serials.sent };
     }
 
@@ -121,7 +118,6 @@ agree_after_b state memory b agree bridge_laws memory_laws =
       memory_laws = memory_laws;
       bus = agree.bus;
       outstanding = ap (λ (outstanding : OpenBursts). open_after outstanding (OnB b)) agree.outstanding ∙ outstanding_after_b memory b;
-      plain = plain_after_b b.id memory.pending agree.plain;
       serials = record {
         accepted = agree.serials.accepted;
         live = omega (arith, agree.serials.live, same);
@@ -140,7 +136,6 @@ agree_after_r state memory r agree to_come bridge_laws memory_laws =
       memory_laws = memory_laws;
       bus = agree.bus;
       outstanding = ap (λ (outstanding : OpenBursts). open_after outstanding (OnR r)) agree.outstanding ∙ outstanding_after_r memory r to_come;
-      plain = plain_after_r r.id memory.pending agree.plain;
       serials = record {
         accepted = agree.serials.accepted;
         live = omega (arith, agree.serials.live, same);
@@ -167,7 +162,6 @@ agree_taken state memory client request agree found bridge_laws =
       memory_laws = agree.memory_laws;
       bus = agree.bus;
       outstanding = agree.outstanding;
-      plain = agree.plain;
       serials = record {
         accepted = agree.serials.accepted;
         live = omega (arith, agree.serials.live, fewer);
@@ -185,7 +179,6 @@ agree_fronts state memory fronts agree bridge_laws =
       memory_laws = agree.memory_laws;
       bus = agree.bus;
       outstanding = agree.outstanding;
-      plain = agree.plain;
       serials = record { accepted = agree.serials.accepted; live = agree.serials.live; sent = agree.serials.sent };
     }
 
@@ -200,7 +193,6 @@ agree_joined state memory fronts message agree below bridge_laws =
       memory_laws = agree.memory_laws;
       bus = agree.bus;
       outstanding = agree.outstanding;
-      plain = agree.plain;
       serials = record {
         accepted = omega (arith, below);
         live = omega (arith, agree.serials.live, one);

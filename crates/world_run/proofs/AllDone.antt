@@ -40,9 +40,14 @@ use Rattle.world_run.specs.World.{IsQuiet, WorldState, enabled, perform_at, pump
 use Rattle.world_run.specs.declared.Step.{Step}
 use Rattle.world_run.specs.declared.Step.TheVariants.{AnswerB, AnswerR, Pump}
 use Rattle.subordinate.proofs.Monitors.{oldest_read_seen}
-use Rattle.world_run.proofs.Plain.{all-at}
 
 -- ---- searches
+
+-- what holds of all holds of each
+all-at : {X : Type 0} (P : X → Type 0) (xs : List X) (n : ℕ) (x : X) → AllByRecursion P xs → slice_get xs n ≡ Some x → P x
+all-at P [] n x all at = absurd (cc)
+all-at P (y ∷ ys) zero x all at = subst P (same_Some y x at) all.0
+all-at P (y ∷ ys) (suc n) x all at = all-at P ys n x all.1 at
 
 -- what a search finds nowhere isn't what another finds
 none_found : {X : Type 0} (p q : X → Bool) (xs : List X) (x : X) → find p xs ≡ None → find q xs ≡ Some x → p x ≡ false

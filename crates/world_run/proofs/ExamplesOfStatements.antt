@@ -1,5 +1,5 @@
 -- Cases that the statements on runs refuse: a message of a client that isn't there, and bytes that count as written before they are.
-use Rattle.std.proofs.Common.{◌≡◌, ◌≤◌, ℕ, true, false, List, [], ◌∷◌, Some, refl, arith}
+use Rattle.std.proofs.Common.{true, [], ◌∷◌, refl, arith}
 use Rattle.tl_messages.specs.Requests.{message_of, request_of}
 use Rattle.tl_messages.specs.declared.ABeat.{ABeat}
 use Rattle.tl_checker.specs.Requests.{Spells}

@@ -48,7 +48,6 @@ pub mod OrderedRuns
 pub mod Passing
 pub mod PerformedBytes
 pub mod PlacesOfReads
-pub mod Plain
 pub mod RunLemmas
 pub mod RunLoop
 pub mod RunNumbers

@@ -21,7 +21,6 @@ paired_opening config regions pages bad bridge device bridge_is device_is bridge
         memory_laws = subst (λ (d : DeviceState). IsSoundMemory d.memory) device_is memory_laws;
         bus = refl;
         outstanding = refl;
-        plain = tt;
         serials = record { accepted = omega arith; live = omega arith; sent = omega arith };
       };
       none_closed = refl;

@@ -27,12 +27,12 @@ use Rattle.bridge_core.proofs.AnswerLinks.{holder_known}
 use Rattle.bridge_core.proofs.SentBursts.{sent_unbroken, sent_within}
 use Rattle.subordinate.specs.Faults.{Standing, IsAbsent, IsGood, IsSlaveError, standing_at, write_response}
 use Rattle.subordinate.specs.FreeMemory.{Pending, b_from, beat_at, device_port, gives_last, is_read_of, is_waiting, is_write_of, r_from, r_with, start_of, transfers_in}
+use Rattle.subordinate.specs.Laws.{IsSoundPending}
 use Rattle.subordinate.specs.declared.BeatState.{BeatState}
 use Rattle.subordinate.specs.declared.BeatState.TheVariants.{Captured, Waiting, Written}
-use Rattle.world_run.specs.Laws.{GoesWell, IsPlain, IsSoundWorld, TakeAll}
+use Rattle.world_run.specs.Laws.{GoesWell, IsSoundWorld, TakeAll}
 use Rattle.world_run.specs.World.{WorldState}
-use Rattle.world_run.proofs.Plain.{captured_plain}
-use Rattle.subordinate.proofs.Monitors.{oldest_read_seen, oldest_write_seen}
+use Rattle.subordinate.proofs.Monitors.{captured_plain, oldest_read_seen, oldest_write_seen}
 
 -- ---- the limits
 
@@ -146,7 +146,8 @@ r_unbroken state id payload resp pending sound found at =
     lt-leb state.bridge.requests.config.ids id (read_id_known state.bridge id _ sound.bridge_laws (holder id state.bridge.requests.live) refl there) in
     let last : gives_last pending ≡ (pending.answered == oldest.ar.len) =
     ap (λ (burst : Burst). pending.answered + 1 == transfers_in burst) oldest.burst ∙ last_place pending.answered oldest.ar.len in
-    let plain = captured_plain pending.answered payload resp pending.beats (all-find IsPlain (is_read_of id) state.memory.pending pending sound.plain found) at in
+    let each = all-find (IsSoundPending state.memory.bus_bytes) (is_read_of id) state.memory.pending pending sound.memory_laws.each found in
+    let plain = captured_plain pending.burst pending.beats pending.answered payload resp each.beats at in
     rw (known, there, last, same_flag (pending.answered == oldest.ar.len), plain) refl
 
 r_unbroken_of : (state : WorldState) (id : ℕ) (pending : Pending) → IsSoundWorld state → find (is_read_of id) state.memory.pending ≡ Some pending → (beat : Option BeatState)

@@ -1,17 +1,13 @@
 -- What is true of every world that the events make: bridge and memory agree, and neither refuses what the other hands it. It knows both
 -- parts by their own laws and by the bursts that are outstanding between them; which bytes these carry is left to InOrder.
-use Rattle.std.specs.Prelude.{ℕ, ◌≡◌, ◌+◌, ◌-◌, ◌*◌, ◌≤◌, ◌^◌, List, [], ◌∷◌, length, None, false, IfSome, sum_by, ⊤}
-use Rattle.std.specs.List.{AllByRecursion}
+use Rattle.std.specs.Prelude.{ℕ, ◌≡◌, ◌+◌, ◌-◌, ◌*◌, ◌≤◌, ◌^◌, List, [], ◌∷◌, length, None, IfSome, sum_by}
 use Rattle.axi_beats.specs.Bursts.{Burst, IsLegal}
-use Rattle.axi_beats.specs.Responses.{is_exokay}
 use Rattle.axi_checker.specs.Rules.{burst_fault}
 use Rattle.flight_table.specs.Work.{spared_work}
 use Rattle.bridge_core.specs.Bridge.{BridgeState, burst_to_send, b_fault, r_fault}
 use Rattle.bridge_core.specs.Configs.{axi_port_of}
 use Rattle.bridge_core.specs.Laws.{IsSoundBridge}
-use Rattle.subordinate.specs.FreeMemory.{FreeMemory, Pending, open_bursts_of, send_fault, b_of, r_of}
-use Rattle.subordinate.specs.declared.BeatState.{BeatState}
-use Rattle.subordinate.specs.declared.BeatState.TheVariants.{Captured, Waiting, Written}
+use Rattle.subordinate.specs.FreeMemory.{FreeMemory, open_bursts_of, send_fault, b_of, r_of}
 use Rattle.subordinate.specs.Laws.{IsSoundMemory}
 use Rattle.world_run.specs.World.{WorldState, Drains, IsQuiet, next, work_left}
 use Rattle.world_run.specs.declared.Step.{Step}
@@ -28,16 +24,6 @@ pub record HasSerials (bridge : BridgeState) (memory : FreeMemory) : Type 0 wher
   -- serials count all bursts: those of requests that left, at most 2,048 each, and those that live ones sent
   pub sent : memory.sent ≤ 2048 * (bridge.requests.accepted - length bridge.requests.live) + bursts_sent bridge
 
--- the memory never answers EXOKAY, which only an exclusive access would bring
-abbrev pub IsPlainBeat : BeatState → Type 0
-IsPlainBeat Waiting = ⊤
-IsPlainBeat Written = ⊤
-IsPlainBeat (Captured payload resp) = is_exokay resp ≡ false
-
--- no beat of an open burst captured EXOKAY
-abbrev pub IsPlain : Pending → Type 0
-IsPlain pending = AllByRecursion IsPlainBeat pending.beats
-
 -- bridge and memory have the same bursts outstanding, over one bus
 pub record Agree (bridge : BridgeState) (memory : FreeMemory) : Type 0 where
   -- each part keeps its own laws
@@ -46,7 +32,6 @@ pub record Agree (bridge : BridgeState) (memory : FreeMemory) : Type 0 where
   pub bus : memory.bus_bytes ≡ bridge.requests.config.axi_bytes
   -- what the bridge's monitor has outstanding is what is open in the memory, in the order sent, with as many beats answered
   pub outstanding : bridge.open_bursts ≡ open_bursts_of memory
-  pub plain : AllByRecursion IsPlain memory.pending
   pub serials : HasSerials bridge memory
 
 -- the law of a world
