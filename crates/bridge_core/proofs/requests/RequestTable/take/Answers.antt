@@ -1,18 +1,15 @@
 -- The first done request of the client leaves both sides.
-use Rattle.std.proofs.Common.{◌≡◌, ℕ, Some, ◌∙◌, ap, sym, subst, arith, refl}
+use Rattle.std.proofs.Common.{◌≡◌, ℕ, Some, ◌∙◌, ap, sym, arith, refl}
 use Rattle.std.specs.Prelude.{None}
-use Rattle.flight_table.specs.Tables.{is_done_of, requests_of}
 use Rattle.bridge_core.specs.Inside.{bridged}
 use Rattle.bridge_core.specs.Requests.{RequestTable, first_done, without_done}
-use Rattle.bridge_core.proofs.TakenRequests.{IsTakenOut, done_at, done_there, taken_out}
-use Rattle.bridge_core.proofs.Together.{none_together}
+use Rattle.bridge_core.proofs.TakenRequests.{IsTakenOut, done_at, done_shown, done_there, none_shown, taken_out}
 use Rattle.bridge_core.proofs.requests.RequestTable.take.Goals as goal
 
 none_done : (c : goal.After-from_residual) → first_done c.args.self.now.live c.args.client ≡ None
 none_done c =
     let i = c.self.inside in
-    subst (λ (t : RequestTable). first_done t.live c.args.client ≡ None) c.self.view_is
-    (none_together (is_done_of c.args.client) (requests_of i.flight.entries) i.live.items c.self.invariant.1.numbers (c.in_err-key.ensures.none refl))
+    none_shown i.config i.map i.flight i.live.items i.spare.items c.args.self.now c.args.client c.self.view_is c.self.invariant.1 (c.in_err-key.ensures.none refl)
 
 pub returns-in_err-key-clause-number : goal.returns-in_err-key-clause-number
 returns-in_err-key-clause-number c = rw (none_done c) c.from_residual.ensures
@@ -39,7 +36,6 @@ pub release-requires : goal.release-requires
 release-requires c = done_at c.self.inside.flight c.args.client c.in_ok-key.key c.in_ok-key.number c.in_ok-key.ensures.some
 
 taken : (c : goal.After-release) → IsTakenOut c.self.inside.config c.self.inside.map c.self.inside.flight c.release.new.self c.self.inside.live.items c.take_out-held.new.live.items c.push.new.items.items c.args.client
-    (bridged (c.in_ok-key.ensures.some).request c.take_out-held.result)
 taken c =
     let i = c.self.inside in
     taken_out i.config i.map i.flight c.release.new.self i.live.items c.take_out-held.new.live.items i.spare.items c.push.new.items.items c.args.client c.in_ok-key.key c.in_ok-key.number c.release.result c.take_out-held.result
@@ -50,7 +46,9 @@ invariant_of-self c = ((taken c).sound, (taken c).kept, rw c.take_out-held.ensur
 
 found : (c : goal.After-release) → first_done c.args.self.now.live c.args.client ≡ Some (bridged (c.in_ok-key.ensures.some).request c.take_out-held.result)
 found c =
-    subst (λ (t : RequestTable). first_done t.live c.args.client ≡ Some (bridged (c.in_ok-key.ensures.some).request c.take_out-held.result)) c.self.view_is (taken c).found
+    let i = c.self.inside in
+    done_shown i.config i.map i.flight i.live.items i.spare.items c.args.self.now c.args.client c.in_ok-key.key c.in_ok-key.number c.take_out-held.result c.self.view_is c.self.invariant.1 c.in_ok-key.ensures.some
+    c.take_out-held.ensures.held
 
 pub returns-clause-number : goal.returns-clause-number
 returns-clause-number c = rw (found c) (ap (λ (n : ℕ). Some n) (sym (c.in_ok-key.ensures.some).number_is))
