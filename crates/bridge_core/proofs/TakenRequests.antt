@@ -17,13 +17,6 @@ use Rattle.bridge_core.specs.declared.Config.{Config}
 use Rattle.bridge_core.proofs.TableSteps.{rising, table_seen}
 use Rattle.bridge_core.proofs.Together.{found_together, held_there, none_together, numbers_without, without_together}
 
--- the table after a request left, and what was found before
-pub record IsTakenOut (config : Config) (regions : List Region) (old new : KeyedTable) (helds after more : List HeldRequest) (client : ℕ) (request : BridgedRequest) : Type 0 where
-  pub found : first_done (together (requests_of old.entries) helds) client ≡ Some request
-  pub kept : IsKept config new after more
-  pub sound : IsSoundRequestTable (table_kept config regions new after)
-  pub table : table_kept config regions new after ≡ without_done client (table_kept config regions old helds)
-
 -- a client's first done request as the table shows it, from the place in the order and what is kept beside it
 pub none_shown : (config : Config) (regions : List Region) (flight : KeyedTable) (helds spare : List HeldRequest) (table : RequestTable) (client : ℕ) → table_kept config regions flight helds ≡ table → IsKept config flight helds spare
     → find (is_done_of client) (requests_of flight.entries) ≡ None → first_done table.live client ≡ None
@@ -36,12 +29,18 @@ done_shown config regions flight helds spare table client key n held view kept a
     subst (λ (t : RequestTable). first_done t.live client ≡ Some (bridged at.request held)) view
     (found_together (is_done_of client) (requests_of flight.entries) helds at.request held (rising flight at.laws) kept.numbers at.first (ap (λ (m : ℕ). find (is_held m) helds) at.number_is ∙ there))
 
+-- the table after a client's request left
+pub record IsTakenOut (config : Config) (regions : List Region) (old new : KeyedTable) (helds after more : List HeldRequest) (client : ℕ) : Type 0 where
+  pub kept : IsKept config new after more
+  pub sound : IsSoundRequestTable (table_kept config regions new after)
+  pub table : table_kept config regions new after ≡ without_done client (table_kept config regions old helds)
+
 pub taken_out : (config : Config) (regions : List Region) (old new : KeyedTable) (helds after spare more : List HeldRequest) (client key n number : ℕ) (held : HeldRequest) → IsKept config old helds spare
     → IsSoundRequestTable (table_kept config regions old helds) → (at : IsFirstAt (is_done_of client) old key n) → find (is_held n) helds ≡ Some held → after ≡ without_first (is_held n) helds → more ≡ spare ++ held ∷ []
     → option_map (λ (r : LiveRequest). r.number) (request_at key old) ≡ Some number → table_of new ≡ without_number number (table_of old) → IsSound new
-    → IsTakenOut config regions old new helds after more client (bridged at.request held)
+    → IsTakenOut config regions old new helds after more client
 taken_out config regions old new helds after spare more client key n number held kept sound at there after_is more_is numbered table laws =
-    record { found = found; kept = kept_new; sound = sound_new; table = whole }
+    record { kept = kept_new; sound = sound_new; table = whole }
   where
     r : LiveRequest
     r = at.request
@@ -66,9 +65,6 @@ taken_out config regions old new helds after spare more client key n number held
 
     helds_are : after ≡ without_first (is_held r.number) helds
     helds_are = after_is ∙ ap (λ (m : ℕ). without_first (is_held m) helds) (sym at.number_is)
-
-    found : first_done (together rs helds) client ≡ Some (bridged r held)
-    found = done_shown config regions old helds spare (table_kept config regions old helds) client key n held refl kept at there
 
     buses : AllByRecursion (λ (h : HeldRequest). h.bus_bytes ≡ config.axi_bytes) after
     buses = rw helds_are (all-without_first (λ (h : HeldRequest). h.bus_bytes ≡ config.axi_bytes) (is_held r.number) helds kept.buses)

@@ -36,7 +36,6 @@ pub release-requires : goal.release-requires
 release-requires c = done_at c.self.inside.flight c.args.client c.in_ok-key.key c.in_ok-key.number c.in_ok-key.ensures.some
 
 taken : (c : goal.After-release) → IsTakenOut c.self.inside.config c.self.inside.map c.self.inside.flight c.release.new.self c.self.inside.live.items c.take_out-held.new.live.items c.push.new.items.items c.args.client
-    (bridged (c.in_ok-key.ensures.some).request c.take_out-held.result)
 taken c =
     let i = c.self.inside in
     taken_out i.config i.map i.flight c.release.new.self i.live.items c.take_out-held.new.live.items i.spare.items c.push.new.items.items c.args.client c.in_ok-key.key c.in_ok-key.number c.release.result c.take_out-held.result
