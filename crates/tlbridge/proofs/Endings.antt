@@ -6,8 +6,8 @@ use Rattle.std.specs.Str.Lines.{strip_carriage_return}
 use Rattle.tlbridge.proofs.Parts.{Lacks, Lacks-push}
 use Rattle.tlbridge.proofs.Progress.{Progress, line_step-not_plain, line_step-late, lines_result-went, lines_result-fault}
 use Rattle.tlbridge.proofs.ScriptLines.{lines_of-line, lines_of-last, ended_lines_of-last, begins, begins-not_plain, lines_of-some}
-use Rattle.tlbridge.proofs.TraceTexts.{some_after}
-use Rattle.tlbridge.specs.Scripts.{Reading, TextResult, EndsAs, HasText, IsAllJudged, IsSettled, LineStep, Tells, after_text, ended, line_step, lines_result, text_from, text_of, text_before_failure}
+use Rattle.tlbridge.proofs.TraceTexts.{grows, some_after}
+use Rattle.tlbridge.specs.Scripts.{Reading, TextResult, EndsAs, HasText, IsAllJudged, IsFront, IsSettled, LineStep, Tells, after_text, ended, line_step, lines_result, text_from, text_of, text_before_failure}
 use Rattle.tlbridge.specs.Steps.{Goes, IsCommand, TakesStep, TakesEnd, TakesRest}
 use Rattle.tlbridge.specs.Words.{lines_of}
 use Rattle.tlbridge.specs.declared.faults.TextFault.{TextFault}
@@ -28,6 +28,10 @@ ok_after whole rest text told ok = rw told ok
 
 text_after : (whole rest : TextResult) (text : List ℕ) → whole ≡ after_text text rest → HasText rest → HasText whole
 text_after whole rest text told some = rw told (some_after text rest.output some)
+
+-- a text that goes on after a failure's
+grown_after : (before whole rest : TextResult) (text : List ℕ) (fault : TextFault) → before ≡ after_text text (ended (Err fault)) → whole ≡ after_text text rest → HasText rest → before.output ≢ whole.output
+grown_after before whole rest text fault is told some = rw (is, told, append-nil text) (grows text rest.output some)
 
 -- a script that ends after a command
 ends_well : {S : Type 0} (reading : Reading S) (step : LineStep S) (command : IsCommand reading step) (number : ℕ) (whole : TextResult) → whole ≡ after_text command.text (ended (reading.ending command.next number))
@@ -149,7 +153,10 @@ Ends-rest reading is_silent start state number input rest after old new newer li
           consumed = all;
           bound = bound;
           block = omega arith;
-          ends = (ok_after _ _ so_far.text (so_far.whole line) ok, text_after _ _ so_far.text (so_far.whole line) some);
+          ends = (
+            ok_after _ _ so_far.text (so_far.whole line) ok,
+            (read, inr (refl, whole_input), grown_after _ _ _ so_far.text Read (failed_within reading is_silent start state number input rest old new line so_far lacks) (so_far.whole line) some),
+          );
         }
     by_result (Err NoMemory) (quiet, ok, kept) =
         record {
@@ -160,7 +167,10 @@ Ends-rest reading is_silent start state number input rest after old new newer li
           block = omega arith;
           ends = (
             Keeps-trans old new newer (Keeps-none old new (rw (so_far.silent quiet) at so_far.written)) kept,
-            inr (ok_after _ _ so_far.text (so_far.whole line) ok, inr (whole_input, silent_within reading is_silent start state number input rest old new line so_far lacks quiet)),
+            inr (
+              ok_after _ _ so_far.text (so_far.whole line) ok,
+              (read, inr (refl, whole_input), silent_within reading is_silent start state number input rest old new line so_far lacks quiet, inr whole_input),
+            ),
           );
         }
 
@@ -198,13 +208,13 @@ Ends-fault reading is_silent start state next number input rest after old new ne
         ap (text_from reading state number) (append_assoc line (10 ∷ []) more) ∙ ap (lines_result reading reading.ending state number) (lines_of-line line more lacks)
         ∙ lines_result-fault reading reading.ending state number (strip_carriage_return line) (lines_of more) f stops
 
-    after_command : IsCommand reading (line_step reading state number (strip_carriage_return line)) → IsOk (text_of reading start (so_far.read ++ tail)).result × HasText (text_of reading start (so_far.read ++ tail))
+    after_command : IsCommand reading (line_step reading state number (strip_carriage_return line)) → IsOk (text_from reading state number tail).result × HasText (text_from reading state number tail)
     after_command command =
-        let told : text_from reading state number tail ≡ after_text command.text (ended (reading.ending command.next (number + 1))) =
-        ap (lines_result reading reading.ending state number) (lines_of-line line [] lacks)
-        ∙ lines_result-went reading reading.ending state command.next number (strip_carriage_return line) command.text [] command.step_is in
-        let well = ends_well reading _ command (number + 1) _ told in
-        (ok_after _ _ so_far.text (so_far.whole tail) well.0, text_after _ _ so_far.text (so_far.whole tail) well.1)
+        ends_well reading _ command (number + 1) _
+        (ap (lines_result reading reading.ending state number) (lines_of-line line [] lacks) ∙ lines_result-went reading reading.ending state command.next number (strip_carriage_return line) command.text [] command.step_is)
+
+    front : IsFront (so_far.read ++ line) (so_far.read ++ tail) [] after
+    front = inl (sym (append_assoc so_far.read line (10 ∷ [])))
 
     by_fault : (f : TextFault) → TakesStep reading (line_step reading state number (strip_carriage_return line)) is_silent state next new newer (Err f) → Ends reading start input after old newer (Err f)
     by_fault (Script l word) (stops, kept) =
@@ -213,8 +223,21 @@ Ends-fault reading is_silent start state next number input rest after old new ne
         record { judged = so_far.read ++ tail; ahead = []; consumed = all; bound = bound; block = omega arith; ends = settled reading is_silent start state number input rest after old new newer tail _ so_far (told _ stops) kept so_far }
     by_fault Read stops = absurd stops
     by_fault Write command =
-        let well = after_command command in
-        record { judged = so_far.read ++ tail; ahead = []; consumed = all; bound = bound; block = omega arith; ends = well }
+        let well = after_command command in record {
+          judged = so_far.read ++ tail;
+          ahead = [];
+          consumed = all;
+          bound = bound;
+          block = omega arith;
+          ends = (
+            ok_after _ _ so_far.text (so_far.whole tail) well.0,
+            (
+              so_far.read ++ line,
+              front,
+              grown_after _ _ _ so_far.text Read (failed_within reading is_silent start state number input rest old new line so_far lacks) (so_far.whole tail) well.1,
+            ),
+          );
+        }
     by_fault NoMemory (quiet, command, kept) =
         let well = after_command command in record {
           judged = so_far.read ++ tail;
@@ -225,8 +248,13 @@ Ends-fault reading is_silent start state next number input rest after old new ne
           ends = (
             Keeps-trans old new newer (Keeps-none old new (rw (so_far.silent quiet) at so_far.written)) kept,
             inr (
-              well.0,
-              inl (so_far.read ++ line, sym (append_assoc so_far.read line (10 ∷ [])), silent_within reading is_silent start state number input rest old new line so_far lacks quiet, well.1),
+              ok_after _ _ so_far.text (so_far.whole tail) well.0,
+              (
+                so_far.read ++ line,
+                front,
+                silent_within reading is_silent start state number input rest old new line so_far lacks quiet,
+                inl (text_after _ _ so_far.text (so_far.whole tail) well.1),
+              ),
             ),
           );
         }

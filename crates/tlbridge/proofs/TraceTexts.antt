@@ -1,5 +1,5 @@
 -- The lines of one beat more, and texts that aren't empty.
-use Rattle.std.proofs.Common.{◌≡◌, ◌≢◌, ℕ, zero, suc, ◌+◌, List, [], ◌∷◌, ◌++◌, take, flat_map, Some, slice_get, refl, ap, sym, ◌∙◌, append_assoc, rules, arith}
+use Rattle.std.proofs.Common.{◌≡◌, ◌≢◌, ℕ, zero, suc, ◌+◌, List, [], ◌∷◌, ◌++◌, take, flat_map, Some, slice_get, length, length-append, refl, ap, sym, ◌∙◌, append_assoc, rules, arith}
 
 flat_map-take-suc : {X : Type 0} (f : X → List ℕ) (xs : List X) (k : ℕ) (x : X) → slice_get xs k ≡ Some x → flat_map f (take (suc k) xs) ≡ flat_map f (take k xs) ++ f x
 flat_map-take-suc f [] k x found = search rules
@@ -20,3 +20,8 @@ some_before (x ∷ xs) ys some none = search rules
 pub some_after : (xs ys : List ℕ) → ys ≢ [] → xs ++ ys ≢ []
 some_after [] ys some none = some none
 some_after (x ∷ xs) ys some none = search rules
+
+-- a text that isn't empty makes another longer
+pub grows : (xs ys : List ℕ) → ys ≢ [] → xs ≢ xs ++ ys
+grows xs [] some same = some refl
+grows xs (y ∷ ys) some same = omega (arith, ap length same, length-append xs (y ∷ ys))

@@ -3,6 +3,7 @@ pub mod ClientPorts
 pub mod Forms
 pub mod Inside
 pub mod InsidePorts
+pub mod Modes
 pub mod Names
 pub mod OfferLines
 pub mod Reads

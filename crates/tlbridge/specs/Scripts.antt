@@ -77,15 +77,21 @@ IsSettled whole judged = (more : List ℕ) → whole (judged ++ more) ≡ whole 
 abbrev pub IsAllJudged : List ℕ → Option (List ℕ) → Type 0
 IsAllJudged ahead rest = (ahead ≡ []) × IsAtEnd rest
 
--- the last line, which its line feed ended, has text, and none before it has
-abbrev pub EndsSilence : (List ℕ → TextResult) → (List ℕ → TextResult) → List ℕ → Type 0
-EndsSilence whole before_failure judged = (front : List ℕ) × (judged ≡ front ++ 10 ∷ []) × ((before_failure front).output ≡ []) × HasText (whole judged)
+-- what was judged before the end of the last line: its line feed, or the input's end
+abbrev pub IsFront : List ℕ → List ℕ → List ℕ → Option (List ℕ) → Type 0
+IsFront front judged ahead rest = (judged ≡ front ++ 10 ∷ []) ⊎ ((judged ≡ front) × IsAllJudged ahead rest)
+
+-- no line is at fault, and the last has text: more than the lines before it
+abbrev pub EndsWithText : (List ℕ → TextResult) → (List ℕ → TextResult) → List ℕ → List ℕ → Option (List ℕ) → Type 0
+EndsWithText whole before_failure judged ahead rest =
+    IsOk (whole judged).result × ((front : List ℕ) × IsFront front judged ahead rest × ((before_failure front).output ≢ (whole judged).output))
 
 -- where a call asks for memory: before its first read, or where no line is at fault, at the first line that has text or at the input's end
 abbrev pub AsksForMemory : (List ℕ → TextResult) → (List ℕ → TextResult) → List ℕ → List ℕ → Option (List ℕ) → Type 0
 AsksForMemory whole before_failure judged ahead rest =
     (judged ++ ahead ≡ [])
-    ⊎ (IsOk (whole judged).result × (EndsSilence whole before_failure judged ⊎ (IsAllJudged ahead rest × ((before_failure judged).output ≡ []))))
+    ⊎ (IsOk (whole judged).result
+    × ((front : List ℕ) × IsFront front judged ahead rest × ((before_failure front).output ≡ []) × (HasText (whole judged) ⊎ IsAllJudged ahead rest)))
 
 -- how a call ends that has judged these bytes and read those ahead: `whole` and `before_failure` are the texts of a whole input and of one
 -- whose reader failed
@@ -99,8 +105,8 @@ EndsAfter whole before_failure judged ahead rest old new (Err (Setup fault)) =
     (IsAllJudged ahead rest ⊎ IsSettled whole judged) × Tells (whole judged) old new (Err (Setup fault))
 -- with the text of the lines whose line feed was read
 EndsAfter whole before_failure judged ahead rest old new (Err Read) = (ahead ≡ []) × Tells (before_failure judged) old new (Err Read)
--- only where no line is at fault and one has text; how much a writer took that failed isn't told
-EndsAfter whole before_failure judged ahead rest old new (Err Write) = IsOk (whole judged).result × HasText (whole judged)
+-- only at a line that has text, where no line is at fault; how much a writer took that failed isn't told
+EndsAfter whole before_failure judged ahead rest old new (Err Write) = EndsWithText whole before_failure judged ahead rest
 -- with nothing written, and only where memory is asked for
 EndsAfter whole before_failure judged ahead rest old new (Err NoMemory) = Keeps old new × AsksForMemory whole before_failure judged ahead rest
 

@@ -15,6 +15,7 @@ mod forms;
 mod lines;
 #[cfg(test)]
 mod mode_tests;
+mod modes;
 mod offer_lines;
 mod run;
 mod run_lines;
@@ -25,27 +26,17 @@ mod tests;
 mod trace;
 mod words;
 
-use check::check_text;
 use clap::Command;
 use faults::{TextFault, status_of};
-use run::run_text;
+use modes::{Mode, carried_out};
 use std::alloc::{AllocError, Global};
 use std::env;
-use std::io::{BufReader, BufWriter, Write};
+use std::io::{BufReader, BufWriter};
 use std::process::ExitCode;
 use std::rt::Env;
 
 /// The exit status where the words are refused.
 const BAD_WORDS: u8 = 6;
-
-/// What the program is asked to do.
-#[derive(Clone, Copy, Debug, PartialEq, Eq)]
-enum Mode {
-    /// Carry out a script.
-    Run,
-    /// Judge a script's beats.
-    Check,
-}
 
 fn command<'a>(alloc: Global) -> Result<Command<'a>, AllocError> {
     Command::new(alloc, "tlbridge")
@@ -75,7 +66,7 @@ fn words_given<R: Env + AllocGlobal>(rt: &R) -> Option<Vec<String>> {
     args.collect(rt.alloc()).ok()
 }
 
-/// Carries out the script of standard input. Output that can't be flushed counts as a write that failed.
+/// Carries out the script of standard input.
 fn read_input(rt: &HostRuntime, mode: Mode) -> Result<bool, TextFault> {
     let Ok(mut reader) = BufReader::new(rt.alloc(), rt.reader()) else {
         return Err(TextFault::NoMemory);
@@ -83,14 +74,7 @@ fn read_input(rt: &HostRuntime, mode: Mode) -> Result<bool, TextFault> {
     let Ok(mut writer) = BufWriter::new(rt.alloc(), rt.stdout()) else {
         return Err(TextFault::NoMemory);
     };
-    let ending = match mode {
-        Mode::Run => run_text(rt.alloc(), &mut reader, &mut writer),
-        Mode::Check => check_text(rt.alloc(), &mut reader, &mut writer),
-    };
-    match writer.flush() {
-        Ok(()) => ending,
-        Err(_) => Err(TextFault::Write),
-    }
+    carried_out(mode, rt.alloc(), &mut reader, &mut writer)
 }
 
 fn main(rt: HostRuntime) -> ExitCode {

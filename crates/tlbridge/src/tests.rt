@@ -152,6 +152,39 @@ fn first_script(alloc: Global) -> Result<(Vec<u8>, Vec<u8>), AllocError> {
 }
 
 #[test]
+fn the_first_script_with_carriage_returns(rt: HostRuntime) -> Result<(), Fail> {
+    let alloc = rt.alloc();
+    let mut input = Vec::new(alloc);
+    let mut wanted = Vec::new(alloc);
+    for (line, _, trace) in FIRST {
+        input.extend_from_slice(line.as_bytes())?;
+        input.extend_from_slice(b"\r\n")?;
+        wanted.extend_from_slice(trace.as_bytes())?;
+    }
+    let mut output = Vec::new(alloc);
+    let ending = run_text(alloc, &mut input.as_slice(), &mut output);
+    assert_eq!(rt; ending, Ok(false));
+    assert_eq!(rt; output.as_slice(), wanted.as_slice());
+    Ok(())
+}
+
+/// What a script ends with whose read number `fails` fails, and what was written.
+fn with_failed_read(
+    alloc: Global,
+    input: &[u8],
+    fails: usize,
+) -> (Result<bool, TextFault>, Vec<u8>) {
+    let mut reader = Reader {
+        rest: input,
+        calls: 0,
+        fails,
+    };
+    let mut output = Vec::new(alloc);
+    let ending = run_text(alloc, &mut reader, &mut output);
+    (ending, output)
+}
+
+#[test]
 fn each_read_fails_in_turn(rt: HostRuntime) -> Result<(), Fail> {
     let alloc = rt.alloc();
     let (input, _) = first_script(alloc)?;
@@ -159,18 +192,19 @@ fn each_read_fails_in_turn(rt: HostRuntime) -> Result<(), Fail> {
     let mut done = Vec::new(alloc);
     for (line, _, trace) in FIRST {
         for _ in 0..line.len().saturating_add(1) {
-            let mut reader = Reader {
-                rest: input.as_slice(),
-                calls: 0,
-                fails: calls,
-            };
-            let mut output = Vec::new(alloc);
-            let ending = run_text(alloc, &mut reader, &mut output);
+            let (ending, output) = with_failed_read(alloc, input.as_slice(), calls);
             assert_eq!(rt; ending, Err(TextFault::Read), "read {calls}");
             assert_eq!(rt; output.as_slice(), done.as_slice(), "read {calls}");
             calls = calls.saturating_add(1);
         }
         done.extend_from_slice(trace.as_bytes())?;
+    }
+    // The read that tells the input's end, and one that is never made.
+    for wanted in [Err(TextFault::Read), Ok(false)] {
+        let (ending, output) = with_failed_read(alloc, input.as_slice(), calls);
+        assert_eq!(rt; ending, wanted, "read {calls}");
+        assert_eq!(rt; output.as_slice(), done.as_slice(), "read {calls}");
+        calls = calls.saturating_add(1);
     }
     Ok(())
 }
@@ -526,5 +560,25 @@ fn long_lines_and_long_scripts(rt: HostRuntime) -> Result<(), Fail> {
         run_text(alloc, &mut input.as_slice(), &mut output),
         script_fault(65_537, 0)
     );
+    Ok(())
+}
+
+#[test]
+fn a_line_too_many_after_a_config_line(rt: HostRuntime) -> Result<(), Fail> {
+    let alloc = rt.alloc();
+    let mut input = joined(alloc, b"config 1 1 1 1 1 12 h", b"\n")?;
+    for _ in 1..65_536u32 {
+        input.push(b'\n')?;
+    }
+    let mut output = Vec::new(alloc);
+    let ending = run_text(alloc, &mut input.as_slice(), &mut output);
+    assert_eq!(rt; ending, Ok(false));
+    // Any byte more is a line more.
+    for more in [b"\n", b"\r", b"#"] {
+        let longer = joined(alloc, input.as_slice(), more)?;
+        let ending = run_text(alloc, &mut longer.as_slice(), &mut output);
+        assert_eq!(rt; ending, script_fault(65_537, 0), "{more:?}");
+    }
+    assert!(rt; output.is_empty());
     Ok(())
 }
