@@ -97,11 +97,15 @@ fn outline(plan: Plan) -> (u16, u16, Piece, Piece) {
     (bursts, plan.beats(), plan.burst(0), plan.burst(bursts - 1))
 }
 
-/// Whether each burst begins so many bytes after the one before.
+/// Whether each burst begins so many bytes after the one before, and has the length and size of the first.
 fn is_in_steps_of(plan: Plan, bytes: u32) -> bool {
+    let first = plan.burst(0);
     for k in 0..plan.bursts() {
-        if u64::from(plan.burst(k).address)
-            != u64::from(plan.address()) + u64::from(k) * u64::from(bytes)
+        let burst = plan.burst(k);
+        let begins = u64::from(plan.address()) + u64::from(k) * u64::from(bytes);
+        if u64::from(burst.address) != begins
+            || burst.len != first.len
+            || burst.size != first.size
         {
             return false;
         }
