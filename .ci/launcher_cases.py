@@ -223,26 +223,27 @@ def program_gone(copy):
     return runs(copy.call(), builds=True)
 
 
-def read_only(copy):
-    """A folder that isn't the caller's: what is built runs, what isn't can't be."""
-    drop = ["setpriv", "--reuid=65534", "--regid=65534", "--clear-groups"] if os.geteuid() == 0 else []
-    for at, folders, files in os.walk(copy.room):
+def allow(folder, writing):
+    """Lets the owner write in the folder and to the files below it, or nobody."""
+    for at, _, files in os.walk(folder):
         for it in (at, *(os.path.join(at, name) for name in files)):
-            os.chmod(it, 0o555)
+            os.chmod(it, 0o755 if writing else 0o555)
+
+
+def read_only(copy):
+    """A folder that isn't the caller's: what is built runs, what isn't can't be. (root may write anywhere, and drops that.)"""
+    drop = ["setpriv", "--reuid=65534", "--regid=65534", "--clear-groups"] if os.geteuid() == 0 else []
+    allow(copy.root, False)
     why = cannot(copy.call(drop=drop), "can't be written")
-    for at, folders, files in os.walk(copy.root):
-        os.chmod(at, 0o755)
-    if not drop:
-        os.chmod(copy.room, 0o755)
+    allow(copy.root, True)
     copy.call()
-    for at, folders, files in os.walk(copy.root):
-        os.chmod(at, 0o555)
+    allow(copy.root, False)
     why = why or runs(copy.call(drop=drop), builds=False)
-    os.chmod(copy.file("crates/tlbridge/src/main.rt"), 0o644)
+    allow(copy.root, True)
     copy.source("crates/tlbridge/src/main.rt", "main 2")
+    allow(copy.root, False)
     why = why or cannot(copy.call(drop=drop), "can't be written")
-    for at, folders, files in os.walk(copy.room):
-        os.chmod(at, 0o755)
+    allow(copy.root, True)
     return why
 
 
@@ -313,7 +314,13 @@ def in_folder(name, program=None):
 
 
 def cases(program):
-    folders = {"spaces": b"a  b ", "bytes that aren't UTF-8": b"caf\xe9\x81\x88", "a line's end": b"a\nb\n", "a dash": b"-a", "a quote": b"a'\"$b\\n*"}
+    folders = {
+        "spaces": b"a  b ",
+        "bytes that aren't UTF-8": b"caf\xe9\x81\x88",
+        "a line's end": b"a\nb\n",
+        "a dash": b"-a",
+        "a quote": b"a'\"$b\\n*",
+    }
     table = {
         "first use": first_use,
         "the words": words_pass,
