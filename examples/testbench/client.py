@@ -187,7 +187,7 @@ class Commands:
         """Sends a line of a script and returns its parsed answer; None for a line of the set-up."""
         self.script.append(line)
         self.write(line)
-        answer = ANSWERS.get(line.split()[0])
+        answer = ANSWERS.get((line.split() or [""])[0])
         return answer(self.line) if answer else None
 
     def line(self):
