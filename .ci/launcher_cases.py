@@ -1,0 +1,357 @@
+"""Cases of the launcher, tried on copies of it in a folder for temporary files. A stand-in for rt builds what it runs, so
+each takes a moment: the `program` that it makes prints what its source had, its words and its standard input."""
+
+import os
+import shutil
+import subprocess
+import tempfile
+import time
+from pathlib import Path
+
+TOP = Path(__file__).resolve().parent.parent
+CANNOT = 70
+
+# The stand-in. Each call is noted; what else it does, the variable DOES says.
+RT = """#!/bin/sh
+echo "$1 ${PWD##*/}" >>"$NOTED"
+echo 'a line of the prover'
+[ "$1" = run ] || exit 0
+text=$(cat src/main.rt)
+case $DOES in
+fails) exit 1 ;;
+stops) kill -9 $$ ;;
+edits) echo edited >src/main.rt ;;
+deletes) rm src/more.rt ;;
+esac
+mkdir -p out || exit 1
+case $DOES in
+makes_nothing) exit 0 ;;
+copies) cp "$COPIED" out/tlbridge; exit 0 ;;
+esac
+printf '%s\\n' '#!/bin/sh' "echo made from $text: \\$0 \\$*" cat 'exit 3' >out/tlbridge
+chmod +x out/tlbridge
+echo 'what the program prints when it is built' | ./out/tlbridge
+exit 0
+"""
+
+
+class Copy:
+    """A copy of the launcher over a tree of two crates, below a folder with the stand-in on the path."""
+
+    def __init__(self, room, name=b"tree"):
+        self.room = os.fsencode(room)
+        self.root = os.path.join(self.room, name)
+        self.noted = os.path.join(self.room, b"noted")
+        self.path = os.path.join(self.room, b"bin")
+        os.makedirs(self.path, exist_ok=True)
+        self.write(os.path.join(self.path, b"rt"), RT, mode=0o755)
+        for file in ("tlbridge", ".ci/stamp.sh"):
+            to = os.path.join(self.root, file.encode())
+            os.makedirs(os.path.dirname(to), exist_ok=True)
+            shutil.copy(TOP / file, to)
+        self.source("crates.txt", "# the crates\nlow:\nother: low\ntlbridge: clap low\n")
+        for crate, file in (("low", "lib"), ("other", "lib"), ("tlbridge", "main"), ("tlbridge", "more")):
+            self.source(f"crates/{crate}/src/{file}.rt", f"{file} 1")
+        self.source("crates/tlbridge/stdin", "")
+
+    @staticmethod
+    def write(path, text, mode=0o644):
+        os.makedirs(os.path.dirname(path), exist_ok=True)
+        with open(path, "w") as it:
+            it.write(text)
+        os.chmod(path, mode)
+
+    def file(self, name):
+        return os.path.join(self.root, os.fsencode(name))
+
+    def source(self, name, text):
+        self.write(self.file(name), text)
+
+    def call(self, words=(b"run",), called=None, does="", drop=(), path=None, **how):
+        """Runs the launcher and returns its status, text, lines on standard error, and the calls of the stand-in."""
+        if os.path.exists(self.noted):
+            os.remove(self.noted)
+        path = self.path + b":" + os.environb[b"PATH"] if path is None else path
+        env = {**os.environb, b"PATH": path, b"NOTED": self.noted, b"DOES": does.encode(), **how.pop("env", {})}
+        given = [*drop, called or self.file("tlbridge"), *words]
+        ran = subprocess.run(given, input=how.pop("given", b"input\n"), capture_output=True, env=env, timeout=60, **how)
+        noted = Path(os.fsdecode(self.noted)).read_text().splitlines() if os.path.exists(self.noted) else []
+        return ran.returncode, ran.stdout, ran.stderr.decode(errors="replace").splitlines(), noted
+
+
+def made(text="main 1", words="run"):
+    return f"made from {text}: ./crates/tlbridge/out/tlbridge {words}\ninput\n".encode()
+
+
+BUILT = ["lib low", "run tlbridge"]
+
+
+def runs(answer, text=None, builds=None, status=3):
+    """Tells how an answer isn't that of the program; builds: whether it was built for it, where that matters."""
+    got, output, errors, noted = answer
+    if (got, output) != (status, made() if text is None else text):
+        return f"status {got}, {output[-200:]!r}, {errors[-2:]!r}"
+    if builds is not None and noted != BUILT * builds:
+        return f"it was built by {noted!r}"
+    return None if noted or not errors else f"{errors!r} on standard error"
+
+
+def cannot(answer, words):
+    """Tells how an answer isn't the launcher's own status, with one line of these words and none of the stand-in's."""
+    got, output, errors, _ = answer
+    if got != CANNOT or output:
+        return f"status {got}, {output[-200:]!r}, {errors[-2:]!r}"
+    if not errors or not errors[-1].startswith("tlbridge: ") or words not in errors[-1]:
+        return f"{errors[-2:]!r} on standard error"
+    plain = lambda it: it.startswith("tlbridge: ") or " of 2: " in it
+    return None if all(map(plain, errors)) else f"{errors!r} on standard error"
+
+
+def first_use(copy):
+    status, output, errors, noted = copy.call()
+    wanted = ["1 of 2: low", "2 of 2: tlbridge"]
+    if errors[1:-1] != wanted or "out/tlbridge.log" not in errors[0] or not errors[-1].startswith("tlbridge: built in 0 min"):
+        return f"{errors!r} on standard error"
+    if b"a line of the prover" not in Path(os.fsdecode(copy.file("out/tlbridge.log"))).read_bytes():
+        return "the log lacks what rt printed"
+    return runs((status, output, [], noted), builds=True) or runs(copy.call(), builds=False)
+
+
+def words_pass(copy):
+    """Also while the program is built."""
+    for _ in range(2):
+        _, output, _, _ = copy.call(words=(b"a b", b"-x", b"\xff"))
+        if output != b"made from main 1: ./crates/tlbridge/out/tlbridge a b -x \xff\ninput\n":
+            return repr(output)
+    return None
+
+
+def edited(copy):
+    copy.call()
+    copy.source("crates/tlbridge/src/main.rt", "main 2")
+    return runs(copy.call(), made("main 2"), True) or runs(copy.call(), made("main 2"), False)
+
+
+def edited_below(copy):
+    copy.call()
+    copy.source("crates/low/src/lib.rt", "lib 2")
+    return runs(copy.call(), builds=True)
+
+
+def edited_and_dated_back(copy):
+    copy.call()
+    copy.source("crates/tlbridge/src/main.rt", "main 2")
+    os.utime(copy.file("crates/tlbridge/src/main.rt"), (0, 0))
+    return runs(copy.call(), made("main 2"), True)
+
+
+def dated_in_the_future(copy):
+    os.utime(copy.file("crates/tlbridge/src/main.rt"), (time.time() + 10_000,) * 2)
+    copy.call()
+    return runs(copy.call(), builds=False)
+
+
+def deleted(copy):
+    copy.call()
+    os.remove(copy.file("crates/tlbridge/src/more.rt"))
+    return runs(copy.call(), builds=True) or runs(copy.call(), builds=False)
+
+
+def added(copy):
+    copy.call()
+    copy.source("crates/tlbridge/specs/New.antt", "")
+    return runs(copy.call(), builds=True)
+
+
+def list_edited(copy):
+    copy.call()
+    copy.source("crates.txt", "low:\ntlbridge: low\n")
+    return runs(copy.call(), builds=True)
+
+
+def changed_during_the_build(does):
+    def case(copy):
+        copy.call()
+        copy.source("crates/tlbridge/src/main.rt", "main 2")
+        why = cannot(copy.call(does=does), "changed during the build")
+        text = "edited" if does == "edits" else "main 2"
+        return why or runs(copy.call(), made(text), True) or runs(copy.call(), made(text), False)
+
+    return case
+
+
+def fails(does, words):
+    """An older program stands there, and isn't run."""
+
+    def case(copy):
+        copy.call()
+        copy.source("crates/tlbridge/src/main.rt", "main 2")
+        for _ in range(2):
+            why = cannot(copy.call(does=does), words)
+            if why:
+                return why
+        return runs(copy.call(), made("main 2"), True)
+
+    return case
+
+
+def makes_nothing(copy):
+    return cannot(copy.call(does="makes_nothing"), "rt made no program")
+
+
+def without_rt(copy):
+    """Over a path with what the launcher calls, and no more."""
+    tools = os.path.join(copy.room, b"tools")
+    os.makedirs(tools)
+    for tool in ("readlink", "find", "cksum", "sort", "cmp", "sed", "mkdir", "date", "cat"):
+        os.symlink(shutil.which(tool), os.path.join(tools, tool.encode()))
+    why = cannot(copy.call(path=tools), "rt, which proves and builds it, isn't on PATH")
+    copy.call()
+    return why or runs(copy.call(path=tools), builds=False)
+
+
+def program_changed(copy):
+    """A program that this launcher didn't build, as one that rt made of other sources."""
+    copy.call()
+    copy.write(copy.file("crates/tlbridge/out/tlbridge"), "#!/bin/sh\necho other\n", 0o755)
+    return runs(copy.call(), builds=True)
+
+
+def program_gone(copy):
+    copy.call()
+    os.remove(copy.file("crates/tlbridge/out/tlbridge"))
+    return runs(copy.call(), builds=True)
+
+
+def allow(folder, writing):
+    """Lets the owner write in the folder and to the files below it, or nobody."""
+    for at, _, files in os.walk(folder):
+        for it in (at, *(os.path.join(at, name) for name in files)):
+            os.chmod(it, 0o755 if writing else 0o555)
+
+
+def read_only(copy):
+    """A folder that isn't the caller's: what is built runs, what isn't can't be. (root may write anywhere, and drops that.)"""
+    drop = ["setpriv", "--reuid=65534", "--regid=65534", "--clear-groups"] if os.geteuid() == 0 else []
+    allow(copy.root, False)
+    why = cannot(copy.call(drop=drop), "can't be written")
+    allow(copy.root, True)
+    copy.call()
+    allow(copy.root, False)
+    why = why or runs(copy.call(drop=drop), builds=False)
+    allow(copy.root, True)
+    copy.source("crates/tlbridge/src/main.rt", "main 2")
+    allow(copy.root, False)
+    why = why or cannot(copy.call(drop=drop), "can't be written")
+    allow(copy.root, True)
+    return why
+
+
+def linked(copy):
+    links = os.path.join(copy.room, b"links")
+    os.makedirs(links)
+    os.symlink(copy.file("tlbridge"), os.path.join(links, b"far"))
+    os.symlink(b"../tree/tlbridge", os.path.join(links, b"near"))
+    os.symlink(b"near", os.path.join(links, b"twice"))
+    os.symlink(copy.root, os.path.join(links, b"folder"))
+    copy.call()
+    for name in (b"far", b"near", b"twice", b"folder/tlbridge"):
+        why = runs(copy.call(called=os.path.join(links, name)), builds=False)
+        if why:
+            return f"{name.decode()}: {why}"
+    return runs(copy.call(called=b"links/near", cwd=copy.room), builds=False)
+
+
+def called_from(copy):
+    """Other folders, CDPATH, PATH, and sh with the file's name."""
+    copy.call()
+    path = copy.path + b":" + copy.root + b":" + os.environb[b"PATH"]
+    sh = ["/bin/sh"]
+    calls = [
+        dict(called=b"tree/tlbridge", cwd=copy.room),
+        dict(called=b"tree/tlbridge", cwd=copy.room, env={b"CDPATH": b".:..:" + copy.room}),
+        dict(called=b"./tlbridge", cwd=copy.root, env={b"CDPATH": b"/:.."}),
+        dict(called=b"../tlbridge", cwd=copy.file("crates")),
+        dict(called=b"/usr/bin/env", words=(b"tlbridge", b"run"), path=path, cwd=b"/"),
+        dict(drop=sh, called=b"tlbridge", cwd=copy.root),
+    ]
+    for call in calls:
+        why = runs(copy.call(**call), builds=False)
+        if why:
+            return f"{call!r}: {why}"
+    return None
+
+
+def descriptors(copy):
+    """Closed ones come to the program as they are."""
+    copy.call()
+    shell = lambda line: copy.call(drop=["sh", "-c", line], words=())
+    status, output, errors, _ = shell('"$0" run <&- 2>/dev/null')
+    if (status, output) != (3, made().replace(b"input\n", b"")):
+        return f"input closed: status {status}, {output!r}"
+    status, output, _, _ = shell('"$0" run >&-')
+    return None if (status, output) == (3, b"") else f"output closed: status {status}, {output!r}"
+
+
+def input_is_kept(copy):
+    """What builds the program doesn't read the script."""
+    return runs(copy.call(given=b"input\n"), builds=True)
+
+
+def in_folder(name, program=None):
+    """In a folder of such a name; with the program itself, by its first example."""
+
+    def case(copy):
+        copy = Copy(copy.room, name)
+        if program is None:
+            return runs(copy.call(), builds=True) or runs(copy.call(), builds=False)
+        given, wanted = ((TOP / f"examples/first.{it}").read_bytes() for it in ("script", "trace"))
+        env = {b"COPIED": os.fsencode(program)}
+        why = runs(copy.call(does="copies", env=env, given=given), wanted, True, status=0)
+        return why or runs(copy.call(given=given), wanted, False, status=0)
+
+    return case
+
+
+def cases(program):
+    folders = {
+        "spaces": b"a  b ",
+        "bytes that aren't UTF-8": b"caf\xe9\x81\x88",
+        "a line's end": b"a\nb\n",
+        "a dash": b"-a",
+        "a quote": b"a'\"$b\\n*",
+    }
+    table = {
+        "first use": first_use,
+        "the words": words_pass,
+        "an edited source": edited,
+        "an edited source of a library": edited_below,
+        "an edited source with an old date": edited_and_dated_back,
+        "a source dated in the future": dated_in_the_future,
+        "a deleted source": deleted,
+        "a new source": added,
+        "another list of crates": list_edited,
+        "a source edited during the build": changed_during_the_build("edits"),
+        "a source deleted during the build": changed_during_the_build("deletes"),
+        "a build that fails": fails("fails", "tlbridge wasn't proved and built"),
+        "a build that is stopped": fails("stops", "tlbridge wasn't proved and built"),
+        "a build that makes nothing": makes_nothing,
+        "no rt": without_rt,
+        "another program in its place": program_changed,
+        "a program that was deleted": program_gone,
+        "a folder that can't be written": read_only,
+        "links": linked,
+        "calls from elsewhere": called_from,
+        "closed descriptors": descriptors,
+        "the script while it is built": input_is_kept,
+        **{f"a folder's name with {it}": in_folder(name) for it, name in folders.items()},
+        **{f"the program in a folder's name with {it}": in_folder(name, program) for it, name in folders.items()},
+    }
+    for name, case in table.items():
+        yield f"launcher: {name}", lambda it=case: in_room(it)
+
+
+def in_room(case):
+    with tempfile.TemporaryDirectory(prefix="tlbridge-") as room:
+        os.chmod(room, 0o755)
+        return case(Copy(room))
