@@ -1,5 +1,5 @@
 -- The requests of an index under changes of the slab.
-use Rattle.std.proofs.Common.{◌⊎◌, ◌∙◌, is_some, true, false, Bool, count_by, OnSome, zero, ◌≡◌, ◌≢◌, ℕ, suc, ◌+◌, ◌==◌, List, [], ◌∷◌, ◌++◌, map, length, Option, Some, None, refl, ap, sym, arith, length-append, get_or, set, IsSome}
+use Rattle.std.proofs.Common.{◌<◌, ◌⊎◌, ◌∙◌, is_some, true, false, Bool, count_by, OnSome, zero, ◌≡◌, ◌≢◌, ℕ, suc, ◌+◌, ◌==◌, List, [], ◌∷◌, ◌++◌, map, length, Option, Some, None, refl, ap, sym, arith, length-append, get_or, set, IsSome}
 use Rattle.std.specs.Prelude.{if◌then◌else◌, option_map}
 use Rattle.std.specs.List.{AllByRecursion, find, position}
 use Rattle.bus_words.proofs.FirstPlaces.{find-none}
@@ -12,7 +12,8 @@ use Rattle.slab.specs.Slab.{Slab, with_value, get, ContainsKey, slab_len, Update
 use Rattle.flight_table.specs.Inside.{IsIndex, entries_in, entry_in, stored}
 use Rattle.flight_table.specs.Laws.{AreDistinct}
 use Rattle.flight_table.specs.LiveRequests.{LiveRequest}
-use Rattle.flight_table.specs.Tables.{KeyedRequest, change_entry, has_key, request_in}
+use Rattle.flight_table.specs.Tables.{KeyedRequest, change_entry, has_key, request_in, requests_of}
+use Rattle.flight_table.proofs.PlaceLaws.{position_map}
 
 abbrev AreOthers : ℕ → List ℕ → Type 0
 AreOthers key ks = AllByRecursion (λ k. k ≢ key) ks
@@ -228,3 +229,22 @@ key_placed s key ks some = placed (position (λ k. k == key) ks) refl
     placed : (o : Option ℕ) → position (λ k. k == key) ks ≡ o → IsSome (position (λ k. k == key) ks)
     placed None is = absurd (none-found (find-none (λ k. k == key) ks is) some)
     placed (Some k) is = rw is refl
+
+-- ---- by place
+
+pub length_requests : (s : Slab LiveRequest) (ks : List ℕ) → length (requests_of (entries_in s ks)) ≡ length ks
+length_requests s [] = refl
+length_requests s (k ∷ ks) = ap suc (length_requests s ks)
+
+-- the request of the key at a place
+pub request_placed : (s : Slab LiveRequest) (ks : List ℕ) (place key : ℕ) (d : LiveRequest) → place < length ks → key ≡ get_or ks place key → stored s key ≡ get_or (requests_of (entries_in s ks)) place d
+request_placed s [] place key d within is = absurd (omega (arith, within))
+request_placed s (k ∷ ks) zero key d within is = ap (stored s) is
+request_placed s (k ∷ ks) (suc place) key d within is = request_placed s ks place key d (omega (arith, within)) is
+
+-- the place of a key, and that of a request that passes a test
+pub place_keyed : (s : Slab LiveRequest) (key : ℕ) (ks : List ℕ) → position (has_key key) (entries_in s ks) ≡ position (λ k. k == key) ks
+place_keyed s key ks = position_map (entry_in s) (has_key key) ks
+
+pub place_passing : (s : Slab LiveRequest) (p : LiveRequest → Bool) (ks : List ℕ) → position p (requests_of (entries_in s ks)) ≡ position (λ k. p (stored s k)) ks
+place_passing s p ks = position_map (λ (entry : KeyedRequest). entry.request) p (entries_in s ks) ∙ position_map (entry_in s) (λ entry. p entry.request) ks

@@ -1,3 +1,10 @@
+pub mod MarkLaws
+pub mod PlaceLaws
+pub mod SumLaws
+pub mod HeldIds
+pub mod Ready
+pub mod Kept
+pub mod Lowered
 pub mod SlabScans
 pub mod Index
 pub mod CourseLaws

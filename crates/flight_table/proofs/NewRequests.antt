@@ -200,6 +200,11 @@ room_left old now client held plan same sound may =
     let table = new_table old client held plan sound (before old now client held.source same may) in
     omega (arith, at_most_64 (with_request request (table_of old)) sound.limits table, length-append (requests_of old.entries) (request ∷ []), length-requests old.entries)
 
+-- the next number is above all
+pub is_latest : (keyed : KeyedTable) → IsSound keyed → AllByRecursion (λ (earlier : LiveRequest). earlier.number < keyed.accepted) (requests_of keyed.entries)
+is_latest keyed sound =
+    all-map (IsSoundRequest keyed.limits keyed.accepted) (λ earlier. earlier.number < keyed.accepted) (requests_of keyed.entries) (λ earlier s. s.number) sound.table.requests
+
 pub accepted_laws : (old now : KeyedTable) (client key : ℕ) (held : HeldMessage) (plan : Option PlannedRange) (request : LiveRequest) (entries : List KeyedRequest) → old ≡ now → IsSound old
     → MayAccept now client held.source → request ≡ flight_for old.accepted client held plan → entries ≡ old.entries ++ record { key = key; request = request } ∷ [] → HaveOwnKeys entries
     → IsSound (record { limits = old.limits; accepted = old.accepted + 1; entries = entries })

@@ -1,13 +1,10 @@
 -- Scans of the live requests: what a scan of the keys finds in the slab is what the list of the requests has.
-use Rattle.std.proofs.Common.{◌≡◌, ℕ, suc, ◌+◌, ◌∙◌, sym, Bool, ◌≤◌, ◌||◌, is_some, true, false, List, [], ◌∷◌, length, refl, ap, arith}
-use Rattle.std.specs.Prelude.{Option, None, Some, if◌then◌else◌, option_map}
+use Rattle.std.proofs.Common.{◌≡◌, ℕ, suc, ◌+◌, ◌∙◌, sym, Bool, ◌≤◌, true, false, List, [], ◌∷◌, length, refl, ap, arith}
+use Rattle.std.specs.Prelude.{Some, if◌then◌else◌, option_map}
 use Rattle.std.specs.List.{filter, find, list_any, sum_by}
 use Rattle.std.proofs.lemmas.List.Sums.{sum_by-cons}
 use Rattle.slab.specs.Slab.{Slab}
-use Rattle.flight_table.specs.Inside.{entries_in, entry_in, requests_in, sends_by, stored}
-use Rattle.flight_table.specs.Order.{free_id, may_send}
-use Rattle.flight_table.specs.declared.TableLimits.{TableLimits}
-use Rattle.std.specs.Option.{option_or}
+use Rattle.flight_table.specs.Inside.{entries_in, entry_in, requests_in, stored}
 use Rattle.flight_table.specs.LiveRequests.{LiveRequest}
 use Rattle.flight_table.specs.Tables.{key_in, requests_of}
 
@@ -42,20 +39,6 @@ same_requests s (k ∷ ks) = rw (same_requests s ks) refl
 pub any_in : (s : Slab LiveRequest) (p : LiveRequest → Bool) (ks : List ℕ) → list_any (λ k. p (stored s k)) ks ≡ list_any p (requests_in s ks)
 any_in s p [] = refl
 any_in s p (k ∷ ks) = rw (any_in s p ks) refl
-
--- two tests that agree find the same
-pub find_same : (p q : ℕ → Bool) (ks : List ℕ) → ((k : ℕ) → p k ≡ q k) → find p ks ≡ find q ks
-find_same p q [] same = refl
-find_same p q (k ∷ ks) same = rw (same k, find_same p q ks same) refl
-
--- whether a request has an ID for its next burst
-some_id : (own free : Option ℕ) → is_some (option_or own free) ≡ (is_some own || is_some free)
-some_id None free = refl
-some_id (Some id) free = refl
-
-pub sends_alike : (limits : TableLimits) (free : Bool) (live : List LiveRequest) (request : LiveRequest) → free ≡ is_some (free_id limits.ids live)
-    → sends_by limits.depth free live request ≡ may_send limits live request
-sends_alike limits free live request is = rw (is, some_id request.id (free_id limits.ids live)) refl
 
 -- no more pass than there are
 pub few_pass : {X : Type 0} (p : X → Bool) (xs : List X) → length (filter p xs) ≤ length xs

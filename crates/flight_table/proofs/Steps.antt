@@ -1,15 +1,17 @@
 -- What each call makes of a request keeps the laws of the table.
 use Rattle.std.proofs.Common.{◌≡◌, ℕ, suc, zero, ◌+◌, ◌-◌, ◌==◌, ◌<◌, ◌≤◌, Bool, true, false, not, ◌&&◌, ◌||◌, is_some, nat_lt, List, [], ◌∷◌, length, Option, Some, None, refl, ap, sym, ◌∙◌, arith, inl, inr, ◌⊎◌, subst, IsTrue}
 use Rattle.std.specs.Prelude.{IfSome, IsSomeAnd, if◌then◌else◌}
-use Rattle.std.specs.List.{find, list_any, range_with_len, slice_get}
+use Rattle.std.proofs.lemmas.Bool.{cases_lt}
+use Rattle.std.specs.List.{AllByRecursion, find, list_any, range_with_len, slice_get}
 use Rattle.std.specs.Option.{option_or}
 use Rattle.std.proofs.lemmas.Bool.{and_parts, eqb-true, ltb-true}
 use Rattle.bus_words.proofs.PlaceChanges.{find-passes}
 use Rattle.bus_words.specs.Places.{change_first}
+use Rattle.flight_table.specs.Inside.{HasOneHolder, IsProgress, MayName}
 use Rattle.flight_table.specs.Laws.{HaveOwnKeys, IsSound, IsSoundRequest, IsSoundTable}
 use Rattle.flight_table.specs.LiveRequests.{LiveRequest, finished, is_atomic, next_burst, planned, planned_writes, read_pieces, unanswered, with_answered, with_sent, with_write, write_pieces}
 use Rattle.flight_table.specs.Order.{conflict, free_id, holds_back, holds_id, id_for, is_free, is_held, is_id, is_ready}
-use Rattle.flight_table.specs.Tables.{FlightTable, KeyedRequest, KeyedTable, change_entry, change_key, change_number, has_key, has_number, request_at, requests_of, table_of}
+use Rattle.flight_table.specs.Tables.{FlightTable, KeyedRequest, KeyedTable, change_entry, change_key, change_number, has_key, has_number, key_in, request_at, request_in, requests_of, table_of}
 use Rattle.flight_table.specs.declared.TableLimits.{TableLimits}
 use Rattle.flight_table.proofs.CourseLaws.{length_course}
 use Rattle.flight_table.proofs.Index.{change-constant}
@@ -269,3 +271,72 @@ sends old now key r same found ready = needs (λ t q. IsTrue (is_ready (table_of
 -- what is known of the request that a key names, seen by a caller
 pub seen : (P : KeyedTable → LiveRequest → Type 0) (old now : KeyedTable) (key : ℕ) (r : LiveRequest) → old ≡ now → request_at key old ≡ Some r → P old r → IfSome (request_at key now) (P now)
 seen P old now key r same found holds = subst (λ t. IfSome (request_at key t) (P t)) same (if_request (request_at key old) r (P old) found holds)
+
+-- ---- what the calls below ask
+
+-- a request that only sent or answered
+pub progresses : (key : ℕ) (entries : List KeyedRequest) (r new : LiveRequest) → request_in key entries ≡ Some r → IsProgress r new → IsSomeAnd (request_in key entries) (λ old. IsProgress old new)
+progresses key entries r new found progress = rw found progress
+
+pub sent_progress : (id : ℕ) (r new : LiveRequest) → new ≡ with_sent id r → IsProgress r new
+sent_progress id r new is = rw is (record { number = refl; operation = refl; plan = refl; done = refl })
+
+pub answered_progress : (r new : LiveRequest) → new ≡ with_answered r → IsProgress r new
+answered_progress r new is = rw is (record { number = refl; operation = refl; plan = refl; done = refl })
+
+pub write_progress : (r new : LiveRequest) → new ≡ with_write r → IsProgress r new
+write_progress r new is = rw is (record { number = refl; operation = refl; plan = refl; done = refl })
+
+-- it keeps its ID
+same_name : (ids : ℕ) (live : List LiveRequest) (old now : Option ℕ) → now ≡ old → MayName ids live old now
+same_name ids live None None same = tt
+same_name ids live None (Some id) same = absurd (cc (same))
+same_name ids live (Some held) None same = absurd (cc (same))
+same_name ids live (Some held) (Some id) same = sym (held_same id held same)
+  where
+    held_same : (a b : ℕ) → Some a ≡ Some b → a ≡ b
+    held_same a b same = cc
+
+pub keeps_name : (ids : ℕ) (live : List LiveRequest) (key : ℕ) (entries : List KeyedRequest) (r new : LiveRequest) → request_in key entries ≡ Some r → new.id ≡ r.id → IsSomeAnd (request_in key entries) (λ old. MayName ids live old.id new.id)
+keeps_name ids live key entries r new found same = rw found (same_name ids live r.id new.id same)
+
+-- or takes the one that it was told
+takes_name : (limits : TableLimits) (live : List LiveRequest) (old : Option ℕ) (id : ℕ) → option_or old (free_id limits.ids live) ≡ Some id → MayName limits.ids live old (Some id)
+takes_name limits live None id is = (
+  omega (arith, below_range (is_free live) 0 limits.ids id is),
+  not_false (list_any (holds_id id) live) (find-passes (is_free live) (range_with_len 0 limits.ids) id is),
+)
+takes_name limits live (Some held) id is = cc
+
+pub sent_name : (limits : TableLimits) (live : List LiveRequest) (key : ℕ) (entries : List KeyedRequest) (r new : LiveRequest) (id : ℕ) → request_in key entries ≡ Some r → new ≡ with_sent id r → id_for limits live r ≡ Some id
+    → IsSomeAnd (request_in key entries) (λ old. MayName limits.ids live old.id new.id)
+sent_name limits live key entries r new id found made is = rw (found, made) (takes_name limits live r.id id is)
+
+-- the ID of a request that will be done is its own
+pub gives_name : (keyed : KeyedTable) (key : ℕ) (r : LiveRequest) → IsSound keyed → request_at key keyed ≡ Some r → IsSomeAnd (request_at key keyed) (λ old. IfSome old.id (HasOneHolder keyed.limits.ids (requests_of keyed.entries)))
+gives_name keyed key r sound found = rw found (by_id r.id (known keyed key r sound found).0.id)
+  where
+    by_id : (o : Option ℕ) → IfSome o (λ id. id < keyed.limits.ids) → IfSome o (HasOneHolder keyed.limits.ids (requests_of keyed.entries))
+    by_id None within = tt
+    by_id (Some id) within = (within, sound.table.one_holder id)
+
+-- and one that is done has none
+pub has_no_name : (keyed : KeyedTable) (key : ℕ) (r : LiveRequest) → IsSound keyed → request_at key keyed ≡ Some r → r.done ≡ true → IsSomeAnd (request_at key keyed) (λ old. old.id ≡ None)
+has_no_name keyed key r sound found done = rw found ((known keyed key r sound found).0.freed done)
+
+-- ---- no ID beyond the table's is held
+
+other_id : (ids id : ℕ) (o : Option ℕ) → IfSome o (λ held. held < ids) → ids ≤ id → is_id id o ≡ false
+other_id ids id None within above = refl
+other_id ids id (Some held) within above = grind (arith, within, above)
+
+nobody_beyond : (limits : TableLimits) (accepted id : ℕ) (entries : List KeyedRequest) → AllByRecursion (IsSoundRequest limits accepted) (requests_of entries) → limits.ids ≤ id → key_in (holds_id id) entries ≡ None
+nobody_beyond limits accepted id [] all above = refl
+nobody_beyond limits accepted id (e ∷ entries) all above = rw (other_id limits.ids id e.request.id all.0.id above) (nobody_beyond limits accepted id entries all.1 above)
+
+pub held_beyond : (keyed : KeyedTable) (id : ℕ) (answer : Option ℕ) → IsSound keyed → (id < keyed.limits.ids → answer ≡ key_in (holds_id id) keyed.entries) → (keyed.limits.ids ≤ id → answer ≡ None) → answer ≡ key_in (holds_id id) keyed.entries
+held_beyond keyed id answer sound within beyond =
+    elim (cases_lt id keyed.limits.ids) [
+      | inl below ↦ within below
+      | inr above ↦ beyond above ∙ sym (nobody_beyond keyed.limits keyed.accepted id keyed.entries sound.table.requests above)
+    ]

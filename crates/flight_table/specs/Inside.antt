@@ -1,12 +1,13 @@
 -- How the live requests lie in a slab, and the index of their keys.
-use Rattle.std.specs.Prelude.{◌≡◌, ℕ, Bool, false, ◌&&◌, ◌||◌, not, List, map, length, None, is_some, nat_lt, unwrap_or}
-use Rattle.std.specs.List.{AllByRecursion}
+use Rattle.std.specs.Prelude.{◌≡◌, ℕ, ◌<◌, ◌≤◌, ⊤, Option, Some, filter, slice_set, ◌-◌, ◌==◌, Bool, false, ◌&&◌, not, List, [], ◌∷◌, map, length, None, is_some, nat_lt, unwrap_or, if◌then◌else◌}
+use Rattle.std.specs.List.{AllByRecursion, list_any, range_with_len}
 use Rattle.slab.specs.Slab.{Slab, get, ContainsKey, slab_len}
 use Rattle.tl_messages.specs.declared.Operation.TheVariants.{Get}
 use Rattle.flight_table.specs.Laws.{AreDistinct}
 use Rattle.flight_table.specs.LiveRequests.{LiveRequest, next_burst, unanswered}
-use Rattle.flight_table.specs.Order.{is_held}
-use Rattle.flight_table.specs.Tables.{KeyedRequest}
+use Rattle.flight_table.specs.Order.{holders, holds_back, holds_id}
+use Rattle.flight_table.specs.Tables.{KeyedRequest, KeyedTable, key_in}
+use Rattle.flight_table.specs.declared.TableLimits.{TableLimits}
 
 -- what stands in where a key has no request
 abbrev pub no_request : LiveRequest
@@ -33,7 +34,79 @@ pub record IsIndex (slab : Slab LiveRequest) (keys : List ℕ) : Type 0 where
   pub distinct : AreDistinct keys
   pub count : length keys ≡ slab_len slab
 
--- whether a request may send its next burst, by whether an ID is free
-abbrev pub sends_by : ℕ → Bool → List LiveRequest → LiveRequest → Bool
-sends_by depth has_free live request =
-    not request.done && is_some (next_burst request) && nat_lt (unanswered request) depth && (is_some request.id || has_free) && not (is_held live request)
+-- ---- what is kept by place
+
+-- the live requests with their keys, and the limits of their table
+pub record LiveEntries : Type 0 where
+  pub limits : TableLimits
+  pub entries : List KeyedRequest
+
+abbrev pub with_entries : List KeyedRequest → LiveEntries → LiveEntries
+with_entries entries live = record live { entries = entries }
+
+-- the table of so many accepted requests
+abbrev pub keyed_of : ℕ → LiveEntries → KeyedTable
+keyed_of accepted live = record { limits = live.limits; accepted = accepted; entries = live.entries }
+
+-- whether a burst is open: planned, unsent and within the depth
+abbrev pub is_open : ℕ → LiveRequest → Bool
+is_open depth request = not request.done && is_some (next_burst request) && nat_lt (unanswered request) depth
+
+-- and its request holds an ID
+abbrev pub is_named : ℕ → LiveRequest → Bool
+is_named depth request = is_open depth request && is_some request.id
+
+-- how many hold back a request
+abbrev pub count_holders : List LiveRequest → LiveRequest → ℕ
+count_holders live request = length (holders live request)
+
+-- what is kept is what it says: which bursts are open, which of their requests hold an ID, how many hold back each, and which nobody holds back
+pub record IsKept (depth : ℕ) (live : List LiveRequest) (open_marks named_marks : List Bool) (counts : List ℕ) (free_marks : List Bool) : Type 0 where
+  pub open_bursts : open_marks ≡ map (is_open depth) live
+  pub named_bursts : named_marks ≡ map (is_named depth) live
+  pub holders : counts ≡ map (count_holders live) live
+  pub free : free_marks ≡ map (λ count. count == 0) counts
+
+-- what sending and answering make of a request that isn't done; nothing that tells whom it holds back
+pub record IsProgress (old new : LiveRequest) : Type 0 where
+  pub number : new.number ≡ old.number
+  pub operation : new.operation ≡ old.operation
+  pub plan : new.plan ≡ old.plan
+  pub done : new.done ≡ old.done
+
+-- the counts, of each request that this one holds back lowered by one
+abbrev pub lowered : LiveRequest → List LiveRequest → List ℕ → List ℕ
+lowered request [] counts = []
+lowered request (other ∷ live) [] = []
+lowered request (other ∷ live) (count ∷ counts) = (count - (if holds_back other request then 1 else 0)) ∷ lowered request live counts
+
+-- ---- what is kept by ID
+
+-- the holders of the IDs, after the request of a key held the one and holds the other
+abbrev pub renamed : ℕ → Option ℕ → Option ℕ → List (Option ℕ) → List (Option ℕ)
+renamed key None None holders = holders
+renamed key None (Some id) holders = slice_set holders id (Some key)
+renamed key (Some old) None holders = slice_set holders old None
+renamed key (Some old) (Some id) holders = holders
+
+-- of which so many are kept
+abbrev pub CanRename : ℕ → Option ℕ → Option ℕ → Type 0
+CanRename ids None None = ⊤
+CanRename ids None (Some id) = id < ids
+CanRename ids (Some old) None = old < ids
+CanRename ids (Some old) (Some id) = ⊤
+
+-- the key of the request that holds each of so many IDs
+abbrev pub holders_of_ids : ℕ → List KeyedRequest → List (Option ℕ)
+holders_of_ids ids entries = map (λ id. key_in (holds_id id) entries) (range_with_len 0 ids)
+
+-- what a request may do with its ID before it is done: keep it, or take one that is free
+abbrev pub MayName : ℕ → List LiveRequest → Option ℕ → Option ℕ → Type 0
+MayName ids live None None = ⊤
+MayName ids live None (Some id) = (id < ids) × (list_any (holds_id id) live ≡ false)
+MayName ids live (Some old) None = ⊥
+MayName ids live (Some old) (Some id) = old ≡ id
+
+-- an ID that one request holds at most
+abbrev pub HasOneHolder : ℕ → List LiveRequest → ℕ → Type 0
+HasOneHolder ids live id = (id < ids) × (length (filter (holds_id id) live) ≤ 1)

@@ -8,8 +8,9 @@ ghost use Rattle.flight_table.specs.Tables.{change_key, change_number, flight_of
 ghost use Rattle.flight_table.specs.Work.{unsent, work};
 
 use crate::TableLimits;
-use crate::live::{Key, Live};
+use crate::live::Live;
 use crate::request::LiveRequest;
+use crate::slots::Key;
 use burst_plan::{Piece, Plan};
 use std::alloc::{AllocError, Global};
 use std::marker::Model;
@@ -18,20 +19,20 @@ use tl_messages::Request;
 /// The table of live requests. All room is taken by `new`; no other call takes memory.
 #[derive(Drop)]
 pub struct Flight {
-    pub(crate) limits: TableLimits,
     pub(crate) accepted: u64,
     pub(crate) live: Live,
 }
 
 impl Model for Flight {
+    ghost use Rattle.flight_table.specs.Inside.{keyed_of};
     ghost use Rattle.flight_table.specs.Laws.{IsSound};
     ghost use Rattle.flight_table.specs.Tables.{KeyedTable};
 
     ghost Value = { KeyedTable };
 
-    ghost view = { λ f. record { limits = f.limits; accepted = f.accepted; entries = f.live } };
+    ghost view = { λ f. keyed_of f.accepted f.live };
 
-    ghost invariant = { λ f. IsSound (record { limits = f.limits; accepted = f.accepted; entries = f.live }) };
+    ghost invariant = { λ f. IsSound (keyed_of f.accepted f.live) };
 }
 
 impl Flight {
@@ -57,18 +58,14 @@ impl Flight {
         ensures { IfOk result (λ flight. flight
             ≡ record { limits = record { clients = clients; quota = quota; ids = ids; depth = depth }; accepted = 0; entries = [] }) }
     {
-        let live = Live::new(alloc)?;
         let limits = TableLimits {
             clients,
             quota,
             ids,
             depth,
         };
-        Ok(Flight {
-            limits,
-            accepted: 0,
-            live,
-        })
+        let live = Live::new(alloc, limits)?;
+        Ok(Flight { accepted: 0, live })
     }
 
     /// Whether a client has fewer live requests than it may have.
@@ -76,7 +73,7 @@ impl Flight {
         ensures answer { result ≡ has_room (table_of self.now) client }
         ensures laws { IsSound self.now }
     {
-        self.live.count_of(client) < usize::from(self.limits.quota)
+        self.live.count_of(client) < usize::from(self.live.limits.quota)
     }
 
     /// Whether a live request of a client has this source.
@@ -128,7 +125,7 @@ impl Flight {
         ensures none { result ≡ None → AllByRecursion (λ request. is_ready (table_of self.now) request ≡ false) (table_of self.now).live }
         ensures laws { IsSound self.now }
     {
-        self.live.first_ready(self.limits)
+        self.live.first_ready()
     }
 
     /// The piece of a request's next burst. The request may send it.
@@ -157,7 +154,7 @@ impl Flight {
         ensures laws { IsSound self.new }
     {
         let request = self.live.get(key);
-        let id = self.live.id_for(self.limits.ids, &request).unwrap();
+        let id = self.live.id_for(&request).unwrap();
         self.live.set(key, request.with_sent(id));
         id
     }
@@ -191,8 +188,7 @@ impl Flight {
         ensures table { IfSome (request_at key self.old) (λ request. table_of self.new ≡ change_number request.number finished (table_of self.old)) }
         ensures laws { IsSound self.new }
     {
-        let request = self.live.get(key);
-        self.live.set(key, request.finished());
+        self.live.finish(key);
     }
 
     /// Whether nothing of a live request that is planned is unsent or unanswered: it may finish.
@@ -318,6 +314,6 @@ impl Flight {
         requires { IsSome (request_at key self.now) }
         ensures { IfSome (request_at key self.now) (λ request. result ≡ length (holders (table_of self.now).live request)) }
     {
-        self.live.count_holders(&self.live.get(key)) as u8
+        self.live.count_holders(key)
     }
 }

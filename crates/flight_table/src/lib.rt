@@ -6,14 +6,18 @@
 #![tactic(auto)]
 
 mod flight;
+mod ids;
 mod live;
+mod marks;
 mod request;
 mod scans;
+mod slots;
+mod sums;
 #[cfg(test)]
 mod tests;
 
 pub use flight::Flight;
-pub use live::Key;
+pub use slots::Key;
 
 /// How many clients there are, live requests of each, IDs, and unanswered bursts of a request, at most.
 #[derive(Clone, Copy)]

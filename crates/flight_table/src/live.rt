@@ -1,240 +1,261 @@
-//! The live requests, and their keys by rising number.
-ghost use Rattle.std.specs.Prelude.{◌≡◌, ◌==◌, ◌<◌, ◌≤◌, ◌^◌, [], ◌∷◌, ◌++◌, Some, None, IfOk, IsSome, length, filter, position, sum_by};
-ghost use Rattle.std.specs.List.{list_any};
+//! The live requests, with what is kept of them by their places in the order of acceptance, so that no question walks over them.
+ghost use Rattle.std.specs.Prelude.{◌≡◌, ◌==◌, ◌<◌, ◌≤◌, ◌^◌, [], ◌∷◌, ◌++◌, Some, None, IfOk, IfSome, IsSome, IsSomeAnd, IsTrue, length, filter, map, position, sum_by};
+ghost use Rattle.std.specs.List.{AllByRecursion, list_any};
 ghost use Rattle.std.specs.Option.{option_or};
 ghost use Rattle.std.specs.Vec.{vec_len, vec_capacity};
 ghost use Rattle.bus_words.specs.Places.{change_first, without_first};
+ghost use Rattle.flight_table.specs.Inside.{HasOneHolder, IsProgress, MayName, lowered, with_entries};
+ghost use Rattle.flight_table.specs.LiveRequests.{finished};
 ghost use Rattle.flight_table.specs.Order.{free_id, holds_back, holds_id, may_send};
 ghost use Rattle.flight_table.specs.Tables.{change_entry, has_key, has_number, has_source, is_done_of, is_of, is_undone, key_in, request_in, requests_of};
 ghost use Rattle.flight_table.specs.Laws.{HaveOwnKeys};
 ghost use Rattle.flight_table.specs.Work.{unsent_work, work_of};
 
 use crate::TableLimits;
+use crate::ids::Ids;
+use crate::marks::Marks;
 use crate::request::LiveRequest;
-use crate::scans::{
-    count_holders, count_of, count_undone, first_ready, free_id, has_source, of_id, of_number,
-    oldest_done, stored, unsent_work, work,
-};
-use slab::Slab;
+use crate::slots::{Key, ROOM, Slots};
+use crate::sums::Sums;
 use std::alloc::{AllocError, Global};
 use std::marker::Model;
 
-/// How many requests can be live at once.
-const ROOM: usize = 64;
-
-/// The key of a live request, by which calls name it; a plain value. After its release a key may name a later request.
-#[derive(Clone, Copy, PartialEq, Eq)]
-pub struct Key {
-    slot: usize,
-}
-
-impl Model for Key {
-    ghost use Rattle.std.specs.Prelude.{ℕ};
-
-    ghost Value = { ℕ };
-
-    ghost view = { λ k. k.slot };
-
-    ghost inverse = { λ n. record { slot = n } };
-}
-
-impl Key {
-    /// The slot of the slab.
-    pub(crate) fn slot(self) -> usize
-        ensures { result ≡ self }
-    {
-        self.slot
-    }
-}
-
-/// The live requests, each in a slab under its key, and the keys in the order of acceptance.
+/// The live requests by rising number. By its place in this order is kept of each: whether a burst of it is open, that is,
+/// planned, unsent and within the depth; whether it holds an ID besides; and how many others hold it back.
 #[derive(Drop)]
 pub(crate) struct Live {
-    requests: Slab<LiveRequest>,
-    order: Vec<Key>,
+    pub(crate) limits: TableLimits,
+    slots: Slots,
+    ids: Ids,
+    sums: Sums,
+    able: Marks,
+    named: Marks,
+    holders: Vec<u8>,
+    unheld: Marks,
 }
 
 impl Model for Live {
-    ghost use Rattle.std.specs.Prelude.{List, ◌≤◌};
-    ghost use Rattle.std.specs.Vec.{vec_len, vec_capacity};
-    ghost use Rattle.flight_table.specs.Inside.{IsIndex, entries_in};
-    ghost use Rattle.flight_table.specs.Tables.{KeyedRequest};
+    ghost use Rattle.std.specs.Prelude.{◌≡◌, ◌≤◌};
+    ghost use Rattle.std.specs.Vec.{vec_capacity};
+    ghost use Rattle.flight_table.specs.Inside.{IsKept, LiveEntries, holders_of_ids};
+    ghost use Rattle.flight_table.specs.Sums.{IsSummed};
+    ghost use Rattle.flight_table.specs.Tables.{requests_of};
 
-    ghost Value = { List KeyedRequest };
+    ghost Value = { LiveEntries };
 
-    ghost view = { λ l. entries_in l.requests l.order.items };
+    ghost view = { λ l. record { limits = l.limits; entries = l.slots } };
 
-    ghost invariant = { λ l. IsIndex l.requests l.order.items × (64 ≤ vec_capacity l.order) × (64 ≤ l.requests.capacity) × (vec_len l.order ≤ 64) };
+    ghost invariant = { λ l. IsKept l.limits.depth (requests_of l.slots) l.able l.named l.holders.items l.unheld × (64 ≤ vec_capacity l.holders) × (l.ids ≡ holders_of_ids l.limits.ids l.slots) × IsSummed (requests_of l.slots) l.sums };
 }
 
-/// Appends a key, for which there is room.
-fn put(order: &mut Vec<Key>, key: Key)
-    requires { vec_len order.old < vec_capacity order.old }
-    ensures items { order.new.items ≡ order.old.items ++ key ∷ [] }
-    ensures capacity { vec_capacity order.old ≤ vec_capacity order.new }
+/// Lowers the count of each request that this one holds back, and marks those that nobody holds back any more.
+fn lower(slots: &Slots, request: &LiveRequest, holders: &mut Vec<u8>, unheld: &mut Marks)
+    requires holders { vec_len holders.old ≡ length (requests_of slots.now) }
+    requires unheld { unheld.old ≡ map (λ count. count == 0) holders.old.items }
+    ensures holders { holders.new.items ≡ lowered request.now (requests_of slots.now) holders.old.items }
+    ensures unheld { unheld.new ≡ map (λ count. count == 0) holders.new.items }
+    ensures capacity { vec_capacity holders.new ≡ vec_capacity holders.old }
 {
-    order.push(key).unwrap();
-}
-
-/// The place of a key.
-fn place_of(order: &[Key], key: Key) -> Option<usize>
-    ensures { result ≡ position (λ k. k == key) order.now }
-{
-    order.iter().position(|k| *k == key)
-}
-
-/// Takes the first key that is this one out.
-fn take_out(order: &mut Vec<Key>, key: Key)
-    requires { IsSome (position (λ k. k == key) order.old.items) }
-    ensures items { order.new.items ≡ without_first (λ k. k == key) order.old.items }
-    ensures capacity { vec_capacity order.new ≡ vec_capacity order.old }
-{
-    let place = place_of(order, key).unwrap();
-    order.remove(place);
+    for place in 0..holders.len() {
+        let held = request.holds_back(&slots.at(place));
+        holders[place] = holders[place].saturating_sub(u8::from(held));
+        unheld.put(place, holders[place] == 0);
+    }
 }
 
 impl Live {
     /// No live requests, with room for 64.
-    pub(crate) fn new(alloc: Global) -> Result<Self, AllocError>
-        ensures { IfOk result (λ live. live ≡ []) }
+    pub(crate) fn new(alloc: Global, limits: TableLimits) -> Result<Self, AllocError>
+        requires { limits.ids ≤ 16 }
+        ensures { IfOk result (λ live. live ≡ record { limits = limits; entries = [] }) }
     {
-        let requests = Slab::with_capacity(alloc, ROOM)?;
-        let order = Vec::with_capacity(alloc, ROOM)?;
-        Ok(Live { requests, order })
+        let slots = Slots::new(alloc)?;
+        let ids = Ids::new(alloc, limits.ids)?;
+        let holders = Vec::with_capacity(alloc, ROOM)?;
+        Ok(Live {
+            limits,
+            slots,
+            ids,
+            sums: Sums::new(),
+            able: Marks::new(),
+            named: Marks::new(),
+            holders,
+            unheld: Marks::new(),
+        })
     }
 
     /// Adds the latest request, and answers its key.
     pub(crate) fn add(&mut self, request: LiveRequest) -> Key
-        requires { length self.old < 64 }
-        ensures entries { self.new ≡ self.old ++ record { key = result; request = request } ∷ [] }
-        ensures fresh { request_in result self.old ≡ None }
-        ensures keys { HaveOwnKeys self.new }
+        requires room { length self.old.entries < 64 }
+        requires no_id { request.id ≡ None }
+        requires latest { AllByRecursion (λ earlier. earlier.number < request.number) (requests_of self.old.entries) }
+        ensures table { self.new ≡ with_entries (self.old.entries ++ record { key = result; request = request } ∷ []) self.old }
+        ensures fresh { request_in result self.old.entries ≡ None }
+        ensures keys { HaveOwnKeys self.new.entries }
     {
-        let slot = self.requests.insert_reserved(request);
-        let key = Key { slot };
-        put(&mut self.order, key);
-        key
+        let able = request.is_open(self.limits.depth);
+        let holders = self.slots.count_holders(&request);
+        self.able.push(able);
+        self.named.push(request.is_named(able));
+        self.holders.push_reserved(holders as u8);
+        self.unheld.push(holders == 0);
+        self.sums = self.sums.with(&request);
+        self.slots.add(request)
     }
 
     /// The request of a key.
     pub(crate) fn get(&self, key: Key) -> LiveRequest
-        requires { IsSome (request_in key self.now) }
-        ensures request { request_in key self.now ≡ Some result }
-        ensures keys { HaveOwnKeys self.now }
+        requires { IsSome (request_in key self.now.entries) }
+        ensures request { request_in key self.now.entries ≡ Some result }
+        ensures keys { HaveOwnKeys self.now.entries }
     {
-        stored(&self.requests, key)
+        self.slots.get(key)
     }
 
-    /// Puts a request in the place of that of a key.
+    /// Puts a request in the place of that of a key, of which it is what sending and answering make.
     pub(crate) fn set(&mut self, key: Key, request: LiveRequest)
-        requires { IsSome (request_in key self.old) }
-        ensures entries { self.new ≡ change_first (has_key key) (change_entry (λ r. request)) self.old }
-        ensures keys { HaveOwnKeys self.new }
+        requires progress { IsSomeAnd (request_in key self.old.entries) (λ old. IsProgress old request) }
+        requires id { IsSomeAnd (request_in key self.old.entries) (λ old. MayName self.old.limits.ids (requests_of self.old.entries) old.id request.id) }
+        ensures table { self.new ≡ with_entries (change_first (has_key key) (change_entry (λ r. request)) self.old.entries) self.old }
+        ensures keys { HaveOwnKeys self.new.entries }
     {
-        self.requests[key.slot] = request;
+        let place = self.slots.place_of(key);
+        let old = self.slots.get(key);
+        let able = request.is_open(self.limits.depth);
+        self.able.put(place, able);
+        self.named.put(place, request.is_named(able));
+        self.ids.rename(key, old.id, request.id);
+        self.sums = self.sums.without(&old).with(&request);
+        self.slots.set(key, request);
     }
 
-    /// Takes the request of a key out.
-    pub(crate) fn remove(&mut self, key: Key)
-        requires { IsSome (request_in key self.old) }
-        ensures entries { self.new ≡ without_first (has_key key) self.old }
-        ensures keys { HaveOwnKeys self.new }
+    /// The request of a key is done from here on, holds back none, and holds no ID.
+    pub(crate) fn finish(&mut self, key: Key)
+        requires { IsSomeAnd (request_in key self.old.entries) (λ old. IfSome old.id (HasOneHolder self.old.limits.ids (requests_of self.old.entries))) }
+        ensures table { self.new ≡ with_entries (change_first (has_key key) (change_entry finished) self.old.entries) self.old }
+        ensures keys { HaveOwnKeys self.new.entries }
     {
-        take_out(&mut self.order, key);
-        self.requests.try_remove(key.slot);
+        let place = self.slots.place_of(key);
+        let request = self.slots.get(key);
+        let done = request.finished();
+        self.able.put(place, false);
+        self.named.put(place, false);
+        lower(&self.slots, &request, &mut self.holders, &mut self.unheld);
+        self.ids.rename(key, request.id, None);
+        self.sums = self.sums.without(&request).with(&done);
+        self.slots.set(key, done);
+    }
+
+    /// Takes the request of a key out, which is done.
+    pub(crate) fn remove(&mut self, key: Key)
+        requires done { IsSomeAnd (request_in key self.old.entries) (λ request. IsTrue request.done) }
+        requires no_id { IsSomeAnd (request_in key self.old.entries) (λ request. request.id ≡ None) }
+        ensures table { self.new ≡ with_entries (without_first (has_key key) self.old.entries) self.old }
+        ensures keys { HaveOwnKeys self.new.entries }
+    {
+        let place = self.slots.place_of(key);
+        self.sums = self.sums.without(&self.slots.get(key));
+        self.able.remove(place);
+        self.named.remove(place);
+        self.holders.remove(place);
+        self.unheld.remove(place);
+        self.slots.remove(key);
     }
 
     /// How many live requests a client has.
     pub(crate) fn count_of(&self, client: u8) -> usize
-        ensures { result ≡ length (filter (is_of client) (requests_of self.now)) }
+        ensures { result ≡ length (filter (is_of client) (requests_of self.now.entries)) }
     {
-        count_of(&self.requests, &self.order, client)
+        self.slots.count_of(client)
     }
 
     /// How many live requests aren't done.
-    pub(crate) fn count_undone(&self) -> usize
-        ensures count { result ≡ length (filter is_undone (requests_of self.now)) }
+    pub(crate) fn count_undone(&self) -> u64
+        ensures count { result ≡ length (filter is_undone (requests_of self.now.entries)) }
         ensures bound { result ≤ 64 }
     {
-        count_undone(&self.requests, &self.order)
+        self.sums.undone
     }
 
-    /// How many live requests hold back this one.
-    pub(crate) fn count_holders(&self, request: &LiveRequest) -> usize
-        ensures count { result ≡ length (filter (holds_back request.now) (requests_of self.now)) }
-        ensures bound { result ≤ 64 }
+    /// How many live requests hold back that of a key.
+    pub(crate) fn count_holders(&self, key: Key) -> u8
+        requires { IsSome (request_in key self.now.entries) }
+        ensures { IfSome (request_in key self.now.entries) (λ request. result ≡ length (filter (holds_back request) (requests_of self.now.entries))) }
     {
-        count_holders(&self.requests, &self.order, request)
+        self.holders[self.slots.place_of(key)]
     }
 
     /// Whether a live request of a client has this source.
     pub(crate) fn has_source(&self, client: u8, source: u8) -> bool
-        ensures { result ≡ list_any (has_source client source) (requests_of self.now) }
+        ensures { result ≡ list_any (has_source client source) (requests_of self.now.entries) }
     {
-        has_source(&self.requests, &self.order, client, source)
+        self.slots.has_source(client, source)
     }
 
-    /// The smallest of so many IDs that nobody holds.
-    pub(crate) fn free_id(&self, ids: u8) -> Option<u8>
-        ensures { result ≡ free_id ids (requests_of self.now) }
-    {
-        free_id(&self.requests, &self.order, ids)
-    }
-
-    /// The ID of a request's next burst: its own, or the smallest of so many that nobody holds.
-    pub(crate) fn id_for(&self, ids: u8, request: &LiveRequest) -> Option<u8>
-        ensures { result ≡ option_or request.now.id (free_id ids (requests_of self.now)) }
+    /// The ID of a request's next burst: its own, or the smallest that nobody holds.
+    pub(crate) fn id_for(&self, request: &LiveRequest) -> Option<u8>
+        ensures { result ≡ option_or request.now.id (free_id self.now.limits.ids (requests_of self.now.entries)) }
     {
         match request.id {
             Some(id) => Some(id),
-            None => self.free_id(ids),
+            None => self.ids.first_free(),
         }
     }
 
     /// The key of the request with this number.
     pub(crate) fn of_number(&self, number: u64) -> Option<Key>
-        ensures key { result ≡ key_in (has_number number) self.now }
-        ensures keys { HaveOwnKeys self.now }
+        ensures key { result ≡ key_in (has_number number) self.now.entries }
+        ensures keys { HaveOwnKeys self.now.entries }
     {
-        of_number(&self.requests, &self.order, number)
+        self.slots.of_number(number)
     }
 
     /// The key of the request that holds this ID.
     pub(crate) fn of_id(&self, id: u8) -> Option<Key>
-        ensures key { result ≡ key_in (holds_id id) self.now }
-        ensures keys { HaveOwnKeys self.now }
+        ensures key { id < self.now.limits.ids → result ≡ key_in (holds_id id) self.now.entries }
+        ensures beyond { self.now.limits.ids ≤ id → result ≡ None }
     {
-        of_id(&self.requests, &self.order, id)
+        self.ids.holder(id)
     }
 
     /// The key of a client's first request that is done.
     pub(crate) fn oldest_done(&self, client: u8) -> Option<Key>
-        ensures key { result ≡ key_in (is_done_of client) self.now }
-        ensures keys { HaveOwnKeys self.now }
+        ensures key { result ≡ key_in (is_done_of client) self.now.entries }
+        ensures keys { HaveOwnKeys self.now.entries }
     {
-        oldest_done(&self.requests, &self.order, client)
+        self.slots.oldest_done(client)
+    }
+
+    /// The place of the first request that may send its next burst.
+    fn place_ready(&self) -> Option<usize>
+        ensures { result ≡ position (may_send self.now.limits (requests_of self.now.entries)) (requests_of self.now.entries) }
+    {
+        if self.ids.has_free() {
+            return self.able.first_common(&self.unheld);
+        }
+        self.named.first_common(&self.unheld)
     }
 
     /// The key of the first request that may send its next burst.
-    pub(crate) fn first_ready(&self, limits: TableLimits) -> Option<Key>
-        ensures key { result ≡ key_in (may_send limits (requests_of self.now)) self.now }
-        ensures keys { HaveOwnKeys self.now }
+    pub(crate) fn first_ready(&self) -> Option<Key>
+        ensures key { result ≡ key_in (may_send self.now.limits (requests_of self.now.entries)) self.now.entries }
+        ensures keys { HaveOwnKeys self.now.entries }
     {
-        first_ready(&self.requests, &self.order, limits)
+        self.slots.key_at(self.place_ready())
     }
 
     /// The work of all requests that aren't done.
     pub(crate) fn work(&self) -> u64
-        ensures { result ≡ sum_by work_of (requests_of self.now) }
+        ensures { result ≡ sum_by work_of (requests_of self.now.entries) }
     {
-        work(&self.requests, &self.order)
+        self.sums.work
     }
 
     /// The work of the unsent bursts of all requests.
     pub(crate) fn unsent_work(&self) -> u64
-        ensures work { result ≡ sum_by unsent_work (requests_of self.now) }
+        ensures work { result ≡ sum_by unsent_work (requests_of self.now.entries) }
         ensures most { result ≤ 2 ^ 33 }
     {
-        unsent_work(&self.requests, &self.order)
+        self.sums.unsent
     }
 }

@@ -1,6 +1,7 @@
 //! One live request.
-ghost use Rattle.std.specs.Prelude.{◌≡◌, ◌↔◌, ◌+◌, ◌<◌, ◌≤◌, IsTrue, Some, drop, is_some, length, slice_get, sum_by};
+ghost use Rattle.std.specs.Prelude.{◌≡◌, ◌↔◌, ◌&&◌, ◌+◌, ◌<◌, ◌≤◌, IsTrue, Some, drop, is_some, length, slice_get, sum_by};
 ghost use Rattle.flight_table.specs.LiveRequests.{awaits_write, finished, flight_for, is_atomic, is_settled, next_burst, pieces_planned, plan_for, planned, read_pieces, unanswered, whole_course, with_answered, with_sent, with_write, write_pieces};
+ghost use Rattle.flight_table.specs.Inside.{is_open};
 ghost use Rattle.flight_table.specs.Order.{HaveCommonAddress, conflict, holds_back, holds_id, share_bytes};
 ghost use Rattle.std.specs.List.{AllByRecursion};
 ghost use Rattle.burst_plan.specs.Pieces.{range_end};
@@ -263,6 +264,20 @@ impl LiveRequest {
         ensures { result ≡ unanswered self.now }
     {
         self.sent.saturating_sub(self.answered)
+    }
+
+    /// Whether a burst is open: planned, unsent and within the depth.
+    pub(crate) fn is_open(&self, depth: u8) -> bool
+        ensures { result ≡ is_open depth self.now }
+    {
+        !self.done && self.unanswered() < u32::from(depth) && self.has_next()
+    }
+
+    /// Whether a burst is open, as `able` says, and the request holds an ID.
+    pub(crate) fn is_named(&self, able: bool) -> bool
+        ensures { result ≡ (able && is_some self.now.id) }
+    {
+        able && self.id.is_some()
     }
 
     /// Whether the request conflicts with another: their ranges share a byte, and at least one is no Get.

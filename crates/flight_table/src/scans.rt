@@ -1,14 +1,13 @@
 //! Scans of the live requests in the order of their keys.
 ghost use Rattle.std.specs.Prelude.{◌≡◌, ℕ, ◌^◌, ◌<◌, ◌≤◌, Bool, IfSome, position, filter, find, length, sum_by};
 ghost use Rattle.std.specs.List.{list_any};
-ghost use Rattle.flight_table.specs.Inside.{requests_in, sends_by, stored};
-ghost use Rattle.flight_table.specs.Order.{free_id, holds_back, holds_id, is_free, is_held, may_send};
+ghost use Rattle.flight_table.specs.Inside.{requests_in, stored};
+ghost use Rattle.flight_table.specs.Order.{free_id, holds_back, holds_id, is_free};
 ghost use Rattle.flight_table.specs.Tables.{has_number, has_source, is_done_of, is_of, is_undone};
 ghost use Rattle.flight_table.specs.Work.{unsent_work, work_of};
 
-use crate::TableLimits;
-use crate::live::Key;
 use crate::request::LiveRequest;
+use crate::slots::Key;
 use slab::Slab;
 use tl_messages::Operation;
 
@@ -67,15 +66,6 @@ pub(crate) fn count_holders(
         .count()
 }
 
-/// Whether an earlier request holds back this one.
-fn is_held(requests: &Slab<LiveRequest>, order: &[Key], request: &LiveRequest) -> bool
-    ensures { result ≡ is_held (requests_in requests.now order.now) request.now }
-{
-    order
-        .iter()
-        .any(|key| stored(requests, *key).holds_back(request))
-}
-
 /// Whether a request of a client has this source.
 pub(crate) fn has_source(
     requests: &Slab<LiveRequest>,
@@ -112,7 +102,7 @@ pub(crate) fn free_id(requests: &Slab<LiveRequest>, order: &[Key], ids: u8) -> O
 }
 
 /// The key at a place, where there is one.
-fn key_at(order: &[Key], place: Option<usize>) -> Option<Key>
+pub(crate) fn key_at(order: &[Key], place: Option<usize>) -> Option<Key>
     requires { IfSome place (λ k. k < length order.now) }
     ensures { (test : ℕ → Bool) → place ≡ position test order.now → result ≡ find test order.now }
 {
@@ -168,47 +158,6 @@ pub(crate) fn oldest_done(requests: &Slab<LiveRequest>, order: &[Key], client: u
     ensures { result ≡ find (λ k. is_done_of client (stored requests.now k)) order.now }
 {
     key_at(order, place_oldest_done(requests, order, client))
-}
-
-/// Whether a request may send its next burst, by whether an ID is free.
-pub(crate) fn may_send(
-    requests: &Slab<LiveRequest>,
-    order: &[Key],
-    depth: u8,
-    has_free: bool,
-    request: &LiveRequest,
-) -> bool
-    ensures { result ≡ sends_by depth has_free (requests_in requests.now order.now) request.now }
-{
-    !request.done
-        && request.has_next()
-        && request.unanswered() < u32::from(depth)
-        && (request.id.is_some() || has_free)
-        && !is_held(requests, order, request)
-}
-
-/// The place of the first request that may send its next burst, by whether an ID is free.
-fn place_ready(
-    requests: &Slab<LiveRequest>,
-    order: &[Key],
-    depth: u8,
-    has_free: bool,
-) -> Option<usize>
-    ensures { result ≡ position (λ k. sends_by depth has_free (requests_in requests.now order.now) (stored requests.now k)) order.now }
-{
-    order.iter().position(|key| may_send(requests, order, depth, has_free, &stored(requests, *key)))
-}
-
-/// The key of the first request that may send its next burst.
-pub(crate) fn first_ready(
-    requests: &Slab<LiveRequest>,
-    order: &[Key],
-    limits: TableLimits,
-) -> Option<Key>
-    ensures { result ≡ find (λ k. may_send limits (requests_in requests.now order.now) (stored requests.now k)) order.now }
-{
-    let has_free = free_id(requests, order, limits.ids).is_some();
-    key_at(order, place_ready(requests, order, limits.depth, has_free))
 }
 
 /// The work of all requests, of which there are at most 64.

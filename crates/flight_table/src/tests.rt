@@ -75,7 +75,7 @@ fn accept(flight: &mut Flight, request: &mut Request, asked: Asked) -> Option<u6
         None => None,
     };
     let source = request.source();
-    if asked.client >= flight.limits.clients || flight.accepted() >= 1000 {
+    if asked.client >= flight.live.limits.clients || flight.accepted() >= 1000 {
         return None;
     }
     if !flight.room(asked.client) || flight.busy(asked.client, source) {

@@ -1,19 +1,28 @@
-use Rattle.std.proofs.Common.{◌+◌}
+use Rattle.std.proofs.Common.{ap, ◌+◌, [], ◌∷◌, ◌++◌, refl}
+use Rattle.flight_table.specs.Inside.{keyed_of}
+use Rattle.flight_table.specs.LiveRequests.{LiveRequest}
 use Rattle.flight_table.specs.Laws.{IsSound}
 use Rattle.flight_table.specs.Tables.{KeyedTable}
-use Rattle.flight_table.proofs.NewRequests.{accepted_laws, room_left}
+use Rattle.flight_table.proofs.NewRequests.{accepted_laws, is_latest, room_left}
 use Rattle.flight_table.proofs.flight.Flight.accept.Goals as goal
 
-pub add-requires : goal.add-requires
-add-requires c =
-    let old : KeyedTable = record { limits = c.self.inside.limits; accepted = c.self.inside.accepted; entries = c.self.inside.live } in
+pub add-requires-clause-room : goal.add-requires-clause-room
+add-requires-clause-room c =
+    let old : KeyedTable = keyed_of c.self.inside.accepted c.self.inside.live in
     room_left old c.args.self.now c.args.client c.args.request.now c.args.plan c.self.view_is c.self.invariant (record { there = c.requires.client; room = c.requires.room; free = c.requires.source })
 
-sound : (c : goal.After-self-1) → IsSound (record { limits = c.self.inside.limits; accepted = c.self.inside.accepted + 1; entries = c.add.new.self })
+pub add-requires-clause-latest : goal.add-requires-clause-latest
+add-requires-clause-latest c = rw c.accepted.ensures (is_latest (keyed_of c.self.inside.accepted c.self.inside.live) c.self.invariant)
+
+pub add-requires-clause-no_id : goal.add-requires-clause-no_id
+add-requires-clause-no_id c = ap (λ (q : LiveRequest). q.id) c.accepted.ensures
+
+sound : (c : goal.After-self-1) → IsSound (keyed_of (c.self.inside.accepted + 1) c.add.new.self)
 sound c =
-    let old : KeyedTable = record { limits = c.self.inside.limits; accepted = c.self.inside.accepted; entries = c.self.inside.live } in
-    accepted_laws old c.args.self.now c.args.client c.add.result c.args.request.now c.args.plan c.accepted.result c.add.new.self c.self.view_is c.self.invariant (record { there = c.requires.client; room = c.requires.room; free = c.requires.source }) c.accepted.ensures
-    c.add.ensures.entries c.add.ensures.keys
+    let old : KeyedTable = keyed_of c.self.inside.accepted c.self.inside.live in
+    rw c.add.ensures.table
+    (accepted_laws old c.args.self.now c.args.client c.add.result c.args.request.now c.args.plan c.accepted.result (old.entries ++ record { key = c.add.result; request = c.accepted.result } ∷ []) c.self.view_is c.self.invariant
+    (record { there = c.requires.client; room = c.requires.room; free = c.requires.source }) c.accepted.ensures refl (rw c.add.ensures.table at c.add.ensures.keys))
 
 pub invariant_of-self : goal.invariant_of-self
 invariant_of-self c = sound c

@@ -1,15 +1,29 @@
-use Rattle.flight_table.specs.LiveRequests.{finished}
-use Rattle.flight_table.specs.Tables.{KeyedTable, table_of}
-use Rattle.flight_table.proofs.Steps.{IsChanged, change_is, known, step_finished}
+use Rattle.std.proofs.Common.{refl, sym}
+use Rattle.bus_words.specs.Places.{change_first}
+use Rattle.flight_table.specs.Inside.{keyed_of}
+use Rattle.flight_table.specs.LiveRequests.{finished, is_settled}
+use Rattle.flight_table.specs.Tables.{KeyedTable, change_entry, has_key, table_of}
+use Rattle.std.specs.Prelude.{IsTrue}
+use Rattle.flight_table.proofs.Index.{change-constant}
+use Rattle.flight_table.proofs.Kept.{named_request}
+use Rattle.flight_table.proofs.Steps.{IsChanged, change_is, gives_name, known, step_finished}
 use Rattle.flight_table.proofs.flight.Flight.finished.Goals as goal
 
-made : (c : goal.After-set) → IsChanged c.args.self.now (record { limits = c.self.inside.limits; accepted = c.self.inside.accepted; entries = c.set.new.self }) c.args.key finished
+pub finish-requires : goal.finish-requires
+finish-requires c =
+    let old : KeyedTable = keyed_of c.self.inside.accepted c.self.inside.live in
+    let named = named_request c.args.key old.entries (λ r. IsTrue (is_settled r)) (rw (← c.self.view_is) at c.requires) in
+    gives_name old c.args.key named.request c.self.invariant named.named
+
+made : (c : goal.After-finish) → IsChanged c.args.self.now (keyed_of c.self.inside.accepted c.finish.new.self) c.args.key finished
 made c =
-    let old : KeyedTable = record { limits = c.self.inside.limits; accepted = c.self.inside.accepted; entries = c.self.inside.live } in
-    let r = c.get-request.result in
-    let facts = known old c.args.key r c.self.invariant c.get-request.ensures.request in
-    change_is old c.args.self.now c.args.key finished r c.finished.result c.set.new.self c.self.view_is c.self.invariant c.get-request.ensures.request c.finished.ensures c.set.ensures.entries c.set.ensures.keys
-    (step_finished (table_of old) r facts.0)
+    let old : KeyedTable = keyed_of c.self.inside.accepted c.self.inside.live in
+    let named = named_request c.args.key old.entries (λ r. IsTrue (is_settled r)) (rw (← c.self.view_is) at c.requires) in
+    let r = named.request in
+    let facts = known old c.args.key r c.self.invariant named.named in
+    rw c.finish.ensures.table
+    (change_is old c.args.self.now c.args.key finished r (finished r) (change_first (has_key c.args.key) (change_entry finished) old.entries) c.self.view_is c.self.invariant named.named refl
+    (sym (change-constant finished c.args.key old.entries r (finished r) named.named refl)) (rw c.finish.ensures.table at c.finish.ensures.keys) (step_finished (table_of old) r facts.0))
 
 pub invariant_of-self : goal.invariant_of-self
 invariant_of-self c = (made c).laws

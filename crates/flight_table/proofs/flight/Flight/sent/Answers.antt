@@ -1,38 +1,48 @@
-use Rattle.std.proofs.Common.{◌≡◌, ◌∙◌, Some, sym}
+use Rattle.std.proofs.Common.{refl, ◌≡◌, ◌∙◌, Some, sym}
+use Rattle.bus_words.specs.Places.{change_first}
+use Rattle.flight_table.specs.Inside.{keyed_of}
 use Rattle.flight_table.specs.LiveRequests.{with_sent}
 use Rattle.flight_table.specs.Order.{id_for}
-use Rattle.flight_table.specs.Tables.{KeyedTable, requests_of, table_of}
-use Rattle.flight_table.proofs.Steps.{IsChanged, change_is, known, ready_parts, seen, sends, step_sent}
+use Rattle.flight_table.specs.Tables.{KeyedTable, change_entry, has_key, requests_of, table_of}
+use Rattle.flight_table.proofs.Steps.{IsChanged, sent_name, sent_progress, change_is, known, progresses, ready_parts, seen, sends, step_sent}
 use Rattle.flight_table.proofs.flight.Flight.sent.Goals as goal
 
 pub unwrap-id-requires : goal.unwrap-id-requires
 unwrap-id-requires c =
-    let old : KeyedTable = record { limits = c.self.inside.limits; accepted = c.self.inside.accepted; entries = c.self.inside.live } in
+    let old : KeyedTable = keyed_of c.self.inside.accepted c.self.inside.live in
     let r = c.get-request.result in
     rw c.id_for.ensures (ready_parts (table_of old) r (sends old c.args.self.now c.args.key r c.self.view_is c.get-request.ensures.request c.requires)).some
 
 pub with_sent-requires : goal.with_sent-requires
 with_sent-requires c =
-    let old : KeyedTable = record { limits = c.self.inside.limits; accepted = c.self.inside.accepted; entries = c.self.inside.live } in
+    let old : KeyedTable = keyed_of c.self.inside.accepted c.self.inside.live in
     let r = c.get-request.result in
     (ready_parts (table_of old) r (sends old c.args.self.now c.args.key r c.self.view_is c.get-request.ensures.request c.requires)).more
 
-made : (c : goal.After-set) → IsChanged c.args.self.now (record { limits = c.self.inside.limits; accepted = c.self.inside.accepted; entries = c.set.new.self }) c.args.key (with_sent c.unwrap-id.result)
+pub set-requires-clause-progress : goal.set-requires-clause-progress
+set-requires-clause-progress c = progresses c.args.key c.self.inside.live.entries c.get-request.result c.with_sent.result c.get-request.ensures.request (sent_progress c.unwrap-id.result c.get-request.result c.with_sent.result c.with_sent.ensures)
+
+pub set-requires-clause-id : goal.set-requires-clause-id
+set-requires-clause-id c =
+    let live = c.self.inside.live in
+    sent_name live.limits (requests_of live.entries) c.args.key live.entries c.get-request.result c.with_sent.result c.unwrap-id.result c.get-request.ensures.request c.with_sent.ensures (sym c.id_for.ensures ∙ c.unwrap-id.ensures)
+
+made : (c : goal.After-set) → IsChanged c.args.self.now (keyed_of c.self.inside.accepted c.set.new.self) c.args.key (with_sent c.unwrap-id.result)
 made c =
-    let old : KeyedTable = record { limits = c.self.inside.limits; accepted = c.self.inside.accepted; entries = c.self.inside.live } in
+    let old : KeyedTable = keyed_of c.self.inside.accepted c.self.inside.live in
     let r = c.get-request.result in
     let facts = known old c.args.key r c.self.invariant c.get-request.ensures.request in
     let id = c.unwrap-id.result in
-    change_is old c.args.self.now c.args.key (with_sent id) r c.with_sent.result c.set.new.self c.self.view_is c.self.invariant c.get-request.ensures.request c.with_sent.ensures c.set.ensures.entries
-    c.set.ensures.keys
-    (step_sent (table_of old) r id facts.0 (sends old c.args.self.now c.args.key r c.self.view_is c.get-request.ensures.request c.requires) (sym c.id_for.ensures ∙ c.unwrap-id.ensures))
+    rw c.set.ensures.table
+    (change_is old c.args.self.now c.args.key (with_sent id) r c.with_sent.result (change_first (has_key c.args.key) (change_entry (λ o. c.with_sent.result)) old.entries) c.self.view_is c.self.invariant c.get-request.ensures.request c.with_sent.ensures refl (rw c.set.ensures.table at c.set.ensures.keys)
+    (step_sent (table_of old) r id facts.0 (sends old c.args.self.now c.args.key r c.self.view_is c.get-request.ensures.request c.requires) (sym c.id_for.ensures ∙ c.unwrap-id.ensures)))
 
 pub invariant_of-self : goal.invariant_of-self
 invariant_of-self c = (made c).laws
 
 pub returns-clause-id : goal.returns-clause-id
 returns-clause-id c =
-    let old : KeyedTable = record { limits = c.self.inside.limits; accepted = c.self.inside.accepted; entries = c.self.inside.live } in
+    let old : KeyedTable = keyed_of c.self.inside.accepted c.self.inside.live in
     seen (λ t q. id_for t.limits (requests_of t.entries) q ≡ Some c.unwrap-id.result) old c.args.self.now c.args.key c.get-request.result c.self.view_is c.get-request.ensures.request
     (sym c.id_for.ensures ∙ c.unwrap-id.ensures)
 

@@ -1,14 +1,13 @@
-use Rattle.std.proofs.Common.{List, ◌∙◌, ap}
-use Rattle.flight_table.specs.Order.{holds_id}
-use Rattle.flight_table.specs.Tables.{KeyedRequest, key_in}
-use Rattle.flight_table.proofs.Index.{keys_of}
-use Rattle.flight_table.proofs.SlabScans.{find_scan}
+use Rattle.std.proofs.Common.{None, get_or, ◌∙◌, ap}
+use Rattle.flight_table.proofs.HeldIds.{holder_is, no_holder}
 use Rattle.flight_table.proofs.live.Live.of_id.Goals as goal
 
 pub returns-clause-key : goal.returns-clause-key
 returns-clause-key c =
-    (rw c.deref.ensures.value at c.of_id.ensures) ∙ find_scan c.self.inside.requests (holds_id c.args.id) c.self.inside.order.items
-    ∙ ap (λ (entries : List KeyedRequest). key_in (holds_id c.args.id) entries) c.self.view_is
+    let i = c.self.inside in
+    rw (← c.self.view_is) (λ within. c.holder.ensures ∙ ap (λ holders. get_or holders c.args.id None) c.self.invariant.2 ∙ holder_is i.limits.ids c.args.id i.slots within)
 
-pub returns-clause-keys : goal.returns-clause-keys
-returns-clause-keys c = rw (← c.self.view_is, keys_of c.self.inside.requests c.self.inside.order.items) c.self.invariant.0.distinct
+pub returns-clause-beyond : goal.returns-clause-beyond
+returns-clause-beyond c =
+    let i = c.self.inside in
+    rw (← c.self.view_is) (λ beyond. c.holder.ensures ∙ ap (λ holders. get_or holders c.args.id None) c.self.invariant.2 ∙ no_holder i.limits.ids c.args.id i.slots beyond)

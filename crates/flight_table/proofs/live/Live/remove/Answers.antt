@@ -1,34 +1,37 @@
-use Rattle.std.proofs.Common.{◌==◌, IsSome, arith, ap, length}
-use Rattle.bus_words.specs.Places.{without_first}
-use Rattle.flight_table.specs.Inside.{entries_in}
-use Rattle.flight_table.specs.Tables.{request_in}
-use Rattle.flight_table.proofs.Index.{distinct-without, entries-remove, index-remove, key_placed, keys_of, length-without}
+use Rattle.std.proofs.Common.{◌≡◌, ◌≤◌, None, sym, true, ap, arith, ◌∙◌}
+use Rattle.std.specs.Vec.{vec_capacity}
+use Rattle.flight_table.specs.Tables.{requests_of}
+use Rattle.flight_table.proofs.HeldIds.{ids_remove}
+use Rattle.std.proofs.lemmas.List.Edits.{length-remove}
+use Rattle.flight_table.specs.Sums.{IsSmall}
+use Rattle.flight_table.proofs.SumLaws.{all_remove, are_part, sums_removed}
+use Rattle.flight_table.proofs.Kept.{kept_remove, named_request, named_with, placed, requests_without}
 use Rattle.flight_table.proofs.live.Live.remove.Goals as goal
 
-pub take_out-requires : goal.take_out-requires
-take_out-requires c = key_placed c.self.inside.requests c.args.key c.self.inside.order.items (rw c.self.view_is c.requires)
+pub without-self-inside-requires : goal.without-self-inside-requires
+without-self-inside-requires c =
+    let r = c.get.result in
+    let at = placed c.args.key c.self.inside.slots c.place_of-place.result r c.place_of-place.ensures.place c.get.ensures.request in
+    rw c.self.invariant.3.sums_are (are_part (requests_of c.self.inside.slots) c.place_of-place.result r at.within (at.there r))
 
 pub invariant_of-self : goal.invariant_of-self
 invariant_of-self c =
-    let s = c.self.inside.requests in
-    let ks = c.self.inside.order.items in
-    let key = c.args.key in
-    let some : IsSome (request_in key (entries_in s ks)) = rw c.self.view_is c.requires in (
-      rw c.take_out.ensures.items
-          (index-remove s c.try_remove.new.self key ks c.try_remove.result c.self.invariant.0 some (rw c.key.view_is at c.try_remove.ensures.updates) (rw c.key.view_is at c.try_remove.ensures.value)
-          c.try_remove.ensures.len),
-      omega (arith, c.self.invariant.1, c.take_out.ensures.capacity),
-      omega (arith, c.self.invariant.2, c.try_remove.ensures.capacity),
-      omega (arith, c.self.invariant.3, ap length c.take_out.ensures.items, length-without s key ks some),
+    let i = c.self.inside in
+    let r = c.get.result in
+    let done = named_with c.args.key i.slots r (λ q. q.done ≡ true) c.get.ensures.request (rw (← c.self.view_is) at c.requires.done) in
+    let no_id = named_with c.args.key i.slots r (λ q. q.id ≡ None) c.get.ensures.request (rw (← c.self.view_is) at c.requires.no_id) in
+    let place = c.place_of-place.result in
+    let at = placed c.args.key i.slots place r c.place_of-place.ensures.place c.get.ensures.request in
+    let after = ap requests_of c.remove-5.ensures.entries ∙ requests_without c.args.key i.slots place r at in
+    let room : 64 ≤ vec_capacity c.remove-3.new.self = omega (arith, c.self.invariant.1, c.remove-3.ensures.capacity) in (
+      rw (after, c.remove.ensures, c.remove-2.ensures, c.remove-3.ensures.items, c.remove-4.ensures)
+          (kept_remove i.limits.depth (requests_of i.slots) place r i.able i.named i.holders.items i.unheld c.self.invariant.0 at.within (at.there r) done),
+      room,
+      rw c.remove-5.ensures.entries (c.self.invariant.2 ∙ sym (ids_remove i.limits.ids c.args.key i.slots r c.get.ensures.request no_id)),
+      rw after
+          (record {
+            sums_are = sums_removed (requests_of i.slots) place r c.without-self-inside.result at.within (at.there r) (c.without-self-inside.ensures ∙ c.self.invariant.3.sums_are);
+            small = all_remove IsSmall (requests_of i.slots) place c.self.invariant.3.small;
+            few = omega (arith, c.self.invariant.3.few, length-remove (requests_of i.slots) place at.within);
+          }),
     )
-
-pub returns-clause-keys : goal.returns-clause-keys
-returns-clause-keys c =
-    let s = c.self.inside.requests in
-    let ks = c.self.inside.order.items in
-    rw (c.take_out.ensures.items, keys_of c.try_remove.new.self (without_first (λ k. k == c.args.key) ks)) (distinct-without (λ k. k == c.args.key) ks c.self.invariant.0.distinct)
-
-pub returns-clause-entries : goal.returns-clause-entries
-returns-clause-entries c =
-    rw (c.take_out.ensures.items, ← c.self.view_is)
-    (entries-remove c.self.inside.requests c.try_remove.new.self c.args.key c.self.inside.order.items c.self.invariant.0.distinct (rw c.key.view_is at c.try_remove.ensures.updates))

@@ -1,27 +1,49 @@
-use Rattle.slab.proofs.SlabLemmas.{Updates-with_value}
-use Rattle.slab.specs.Slab.{with_value}
-use Rattle.flight_table.proofs.Index.{entries-set, index-set, key-there, keys_of}
+use Rattle.std.proofs.Common.{arith, length-set, ◌≡◌, ap, ◌∙◌, refl, set, sym}
+use Rattle.flight_table.specs.Inside.{CanRename, IsProgress, MayName, holders_of_ids}
+use Rattle.flight_table.specs.LiveRequests.{LiveRequest}
+use Rattle.flight_table.specs.Tables.{requests_of}
+use Rattle.flight_table.proofs.HeldIds.{ids_set, length_holders, may_rename}
+use Rattle.flight_table.specs.Sums.{IsSmall}
+use Rattle.flight_table.proofs.SumLaws.{all_set, are_part, are_small, less_small, sums_set}
+use Rattle.flight_table.proofs.Kept.{kept_set, named_with, placed, requests_changed}
 use Rattle.flight_table.proofs.live.Live.set.Goals as goal
 
-pub index_mut-requires : goal.index_mut-requires
-index_mut-requires c = rw c.key.view_is (key-there c.self.inside.requests c.args.key c.self.inside.order.items c.self.invariant.0.there (rw c.self.view_is c.requires))
+pub rename-requires : goal.rename-requires
+rename-requires c =
+    let i = c.self.inside in
+    let r = c.get-old.result in
+    rw (c.self.invariant.2, length_holders i.limits.ids i.slots, ap (λ (q : LiveRequest). q.id) c.old.view_is, ap (λ (q : LiveRequest). q.id) c.request.view_is)
+    (may_rename i.limits.ids (requests_of i.slots) r.id c.args.request.id
+    (named_with c.args.key i.slots r (λ old. MayName i.limits.ids (requests_of i.slots) old.id c.args.request.id) c.get-old.ensures.request (rw (← c.self.view_is) at c.requires.id)))
+
+pub without-requires : goal.without-requires
+without-requires c =
+    let at = placed c.args.key c.self.inside.slots c.place_of-place.result c.get-old.result c.place_of-place.ensures.place c.get-old.ensures.request in
+    rw c.self.invariant.3.sums_are (are_part (requests_of c.self.inside.slots) c.place_of-place.result c.get-old.result at.within (at.there c.get-old.result))
+
+pub with-self-inside-requires : goal.with-self-inside-requires
+with-self-inside-requires c =
+    less_small c.get-old.result c.without.result c.self.inside.sums c.without.ensures
+    (rw c.self.invariant.3.sums_are (are_small (requests_of c.self.inside.slots) c.self.invariant.3.few c.self.invariant.3.small))
 
 pub invariant_of-self : goal.invariant_of-self
 invariant_of-self c =
-    let s = c.self.inside.requests in
-    let ks = c.self.inside.order.items in
-    let there = key-there s c.args.key ks c.self.invariant.0.there (rw c.self.view_is c.requires) in
-    rw c.key.view_is (index-set s ks c.args.key c.args.request c.self.invariant.0 there, c.self.invariant.1, c.self.invariant.2, c.self.invariant.3)
-
-pub returns-clause-entries : goal.returns-clause-entries
-returns-clause-entries c =
-    let s = c.self.inside.requests in
-    let ks = c.self.inside.order.items in
-    let there = key-there s c.args.key ks c.self.invariant.0.there (rw c.self.view_is c.requires) in
-    rw (c.key.view_is, ← c.self.view_is)
-    (entries-set s (with_value s c.args.key c.args.request) c.args.key c.args.request ks c.self.invariant.0.distinct (Updates-with_value s c.args.key c.args.request there))
-
-pub returns-clause-keys : goal.returns-clause-keys
-returns-clause-keys c =
-    let ks = c.self.inside.order.items in
-    rw (c.key.view_is, keys_of (with_value c.self.inside.requests c.args.key c.args.request) ks) c.self.invariant.0.distinct
+    let i = c.self.inside in
+    let r = c.get-old.result in
+    let found = c.get-old.ensures.request in
+    let progress = named_with c.args.key i.slots r (λ old. IsProgress old c.args.request) found (rw (← c.self.view_is) at c.requires.progress) in
+    let names = named_with c.args.key i.slots r (λ old. MayName i.limits.ids (requests_of i.slots) old.id c.args.request.id) found (rw (← c.self.view_is) at c.requires.id) in
+    let place = c.place_of-place.result in
+    let at = placed c.args.key i.slots place r c.place_of-place.ensures.place found in
+    let after = ap requests_of c.set.ensures.entries ∙ requests_changed (λ o. c.args.request) c.args.key i.slots place r at in (
+      rw (after, c.put.ensures, c.put-2.ensures, c.is_named.ensures, c.is_open-able.ensures)
+          (kept_set i.limits.depth (requests_of i.slots) place r c.args.request i.able i.named i.holders.items i.unheld c.self.invariant.0 at.within (at.there r) progress),
+      c.self.invariant.1,
+      rw (c.rename.ensures, c.self.invariant.2, c.set.ensures.entries, ap (λ (q : LiveRequest). q.id) c.old.view_is, ap (λ (q : LiveRequest). q.id) c.request.view_is) (sym (ids_set i.limits.ids c.args.key i.slots r c.args.request r.id c.args.request.id found refl refl names)),
+      rw after
+          (record {
+            sums_are = c.with-self-inside.ensures.sums ∙ sums_set (requests_of i.slots) place r c.args.request c.without.result at.within (at.there r) (c.without.ensures ∙ c.self.invariant.3.sums_are);
+            small = all_set IsSmall (requests_of i.slots) place c.args.request c.self.invariant.3.small c.with-self-inside.ensures.small;
+            few = omega (arith, c.self.invariant.3.few, length-set (requests_of i.slots) place c.args.request);
+          }),
+    )

@@ -1,0 +1,228 @@
+-- The holders of the IDs, through each change of the live requests.
+use Rattle.std.proofs.Common.{◌≡◌, ◌≢◌, ℕ, zero, suc, ◌+◌, ◌==◌, ◌<◌, ◌≤◌, Bool, true, false, not, ◌||◌, is_none, is_some, List, [], ◌∷◌, ◌++◌, map, length, get_or, set, Option, Some, None, refl, ap, sym, ◌∙◌, arith}
+use Rattle.std.specs.Prelude.{IfSome, IsSome, IsSomeAnd, if◌then◌else◌, option_map}
+use Rattle.std.specs.List.{filter, find, list_any, position, range_with_len}
+use Rattle.std.proofs.lemmas.Bool.{eqb-true}
+use Rattle.std.proofs.Common.{replicate}
+use Rattle.std.proofs.lemmas.List.{get_or-map, get_or_past}
+use Rattle.bus_words.proofs.FirstPlaces.{find-first, find-none, position_is_first}
+use Rattle.bus_words.specs.Places.{change_first, without_first}
+use Rattle.flight_table.specs.Inside.{CanRename, HasOneHolder, MayName, holders_of_ids, renamed}
+use Rattle.flight_table.specs.LiveRequests.{LiveRequest}
+use Rattle.flight_table.specs.Order.{free_id, holds_id, is_free}
+use Rattle.flight_table.specs.Tables.{KeyedRequest, change_entry, has_key, key_in, request_in, requests_of}
+use Rattle.flight_table.proofs.Kept.{IsPlaced, count_set, requests_changed}
+use Rattle.flight_table.proofs.PlaceLaws.{length_map, map_same, position_map, position_same}
+
+-- ---- the key of the first that passes a test, after a change
+
+key_pushed : (q : LiveRequest → Bool) (entries : List KeyedRequest) (e : KeyedRequest) → q e.request ≡ false → key_in q (entries ++ e ∷ []) ≡ key_in q entries
+key_pushed q [] e fails = rw fails refl
+key_pushed q (x ∷ entries) e fails = by_test (q x.request) (key_pushed q entries e fails)
+  where
+    by_test : (b : Bool) → key_in q (entries ++ e ∷ []) ≡ key_in q entries
+        → option_map (λ (o : KeyedRequest). o.key) (if b then Some x else find (λ o. q o.request) (entries ++ e ∷ [])) ≡ option_map (λ (o : KeyedRequest). o.key) (if b then Some x else find (λ o. q o.request) entries)
+    by_test true rest = refl
+    by_test false rest = rest
+
+-- the changed one passes as it did
+key_kept : (q : LiveRequest → Bool) (key : ℕ) (entries : List KeyedRequest) (r new : LiveRequest) → request_in key entries ≡ Some r → q new ≡ q r → key_in q (change_first (has_key key) (change_entry (λ o. new)) entries) ≡ key_in q entries
+key_kept q key [] r new found same = refl
+key_kept q key (x ∷ entries) r new found same = by_key (x.key == key) found (λ later. key_kept q key entries r new later same)
+  where
+    pass : (b : Bool) (xs ys : List KeyedRequest) → key_in q xs ≡ key_in q ys
+        → option_map (λ (o : KeyedRequest). o.key) (if b then Some x else find (λ o. q o.request) xs) ≡ option_map (λ (o : KeyedRequest). o.key) (if b then Some x else find (λ o. q o.request) ys)
+    pass true xs ys rest = refl
+    pass false xs ys rest = rest
+
+    changed : (a b : Bool) → a ≡ b → option_map (λ (o : KeyedRequest). o.key) (if a then Some (change_entry (λ o. new) x) else find (λ o. q o.request) entries) ≡ option_map (λ (o : KeyedRequest). o.key) (if b then Some x else find (λ o. q o.request) entries)
+    changed true b is = rw (← is) refl
+    changed false b is = rw (← is) refl
+
+    by_key : (b : Bool) → option_map (λ (o : KeyedRequest). o.request) (if b then Some x else find (has_key key) entries) ≡ Some r
+        → (request_in key entries ≡ Some r → key_in q (change_first (has_key key) (change_entry (λ o. new)) entries) ≡ key_in q entries)
+        → key_in q (if b then change_entry (λ o. new) x ∷ entries else x ∷ change_first (has_key key) (change_entry (λ o. new)) entries) ≡ key_in q (x ∷ entries)
+    by_key true here rest =
+        let is : x.request ≡ r = cc in
+        changed (q new) (q x.request) (same ∙ ap q (sym is))
+    by_key false later rest = pass (q x.request) (change_first (has_key key) (change_entry (λ o. new)) entries) entries (rest later)
+
+-- the changed one passes, and no other did
+key_taken : (q : LiveRequest → Bool) (key : ℕ) (entries : List KeyedRequest) (r new : LiveRequest) → request_in key entries ≡ Some r → q new ≡ true → list_any q (requests_of entries) ≡ false
+    → key_in q (change_first (has_key key) (change_entry (λ o. new)) entries) ≡ Some key
+key_taken q key [] r new found passes none = absurd (cc (found))
+key_taken q key (x ∷ entries) r new found passes none = by_key (x.key == key) refl found (q x.request) refl none (λ later rest. key_taken q key entries r new later passes rest)
+  where
+    by_key : (b : Bool) → (x.key == key) ≡ b → option_map (λ (o : KeyedRequest). o.request) (if b then Some x else find (has_key key) entries) ≡ Some r → (a : Bool) → q x.request ≡ a → (a || list_any q (requests_of entries)) ≡ false
+        → (request_in key entries ≡ Some r → list_any q (requests_of entries) ≡ false → key_in q (change_first (has_key key) (change_entry (λ o. new)) entries) ≡ Some key)
+        → key_in q (if b then change_entry (λ o. new) x ∷ entries else x ∷ change_first (has_key key) (change_entry (λ o. new)) entries) ≡ Some key
+    by_key true is here a fails none rest = rw passes (ap (λ (k : ℕ). Some k) (eqb-true x.key key is))
+    by_key false is later true fails none rest = absurd (cc (none))
+    by_key false is later false fails none rest = rw fails (rest later none)
+
+key_none : (q : LiveRequest → Bool) (entries : List KeyedRequest) → length (filter q (requests_of entries)) ≡ 0 → key_in q entries ≡ None
+key_none q [] none = refl
+key_none q (x ∷ entries) none = by_test (q x.request) none (key_none q entries)
+  where
+    by_test : (b : Bool) → length (if b then x.request ∷ filter q (requests_of entries) else filter q (requests_of entries)) ≡ 0 → (length (filter q (requests_of entries)) ≡ 0 → key_in q entries ≡ None)
+        → option_map (λ (o : KeyedRequest). o.key) (if b then Some x else find (λ o. q o.request) entries) ≡ None
+    by_test true none rest = absurd (omega (arith, none))
+    by_test false none rest = rest none
+
+-- one that doesn't pass was taken out
+key_without : (q : LiveRequest → Bool) (key : ℕ) (entries : List KeyedRequest) (r : LiveRequest) → request_in key entries ≡ Some r → q r ≡ false → key_in q (without_first (has_key key) entries) ≡ key_in q entries
+key_without q key [] r found fails = refl
+key_without q key (x ∷ entries) r found fails = by_key (x.key == key) found (λ later. key_without q key entries r later fails)
+  where
+    pass : (b : Bool) (xs ys : List KeyedRequest) → key_in q xs ≡ key_in q ys
+        → option_map (λ (o : KeyedRequest). o.key) (if b then Some x else find (λ o. q o.request) xs) ≡ option_map (λ (o : KeyedRequest). o.key) (if b then Some x else find (λ o. q o.request) ys)
+    pass true xs ys rest = refl
+    pass false xs ys rest = rest
+
+    by_key : (b : Bool) → option_map (λ (o : KeyedRequest). o.request) (if b then Some x else find (has_key key) entries) ≡ Some r
+        → (request_in key entries ≡ Some r → key_in q (without_first (has_key key) entries) ≡ key_in q entries) → key_in q (if b then entries else x ∷ without_first (has_key key) entries) ≡ key_in q (x ∷ entries)
+    by_key true here rest =
+        let is : x.request ≡ r = cc in
+        rw (is, fails) refl
+    by_key false later rest = pass (q x.request) (without_first (has_key key) entries) entries (rest later)
+
+-- ---- the list of the holders
+
+range_same : {X : Type 0} (f g : ℕ → X) (a n : ℕ) → ((id : ℕ) → a ≤ id → g id ≡ f id) → map g (range_with_len a n) ≡ map f (range_with_len a n)
+range_same f g a zero same = refl
+range_same f g a (suc n) same = rw (same a (omega arith), range_same f g (a + 1) n (λ id above. same id (omega (arith, above)))) refl
+
+-- one of a range changes
+range_set : {X : Type 0} (f g : ℕ → X) (a n k : ℕ) (v : X) → k < n → g (a + k) ≡ v → ((id : ℕ) → id ≢ a + k → g id ≡ f id) → map g (range_with_len a n) ≡ set (map f (range_with_len a n)) k v
+range_set f g a zero k v within is others = absurd (omega (arith, within))
+range_set f g a (suc n) zero v within is others =
+    rw (rw (plus_zero a) at is, range_same f g (a + 1) n (λ id above. others id (λ same. omega (arith, above, same)))) refl
+  where
+    plus_zero : (a : ℕ) → a + 0 ≡ a
+    plus_zero a = omega arith
+range_set f g a (suc n) (suc k) v within is others =
+    rw (others a (λ same. omega (arith, same)))
+    (ap (λ xs. f a ∷ xs) (range_set f g (a + 1) n k v (omega (arith, within)) (rw (moved a k) is) (λ id other. others id (λ same. other (omega (arith, same))))))
+  where
+    moved : (a k : ℕ) → a + 1 + k ≡ a + suc k
+    moved a k = omega arith
+
+pub length_range : (a n : ℕ) → length (range_with_len a n) ≡ n
+length_range a zero = refl
+length_range a (suc n) = ap suc (length_range (a + 1) n)
+
+not_id : (id held : ℕ) → id ≢ held → (held == id) ≡ false
+not_id id held other = grind (arith, other)
+
+is_id : (id : ℕ) → (id == id) ≡ true
+is_id id = grind arith
+
+pub ids_add : (ids : ℕ) (entries : List KeyedRequest) (e : KeyedRequest) → e.request.id ≡ None → holders_of_ids ids (entries ++ e ∷ []) ≡ holders_of_ids ids entries
+ids_add ids entries e none = map_same (λ id. key_in (holds_id id) (entries ++ e ∷ [])) (λ id. key_in (holds_id id) entries) (range_with_len 0 ids) (λ id. key_pushed (holds_id id) entries e (rw none refl))
+
+pub ids_remove : (ids key : ℕ) (entries : List KeyedRequest) (r : LiveRequest) → request_in key entries ≡ Some r → r.id ≡ None → holders_of_ids ids (without_first (has_key key) entries) ≡ holders_of_ids ids entries
+ids_remove ids key entries r found none =
+    map_same (λ id. key_in (holds_id id) (without_first (has_key key) entries)) (λ id. key_in (holds_id id) entries) (range_with_len 0 ids) (λ id. key_without (holds_id id) key entries r found (rw none refl))
+
+-- the request keeps its ID, or has none
+ids_kept : (ids key : ℕ) (entries : List KeyedRequest) (r new : LiveRequest) → request_in key entries ≡ Some r → new.id ≡ r.id
+    → holders_of_ids ids (change_first (has_key key) (change_entry (λ o. new)) entries) ≡ holders_of_ids ids entries
+ids_kept ids key entries r new found same =
+    map_same (λ id. key_in (holds_id id) (change_first (has_key key) (change_entry (λ o. new)) entries)) (λ id. key_in (holds_id id) entries) (range_with_len 0 ids)
+    (λ id. key_kept (holds_id id) key entries r new found (rw same refl))
+
+pub ids_set : (ids key : ℕ) (entries : List KeyedRequest) (r new : LiveRequest) (old now : Option ℕ) → request_in key entries ≡ Some r → r.id ≡ old → new.id ≡ now → MayName ids (requests_of entries) old now
+    → holders_of_ids ids (change_first (has_key key) (change_entry (λ o. new)) entries) ≡ renamed key old now (holders_of_ids ids entries)
+ids_set ids key entries r new None None found was is may = ids_kept ids key entries r new found (is ∙ sym was)
+ids_set ids key entries r new None (Some id) found was is may =
+    range_set (λ i. key_in (holds_id i) entries) (λ i. key_in (holds_id i) (change_first (has_key key) (change_entry (λ o. new)) entries)) 0 ids id (Some key) may.0
+    (rw zero_plus (key_taken (holds_id id) key entries r new found (rw is (is_id id)) may.1))
+    (λ i other. key_kept (holds_id i) key entries r new found (rw (is, was) (not_id i id (λ same. other (same ∙ sym zero_plus)))))
+  where
+    zero_plus : 0 + id ≡ id
+    zero_plus = omega arith
+ids_set ids key entries r new (Some held) None found was is may = absurd may
+ids_set ids key entries r new (Some held) (Some id) found was is may = ids_kept ids key entries r new found (is ∙ ap (λ (i : ℕ). Some i) (sym may) ∙ sym was)
+
+none_left : (a b : Bool) (m n : ℕ) → m + (if a then 1 else 0) ≡ n + (if b then 1 else 0) → a ≡ true → b ≡ false → n ≤ 1 → m ≡ 0
+none_left true true m n sum held free one = absurd (cc (free))
+none_left true false m n sum held free one = omega (arith, sum, one)
+none_left false b m n sum held free one = absurd (cc (held))
+
+-- a request that is done gives its ID back
+pub ids_finish : (ids key place : ℕ) (entries : List KeyedRequest) (r new : LiveRequest) (old : Option ℕ) → request_in key entries ≡ Some r → IsPlaced key entries place r → r.id ≡ old → new.id ≡ None
+    → IfSome old (HasOneHolder ids (requests_of entries)) → holders_of_ids ids (change_first (has_key key) (change_entry (λ o. new)) entries) ≡ renamed key old None (holders_of_ids ids entries)
+ids_finish ids key place entries r new None found at was is one = ids_kept ids key entries r new found (is ∙ sym was)
+ids_finish ids key place entries r new (Some id) found at was is one =
+    range_set (λ i. key_in (holds_id i) entries) (λ i. key_in (holds_id i) (change_first (has_key key) (change_entry (λ o. new)) entries)) 0 ids id None one.0
+    (rw zero_plus (key_none (holds_id id) (change_first (has_key key) (change_entry (λ o. new)) entries) nobody))
+    (λ i other. key_kept (holds_id i) key entries r new found (rw (is, was) (sym (not_id i id (λ same. other (same ∙ sym zero_plus))))))
+  where
+    zero_plus : 0 + id ≡ id
+    zero_plus = omega arith
+
+    nobody : length (filter (holds_id id) (requests_of (change_first (has_key key) (change_entry (λ o. new)) entries))) ≡ 0
+    nobody =
+        rw (requests_changed (λ o. new) key entries place r at)
+        (none_left (holds_id id r) (holds_id id new) (length (filter (holds_id id) (set (requests_of entries) place new))) (length (filter (holds_id id) (requests_of entries)))
+        (count_set (holds_id id) (requests_of entries) place new r at.within (at.there r)) (rw was (is_id id)) (rw is refl) one.1)
+
+-- ---- what is read
+
+is_free_by_key : (entries : List KeyedRequest) (id : ℕ) → is_none (key_in (holds_id id) entries) ≡ is_free (requests_of entries) id
+is_free_by_key [] id = refl
+is_free_by_key (x ∷ entries) id = by_test (holds_id id x.request) (is_free_by_key entries id)
+  where
+    by_test : (b : Bool) → is_none (key_in (holds_id id) entries) ≡ not (list_any (holds_id id) (requests_of entries))
+        → is_none (option_map (λ (o : KeyedRequest). o.key) (if b then Some x else find (λ o. holds_id id o.request) entries)) ≡ not (b || list_any (holds_id id) (requests_of entries))
+    by_test true rest = refl
+    by_test false rest = rest
+
+range_at : (a n k d : ℕ) → k < n → get_or (range_with_len a n) k d ≡ a + k
+range_at a zero k d within = absurd (omega (arith, within))
+range_at a (suc n) zero d within = omega arith
+range_at a (suc n) (suc k) d within = range_at (a + 1) n k d (omega (arith, within)) ∙ omega arith
+
+first_in_range : (p : ℕ → Bool) (n : ℕ) → position p (range_with_len 0 n) ≡ find p (range_with_len 0 n)
+first_in_range p n = by_place (position p (range_with_len 0 n)) refl
+  where
+    by_place : (o : Option ℕ) → position p (range_with_len 0 n) ≡ o → o ≡ find p (range_with_len 0 n)
+    by_place None missing = sym (find-none p (range_with_len 0 n) missing)
+    by_place (Some k) found =
+        let first = position_is_first p (range_with_len 0 n) k found in
+        let same : get_or (range_with_len 0 n) k 0 ≡ k = range_at 0 n k 0 (rw (length_range 0 n) at first.within) ∙ omega arith in
+        sym (find-first p (range_with_len 0 n) k 0 first ∙ ap (λ (i : ℕ). Some i) same)
+
+-- the first ID without a holder is the smallest free one
+pub first_free : (ids : ℕ) (entries : List KeyedRequest) → position is_none (holders_of_ids ids entries) ≡ free_id ids (requests_of entries)
+first_free ids entries =
+    position_map (λ id. key_in (holds_id id) entries) is_none (range_with_len 0 ids)
+    ∙ position_same (λ id. is_none (key_in (holds_id id) entries)) (is_free (requests_of entries)) (range_with_len 0 ids) (is_free_by_key entries)
+    ∙ first_in_range (is_free (requests_of entries)) ids
+
+pub holder_is : (ids id : ℕ) (entries : List KeyedRequest) → id < ids → get_or (holders_of_ids ids entries) id None ≡ key_in (holds_id id) entries
+holder_is ids id entries within =
+    get_or-map (λ i. key_in (holds_id i) entries) (range_with_len 0 ids) id 0 None (rw (length_range 0 ids) within)
+    ∙ ap (λ i. key_in (holds_id i) entries) (range_at 0 ids id 0 within ∙ omega arith)
+
+pub length_holders : (ids : ℕ) (entries : List KeyedRequest) → length (holders_of_ids ids entries) ≡ ids
+length_holders ids entries = length_map (λ id. key_in (holds_id id) entries) (range_with_len 0 ids) ∙ length_range 0 ids
+
+pub no_holder : (ids id : ℕ) (entries : List KeyedRequest) → ids ≤ id → get_or (holders_of_ids ids entries) id None ≡ None
+no_holder ids id entries beyond = get_or_past (holders_of_ids ids entries) id None (rw (length_holders ids entries) beyond)
+
+-- with no request nobody holds an ID
+pub no_holders : (a ids : ℕ) → map (λ (id : ℕ). key_in (holds_id id) []) (range_with_len a ids) ≡ replicate ids None
+no_holders a zero = refl
+no_holders a (suc ids) = ap (λ (hs : List (Option ℕ)). None ∷ hs) (no_holders (a + 1) ids)
+
+-- what may be done with an ID is within the list
+pub may_rename : (ids : ℕ) (live : List LiveRequest) (old now : Option ℕ) → MayName ids live old now → CanRename ids old now
+may_rename ids live None None may = tt
+may_rename ids live None (Some id) may = may.0
+may_rename ids live (Some held) None may = absurd may
+may_rename ids live (Some held) (Some id) may = tt
+
+pub gives_back : (ids : ℕ) (live : List LiveRequest) (old : Option ℕ) → IfSome old (HasOneHolder ids live) → CanRename ids old None
+gives_back ids live None one = tt
+gives_back ids live (Some id) one = one.0

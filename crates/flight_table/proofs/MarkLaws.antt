@@ -1,0 +1,219 @@
+-- Marks at places as the bits of a number: what a change of one is of the other.
+use Rattle.std.proofs.Common.{◌≡◌, ℕ, zero, suc, ◌+◌, ◌-◌, ◌*◌, ◌/◌, ◌%◌, ◌^◌, ◌==◌, ◌<◌, ◌≤◌, Bool, true, false, ◌&&◌, min, List, [], ◌∷◌, ◌++◌, length, get_or, set, refl, ap, sym, ◌∙◌, arith}
+use Rattle.std.specs.Prelude.{if◌then◌else◌}
+use Rattle.std.specs.List.{position, position_or_len, remove}
+use Rattle.std.proofs.Common.{map, Some, None, ltb}
+use Rattle.std.proofs.lemmas.Bool.{lt-ltb}
+use Rattle.std.proofs.lemmas.Simd.{trailing_mask_l}
+use lib.Lanes.{mask_l}
+use lib.Count.{count_trailing_zeros}
+use native.Mathlib.Nat.{two-pow-succ, zero-div, div-one, div-div-eq-div-mul, div-add-mod', mod-eq_of_lt, mul_assoc, mul_comm, one-mul, pow-suc}
+use lib.Pow.{pow_mono, pow_pos}
+use mir.Val.{bool_byte}
+use Rattle.std.proofs.lemmas.Nat.{shl_whole}
+use Rattle.std.proofs.lemmas.List.Edits.{length-remove}
+use lib.Bits.{bit_and, and_step, and_zero_l, and_zero_r}
+use Rattle.flight_table.specs.Marks.{both, marks_of, number_of}
+
+abbrev bit : Bool → ℕ
+bit mark = if mark then 1 else 0
+
+pub below : (marks : List Bool) → number_of marks < 2 ^ length marks
+below [] = omega arith
+below (true ∷ marks) = omega (arith, below marks, two-pow-succ (length marks))
+below (false ∷ marks) = omega (arith, below marks, two-pow-succ (length marks))
+
+lowest : (mark : Bool) (n : ℕ) → ((bit mark + 2 * n) % 2 ≡ bit mark) × ((bit mark + 2 * n) / 2 ≡ n)
+lowest true n = (omega arith, omega arith)
+lowest false n = (omega arith, omega arith)
+
+-- half of it, so many times
+next_half : (mark : Bool) (n place : ℕ) → (bit mark + 2 * n) / 2 ^ suc place ≡ n / 2 ^ place
+next_half mark n place =
+    ap (λ d. (bit mark + 2 * n) / d) (pow-suc 2 place ∙ mul_comm (2 ^ place) 2) ∙ sym (div-div-eq-div-mul (bit mark + 2 * n) 2 (2 ^ place)) ∙ ap (λ h. h / 2 ^ place) (lowest mark n).1
+
+byte_is : (mark : Bool) → bool_byte mark ≡ bit mark
+byte_is true = refl
+byte_is false = refl
+
+small : (mark : Bool) → bool_byte mark < 2 ^ 1
+small true = omega arith
+small false = omega arith
+
+a_bit : (mark : Bool) → bit mark < 2 ^ 1
+a_bit true = omega arith
+a_bit false = omega arith
+
+is_marked : (mark : Bool) → (bit mark == 1) ≡ mark
+is_marked true = refl
+is_marked false = refl
+
+-- the bits of marks are these marks
+pub same_marks : (marks : List Bool) → marks_of (length marks) (number_of marks) ≡ marks
+same_marks [] = refl
+same_marks (mark ∷ marks) = rw ((lowest mark (number_of marks)).0, (lowest mark (number_of marks)).1, is_marked mark, same_marks marks) refl
+
+pub length-marks : (count bits : ℕ) → length (marks_of count bits) ≡ count
+length-marks zero bits = refl
+length-marks (suc count) bits = ap suc (length-marks count (bits / 2))
+
+odd : (n : ℕ) → bit (n % 2 == 1) ≡ n % 2
+odd n = by_rest (n % 2) (omega arith)
+  where
+    by_rest : (r : ℕ) → r < 2 → bit (r == 1) ≡ r
+    by_rest zero small = refl
+    by_rest (suc zero) small = refl
+    by_rest (suc (suc r)) small = absurd (omega (arith, small))
+
+pub same_number : (count bits : ℕ) → bits < 2 ^ count → number_of (marks_of count bits) ≡ bits
+same_number zero bits small = omega (arith, small)
+same_number (suc count) bits small =
+    let rest : number_of (marks_of count (bits / 2)) ≡ bits / 2 = same_number count (bits / 2) (omega (arith, small, two-pow-succ count)) in
+    rw (rest, odd bits) (omega arith)
+
+-- ---- one more
+
+pub pushed : (marks : List Bool) (mark : Bool) → number_of (marks ++ mark ∷ []) ≡ number_of marks + bit mark * 2 ^ length marks
+pushed [] true = refl
+pushed [] false = refl
+pushed (m ∷ marks) true = rw (pushed marks true) (omega (arith, two-pow-succ (length marks)))
+pushed (m ∷ marks) false = rw (pushed marks false) (omega (arith, two-pow-succ (length marks)))
+
+-- ---- another one at its place
+
+pub put_is : (marks : List Bool) (place : ℕ) (mark : Bool) → place < length marks
+    → number_of (set marks place mark) + bit (get_or marks place false) * 2 ^ place ≡ number_of marks + bit mark * 2 ^ place
+put_is [] place mark within = absurd (omega (arith, within))
+put_is (m ∷ marks) zero mark within = omega arith
+put_is (m ∷ marks) (suc place) mark within = by_marks (get_or marks place false) mark (put_is marks place mark (omega (arith, within)))
+  where
+    by_marks : (old new : Bool) → number_of (set marks place mark) + bit old * 2 ^ place ≡ number_of marks + bit new * 2 ^ place
+        → (bit m + 2 * number_of (set marks place mark)) + bit old * 2 ^ suc place ≡ (bit m + 2 * number_of marks) + bit new * 2 ^ suc place
+    by_marks true true same = omega (arith, same, two-pow-succ place)
+    by_marks true false same = omega (arith, same, two-pow-succ place)
+    by_marks false true same = omega (arith, same, two-pow-succ place)
+    by_marks false false same = omega (arith, same, two-pow-succ place)
+
+-- ---- two lists at once
+
+least : (a b : Bool) → min (bit a) (bit b) ≡ bit (a && b)
+least true true = refl
+least true false = refl
+least false true = refl
+least false false = refl
+
+pub both_bits : (marks others : List Bool) → bit_and (number_of marks) (number_of others) ≡ number_of (both marks others)
+both_bits [] others = and_zero_l (number_of others)
+both_bits (m ∷ marks) [] = and_zero_r (number_of (m ∷ marks))
+both_bits (m ∷ marks) (o ∷ others) =
+    and_step (number_of (m ∷ marks)) (number_of (o ∷ others))
+    ∙ rw ((lowest m (number_of marks)).0, (lowest m (number_of marks)).1, (lowest o (number_of others)).0, (lowest o (number_of others)).1, both_bits marks others, least m o) (omega arith)
+
+-- ---- a number and the marks that it is
+pub as_marks : (count bits : ℕ) (marks : List Bool) → count ≡ length marks → bits ≡ number_of marks → marks_of count bits ≡ marks
+as_marks count bits marks many is = rw (many, is) (same_marks marks)
+
+pub as_number : (count bits : ℕ) (marks : List Bool) → marks_of count bits ≡ marks → bits < 2 ^ count → (count ≡ length marks) × (bits ≡ number_of marks)
+as_number count bits marks is small = (sym (length-marks count bits) ∙ ap length is, sym (same_number count bits small) ∙ ap number_of is)
+
+-- the number after one more mark
+pub pushed_bits : (marks : List Bool) (mark : Bool) (value : ℕ) → length marks < 64 → value ≡ bool_byte mark
+    → number_of marks + value * 2 ^ length marks % 18446744073709551616 ≡ number_of (marks ++ mark ∷ [])
+pushed_bits marks mark value room is =
+    let whole = shl_whole value 1 (length marks) 64 (rw is (small mark)) (omega (arith, room)) in
+    rw (whole, is, byte_is mark) (sym (pushed marks mark))
+
+pub bits_fit : (marks : List Bool) → length marks ≤ 64 → number_of marks < 18446744073709551616
+bits_fit marks few = omega (arith, below marks, pow_mono {i = length marks} {j = 64} few)
+
+-- the number after another mark at its place
+bit_at_place : (marks : List Bool) (place : ℕ) → number_of marks / 2 ^ place % 2 ≡ bit (get_or marks place false)
+bit_at_place [] place = ap (λ n. n % 2) (zero-div (2 ^ place))
+bit_at_place (m ∷ marks) zero = ap (λ n. n % 2) (div-one (number_of (m ∷ marks))) ∙ (lowest m (number_of marks)).0
+bit_at_place (m ∷ marks) (suc place) = ap (λ n. n % 2) (next_half m (number_of marks) place) ∙ bit_at_place marks place
+
+old_is_less : (marks : List Bool) (place : ℕ) → place < length marks → bit (get_or marks place false) * 2 ^ place ≤ number_of marks
+old_is_less marks place within = omega (arith, put_is marks place false within)
+
+pub put_bits : (marks : List Bool) (place : ℕ) (mark : Bool) (value : ℕ) → place < length marks → length marks ≤ 64 → value ≡ bool_byte mark
+    → number_of marks - number_of marks / 2 ^ place % 2 * 2 ^ place % 18446744073709551616 + value * 2 ^ place % 18446744073709551616 ≡ number_of (set marks place mark)
+put_bits marks place mark value within few is =
+    let old = bit (get_or marks place false) in
+    let was : number_of marks / 2 ^ place % 2 ≡ old = bit_at_place marks place in
+    let old_whole : old * 2 ^ place % 18446744073709551616 ≡ old * 2 ^ place = shl_whole old 1 place 64 (a_bit (get_or marks place false)) (omega (arith, within, few)) in
+    let new_whole : value * 2 ^ place % 18446744073709551616 ≡ value * 2 ^ place = shl_whole value 1 place 64 (rw is (small mark)) (omega (arith, within, few)) in
+    rw (was, old_whole, new_whole, is, byte_is mark)
+    (moved (number_of marks) (old * 2 ^ place) (bit mark * 2 ^ place) (number_of (set marks place mark)) (old_is_less marks place within) (put_is marks place mark within))
+  where
+    moved : (n o m r : ℕ) → o ≤ n → r + o ≡ n + m → n - o + m ≡ r
+    moved n o m r less same = omega (arith, less, same)
+
+-- the number after a mark was taken out
+pub removed_is : (marks : List Bool) (place : ℕ) → place < length marks
+    → number_of (remove marks place) ≡ number_of marks % 2 ^ place + number_of marks / 2 ^ place / 2 * 2 ^ place
+removed_is [] place within = absurd (omega (arith, within))
+removed_is (m ∷ marks) zero within =
+    let half = (lowest m (number_of marks)).1 in
+    rw (div-one (number_of (m ∷ marks)), half) (omega arith)
+removed_is (m ∷ marks) (suc place) within =
+    let n = number_of marks in
+    let rest : number_of (remove marks place) ≡ n % 2 ^ place + n / 2 ^ place / 2 * 2 ^ place = removed_is marks place (omega (arith, within)) in
+    rw (next_half m n place)
+    (parted (bit m) n (n / 2 ^ place * 2 ^ place) (n % 2 ^ place) (n / 2 ^ place / 2 * 2 ^ place) (number_of (remove marks place)) ((bit m + 2 * n) % 2 ^ suc place) ((bit m + 2 * n) / 2 ^ suc place * 2 ^ suc place)
+    (n / 2 ^ place / 2 * 2 ^ suc place) rest (div-add-mod' n (2 ^ place)) (div-add-mod' (bit m + 2 * n) (2 ^ suc place)) (rw (next_half m n place) (doubled (n / 2 ^ place) place)) (doubled (n / 2 ^ place / 2) place))
+  where
+    doubled : (q p : ℕ) → q * 2 ^ suc p ≡ 2 * (q * 2 ^ p)
+    doubled q p = rw (pow-suc 2 p, ← mul_assoc q (2 ^ p) 2) (omega arith)
+
+    parted : (b n low_part low high r whole_rest whole_part high_part : ℕ) → r ≡ low + high → low_part + low ≡ n → whole_part + whole_rest ≡ b + 2 * n → whole_part ≡ 2 * low_part → high_part ≡ 2 * high
+        → b + 2 * r ≡ whole_rest + high_part
+    parted b n low_part low high r whole_rest whole_part high_part is one two three four = omega (arith, is, one, two, three, four)
+
+pub removed_bits : (marks : List Bool) (place : ℕ) → place < length marks → length marks ≤ 64
+    → number_of marks % (1 * 2 ^ place % 18446744073709551616) + number_of marks / 2 ^ place / 2 * 2 ^ place % 18446744073709551616 ≡ number_of (remove marks place)
+removed_bits marks place within few =
+    let unit : 1 * 2 ^ place % 18446744073709551616 ≡ 2 ^ place = shl_whole 1 1 place 64 (omega arith) (omega (arith, within, few)) ∙ one-mul (2 ^ place) in
+    let is = removed_is marks place within in
+    let high : number_of marks / 2 ^ place / 2 * 2 ^ place % 18446744073709551616 ≡ number_of marks / 2 ^ place / 2 * 2 ^ place =
+    mod-eq_of_lt (omega (arith, is, bits_fit (remove marks place) (omega (arith, length-remove marks place within, few)))) in
+    rw (unit, high) (sym is)
+
+-- ---- the first that is marked
+
+abbrev pub is_set : Bool → Bool
+is_set mark = mark
+
+mask : (marks : List Bool) → mask_l (map is_set marks) ≡ number_of marks
+mask [] = refl
+mask (true ∷ marks) = rw (mask marks) refl
+mask (false ∷ marks) = rw (mask marks) refl
+
+none_set : (marks : List Bool) → number_of marks ≡ 0 → position_or_len is_set marks ≡ length marks
+none_set [] none = refl
+none_set (true ∷ marks) none = absurd (omega (arith, none))
+none_set (false ∷ marks) none = omega (arith, none_set marks (omega (arith, none)))
+
+some_set : (marks : List Bool) → 0 < number_of marks → position_or_len is_set marks < length marks
+some_set [] some = absurd (omega (arith, some))
+some_set (true ∷ marks) some = omega arith
+some_set (false ∷ marks) some = omega (arith, some_set marks (omega (arith, some)))
+
+not-lt : (a b : ℕ) → b ≤ a → ltb a b ≡ false
+not-lt a b above = grind (arith, above)
+
+pub first_none : (marks : List Bool) → number_of marks ≡ 0 → position is_set marks ≡ None
+first_none marks none = rw (none_set marks none, not-lt (length marks) (length marks) (omega arith)) refl
+
+pub first_some : (marks : List Bool) → 0 < number_of marks → length marks ≤ 64 → position is_set marks ≡ Some (count_trailing_zeros 64 (number_of marks))
+first_some marks some few =
+    let place : count_trailing_zeros 64 (number_of marks) ≡ position_or_len is_set marks =
+    ap (count_trailing_zeros 64) (sym (mask marks)) ∙ trailing_mask_l is_set 64 marks few (rw (mask marks) some) in
+    rw (place, lt-ltb (position_or_len is_set marks) (length marks) (some_set marks some)) refl
+
+pub unit_bit : (place : ℕ) → place < 64 → 0 < 1 * 2 ^ place % 18446744073709551616
+unit_bit place small = rw (shl_whole 1 1 place 64 (omega arith) (omega (arith, small)), one-mul (2 ^ place)) (pow_pos place)
+
+pub length-both : (marks others : List Bool) → length (both marks others) ≤ length marks
+length-both [] others = omega arith
+length-both (m ∷ marks) [] = omega arith
+length-both (m ∷ marks) (o ∷ others) = omega (arith, length-both marks others)

@@ -1,0 +1,35 @@
+-- What stands at a place of a list, where the list is made of another, or one entry of it changes.
+use Rattle.std.proofs.Common.{◌≡◌, ℕ, zero, suc, Bool, List, [], ◌∷◌, length, map, refl, ap}
+use Rattle.std.specs.List.{position, position_or_len, remove}
+
+pub length_map : {X Y : Type 0} (f : X → Y) (xs : List X) → length (map f xs) ≡ length xs
+length_map f [] = refl
+length_map f (x ∷ xs) = ap suc (length_map f xs)
+
+first_map : {X Y : Type 0} (f : X → Y) (p : Y → Bool) (xs : List X) → position_or_len p (map f xs) ≡ position_or_len (λ x. p (f x)) xs
+first_map f p [] = refl
+first_map f p (x ∷ xs) = rw (first_map f p xs) refl
+
+-- a search in a list that is made of another
+pub position_map : {X Y : Type 0} (f : X → Y) (p : Y → Bool) (xs : List X) → position p (map f xs) ≡ position (λ x. p (f x)) xs
+position_map f p xs = rw (first_map f p xs, length_map f xs) refl
+
+first_same : {X : Type 0} (p q : X → Bool) (xs : List X) → ((x : X) → p x ≡ q x) → position_or_len p xs ≡ position_or_len q xs
+first_same p q [] same = refl
+first_same p q (x ∷ xs) same = rw (same x, first_same p q xs same) refl
+
+-- two tests that agree
+pub position_same : {X : Type 0} (p q : X → Bool) (xs : List X) → ((x : X) → p x ≡ q x) → position p xs ≡ position q xs
+position_same p q xs same = rw (first_same p q xs same) refl
+
+-- ---- a list that is made of another, after an entry of that one was taken out
+pub map-remove : {X Y : Type 0} (f : X → Y) (xs : List X) (place : ℕ) → map f (remove xs place) ≡ remove (map f xs) place
+map-remove f [] zero = refl
+map-remove f [] (suc place) = refl
+map-remove f (x ∷ xs) zero = refl
+map-remove f (x ∷ xs) (suc place) = ap (λ ys. f x ∷ ys) (map-remove f xs place)
+
+-- functions that agree make the same list
+pub map_same : {X Y : Type 0} (f g : X → Y) (xs : List X) → ((x : X) → f x ≡ g x) → map f xs ≡ map g xs
+map_same f g [] same = refl
+map_same f g (x ∷ xs) same = rw (same x, map_same f g xs same) refl

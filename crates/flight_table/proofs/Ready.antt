@@ -1,0 +1,69 @@
+-- The first place that is marked is that of the first request that may send.
+use Rattle.std.proofs.Common.{◌≡◌, ℕ, ◌==◌, Bool, true, false, not, ◌&&◌, ◌||◌, is_some, List, [], ◌∷◌, map, length, Option, Some, None, refl, ap, ap₂, ◌∙◌, arith}
+use Rattle.std.specs.Prelude.{if◌then◌else◌}
+use Rattle.std.specs.List.{filter, list_any, position}
+use Rattle.std.specs.Option.{option_or}
+use Rattle.flight_table.specs.Inside.{IsKept, count_holders, is_named, is_open}
+use Rattle.flight_table.specs.LiveRequests.{LiveRequest}
+use Rattle.flight_table.specs.Marks.{both}
+use Rattle.flight_table.specs.Order.{free_id, holds_back, may_send}
+use Rattle.flight_table.specs.declared.TableLimits.{TableLimits}
+use Rattle.flight_table.proofs.PlaceLaws.{position_map, position_same}
+
+both_map : {X : Type 0} (f g : X → Bool) (xs : List X) → both (map f xs) (map g xs) ≡ map (λ x. f x && g x) xs
+both_map f g [] = refl
+both_map f g (x ∷ xs) = rw (both_map f g xs) refl
+
+map_map : {X : Type 0} (f : X → ℕ) (g : ℕ → Bool) (xs : List X) → map g (map f xs) ≡ map (λ x. g (f x)) xs
+map_map f g [] = refl
+map_map f g (x ∷ xs) = rw (map_map f g xs) refl
+
+none_counted : {X : Type 0} (q : X → Bool) (xs : List X) → (length (filter q xs) == 0) ≡ not (list_any q xs)
+none_counted q [] = refl
+none_counted q (x ∷ xs) = by_test (q x) (none_counted q xs)
+  where
+    by_test : (b : Bool) → (length (filter q xs) == 0) ≡ not (list_any q xs) → (length (if b then x ∷ filter q xs else filter q xs) == 0) ≡ not (b || list_any q xs)
+    by_test true rest = grind arith
+    by_test false rest = rest
+
+-- whether a request has an ID for its next burst
+some_id : (own free : Option ℕ) → is_some (option_or own free) ≡ (is_some own || is_some free)
+some_id None free = refl
+some_id (Some id) free = refl
+
+and_true : (b : Bool) → (b && true) ≡ b
+and_true true = refl
+and_true false = refl
+
+or_true : (b : Bool) → (b || true) ≡ true
+or_true true = refl
+or_true false = refl
+
+or_false : (b : Bool) → (b || false) ≡ b
+or_false true = refl
+or_false false = refl
+
+-- where an ID is free, and where none is
+sends_with : (limits : TableLimits) (live : List LiveRequest) (x : LiveRequest) → is_some (free_id limits.ids live) ≡ true → (is_open limits.depth x && (count_holders live x == 0)) ≡ may_send limits live x
+sends_with limits live x free = rw (some_id x.id (free_id limits.ids live), free, or_true (is_some x.id), and_true (is_open limits.depth x), none_counted (holds_back x) live) refl
+
+sends_without : (limits : TableLimits) (live : List LiveRequest) (x : LiveRequest) → is_some (free_id limits.ids live) ≡ false → (is_named limits.depth x && (count_holders live x == 0)) ≡ may_send limits live x
+sends_without limits live x free = rw (some_id x.id (free_id limits.ids live), free, or_false (is_some x.id), none_counted (holds_back x) live) refl
+
+first_of : (test : LiveRequest → Bool) (live : List LiveRequest) (marks unheld : List Bool) (counts : List ℕ) → marks ≡ map test live → counts ≡ map (count_holders live) live → unheld ≡ map (λ count. count == 0) counts
+    → position (λ mark. mark) (both marks unheld) ≡ position (λ x. test x && (count_holders live x == 0)) live
+first_of test live marks unheld counts marked counted free =
+    ap (position (λ mark. mark)) (ap₂ both marked (free ∙ ap (map (λ count. count == 0)) counted ∙ map_map (count_holders live) (λ count. count == 0) live) ∙ both_map test (λ x. count_holders live x == 0) live)
+    ∙ position_map (λ x. test x && (count_holders live x == 0)) (λ mark. mark) live
+
+pub first_with : (limits : TableLimits) (live : List LiveRequest) (able named unheld : List Bool) (counts : List ℕ) → IsKept limits.depth live able named counts unheld → is_some (free_id limits.ids live) ≡ true
+    → position (λ mark. mark) (both able unheld) ≡ position (may_send limits live) live
+first_with limits live able named unheld counts kept free =
+    first_of (is_open limits.depth) live able unheld counts kept.open_bursts kept.holders kept.free
+    ∙ position_same (λ x. is_open limits.depth x && (count_holders live x == 0)) (may_send limits live) live (λ x. sends_with limits live x free)
+
+pub first_without : (limits : TableLimits) (live : List LiveRequest) (able named unheld : List Bool) (counts : List ℕ) → IsKept limits.depth live able named counts unheld → is_some (free_id limits.ids live) ≡ false
+    → position (λ mark. mark) (both named unheld) ≡ position (may_send limits live) live
+first_without limits live able named unheld counts kept free =
+    first_of (is_named limits.depth) live named unheld counts kept.named_bursts kept.holders kept.free
+    ∙ position_same (λ x. is_named limits.depth x && (count_holders live x == 0)) (may_send limits live) live (λ x. sends_without limits live x free)

@@ -1,0 +1,59 @@
+use Rattle.std.proofs.Common.{length-set, ◌≡◌, ◌≤◌, ap, arith, ◌∙◌, refl, sym}
+use Rattle.std.specs.Prelude.{IfSome}
+use Rattle.std.specs.Vec.{vec_capacity}
+use Rattle.bus_words.specs.Places.{change_first}
+use Rattle.flight_table.specs.Inside.{HasOneHolder}
+use Rattle.flight_table.specs.LiveRequests.{LiveRequest, finished}
+use Rattle.flight_table.specs.Tables.{change_entry, has_key, requests_of}
+use Rattle.flight_table.proofs.Index.{change-constant}
+use Rattle.flight_table.proofs.HeldIds.{gives_back, ids_finish, length_holders}
+use Rattle.flight_table.specs.Sums.{IsSmall}
+use Rattle.flight_table.proofs.SumLaws.{all_set, are_part, are_small, less_small, sums_set}
+use Rattle.flight_table.proofs.Kept.{kept_finish, named_with, placed, requests_changed}
+use Rattle.flight_table.proofs.live.Live.finish.Goals as goal
+
+entries : (c : goal.After-set) → c.set.new.self ≡ change_first (has_key c.args.key) (change_entry finished) c.self.inside.slots
+entries c = c.set.ensures.entries ∙ change-constant finished c.args.key c.self.inside.slots c.get-request.result c.finished-done.result c.get-request.ensures.request c.finished-done.ensures
+
+pub rename-requires : goal.rename-requires
+rename-requires c =
+    let i = c.self.inside in
+    let r = c.get-request.result in
+    rw (c.self.invariant.2, length_holders i.limits.ids i.slots, ap (λ (q : LiveRequest). q.id) c.request.view_is)
+    (gives_back i.limits.ids (requests_of i.slots) r.id
+    (named_with c.args.key i.slots r (λ old. IfSome old.id (HasOneHolder i.limits.ids (requests_of i.slots))) c.get-request.ensures.request (rw (← c.self.view_is) at c.requires)))
+
+pub without-requires : goal.without-requires
+without-requires c =
+    let at = placed c.args.key c.self.inside.slots c.place_of-place.result c.get-request.result c.place_of-place.ensures.place c.get-request.ensures.request in
+    rw c.self.invariant.3.sums_are (are_part (requests_of c.self.inside.slots) c.place_of-place.result c.get-request.result at.within (at.there c.get-request.result))
+
+pub with-self-inside-requires : goal.with-self-inside-requires
+with-self-inside-requires c =
+    less_small c.get-request.result c.without.result c.self.inside.sums c.without.ensures
+    (rw c.self.invariant.3.sums_are (are_small (requests_of c.self.inside.slots) c.self.invariant.3.few c.self.invariant.3.small))
+
+pub invariant_of-self : goal.invariant_of-self
+invariant_of-self c =
+    let i = c.self.inside in
+    let r = c.get-request.result in
+    let one = named_with c.args.key i.slots r (λ old. IfSome old.id (HasOneHolder i.limits.ids (requests_of i.slots))) c.get-request.ensures.request (rw (← c.self.view_is) at c.requires) in
+    let place = c.place_of-place.result in
+    let at = placed c.args.key i.slots place r c.place_of-place.ensures.place c.get-request.ensures.request in
+    let after = ap requests_of c.set.ensures.entries ∙ requests_changed (λ o. c.finished-done.result) c.args.key i.slots place r at in
+    let room : 64 ≤ vec_capacity c.lower.new.holders = omega (arith, c.self.invariant.1, c.lower.ensures.capacity) in (
+      rw (after, c.finished-done.ensures, c.put.ensures, c.put-2.ensures, c.lower.ensures.unheld)
+          (kept_finish i.limits.depth (requests_of i.slots) place r i.able i.named i.holders.items i.unheld c.self.invariant.0 at.within (at.there r) c.lower.new.holders.items c.lower.ensures.holders),
+      room,
+      rw (c.rename.ensures, c.self.invariant.2, c.set.ensures.entries, ap (λ (q : LiveRequest). q.id) c.request.view_is)
+          (sym (ids_finish i.limits.ids c.args.key place i.slots r c.finished-done.result r.id c.get-request.ensures.request at refl (ap (λ (q : LiveRequest). q.id) c.finished-done.ensures) one)),
+      rw after
+          (record {
+            sums_are = c.with-self-inside.ensures.sums ∙ sums_set (requests_of i.slots) place r c.finished-done.result c.without.result at.within (at.there r) (c.without.ensures ∙ c.self.invariant.3.sums_are);
+            small = all_set IsSmall (requests_of i.slots) place c.finished-done.result c.self.invariant.3.small c.with-self-inside.ensures.small;
+            few = omega (arith, c.self.invariant.3.few, length-set (requests_of i.slots) place c.finished-done.result);
+          }),
+    )
+
+pub returns-clause-table : goal.returns-clause-table
+returns-clause-table c = rw (← c.self.view_is, entries c) refl

@@ -1,0 +1,33 @@
+use Rattle.std.proofs.Common.{[], ◌∷◌, ◌++◌, ap, arith, length, length-append}
+use Rattle.flight_table.proofs.Index.{entries-add, fresh-add, index-add, keys_of, length_entries}
+use Rattle.flight_table.proofs.slots.Slots.add.Goals as goal
+
+pub invariant_of-self : goal.invariant_of-self
+invariant_of-self c =
+    let s = c.self.inside.requests in
+    let ks = c.self.inside.order.items in
+    let slot = c.insert_reserved-slot in (
+      rw c.put.ensures.items (index-add s slot.new.self slot.result c.args.request ks c.self.invariant.0 slot.ensures.was_vacant slot.ensures.updates slot.ensures.len),
+      omega (arith, c.self.invariant.1, c.put.ensures.capacity),
+      omega (arith, c.self.invariant.2, slot.ensures.capacity),
+      omega (arith, c.requires, length_entries s ks, ap length c.self.view_is, ap length c.put.ensures.items, length-append ks (slot.result ∷ [])),
+    )
+
+pub returns-clause-entries : goal.returns-clause-entries
+returns-clause-entries c =
+    let s = c.self.inside.requests in
+    let ks = c.self.inside.order.items in
+    let slot = c.insert_reserved-slot in
+    rw (c.put.ensures.items, ← c.self.view_is) (entries-add s slot.new.self slot.result c.args.request ks c.self.invariant.0 slot.ensures.was_vacant slot.ensures.updates)
+
+pub returns-clause-fresh : goal.returns-clause-fresh
+returns-clause-fresh c =
+    rw (← c.self.view_is) (fresh-add c.self.inside.requests c.insert_reserved-slot.result c.self.inside.order.items c.self.invariant.0 c.insert_reserved-slot.ensures.was_vacant)
+
+pub returns-clause-keys : goal.returns-clause-keys
+returns-clause-keys c =
+    let s = c.self.inside.requests in
+    let ks = c.self.inside.order.items in
+    let slot = c.insert_reserved-slot in
+    let index = index-add s slot.new.self slot.result c.args.request ks c.self.invariant.0 slot.ensures.was_vacant slot.ensures.updates slot.ensures.len in
+    rw (c.put.ensures.items, keys_of slot.new.self (ks ++ slot.result ∷ [])) index.distinct

@@ -1,0 +1,12 @@
+use Rattle.std.proofs.Common.{◌<◌, ap, arith, length, ◌∙◌}
+use Rattle.flight_table.specs.Tables.{requests_of}
+use Rattle.flight_table.proofs.Index.{length_requests, request_placed}
+use Rattle.flight_table.proofs.slots.Slots.at.Goals as goal
+
+pub returns : goal.returns
+returns c =
+    λ d.
+    let s = c.self.inside.requests in
+    let ks = c.self.inside.order.items in
+    let within : c.args.place < length ks = omega (arith, c.requires, ap (λ entries. length (requests_of entries)) c.self.view_is, length_requests s ks) in
+    c.stored.ensures ∙ rw (← c.self.view_is) (request_placed s ks c.args.place c.index.result.now d within c.index.ensures)

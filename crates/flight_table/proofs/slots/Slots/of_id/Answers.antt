@@ -1,0 +1,14 @@
+use Rattle.std.proofs.Common.{List, ◌∙◌, ap}
+use Rattle.flight_table.specs.Order.{holds_id}
+use Rattle.flight_table.specs.Tables.{KeyedRequest, key_in}
+use Rattle.flight_table.proofs.Index.{keys_of}
+use Rattle.flight_table.proofs.SlabScans.{find_scan}
+use Rattle.flight_table.proofs.slots.Slots.of_id.Goals as goal
+
+pub returns-clause-key : goal.returns-clause-key
+returns-clause-key c =
+    (rw c.deref.ensures.value at c.of_id.ensures) ∙ find_scan c.self.inside.requests (holds_id c.args.id) c.self.inside.order.items
+    ∙ ap (λ (entries : List KeyedRequest). key_in (holds_id c.args.id) entries) c.self.view_is
+
+pub returns-clause-keys : goal.returns-clause-keys
+returns-clause-keys c = rw (← c.self.view_is, keys_of c.self.inside.requests c.self.inside.order.items) c.self.invariant.0.distinct

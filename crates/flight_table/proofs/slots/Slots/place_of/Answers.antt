@@ -1,0 +1,12 @@
+use Rattle.std.proofs.Common.{◌==◌, ap, sym, ◌∙◌}
+use Rattle.std.specs.List.{position}
+use Rattle.flight_table.proofs.Index.{key_placed, place_keyed}
+use Rattle.flight_table.proofs.slots.Slots.place_of.Goals as goal
+
+pub unwrap-requires : goal.unwrap-requires
+unwrap-requires c = rw (c.place_of.ensures, c.deref.ensures.value) (key_placed c.self.inside.requests c.args.key c.self.inside.order.items (rw c.self.view_is c.requires))
+
+pub returns-clause-place : goal.returns-clause-place
+returns-clause-place c =
+    rw (← c.self.view_is, place_keyed c.self.inside.requests c.args.key c.self.inside.order.items)
+    (ap (position (λ k. k == c.args.key)) (sym c.deref.ensures.value) ∙ sym c.place_of.ensures ∙ c.unwrap.ensures)

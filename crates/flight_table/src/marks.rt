@@ -1,0 +1,87 @@
+//! Marks at places, as the bits of a word.
+ghost use Rattle.std.specs.Prelude.{◌≡◌, ◌<◌, ◌≤◌, Bool, ◌&&◌, true, false, List, [], ◌∷◌, ◌++◌, length, None, IfSome, position, replicate, slice_set};
+ghost use Rattle.std.specs.List.{remove};
+ghost use Rattle.flight_table.specs.Marks.{both, number_of};
+
+use std::marker::Model;
+
+/// So many marks, at most 64: bit `k` is the mark at place `k`.
+#[derive(Drop)]
+pub(crate) struct Marks {
+    count: u32,
+    bits: u64,
+}
+
+impl Model for Marks {
+    ghost use Rattle.std.specs.Prelude.{List, Bool, ◌≤◌, ◌<◌, ◌^◌};
+    ghost use Rattle.flight_table.specs.Marks.{marks_of};
+
+    ghost Value = { List Bool };
+
+    ghost view = { λ m. marks_of m.count m.bits };
+
+    ghost invariant = { λ m. (m.count ≤ 64) × (m.bits < 2 ^ m.count) };
+}
+
+impl Marks {
+    /// No marks.
+    pub(crate) fn new() -> Self
+        ensures { result ≡ [] }
+    {
+        Marks { count: 0, bits: 0 }
+    }
+
+    /// One more mark, at the next place.
+    pub(crate) fn push(&mut self, mark: bool)
+        requires { length self.old < 64 }
+        ensures { self.new ≡ self.old ++ mark ∷ [] }
+    {
+        self.bits += u64::from(mark) << self.count;
+        self.count += 1;
+    }
+
+    /// Another mark at a place.
+    pub(crate) fn put(&mut self, place: usize, mark: bool)
+        requires { place < length self.old }
+        ensures { self.new ≡ slice_set self.old place mark }
+    {
+        let was = (self.bits >> place) % 2;
+        self.bits = self.bits - (was << place) + (u64::from(mark) << place);
+    }
+
+    /// Takes the mark at a place out; the later ones move up.
+    pub(crate) fn remove(&mut self, place: usize)
+        requires { place < length self.old }
+        ensures { self.new ≡ remove self.old place }
+    {
+        let low = self.bits % (1u64 << place);
+        let high = (self.bits >> place) / 2;
+        self.bits = low + (high << place);
+        self.count -= 1;
+    }
+
+    /// The first place that is marked.
+    pub(crate) fn first(&self) -> Option<usize>
+        ensures { result ≡ position (λ mark. mark) self.now }
+    {
+        first_bit(self.bits)
+    }
+
+    /// The first place that is marked here and there.
+    pub(crate) fn first_common(&self, other: &Marks) -> Option<usize>
+        requires { length self.now ≡ length other.now }
+        ensures { result ≡ position (λ mark. mark) (both self.now other.now) }
+    {
+        first_bit(self.bits & other.bits)
+    }
+}
+
+/// The place of the first bit that is set.
+fn first_bit(bits: u64) -> Option<usize>
+    ensures { (marks : List Bool) → length marks ≤ 64 → bits ≡ number_of marks → result ≡ position (λ mark. mark) marks }
+{
+    if bits == 0 {
+        return None;
+    }
+    Some(bits.trailing_zeros() as usize)
+}

@@ -1,0 +1,247 @@
+//! The live requests in a slab, and their keys by rising number.
+ghost use Rattle.std.specs.Prelude.{◌≡◌, ◌==◌, ◌<◌, ◌≤◌, ◌^◌, Bool, [], ◌∷◌, ◌++◌, Some, None, IfOk, IfSome, IsSome, length, filter, position, slice_index_or, sum_by};
+ghost use Rattle.flight_table.specs.LiveRequests.{LiveRequest};
+ghost use Rattle.std.specs.List.{list_any};
+ghost use Rattle.std.specs.Vec.{vec_len, vec_capacity};
+ghost use Rattle.bus_words.specs.Places.{change_first, without_first};
+ghost use Rattle.flight_table.specs.Order.{free_id, holds_back, holds_id};
+ghost use Rattle.flight_table.specs.Tables.{change_entry, has_key, has_number, has_source, is_done_of, is_of, is_undone, key_in, request_in, requests_of};
+ghost use Rattle.flight_table.specs.Laws.{HaveOwnKeys};
+ghost use Rattle.flight_table.specs.Work.{unsent_work, work_of};
+
+use crate::request::LiveRequest;
+use crate::scans::{
+    count_holders, count_of, count_undone, free_id, has_source, key_at, of_id, of_number,
+    oldest_done, stored, unsent_work, work,
+};
+use slab::Slab;
+use std::alloc::{AllocError, Global};
+use std::marker::Model;
+
+/// How many requests can be live at once.
+pub(crate) const ROOM: usize = 64;
+
+/// The key of a live request, by which calls name it; a plain value. After its release a key may name a later request.
+#[derive(Clone, Copy, PartialEq, Eq)]
+pub struct Key {
+    slot: usize,
+}
+
+impl Model for Key {
+    ghost use Rattle.std.specs.Prelude.{ℕ};
+
+    ghost Value = { ℕ };
+
+    ghost view = { λ k. k.slot };
+
+    ghost inverse = { λ n. record { slot = n } };
+}
+
+impl Key {
+    /// The slot of the slab.
+    pub(crate) fn slot(self) -> usize
+        ensures { result ≡ self }
+    {
+        self.slot
+    }
+}
+
+/// The live requests, each in a slab under its key, and the keys in the order of acceptance.
+#[derive(Drop)]
+pub(crate) struct Slots {
+    requests: Slab<LiveRequest>,
+    order: Vec<Key>,
+}
+
+impl Model for Slots {
+    ghost use Rattle.std.specs.Prelude.{List, ◌≤◌};
+    ghost use Rattle.std.specs.Vec.{vec_len, vec_capacity};
+    ghost use Rattle.flight_table.specs.Inside.{IsIndex, entries_in};
+    ghost use Rattle.flight_table.specs.Tables.{KeyedRequest};
+
+    ghost Value = { List KeyedRequest };
+
+    ghost view = { λ l. entries_in l.requests l.order.items };
+
+    ghost invariant = { λ l. IsIndex l.requests l.order.items × (64 ≤ vec_capacity l.order) × (64 ≤ l.requests.capacity) × (vec_len l.order ≤ 64) };
+}
+
+/// Appends a key, for which there is room.
+fn put(order: &mut Vec<Key>, key: Key)
+    requires { vec_len order.old < vec_capacity order.old }
+    ensures items { order.new.items ≡ order.old.items ++ key ∷ [] }
+    ensures capacity { vec_capacity order.old ≤ vec_capacity order.new }
+{
+    order.push(key).unwrap();
+}
+
+/// The place of a key.
+fn place_of(order: &[Key], key: Key) -> Option<usize>
+    ensures { result ≡ position (λ k. k == key) order.now }
+{
+    order.iter().position(|k| *k == key)
+}
+
+/// Takes the first key that is this one out.
+fn take_out(order: &mut Vec<Key>, key: Key)
+    requires { IsSome (position (λ k. k == key) order.old.items) }
+    ensures items { order.new.items ≡ without_first (λ k. k == key) order.old.items }
+    ensures capacity { vec_capacity order.new ≡ vec_capacity order.old }
+{
+    let place = place_of(order, key).unwrap();
+    order.remove(place);
+}
+
+impl Slots {
+    /// No live requests, with room for 64.
+    pub(crate) fn new(alloc: Global) -> Result<Self, AllocError>
+        ensures { IfOk result (λ slots. slots ≡ []) }
+    {
+        let requests = Slab::with_capacity(alloc, ROOM)?;
+        let order = Vec::with_capacity(alloc, ROOM)?;
+        Ok(Slots { requests, order })
+    }
+
+    /// Adds the latest request, and answers its key.
+    pub(crate) fn add(&mut self, request: LiveRequest) -> Key
+        requires { length self.old < 64 }
+        ensures entries { self.new ≡ self.old ++ record { key = result; request = request } ∷ [] }
+        ensures fresh { request_in result self.old ≡ None }
+        ensures keys { HaveOwnKeys self.new }
+    {
+        let slot = self.requests.insert_reserved(request);
+        let key = Key { slot };
+        put(&mut self.order, key);
+        key
+    }
+
+    /// The request of a key.
+    pub(crate) fn get(&self, key: Key) -> LiveRequest
+        requires { IsSome (request_in key self.now) }
+        ensures request { request_in key self.now ≡ Some result }
+        ensures keys { HaveOwnKeys self.now }
+    {
+        stored(&self.requests, key)
+    }
+
+    /// Puts a request in the place of that of a key.
+    pub(crate) fn set(&mut self, key: Key, request: LiveRequest)
+        requires { IsSome (request_in key self.old) }
+        ensures entries { self.new ≡ change_first (has_key key) (change_entry (λ r. request)) self.old }
+        ensures keys { HaveOwnKeys self.new }
+    {
+        self.requests[key.slot] = request;
+    }
+
+    /// The place of a key in the order of acceptance.
+    pub(crate) fn place_of(&self, key: Key) -> usize
+        requires { IsSome (request_in key self.now) }
+        ensures place { position (has_key key) self.now ≡ Some result }
+        ensures within { result < length (requests_of self.now) }
+    {
+        place_of(&self.order, key).unwrap()
+    }
+
+    /// The request at a place.
+    pub(crate) fn at(&self, place: usize) -> LiveRequest
+        requires { place < length (requests_of self.now) }
+        ensures { (d : LiveRequest) → result ≡ slice_index_or (requests_of self.now) place d }
+    {
+        stored(&self.requests, self.order[place])
+    }
+
+    /// The key at a place, where there is one.
+    pub(crate) fn key_at(&self, place: Option<usize>) -> Option<Key>
+        requires { IfSome place (λ k. k < length (requests_of self.now)) }
+        ensures key { (test : LiveRequest → Bool) → place ≡ position test (requests_of self.now) → result ≡ key_in test self.now }
+        ensures keys { HaveOwnKeys self.now }
+    {
+        key_at(&self.order, place)
+    }
+
+    /// Takes the request of a key out.
+    pub(crate) fn remove(&mut self, key: Key)
+        requires { IsSome (request_in key self.old) }
+        ensures entries { self.new ≡ without_first (has_key key) self.old }
+        ensures keys { HaveOwnKeys self.new }
+    {
+        take_out(&mut self.order, key);
+        self.requests.try_remove(key.slot);
+    }
+
+    /// How many live requests a client has.
+    pub(crate) fn count_of(&self, client: u8) -> usize
+        ensures { result ≡ length (filter (is_of client) (requests_of self.now)) }
+    {
+        count_of(&self.requests, &self.order, client)
+    }
+
+    /// How many live requests aren't done.
+    pub(crate) fn count_undone(&self) -> usize
+        ensures count { result ≡ length (filter is_undone (requests_of self.now)) }
+        ensures bound { result ≤ 64 }
+    {
+        count_undone(&self.requests, &self.order)
+    }
+
+    /// How many live requests hold back this one.
+    pub(crate) fn count_holders(&self, request: &LiveRequest) -> usize
+        ensures count { result ≡ length (filter (holds_back request.now) (requests_of self.now)) }
+        ensures bound { result ≤ 64 }
+    {
+        count_holders(&self.requests, &self.order, request)
+    }
+
+    /// Whether a live request of a client has this source.
+    pub(crate) fn has_source(&self, client: u8, source: u8) -> bool
+        ensures { result ≡ list_any (has_source client source) (requests_of self.now) }
+    {
+        has_source(&self.requests, &self.order, client, source)
+    }
+
+    /// The smallest of so many IDs that nobody holds.
+    pub(crate) fn free_id(&self, ids: u8) -> Option<u8>
+        ensures { result ≡ free_id ids (requests_of self.now) }
+    {
+        free_id(&self.requests, &self.order, ids)
+    }
+
+    /// The key of the request with this number.
+    pub(crate) fn of_number(&self, number: u64) -> Option<Key>
+        ensures key { result ≡ key_in (has_number number) self.now }
+        ensures keys { HaveOwnKeys self.now }
+    {
+        of_number(&self.requests, &self.order, number)
+    }
+
+    /// The key of the request that holds this ID.
+    pub(crate) fn of_id(&self, id: u8) -> Option<Key>
+        ensures key { result ≡ key_in (holds_id id) self.now }
+        ensures keys { HaveOwnKeys self.now }
+    {
+        of_id(&self.requests, &self.order, id)
+    }
+
+    /// The key of a client's first request that is done.
+    pub(crate) fn oldest_done(&self, client: u8) -> Option<Key>
+        ensures key { result ≡ key_in (is_done_of client) self.now }
+        ensures keys { HaveOwnKeys self.now }
+    {
+        oldest_done(&self.requests, &self.order, client)
+    }
+
+    /// The work of all requests that aren't done.
+    pub(crate) fn work(&self) -> u64
+        ensures { result ≡ sum_by work_of (requests_of self.now) }
+    {
+        work(&self.requests, &self.order)
+    }
+
+    /// The work of the unsent bursts of all requests.
+    pub(crate) fn unsent_work(&self) -> u64
+        ensures work { result ≡ sum_by unsent_work (requests_of self.now) }
+        ensures most { result ≤ 2 ^ 33 }
+    {
+        unsent_work(&self.requests, &self.order)
+    }
+}

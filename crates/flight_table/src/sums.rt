@@ -1,0 +1,51 @@
+//! Sums over the live requests.
+ghost use Rattle.std.specs.Prelude.{◌≡◌};
+ghost use Rattle.flight_table.specs.Sums.{ArePart, AreSmall, IsSmall, no_sums, with_sums};
+
+use crate::request::LiveRequest;
+
+/// How many requests aren't done, their work, and the work of their unsent bursts.
+#[derive(Clone, Copy)]
+pub(crate) struct Sums {
+    pub(crate) undone: u64,
+    pub(crate) work: u64,
+    pub(crate) unsent: u64,
+}
+
+impl Sums {
+    /// The sums of no requests.
+    pub(crate) fn new() -> Self
+        ensures { result ≡ no_sums }
+    {
+        Sums {
+            undone: 0,
+            work: 0,
+            unsent: 0,
+        }
+    }
+
+    /// The sums with one more request.
+    pub(crate) fn with(self, request: &LiveRequest) -> Self
+        requires { AreSmall self }
+        ensures sums { result ≡ with_sums request.now self }
+        ensures small { IsSmall request.now }
+    {
+        Sums {
+            undone: self.undone + u64::from(!request.done),
+            work: self.work + request.work(),
+            unsent: self.unsent + request.unsent_work(),
+        }
+    }
+
+    /// The sums with one request less, which is one of those summed.
+    pub(crate) fn without(self, request: &LiveRequest) -> Self
+        requires { ArePart request.now self }
+        ensures { with_sums request.now result ≡ self }
+    {
+        Sums {
+            undone: self.undone - u64::from(!request.done),
+            work: self.work - request.work(),
+            unsent: self.unsent - request.unsent_work(),
+        }
+    }
+}
