@@ -17,10 +17,6 @@ import client  # noqa: E402
 import launcher_cases  # noqa: E402
 import random_bench  # noqa: E402
 
-# Whether the program writes a command's answer before it reads the next. It still holds all text until the input ends, so
-# what needs this is left out, and said to be.
-ANSWERS_AT_ONCE = False
-
 FIRST = (TOP / "examples/first.script").read_bytes()
 TRACE = (TOP / "examples/first.trace").read_bytes()
 SETUP = b"config 2 4 16 2 16 12 hh\nregion 0 4 10 gpah\npage 10 4 good\n"
@@ -140,21 +136,27 @@ def talks(program):
         return None if bridge.trace == TRACE.decode().splitlines() else f"it answered {bridge.trace!r}"
 
 
-def bench(way, program, seed, steps):
-    with way([program, "run"]) as bridge:
+def answers(program, commands):
+    """Many commands in a row over pipes: each answer comes at once."""
+    with client.Interactive([program, "run"], seconds=10) as bridge:
+        bridge.setup("2 4 16 2 16 12 hh", regions=["0 4 10 gpah"], pages=["10 4 good"])
+        if any(bridge.pump() is not None for _ in range(commands)):
+            return "it sent a burst"
+        return None
+
+
+def bench(program, seed, steps):
+    with client.Interactive([program, "run"]) as bridge:
         return random_bench.tried(bridge, seed, steps)
 
 
 def of_pipes(program):
     yield "a pipe whose reader is gone", lambda: reader_gone(program, FIRST)
     yield "a pipe whose reader is gone, and much text", lambda: reader_gone(program, SETUP + b"work\n" * 65_000)
-    yield "the random bench, recorded", lambda: bench(client.Recorded, program, 1, 300)
-    if not ANSWERS_AT_ONCE:
-        print("left out, as the program writes no answer before its input ends: interactive use, the random bench")
-        return
     yield "interactive use", lambda: talks(program)
+    yield "10,000 commands, each answered before the next", lambda: answers(program, 10_000)
     for seed in range(5):
-        yield f"the random bench, seed {seed}", lambda s=seed: bench(client.Interactive, program, s, 2_000)
+        yield f"the random bench, seed {seed}", lambda s=seed: bench(program, s, 2_000)
 
 
 def main(program):

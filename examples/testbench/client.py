@@ -1,8 +1,7 @@
 """Drives `tlbridge run` from Python, with the standard library alone: each command of a script is a method, which returns
 the parsed answer. docs/SCRIPT.md says what the commands do.
 
-`Interactive` holds one run of the program, writes a command and reads its answer. `Recorded` starts the program anew for
-each answer, on all commands so far: it needs no program that answers at once, and grows slow with the number of commands.
+`Interactive` holds one run of the program, writes a command and reads its answer.
 """
 
 import select
@@ -285,26 +284,3 @@ class Interactive(Commands):
         self.program.stdout.close()
         self.program.wait()
         self.errors.close()
-
-
-class Recorded(Commands):
-    """The whole script again for each answer."""
-
-    def __init__(self, words=("./tlbridge", "run")):
-        super().__init__()
-        self.words = list(words)
-
-    def write(self, line):
-        self.lines = None
-
-    def read(self):
-        if self.lines is None:
-            given = "".join(f"{it}\n" for it in self.script).encode()
-            ran = subprocess.run(self.words, input=given, capture_output=True)
-            if ran.returncode:
-                raise Ended(f"{ran.stderr.decode(errors='replace').strip()} (status {ran.returncode})")
-            self.lines = iter(ran.stdout.decode().splitlines()[len(self.trace) :])
-        return next(self.lines)
-
-    def close(self):
-        pass

@@ -1,14 +1,14 @@
 """Two clients with a random schedule. Each reply, and the memory at the end, is compared with a plain model, which carries
 out the requests whole, one at a time, in the order in which they were accepted.
 
-    python3 examples/testbench/random_bench.py [--recorded] [--steps N] [SEED]
+    python3 examples/testbench/random_bench.py [--steps N] [SEED]
 """
 
 import argparse
 import random
 import sys
 
-from client import ABeat, DBeat, Ended, Interactive, Recorded, beats_of
+from client import ABeat, DBeat, Ended, Interactive, beats_of
 
 PUT_FULL, PUT_PARTIAL, ARITHMETIC, LOGICAL, GET, INTENT = range(6)
 CLIENTS, IDS = 2, 4
@@ -207,10 +207,9 @@ def main():
     words = argparse.ArgumentParser(description="two clients with a random schedule against a plain model")
     words.add_argument("seed", nargs="?", type=int, default=0)
     words.add_argument("--steps", type=int, default=1_000)
-    words.add_argument("--recorded", action="store_true", help="start the program anew for each answer")
     words.add_argument("--program", default="./tlbridge")
     given = words.parse_args()
-    with (Recorded if given.recorded else Interactive)([given.program, "run"]) as bridge:
+    with Interactive([given.program, "run"]) as bridge:
         why = tried(bridge, given.seed, given.steps)
         if why:
             print("\n".join(bridge.script))

@@ -294,6 +294,3 @@ fn full_stock(alloc: Global, count: usize) -> Result<Vec<BurstBox>, AllocError>
     }
     Ok(stock)
 }
-
-#[cfg(test)]
-mod tests;

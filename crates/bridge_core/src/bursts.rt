@@ -12,9 +12,6 @@ ghost use Rattle.burst_plan.specs.Pieces.{pieces, IsPlannable};
 ghost use Rattle.burst_plan.specs.PlannedBursts.{given_by_word, read_of, w_beat, write_of};
 ghost use Rattle.bridge_core.specs.Sending.{operand_of};
 
-#[cfg(test)]
-mod tests;
-
 use axi_beats::{ArBeat, AwBeat, BurstBox, transfer_address};
 use burst_plan::{Piece, Plan, w_beat};
 use data_unit::{apply, cut, full_mask, merge, place};

@@ -12,8 +12,6 @@ mod bursts;
 mod held;
 mod ports;
 mod requests;
-#[cfg(test)]
-mod tests;
 
 pub use bridge::Bridge;
 use tl_checker::{Level, TlRule};

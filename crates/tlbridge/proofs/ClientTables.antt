@@ -2,7 +2,7 @@
 use Rattle.std.proofs.Common.{◌≡◌, ℕ, suc, ◌+◌, [], ◌∷◌, ◌++◌, arith}
 use Rattle.bridge_core.specs.Configs.{port_of}
 use Rattle.bridge_core.specs.declared.Config.{Config}
-use Rattle.tlbridge.proofs.PageLists.{map_range-suc}
+use Rattle.script_text.proofs.PageLists.{map_range-suc}
 use Rattle.tlbridge.specs.ClientPorts.{opening_clients, opening_sources}
 
 pub opening_clients-more : (config : Config) (count : ℕ) → opening_clients config (count + 1) ≡ opening_clients config count ++ opening_sources (port_of config count) ∷ []

@@ -3,9 +3,10 @@ use Rattle.std.specs.Prelude.{◌≡◌, false, List, [], ◌∷◌, ◌++◌, �
 use Rattle.world_run.specs.declared.SetupFault.TheVariants.{BadConfig, Map, Device}
 use Rattle.burst_plan.specs.declared.MapFault.TheVariants.{RegionOverlap}
 use Rattle.subordinate.specs.declared.DeviceFault.TheVariants.{BadWord}
-use Rattle.tlbridge.specs.Run.{Opening, run_reading}
-use Rattle.tlbridge.specs.Scripts.{TextResult, text_of}
-use Rattle.tlbridge.specs.declared.faults.TextFault.TheVariants.{Script, Setup}
+use Rattle.script_text.specs.Stages.{Opening}
+use Rattle.tlbridge.specs.Run.{run_reading}
+use Rattle.script_text.specs.Scripts.{TextResult, text_of}
+use Rattle.script_text.specs.declared.faults.ScriptFault.TheVariants.{Script, Setup}
 
 abbrev run_result : List ℕ → TextResult
 run_result input = text_of run_reading Opening input

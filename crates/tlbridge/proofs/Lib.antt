@@ -1,15 +1,3 @@
-mod Examples
-mod PageLists
-mod PlainLines
-mod Numbers
-mod TraceTexts
-mod Parts
-mod WordParts
-mod ScriptLines
-mod Endings
-mod Progress
-mod LineRooms
-mod Openings
-mod Commands
 mod ClientTables
-mod ConfigLines
+mod Examples
+mod Openings

@@ -11,7 +11,7 @@ use Rattle.tl_checker.specs.declared.Progress.TheVariants.{More, Whole}
 use Rattle.tl_checker.specs.declared.TlRule.{TlRule}
 use Rattle.bridge_core.specs.Configs.{port_of}
 use Rattle.bridge_core.specs.declared.Config.{Config}
-use Rattle.tlbridge.specs.Names.{answer_line, refused_text}
+use Rattle.script_text.specs.Names.{answer_line, refused_text}
 use Rattle.tlbridge.specs.declared.check_lines.CheckCommand.{CheckCommand}
 use Rattle.tlbridge.specs.declared.check_lines.CheckCommand.TheVariants.{Offer, Free}
 use Rattle.tlbridge.specs.declared.client_ports.Verdict.{Verdict}

@@ -1,15 +1,7 @@
 pub mod Check
 pub mod ClientPorts
-pub mod Forms
-pub mod Inside
-pub mod InsidePorts
+pub mod CommandTexts
+pub mod Endings
 pub mod Modes
-pub mod Names
-pub mod OfferLines
-pub mod Reads
 pub mod Results
 pub mod Run
-pub mod Scripts
-pub mod SetupLines
-pub mod Steps
-pub mod Words

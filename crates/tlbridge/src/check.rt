@@ -1,52 +1,25 @@
 //! `tlbridge check`: a script of beats, judged by a port for each client.
 ghost use Rattle.std.specs.Prelude.{◌≡◌, OnOk};
 ghost use Rattle.std.specs.Io.KnownBytes.{Appends};
-ghost use Rattle.tlbridge.specs.Check.{CheckStage, Opening, Judging, check_reading, command_step, is_misplaced, line_in, nothing_judged, ports_at};
+ghost use Rattle.script_text.specs.Scripts.{text_of, text_before_failure};
+ghost use Rattle.script_text.specs.Stages.{Opening};
+ghost use Rattle.tlbridge.specs.Check.{check_reading};
 ghost use Rattle.tlbridge.specs.ClientPorts.{check_text, table_after, verdict_text};
-ghost use Rattle.tlbridge.specs.Inside.{OpensAs};
-ghost use Rattle.tlbridge.specs.Scripts.{EndsAs, text_of, text_before_failure};
-ghost use Rattle.tlbridge.specs.Steps.{TakesStep};
+ghost use Rattle.tlbridge.specs.Endings.{EndsAs};
 
-use crate::check_lines::{CheckCommand, CheckLine, check_line};
+use crate::check_lines::{CheckCommand, check_command};
 use crate::client_ports::{ClientPorts, Verdict};
 use crate::faults::TextFault;
-use crate::forms::Form;
-use crate::scripts::{Script, read_script};
-use crate::trace::refused_line;
-use crate::words::Words;
-use bridge_core::Config;
+use script_text::{Form, Kind, StagedScript, Words, read_script, refused_line};
 use std::alloc::Global;
 use std::io;
 use std::io::{Read, Write};
-use std::marker::Model;
 use tl_messages::a_line;
-use world_run::SetupFault;
-
-/// How far a script has come.
-#[derive(Drop)]
-enum Stage {
-    /// No line yet.
-    Opening,
-    /// The `config` line.
-    SettingUp(Config),
-    /// Commands.
-    Judging(ClientPorts),
-}
+use world_run::{Setup, SetupFault};
 
 /// A script of `tlbridge check`.
 #[derive(Drop)]
-struct CheckScript {
-    stage: Stage,
-}
-
-impl Model for CheckScript {
-    ghost use Rattle.tlbridge.specs.Check.{CheckStage};
-    ghost use Rattle.tlbridge.specs.InsidePorts.{stage_of};
-
-    ghost Value = { CheckStage };
-
-    ghost view = { λ s. stage_of s.stage };
-}
+struct CheckScript;
 
 /// Writes the line of a verdict.
 fn verdict_line<W: Write>(verdict: Verdict, writer: &mut W) -> io::Result<()>
@@ -78,114 +51,53 @@ fn judge<W: Write>(
     verdict_line(verdict, writer)
 }
 
-impl CheckScript {
-    fn is_misplaced(&self, form: Form) -> bool
-        ensures { result ≡ is_misplaced self.now form }
-    {
-        match &self.stage {
-            Stage::Opening => !matches!(form, Form::Config),
-            Stage::SettingUp(_) | Stage::Judging(_) => matches!(form, Form::Config),
+impl Kind for CheckScript {
+    ghost use Rattle.tlbridge.specs.Check.{check_kind};
+    ghost use Rattle.tlbridge.specs.CommandTexts.{check_gives};
+
+    type World = ClientPorts;
+
+    type Command = CheckCommand;
+
+    ghost rules = { check_kind };
+
+    fn most_lines() -> u32 {
+        65_536
+    }
+
+    fn takes(form: Form) -> bool {
+        matches!(form, Form::Config)
+    }
+
+    fn command_of(form: Form, words: &Words<'_>) -> Result<CheckCommand, u32> {
+        check_command(form, words)
+    }
+
+    fn open(&mut self, alloc: Global, setup: &Setup) -> Result<ClientPorts, SetupFault> {
+        if !setup.config.is_valid() {
+            return Err(SetupFault::BadConfig);
+        }
+        match ClientPorts::new(alloc, &setup.config) {
+            Ok(ports) => Ok(ports),
+            Err(_) => Err(SetupFault::NoMemory),
         }
     }
 
-    fn line_in(&self, words: &Words<'_>) -> Result<CheckLine, u32>
-        ensures { result ≡ line_in self.now words.now }
-    {
-        let Some(form) = Form::named(words.at(1)) else {
-            return Err(1);
-        };
-        if self.is_misplaced(form) {
-            return Err(1);
-        }
-        check_line(form, words)
-    }
-
-    /// Makes the ports where there are none yet.
-    fn open_ports(&mut self, alloc: Global, number: u32) -> Result<(), TextFault>
-        ensures { OpensAs Judging (ports_at self.old number) (nothing_judged self.old) self.new result }
-    {
-        let opened = match &self.stage {
-            Stage::Opening => {
-                return Err(TextFault::Script {
-                    line: number,
-                    word: 1,
-                });
-            }
-            Stage::Judging(_) => return Ok(()),
-            Stage::SettingUp(config) => {
-                if !config.is_valid() {
-                    return Err(TextFault::Setup(SetupFault::BadConfig));
-                }
-                ClientPorts::new(alloc, config)
-            }
-        };
-        match opened {
-            Ok(ports) => {
-                self.stage = Stage::Judging(ports);
-                Ok(())
-            }
-            Err(_) => Err(TextFault::NoMemory),
-        }
-    }
-
-    #[tactic(auto, using(crate::proofs::Commands::check_command))]
     fn carry_out<W: Write>(
         &mut self,
-        alloc: Global,
-        number: u32,
+        ports: &mut ClientPorts,
         command: &CheckCommand,
         writer: &mut W,
-    ) -> Result<(), TextFault>
-        ensures { TakesStep check_reading (command_step (ports_at self.old number) command.now) nothing_judged self.old self.new (W.contents writer.old) (W.contents writer.new) result }
-    {
-        self.open_ports(alloc, number)?;
-        let Stage::Judging(ports) = &mut self.stage else {
-            unreachable!();
-        };
-        judge(ports, command, writer).map_err(|_| TextFault::Write)
-    }
-}
-
-impl Script for CheckScript {
-    ghost use Rattle.tlbridge.specs.Check.{check_reading, nothing_judged};
-
-    ghost reading = { check_reading };
-
-    ghost is_silent = { nothing_judged };
-
-    fn take_words<W: Write>(
-        &mut self,
-        alloc: Global,
-        number: u32,
-        words: &Words<'_>,
-        writer: &mut W,
-    ) -> Result<(), TextFault> {
-        match self.line_in(words) {
-            Err(word) => Err(TextFault::Script { line: number, word }),
-            Ok(CheckLine::Config(config)) => {
-                self.stage = Stage::SettingUp(config);
-                Ok(())
-            }
-            Ok(CheckLine::Command(command)) => self.carry_out(alloc, number, &command, writer),
-        }
+    ) -> io::Result<bool> {
+        judge(ports, command, writer)?;
+        Ok(true)
     }
 
-    fn end(&mut self, _alloc: Global, number: u32) -> Result<bool, TextFault> {
-        match &self.stage {
-            Stage::Opening => Err(TextFault::Script {
-                line: number,
-                word: 1,
-            }),
-            Stage::SettingUp(config) => {
-                if config.is_valid() {
-                    Ok(false)
-                } else {
-                    Err(TextFault::Setup(SetupFault::BadConfig))
-                }
-            }
-            Stage::Judging(ports) => Ok(ports.refused()),
-        }
+    fn end<W: Write>(&mut self, ports: &ClientPorts, _writer: &mut W) -> io::Result<bool> {
+        Ok(ports.refused())
     }
+
+    ghost gives_text = { check_gives };
 }
 
 /// Judges the beats of a script and writes its trace, each command's text before the next line is read. The answer is true
@@ -197,8 +109,6 @@ pub fn check_text<R: Read, W: Write>(
 ) -> Result<bool, TextFault>
     ensures { EndsAs (text_of check_reading Opening) (text_before_failure check_reading Opening) (R.remaining reader.old) (R.remaining reader.new) (W.contents writer.old) (W.contents writer.new) result }
 {
-    let mut script = CheckScript {
-        stage: Stage::Opening,
-    };
-    read_script(&mut script, alloc, reader, writer)
+    let mut script = StagedScript::new(CheckScript);
+    Ok(read_script(&mut script, alloc, reader, writer)?)
 }

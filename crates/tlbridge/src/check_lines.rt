@@ -1,12 +1,8 @@
 //! The lines of `tlbridge check`.
 ghost use Rattle.std.specs.Prelude.{◌≡◌};
-ghost use Rattle.tlbridge.specs.Check.{check_line, free_line};
+ghost use Rattle.tlbridge.specs.Check.{check_command, free_line};
 
-use crate::forms::Form;
-use crate::offer_lines::offer_line;
-use crate::setup_lines::config_line;
-use crate::words::Words;
-use bridge_core::Config;
+use script_text::{Form, Words, offer_line};
 use tl_messages::ABeat;
 
 /// A command.
@@ -16,15 +12,6 @@ pub enum CheckCommand {
     Offer(u8, ABeat),
     /// A client's source is free again.
     Free(u8, u8),
-}
-
-/// What a line says.
-#[derive(Clone, Copy, Debug, PartialEq, Eq)]
-pub enum CheckLine {
-    /// The limits of the ports.
-    Config(Config),
-    /// A command.
-    Command(CheckCommand),
 }
 
 /// `free CLIENT SOURCE`.
@@ -37,17 +24,16 @@ fn free_line(words: &Words<'_>) -> Result<CheckCommand, u32>
     Ok(CheckCommand::Free(client, source))
 }
 
-/// What a line of this form says, or its first wrong word.
-pub fn check_line(form: Form, words: &Words<'_>) -> Result<CheckLine, u32>
-    ensures { result ≡ check_line form words.now }
+/// What a command's line of this form says, or its first wrong word.
+pub fn check_command(form: Form, words: &Words<'_>) -> Result<CheckCommand, u32>
+    ensures { result ≡ check_command form words.now }
 {
     match form {
-        Form::Config => Ok(CheckLine::Config(config_line(words)?)),
         Form::Offer => {
             let (client, beat) = offer_line(words)?;
-            Ok(CheckLine::Command(CheckCommand::Offer(client, beat)))
+            Ok(CheckCommand::Offer(client, beat))
         }
-        Form::Free => Ok(CheckLine::Command(free_line(words)?)),
+        Form::Free => free_line(words),
         _ => Err(1),
     }
 }

@@ -3,6 +3,7 @@ ghost use Rattle.std.specs.Prelude.{◌≡◌};
 ghost use Rattle.tlbridge.specs.Results.{status_of};
 
 use burst_plan::MapFault;
+use script_text::ScriptFault;
 use subordinate::DeviceFault;
 use thiserror::Error;
 use world_run::SetupFault;
@@ -30,6 +31,23 @@ pub enum TextFault {
     /// Memory was refused.
     #[error("out of memory")]
     NoMemory,
+}
+
+impl From<ScriptFault> for TextFault {
+    ghost use Rattle.std.specs.Prelude.{◌≡◌};
+    ghost use Rattle.tlbridge.specs.Endings.{text_fault};
+
+    ghost from_gives = { λ fault result. result ≡ text_fault fault };
+
+    fn from(fault: ScriptFault) -> TextFault {
+        match fault {
+            ScriptFault::Script { line, word } => TextFault::Script { line, word },
+            ScriptFault::Setup(fault) => TextFault::Setup(fault),
+            ScriptFault::Read => TextFault::Read,
+            ScriptFault::Write => TextFault::Write,
+            ScriptFault::NoMemory => TextFault::NoMemory,
+        }
+    }
 }
 
 /// The exit status of a text call's result: 0 where all went well, 1 where `check` refused something, 2 for a fault of

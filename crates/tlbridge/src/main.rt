@@ -6,32 +6,21 @@ mod check_lines;
 #[cfg(test)]
 mod check_tests;
 mod client_ports;
-#[cfg(test)]
-mod example_tests;
-#[cfg(test)]
-mod fault_tests;
 mod faults;
-mod forms;
-mod lines;
 #[cfg(test)]
 mod mode_tests;
 mod modes;
-mod offer_lines;
 mod run;
 mod run_lines;
-mod scripts;
-mod setup_lines;
 #[cfg(test)]
 mod tests;
-mod trace;
-mod words;
 
 use clap::Command;
 use faults::{TextFault, status_of};
 use modes::{Mode, carried_out};
 use std::alloc::{AllocError, Global};
 use std::env;
-use std::io::{BufReader, BufWriter};
+use std::io::BufWriter;
 use std::process::ExitCode;
 use std::rt::Env;
 
@@ -68,12 +57,10 @@ fn words_given<R: Env + AllocGlobal>(rt: &R) -> Option<Vec<String>> {
 
 /// Carries out the script of standard input.
 fn read_input(rt: &HostRuntime, mode: Mode) -> Result<bool, TextFault> {
-    let Ok(mut reader) = BufReader::new(rt.alloc(), rt.reader()) else {
-        return Err(TextFault::NoMemory);
-    };
     let Ok(mut writer) = BufWriter::new(rt.alloc(), rt.stdout()) else {
         return Err(TextFault::NoMemory);
     };
+    let mut reader = rt.reader();
     carried_out(mode, rt.alloc(), &mut reader, &mut writer)
 }
 

@@ -4,7 +4,9 @@ ghost use Rattle.std.specs.Io.Buffered.{writer_buffer, writer_contents};
 ghost use Rattle.tlbridge.specs.Check as check;
 ghost use Rattle.tlbridge.specs.Modes.{Flushes};
 ghost use Rattle.tlbridge.specs.Run as run;
-ghost use Rattle.tlbridge.specs.Scripts.{EndsAs, text_of, text_before_failure};
+ghost use Rattle.script_text.specs.Scripts.{text_of, text_before_failure};
+ghost use Rattle.script_text.specs.Stages.{Opening};
+ghost use Rattle.tlbridge.specs.Endings.{EndsAs};
 
 use crate::check::check_text;
 use crate::faults::TextFault;
@@ -28,8 +30,8 @@ fn ending_in<R: Read, W: Write>(
     reader: &mut R,
     writer: &mut W,
 ) -> Result<bool, TextFault>
-    ensures run { mode ≡ Mode.Run → EndsAs (text_of run.run_reading run.Opening) (text_before_failure run.run_reading run.Opening) (R.remaining reader.old) (R.remaining reader.new) (W.contents writer.old) (W.contents writer.new) result }
-    ensures check { mode ≡ Mode.Check → EndsAs (text_of check.check_reading check.Opening) (text_before_failure check.check_reading check.Opening) (R.remaining reader.old) (R.remaining reader.new) (W.contents writer.old) (W.contents writer.new) result }
+    ensures run { mode ≡ Mode.Run → EndsAs (text_of run.run_reading Opening) (text_before_failure run.run_reading Opening) (R.remaining reader.old) (R.remaining reader.new) (W.contents writer.old) (W.contents writer.new) result }
+    ensures check { mode ≡ Mode.Check → EndsAs (text_of check.check_reading Opening) (text_before_failure check.check_reading Opening) (R.remaining reader.old) (R.remaining reader.new) (W.contents writer.old) (W.contents writer.new) result }
 {
     match mode {
         Mode::Run => run_text(alloc, reader, writer),
@@ -45,8 +47,8 @@ pub fn carried_out<R: Read, W: Write + Drop>(
     reader: &mut R,
     writer: &mut BufWriter<W>,
 ) -> Result<bool, TextFault>
-    ensures run { mode ≡ Mode.Run → Flushes (EndsAs (text_of run.run_reading run.Opening) (text_before_failure run.run_reading run.Opening) (R.remaining reader.old) (R.remaining reader.new) (writer_contents W.contents writer.old) (writer_contents W.contents writer.new)) result }
-    ensures check { mode ≡ Mode.Check → Flushes (EndsAs (text_of check.check_reading check.Opening) (text_before_failure check.check_reading check.Opening) (R.remaining reader.old) (R.remaining reader.new) (writer_contents W.contents writer.old) (writer_contents W.contents writer.new)) result }
+    ensures run { mode ≡ Mode.Run → Flushes (EndsAs (text_of run.run_reading Opening) (text_before_failure run.run_reading Opening) (R.remaining reader.old) (R.remaining reader.new) (writer_contents W.contents writer.old) (writer_contents W.contents writer.new)) result }
+    ensures check { mode ≡ Mode.Check → Flushes (EndsAs (text_of check.check_reading Opening) (text_before_failure check.check_reading Opening) (R.remaining reader.old) (R.remaining reader.new) (writer_contents W.contents writer.old) (writer_contents W.contents writer.new)) result }
 
     // Nothing is left in the buffer, but where a write failed.
     ensures flushed { (result ≡ Err TextFault.Write) ⊎ (writer_buffer writer.new ≡ []) }

@@ -1,12 +1,9 @@
 //! The lines of `tlbridge run`.
 ghost use Rattle.std.specs.Prelude.{◌≡◌, []};
-ghost use Rattle.tlbridge.specs.Forms.{read_as};
-ghost use Rattle.tlbridge.specs.Run.{line_of_form, perform_line, byte_line, mem_line};
+ghost use Rattle.script_text.specs.Forms.{read_as};
+ghost use Rattle.tlbridge.specs.Run.{byte_line, command_of, mem_line, perform_line};
 
-use crate::forms::Form;
-use crate::offer_lines::offer_line;
-use crate::setup_lines::{SetupLine, bad_line, config_line, page_line, region_line};
-use crate::words::Words;
+use script_text::{Form, Words, offer_line};
 use world_run::Step;
 
 /// A command.
@@ -20,15 +17,6 @@ pub enum Command {
     Mem(u32),
     /// Show the work that is left.
     Work,
-}
-
-/// What a line says.
-#[derive(Clone, Copy, Debug, PartialEq, Eq)]
-pub enum RunLine {
-    /// A set-up line.
-    Setup(SetupLine),
-    /// A command.
-    Command(Command),
 }
 
 /// `do SERIAL BEAT`.
@@ -67,29 +55,23 @@ fn bare(words: &Words<'_>, command: Command) -> Result<Command, u32>
     Ok(command)
 }
 
-/// What a line of this form says, or its first wrong word.
-pub fn line_of_form(form: Form, words: &Words<'_>) -> Result<RunLine, u32>
-    ensures { result ≡ line_of_form form words.now }
+/// What a command's line of this form says, or its first wrong word.
+pub fn command_of(form: Form, words: &Words<'_>) -> Result<Command, u32>
+    ensures { result ≡ command_of form words.now }
 {
-    let command = match form {
-        Form::Config => return Ok(RunLine::Setup(SetupLine::Config(config_line(words)?))),
-        Form::Region => return Ok(RunLine::Setup(region_line(words)?)),
-        Form::Page => return Ok(RunLine::Setup(page_line(words)?)),
-        Form::BadWord => return Ok(RunLine::Setup(bad_line(words)?)),
+    match form {
         Form::Offer => {
             let (client, beat) = offer_line(words)?;
-            Command::Event(Step::Offer(client, beat))
+            Ok(Command::Event(Step::Offer(client, beat)))
         }
-        Form::Pump => bare(words, Command::Event(Step::Pump))?,
-        Form::Perform => Command::Event(perform(words)?),
-        Form::AnswerB => Command::Event(Step::AnswerB(one_byte(words)?)),
-        Form::AnswerR => Command::Event(Step::AnswerR(one_byte(words)?)),
-        Form::Take => Command::Event(Step::Take(one_byte(words)?)),
-        Form::Drain => bare(words, Command::Drain)?,
-        Form::Mem => Command::Mem(mem(words)?),
-        Form::Work => bare(words, Command::Work)?,
-        // It is a line of `check`.
-        Form::Free => return Err(1),
-    };
-    Ok(RunLine::Command(command))
+        Form::Pump => bare(words, Command::Event(Step::Pump)),
+        Form::Perform => Ok(Command::Event(perform(words)?)),
+        Form::AnswerB => Ok(Command::Event(Step::AnswerB(one_byte(words)?))),
+        Form::AnswerR => Ok(Command::Event(Step::AnswerR(one_byte(words)?))),
+        Form::Take => Ok(Command::Event(Step::Take(one_byte(words)?))),
+        Form::Drain => bare(words, Command::Drain),
+        Form::Mem => Ok(Command::Mem(mem(words)?)),
+        Form::Work => bare(words, Command::Work),
+        _ => Err(1),
+    }
 }

@@ -97,7 +97,7 @@ fn each_front_of_the_first_script(rt: HostRuntime) -> Result<(), Fail> {
     Ok(())
 }
 
-/// A reader over memory whose call number `fails` is interrupted.
+/// A reader over memory that gives a byte at a time, and whose call number `fails` is interrupted.
 #[derive(Drop)]
 struct Reader<'a> {
     rest: &'a [u8],
@@ -112,29 +112,55 @@ impl Read for Reader<'_> {
         if call == self.fails {
             return Err(io::Error::from(ErrorKind::Interrupted));
         }
-        self.rest.read(buf)
+        match buf.get_mut(..1) {
+            Some(byte) => self.rest.read(byte),
+            None => Ok(0),
+        }
     }
 }
 
-/// A writer to memory whose call number `fails` fails.
+/// A writer to memory whose call number `fails` fails, be it a write or a flush.
 #[derive(Drop)]
 struct Writer {
     text: Vec<u8>,
     calls: u32,
     fails: u32,
+    flushes: u32,
+    is_flushed: bool,
 }
 
-impl Write for Writer {
-    fn write(&mut self, buf: &[u8]) -> io::Result<usize> {
+impl Writer {
+    fn to_memory(alloc: Global, fails: u32) -> Writer {
+        Writer {
+            text: Vec::new(alloc),
+            calls: 0,
+            fails,
+            flushes: 0,
+            is_flushed: true,
+        }
+    }
+
+    fn called(&mut self) -> io::Result<()> {
         let call = self.calls;
         self.calls = call.saturating_add(1);
         if call == self.fails {
             return Err(io::Error::from(ErrorKind::Other));
         }
+        Ok(())
+    }
+}
+
+impl Write for Writer {
+    fn write(&mut self, buf: &[u8]) -> io::Result<usize> {
+        self.called()?;
+        self.is_flushed = false;
         self.text.write(buf)
     }
 
     fn flush(&mut self) -> io::Result<()> {
+        self.called()?;
+        self.flushes = self.flushes.saturating_add(1);
+        self.is_flushed = true;
         Ok(())
     }
 }
@@ -216,11 +242,7 @@ fn each_write_fails_in_turn(rt: HostRuntime) -> Result<(), Fail> {
     let mut writes = 0u32;
     for fails in 0..1_000u32 {
         let mut reader = input.as_slice();
-        let mut writer = Writer {
-            text: Vec::new(alloc),
-            calls: 0,
-            fails,
-        };
+        let mut writer = Writer::to_memory(alloc, fails);
         match run_text(alloc, &mut reader, &mut writer) {
             Ok(refused) => {
                 assert!(rt; !refused);
@@ -232,6 +254,30 @@ fn each_write_fails_in_turn(rt: HostRuntime) -> Result<(), Fail> {
         writes = writes.saturating_add(1);
     }
     assert!(rt; 10 <= writes && writes < 1_000, "{writes} writes");
+    Ok(())
+}
+
+#[test]
+fn text_is_flushed_before_more_is_read(rt: HostRuntime) -> Result<(), Fail> {
+    let alloc = rt.alloc();
+    let (input, trace) = first_script(alloc)?;
+    // All lines in one block.
+    let mut writer = Writer::to_memory(alloc, u32::MAX);
+    let ending = run_text(alloc, &mut input.as_slice(), &mut writer);
+    assert_eq!(rt; ending, Ok(false));
+    assert_eq!(rt; writer.text.as_slice(), trace.as_slice());
+    assert_eq!(rt; (writer.flushes, writer.is_flushed), (1, true));
+    // A block for each byte: one flush for each of the six commands, none for the set-up's lines.
+    let mut reader = Reader {
+        rest: input.as_slice(),
+        calls: 0,
+        fails: usize::MAX,
+    };
+    let mut writer = Writer::to_memory(alloc, u32::MAX);
+    let ending = run_text(alloc, &mut reader, &mut writer);
+    assert_eq!(rt; ending, Ok(false));
+    assert_eq!(rt; writer.text.as_slice(), trace.as_slice());
+    assert_eq!(rt; (writer.flushes, writer.is_flushed), (6, true));
     Ok(())
 }
 

@@ -5,8 +5,6 @@ mod choices;
 mod parts;
 mod runs;
 mod setups;
-#[cfg(test)]
-mod tests;
 mod world;
 
 use arrayvec::ArrayVec;

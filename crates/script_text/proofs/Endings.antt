@@ -1,0 +1,403 @@
+-- How a call ends that reads a script.
+use Rattle.std.proofs.Common.{◌≡◌, ◌≢◌, ◌<◌, ◌≤◌, ◌⊎◌, inl, inr, ℕ, ◌+◌, ◌*◌, List, [], ◌∷◌, ◌++◌, length, length-append, Bool, true, Option, None, Some, Result, Ok, Err, IsOk, refl, sym, ap, ◌∙◌, append_assoc, append-nil, arith}
+use Rattle.std.proofs.KnownBytes.{Appends-nil, Appends-trans, Appends-kept, Consumes-nil, Consumes-trans, Keeps-refl, Keeps-trans}
+use Rattle.std.specs.Io.KnownBytes.{Appends, Consumes, Keeps, IsAtEnd, prepend_known}
+use Rattle.std.specs.Str.Lines.{strip_carriage_return}
+use Rattle.script_text.proofs.Parts.{Lacks, Lacks-push}
+use Rattle.script_text.proofs.Progress.{LastText, Progress, failed_within, grown_after, line_step-not_plain, line_step-late, lines_result-went, lines_result-fault}
+use Rattle.script_text.proofs.ScriptLines.{lines_of-line, lines_of-last, begins, begins-not_plain, lines_of-some}
+use Rattle.script_text.proofs.TraceTexts.{some_after, some_before}
+use Rattle.script_text.specs.Reads.{BlockState, IsOneLine, IsSmall, Stops, Takes, TakesByte, left}
+use Rattle.script_text.specs.Scripts.{Reading, TextResult, EndsAs, HasText, IsAllJudged, IsFront, IsSettled, LineStep, Tells, after_text, ended, line_step, lines_result, text_from, text_of, text_before_failure}
+use Rattle.script_text.specs.Steps.{GivesText, Goes, Speaks, TakesStep, TakesRest}
+use Rattle.script_text.specs.Words.{lines_of}
+use Rattle.script_text.specs.declared.faults.ScriptFault.{ScriptFault}
+use Rattle.script_text.specs.declared.faults.ScriptFault.TheVariants.{Script, Setup, Read, Write, NoMemory}
+
+Keeps-none : (a b : Option (List ℕ)) → Appends a b [] → Keeps a b
+Keeps-none None b same = tt
+Keeps-none (Some xs) None same = absurd same
+Keeps-none (Some xs) (Some ys) same = same ∙ append-nil xs
+
+Appends-none : (a b : Option (List ℕ)) → Keeps a b → Appends a b []
+Appends-none a b kept = Appends-kept a a b [] (Appends-nil a) kept
+
+Appends-after : (a b c : Option (List ℕ)) (xs : List ℕ) → Keeps a b → Appends b c xs → Appends a c xs
+Appends-after a b c xs kept grown = Appends-trans a b c [] xs (Appends-none a b kept) grown
+
+-- ---- what stands after a text
+
+ok_after : (whole rest : TextResult) (text : List ℕ) → whole ≡ after_text text rest → IsOk rest.result → IsOk whole.result
+ok_after whole rest text told ok = rw told ok
+
+text_after : (whole rest : TextResult) (text : List ℕ) → whole ≡ after_text text rest → HasText rest → HasText whole
+text_after whole rest text told some = rw told (some_after text rest.output some)
+
+-- a script that ends after a line with text, and one that ends after a line that gives some
+speaks_well : {S : Type 0} (reading : Reading S) (step : LineStep S) (line : Speaks reading step) (number : ℕ) (whole : TextResult) → whole ≡ after_text line.0.text (reading.ending line.0.next number)
+    → IsOk whole.result × HasText whole
+speaks_well reading step (line, some) number whole told = rw told (line.may_end number, some_before line.text (reading.ending line.next number).output some)
+
+gives_well : {S : Type 0} (reading : Reading S) (step : LineStep S) (line : GivesText reading step) (number : ℕ) (whole : TextResult) → whole ≡ after_text line.0.text (reading.ending line.0.next number)
+    → IsOk whole.result × HasText whole
+gives_well reading step (line, some) number whole told = rw told (line.may_end number, some number)
+
+-- ---- the last line
+
+-- what a line gave stands before how the script ended
+told_with_line : {S : Type 0} (reading : Reading S) (state next : S) (number : ℕ) (line text : List ℕ) → Lacks 10 line → 0 < length line
+    → line_step reading state number (strip_carriage_return line) ≡ Ok (text, next) → text_from reading state number line ≡ after_text text (reading.ending next (number + 1))
+told_with_line reading state next number line text lacks some went =
+    ap (lines_result reading reading.ending state number) (lines_of-last line lacks some) ∙ lines_result-went reading reading.ending state next number (strip_carriage_return line) text [] went
+
+told_with_fault : {S : Type 0} (reading : Reading S) (state : S) (number : ℕ) (line : List ℕ) (fault : ScriptFault) → Lacks 10 line → 0 < length line
+    → line_step reading state number (strip_carriage_return line) ≡ Err fault → text_from reading state number line ≡ ended (Err fault)
+told_with_fault reading state number line fault lacks some stops =
+    ap (lines_result reading reading.ending state number) (lines_of-last line lacks some) ∙ lines_result-fault reading reading.ending state number (strip_carriage_return line) [] fault stops
+
+-- what is told after a text
+tells_after : (whole rest : TextResult) (text : List ℕ) (old new newer : Option (List ℕ)) (result : Result Bool ScriptFault) → whole ≡ after_text text rest → Appends old new text → Tells rest new newer result → Tells whole old newer result
+tells_after whole rest text old new newer result told before (written, same) = rw told ((Appends-trans old new newer text rest.output before written, same))
+
+pub TakesRest-line : {S : Type 0} (reading : Reading S) (is_silent : S → Bool) (state next : S) (number : ℕ) (line : List ℕ) (w v z : Option (List ℕ)) (wrote : Bool) (result : Result Bool ScriptFault) → Lacks 10 line → 0 < length line
+    → Goes reading (line_step reading state number (strip_carriage_return line)) is_silent state next w v wrote → TakesRest (reading.ending next (number + 1)) (is_silent next) v z result
+    → TakesRest (text_from reading state number line) (is_silent state) w z result
+TakesRest-line reading is_silent state next number line w v z wrote result lacks some goes ends = by_result result ends
+  where
+    told : text_from reading state number line ≡ after_text goes.text (reading.ending next (number + 1))
+    told = told_with_line reading state next number line goes.text lacks some goes.step_is
+
+    by_result : (r : Result Bool ScriptFault) → TakesRest (reading.ending next (number + 1)) (is_silent next) v z r → TakesRest (text_from reading state number line) (is_silent state) w z r
+    by_result (Ok refused) tells = tells_after _ _ goes.text w v z (Ok refused) told goes.written tells
+    by_result (Err (Script l word)) tells = tells_after _ _ goes.text w v z (Err (Script l word)) told goes.written tells
+    by_result (Err (Setup fault)) tells = tells_after _ _ goes.text w v z (Err (Setup fault)) told goes.written tells
+    by_result (Err Read) wrong = wrong
+    by_result (Err Write) (ok, has) = (ok_after _ _ goes.text told ok, text_after _ _ goes.text told has)
+    by_result (Err NoMemory) (still, ok, kept) =
+        let quiet = goes.silent still in
+        (quiet.0, ok_after _ _ goes.text told ok, Keeps-trans w v z (Keeps-none w v (rw quiet.1 at goes.written)) kept)
+
+tells_fault : (whole : TextResult) (fault : ScriptFault) (before after : Option (List ℕ)) → whole ≡ ended (Err fault) → Keeps before after → Tells whole before after (Err fault)
+tells_fault whole fault before after told kept = rw told ((Appends-none before after kept, refl))
+
+pub TakesRest-fault : {S : Type 0} (reading : Reading S) (is_silent : S → Bool) (state next : S) (number : ℕ) (line : List ℕ) (w v : Option (List ℕ)) (fault : ScriptFault) → Lacks 10 line → 0 < length line
+    → TakesStep reading (line_step reading state number (strip_carriage_return line)) is_silent state next w v (Err fault) → TakesRest (text_from reading state number line) (is_silent state) w v (Err fault)
+TakesRest-fault reading is_silent state next number line w v (Script l word) lacks some (stops, kept) = tells_fault _ _ w v (told_with_fault reading state number line _ lacks some stops) kept
+TakesRest-fault reading is_silent state next number line w v (Setup fault) lacks some (stops, kept) = tells_fault _ _ w v (told_with_fault reading state number line _ lacks some stops) kept
+TakesRest-fault reading is_silent state next number line w v Read lacks some stops = stops
+TakesRest-fault reading is_silent state next number line w v Write lacks some speaks =
+    speaks_well reading _ speaks (number + 1) _ (told_with_line reading state speaks.0.next number line speaks.0.text lacks some speaks.0.step_is)
+TakesRest-fault reading is_silent state next number line w v NoMemory lacks some (quiet, gives, kept) =
+    (quiet, (gives_well reading _ gives (number + 1) _ (told_with_line reading state gives.0.next number line gives.0.text lacks some gives.0.step_is)).0, kept)
+
+-- ---- the whole call
+
+abbrev pub Ends : {S : Type 0} → Reading S → S → Option (List ℕ) → Option (List ℕ) → Option (List ℕ) → Option (List ℕ) → Result Bool ScriptFault → Type 0
+Ends reading start input rest old new result = EndsAs reading.most_lines (text_of reading start) (text_before_failure reading start) input rest old new result
+
+-- which is nothing while the script is silent
+silent_within : {S : Type 0} (reading : Reading S) (is_silent : S → Bool) (start state : S) (number : ℕ) (block : BlockState) (input rest old new : Option (List ℕ)) (line : List ℕ)
+    → (so_far : Progress reading is_silent start state number block input rest old new) → Lacks 10 line → is_silent state ≡ true → (text_before_failure reading start (so_far.read ++ line)).output ≡ []
+silent_within reading is_silent start state number block input rest old new line so_far lacks quiet =
+    rw (failed_within reading is_silent start state number block input rest old new line so_far lacks, so_far.silent quiet) refl
+
+-- what was taken, and what was read ahead, left the reader
+read_ahead : (input rest : Option (List ℕ)) (ahead taken : List ℕ) → Consumes input (prepend_known ahead rest) taken → Consumes input rest (taken ++ ahead)
+read_ahead None rest ahead taken consumed = tt
+read_ahead (Some xs) None ahead taken consumed = absurd consumed
+read_ahead (Some xs) (Some ys) ahead taken consumed = consumed ∙ sym (append_assoc taken ahead ys)
+
+-- what was taken so far, and then
+took : {S : Type 0} (reading : Reading S) (is_silent : S → Bool) (start state : S) (number : ℕ) (block later : BlockState) (input rest after old new : Option (List ℕ)) (bytes : List ℕ)
+    → (so_far : Progress reading is_silent start state number block input rest old new) → Takes block later rest after bytes → Consumes input after ((so_far.read ++ bytes) ++ later.ahead)
+took reading is_silent start state number block later input rest after old new bytes so_far takes =
+    read_ahead input after later.ahead (so_far.read ++ bytes) (Consumes-trans input (left block rest) (left later after) so_far.read bytes so_far.consumed takes.consumed)
+
+small : (block : BlockState) → IsSmall block → length block.ahead ≤ 65536
+small block few = omega (arith, few)
+
+-- what was written so far, and then nothing but a flush
+written_till : {S : Type 0} (reading : Reading S) (is_silent : S → Bool) (start state : S) (number : ℕ) (block : BlockState) (input rest old new flushed : Option (List ℕ))
+    → (so_far : Progress reading is_silent start state number block input rest old new) → Keeps new flushed → Appends old flushed so_far.text
+written_till reading is_silent start state number block input rest old new flushed so_far kept = Appends-kept old new flushed so_far.text so_far.written kept
+
+-- to the input's end
+pub Ends-rest : {S : Type 0} (reading : Reading S) (is_silent : S → Bool) (start state : S) (number : ℕ) (block later : BlockState) (input rest after old new flushed newer : Option (List ℕ)) (line : List ℕ) (result : Result Bool ScriptFault)
+    → Progress reading is_silent start state number block input rest old new → 130 * number + length line ≤ 130 * reading.most_lines + 131 → Lacks 10 line → Takes block later rest after line → later.ahead ≡ [] → IsAtEnd after
+    → Keeps new flushed → TakesRest (text_from reading state number line) (is_silent state) flushed newer result → Ends reading start input after old newer result
+Ends-rest reading is_silent start state number block later input rest after old new flushed newer line result so_far within lacks taken none at_end flushes takes = by_result result takes
+  where
+    read : List ℕ
+    read = so_far.read ++ line
+
+    all : Consumes input after (read ++ [])
+    all = rw none at (took reading is_silent start state number block later input rest after old new line so_far taken)
+
+    written : Appends old flushed so_far.text
+    written = written_till reading is_silent start state number block input rest old new flushed so_far flushes
+
+    bound : length read ≤ 130 * reading.most_lines + 1
+    bound = omega (arith, length-append so_far.read line, so_far.bound, within)
+
+    tells : (r : Result Bool ScriptFault) → Tells (text_from reading state number line) flushed newer r → Tells (text_of reading start read) old newer r
+    tells r told = tells_after _ _ so_far.text old flushed newer r (so_far.whole line) written told
+
+    whole_input : IsAllJudged [] after
+    whole_input = (refl, at_end)
+
+    by_result : (r : Result Bool ScriptFault) → TakesRest (text_from reading state number line) (is_silent state) flushed newer r → Ends reading start input after old newer r
+    by_result (Ok refused) told = record { judged = read; ahead = []; consumed = all; bound = bound; block = omega arith; ends = (whole_input, tells (Ok refused) told) }
+    by_result (Err (Script l word)) told = record { judged = read; ahead = []; consumed = all; bound = bound; block = omega arith; ends = (inl whole_input, tells (Err (Script l word)) told) }
+    by_result (Err (Setup fault)) told = record { judged = read; ahead = []; consumed = all; bound = bound; block = omega arith; ends = (inl whole_input, tells (Err (Setup fault)) told) }
+    by_result (Err Read) told = absurd told
+    by_result (Err Write) (ok, some) =
+        record {
+          judged = read;
+          ahead = [];
+          consumed = all;
+          bound = bound;
+          block = omega arith;
+          ends = (
+            ok_after _ _ so_far.text (so_far.whole line) ok,
+            (read, inr (refl, whole_input), grown_after _ _ _ so_far.text Read (failed_within reading is_silent start state number block input rest old new line so_far lacks) (so_far.whole line) some),
+          );
+        }
+    by_result (Err NoMemory) (quiet, ok, kept) =
+        record {
+          judged = read;
+          ahead = [];
+          consumed = all;
+          bound = bound;
+          block = omega arith;
+          ends = (
+            Keeps-trans old flushed newer (Keeps-none old flushed (rw (so_far.silent quiet) at written)) kept,
+            inr (
+              ok_after _ _ so_far.text (so_far.whole line) ok,
+              (read, inr (refl, whole_input), silent_within reading is_silent start state number block input rest old new line so_far lacks quiet, inr whole_input),
+            ),
+          );
+        }
+
+-- at a fault that stands whatever follows
+settled : {S : Type 0} (reading : Reading S) (start state : S) (number : ℕ) (ahead : List ℕ) (rest old new newer : Option (List ℕ)) (read text tail : List ℕ) (fault : ScriptFault)
+    → ((more : List ℕ) → text_of reading start (read ++ more) ≡ after_text text (text_from reading state number more))
+    → ((more : List ℕ) → text_from reading state number (tail ++ more) ≡ ended (Err fault)) → Appends old new text → Keeps new newer
+    → (IsAllJudged ahead rest ⊎ IsSettled (text_of reading start) (read ++ tail)) × Tells (text_of reading start (read ++ tail)) old newer (Err fault)
+settled reading start state number ahead rest old new newer read text tail fault whole told written kept =
+    let all : (more : List ℕ) → text_of reading start ((read ++ tail) ++ more) ≡ after_text text (ended (Err fault)) = λ more. ap (text_of reading start) (append_assoc read tail more) ∙ whole (tail ++ more) ∙ ap (after_text text) (told more) in
+    let here : text_of reading start (read ++ tail) ≡ after_text text (ended (Err fault)) = ap (text_of reading start) (sym (append-nil (read ++ tail))) ∙ all [] in (
+      inr (λ more. all more ∙ sym here),
+      rw here (rw (append-nil text) (Appends-kept old new newer text written kept), refl),
+    )
+
+-- at a fault of a line
+pub Ends-fault : {S : Type 0} (reading : Reading S) (is_silent : S → Bool) (start state next : S) (number : ℕ) (block later : BlockState) (input rest after old new flushed newer : Option (List ℕ)) (line : List ℕ) (fault : ScriptFault)
+    → Progress reading is_silent start state number block input rest old new → number ≤ reading.most_lines → Lacks 10 line → length line ≤ 129 → Takes block later rest after (line ++ 10 ∷ []) → IsSmall later → Keeps new flushed
+    → TakesStep reading (line_step reading state number (strip_carriage_return line)) is_silent state next flushed newer (Err fault) → Ends reading start input after old newer (Err fault)
+Ends-fault {S} reading is_silent start state next number block later input rest after old new flushed newer line fault so_far within lacks short taken few flushes takes = by_fault fault takes
+  where
+    tail : List ℕ
+    tail = line ++ 10 ∷ []
+
+    all : Consumes input after ((so_far.read ++ tail) ++ later.ahead)
+    all = took reading is_silent start state number block later input rest after old new tail so_far taken
+
+    written : Appends old flushed so_far.text
+    written = written_till reading is_silent start state number block input rest old new flushed so_far flushes
+
+    bound : length (so_far.read ++ tail) ≤ 130 * reading.most_lines + 1
+    bound = omega (arith, length-append so_far.read tail, length-append line (10 ∷ []), so_far.bound, within, short)
+
+    told : (f : ScriptFault) → line_step reading state number (strip_carriage_return line) ≡ Err f → (more : List ℕ) → text_from reading state number (tail ++ more) ≡ ended (Err f)
+    told f stops more =
+        ap (text_from reading state number) (append_assoc line (10 ∷ []) more) ∙ ap (lines_result reading reading.ending state number) (lines_of-line line more lacks)
+        ∙ lines_result-fault reading reading.ending state number (strip_carriage_return line) (lines_of more) f stops
+
+    after_line : (text : List ℕ) (after_state : S) → line_step reading state number (strip_carriage_return line) ≡ Ok (text, after_state) → text_from reading state number tail ≡ after_text text (reading.ending after_state (number + 1))
+    after_line text after_state went =
+        ap (lines_result reading reading.ending state number) (lines_of-line line [] lacks) ∙ lines_result-went reading reading.ending state after_state number (strip_carriage_return line) text [] went
+
+    front : IsFront (so_far.read ++ line) (so_far.read ++ tail) later.ahead after
+    front = inl (sym (append_assoc so_far.read line (10 ∷ [])))
+
+    by_fault : (f : ScriptFault) → TakesStep reading (line_step reading state number (strip_carriage_return line)) is_silent state next flushed newer (Err f) → Ends reading start input after old newer (Err f)
+    by_fault (Script l word) (stops, kept) =
+        record {
+          judged = so_far.read ++ tail;
+          ahead = later.ahead;
+          consumed = all;
+          bound = bound;
+          block = small later few;
+          ends = settled reading start state number later.ahead after old flushed newer so_far.read so_far.text tail _ so_far.whole (told _ stops) written kept;
+        }
+    by_fault (Setup f) (stops, kept) =
+        record {
+          judged = so_far.read ++ tail;
+          ahead = later.ahead;
+          consumed = all;
+          bound = bound;
+          block = small later few;
+          ends = settled reading start state number later.ahead after old flushed newer so_far.read so_far.text tail _ so_far.whole (told _ stops) written kept;
+        }
+    by_fault Read stops = absurd stops
+    by_fault Write speaks =
+        let well = speaks_well reading _ speaks (number + 1) _ (after_line speaks.0.text speaks.0.next speaks.0.step_is) in record {
+          judged = so_far.read ++ tail;
+          ahead = later.ahead;
+          consumed = all;
+          bound = bound;
+          block = small later few;
+          ends = (
+            ok_after _ _ so_far.text (so_far.whole tail) well.0,
+            (
+              so_far.read ++ line,
+              front,
+              grown_after _ _ _ so_far.text Read (failed_within reading is_silent start state number block input rest old new line so_far lacks) (so_far.whole tail) well.1,
+            ),
+          );
+        }
+    by_fault NoMemory (quiet, gives, kept) =
+        let well = gives_well reading _ gives (number + 1) _ (after_line gives.0.text gives.0.next gives.0.step_is) in record {
+          judged = so_far.read ++ tail;
+          ahead = later.ahead;
+          consumed = all;
+          bound = bound;
+          block = small later few;
+          ends = (
+            Keeps-trans old flushed newer (Keeps-none old flushed (rw (so_far.silent quiet) at written)) kept,
+            inr (
+              ok_after _ _ so_far.text (so_far.whole tail) well.0,
+              (
+                so_far.read ++ line,
+                front,
+                silent_within reading is_silent start state number block input rest old new line so_far lacks quiet,
+                inl (text_after _ _ so_far.text (so_far.whole tail) well.1),
+              ),
+            ),
+          );
+        }
+
+-- at a line that is too long
+pub Ends-long : {S : Type 0} (reading : Reading S) (is_silent : S → Bool) (start state : S) (number : ℕ) (block later : BlockState) (input rest after old new flushed : Option (List ℕ)) (line : List ℕ) (byte : ℕ)
+    → Progress reading is_silent start state number block input rest old new → number ≤ reading.most_lines → Lacks 10 line → byte ≢ 10 → length line ≡ 129 → Takes block later rest after (line ++ byte ∷ []) → IsSmall later → Keeps new flushed
+    → Ends reading start input after old flushed (Err (Script number 0))
+Ends-long reading is_silent start state number block later input rest after old new flushed line byte so_far within lacks other full taken few flushes =
+    record {
+      judged = so_far.read ++ tail;
+      ahead = later.ahead;
+      consumed = took reading is_silent start state number block later input rest after old new tail so_far taken;
+      bound = omega (arith, length-append so_far.read tail, size, so_far.bound, within);
+      block = small later few;
+      ends = settled reading start state number later.ahead after old new flushed so_far.read so_far.text tail _ so_far.whole told so_far.written flushes;
+    }
+  where
+    tail : List ℕ
+    tail = line ++ byte ∷ []
+
+    size : length tail ≡ 130
+    size = omega (arith, length-append line (byte ∷ []), full)
+
+    told : (more : List ℕ) → text_from reading state number (tail ++ more) ≡ ended (Err (Script number 0))
+    told more =
+        let first = begins tail more (Lacks-push 10 line byte lacks other) (omega (arith, size)) in
+        ap (lines_result reading reading.ending state number) first.is
+        ∙ lines_result-fault reading reading.ending state number (strip_carriage_return (tail ++ first.more)) first.lines _
+        (line_step-not_plain reading state number (strip_carriage_return (tail ++ first.more)) (begins-not_plain tail first.more (omega (arith, size))))
+
+-- at a line more than a script may have
+pub Ends-late : {S : Type 0} (reading : Reading S) (is_silent : S → Bool) (start state : S) (number : ℕ) (block later : BlockState) (input rest after old new flushed : Option (List ℕ)) (byte : ℕ)
+    → Progress reading is_silent start state number block input rest old new → number ≡ reading.most_lines + 1 → Takes block later rest after (byte ∷ []) → IsSmall later → Keeps new flushed
+    → Ends reading start input after old flushed (Err (Script number 0))
+Ends-late reading is_silent start state number block later input rest after old new flushed byte so_far late taken few flushes =
+    record {
+      judged = so_far.read ++ byte ∷ [];
+      ahead = later.ahead;
+      consumed = took reading is_silent start state number block later input rest after old new (byte ∷ []) so_far taken;
+      bound = omega (arith, length-append so_far.read (byte ∷ []), so_far.bound, late);
+      block = small later few;
+      ends = settled reading start state number later.ahead after old new flushed so_far.read so_far.text (byte ∷ []) _ so_far.whole told so_far.written flushes;
+    }
+  where
+    told : (more : List ℕ) → text_from reading state number (byte ∷ more) ≡ ended (Err (Script number 0))
+    told more =
+        let first = lines_of-some byte more in
+        ap (lines_result reading reading.ending state number) first.is
+        ∙ lines_result-fault reading reading.ending state number (strip_carriage_return first.line) first.lines _ (rw late (line_step-late reading state (strip_carriage_return first.line)))
+
+-- where the reader failed
+pub Ends-read : {S : Type 0} (reading : Reading S) (is_silent : S → Bool) (start state : S) (number : ℕ) (block later : BlockState) (input rest after old new flushed : Option (List ℕ)) (line : List ℕ)
+    → Progress reading is_silent start state number block input rest old new → 130 * number + length line ≤ 130 * reading.most_lines + 131 → Lacks 10 line → Takes block later rest after line → later.ahead ≡ [] → Keeps new flushed
+    → Ends reading start input after old flushed (Err Read)
+Ends-read reading is_silent start state number block later input rest after old new flushed line so_far within lacks taken none flushes =
+    record {
+      judged = so_far.read ++ line;
+      ahead = [];
+      consumed = rw none at (took reading is_silent start state number block later input rest after old new line so_far taken);
+      bound = omega (arith, length-append so_far.read line, so_far.bound, within);
+      block = omega arith;
+      ends = (
+        refl,
+        rw (failed_within reading is_silent start state number block input rest old new line so_far lacks)
+            ((rw (append-nil so_far.text) (written_till reading is_silent start state number block input rest old new flushed so_far flushes), refl)),
+      );
+    }
+
+-- where a flush failed: before the last line with text stands a front of what was taken
+pub Ends-flush : {S : Type 0} (reading : Reading S) (is_silent : S → Bool) (start state : S) (number : ℕ) (block later : BlockState) (input rest after old new flushed : Option (List ℕ)) (line : List ℕ)
+    → Progress reading is_silent start state number block input rest old new → number ≤ reading.most_lines + 1 → Takes block later rest after line → later.ahead ≡ [] → later.has_text ≡ true → IsSmall later
+    → Ends reading start input after old flushed (Err Write)
+Ends-flush reading is_silent start state number block later input rest after old new flushed line so_far within taken none text few =
+    record {
+      judged = judged;
+      ahead = last.tail ++ line;
+      consumed = rw joined at (rw (append-nil (so_far.read ++ line)) at (rw none at (took reading is_silent start state number block later input rest after old new line so_far taken)));
+      bound = omega (arith, so_far.bound, within, ap length last.is, length-append judged last.tail);
+      block = omega (arith, length-append last.tail line, last.near, same.1, few);
+      ends = (last.ok, (last.front, inl refl, last.some));
+    }
+  where
+    same : (block.has_text ≡ true) × (later.taken ≡ block.taken + length line)
+    same = taken.same_block text
+
+    last : LastText reading start so_far.read block.taken
+    last = so_far.last same.0
+
+    judged : List ℕ
+    judged = last.front ++ 10 ∷ []
+
+    joined : so_far.read ++ line ≡ judged ++ (last.tail ++ line)
+    joined = ap (λ xs. xs ++ line) last.is ∙ append_assoc judged last.tail line
+
+-- where a line wasn't read to its end
+pub Ends-stopped : {S : Type 0} (reading : Reading S) (is_silent : S → Bool) (start state : S) (number : ℕ) (block later : BlockState) (input rest after old new flushed : Option (List ℕ)) (line : List ℕ) (fault : ScriptFault)
+    → Progress reading is_silent start state number block input rest old new → number ≤ reading.most_lines → Lacks 10 line × (length line ≤ 129) × Stops block later rest after line fault → IsSmall later → Keeps new flushed
+    → Ends reading start input after old flushed (Err fault)
+Ends-stopped reading is_silent start state number block later input rest after old new flushed line (Script l word) so_far within part few flushes = absurd part.2
+Ends-stopped reading is_silent start state number block later input rest after old new flushed line (Setup f) so_far within part few flushes = absurd part.2
+Ends-stopped reading is_silent start state number block later input rest after old new flushed line Read so_far within (lacks, short, (taken, none)) few flushes =
+    Ends-read reading is_silent start state number block later input rest after old new flushed line so_far (omega (arith, within, short)) lacks taken none flushes
+Ends-stopped reading is_silent start state number block later input rest after old new flushed line Write so_far within (lacks, short, (taken, none, text)) few flushes =
+    Ends-flush reading is_silent start state number block later input rest after old new flushed line so_far (omega (arith, within)) taken none text few
+Ends-stopped reading is_silent start state number block later input rest after old new flushed line NoMemory so_far within part few flushes = absurd part.2
+
+nothing : Lacks 10 []
+nothing i within = absurd (omega (arith, within))
+
+-- where what follows the last line that may stand wasn't read
+pub Ends-unread : {S : Type 0} (reading : Reading S) (is_silent : S → Bool) (start state : S) (number : ℕ) (block later : BlockState) (input rest after old new flushed : Option (List ℕ)) (fault : ScriptFault)
+    → Progress reading is_silent start state number block input rest old new → number ≡ reading.most_lines + 1 → TakesByte block later rest after (Err fault) → IsSmall later → Keeps new flushed
+    → Ends reading start input after old flushed (Err fault)
+Ends-unread reading is_silent start state number block later input rest after old new flushed (Script l word) so_far late part few flushes = absurd part
+Ends-unread reading is_silent start state number block later input rest after old new flushed (Setup f) so_far late part few flushes = absurd part
+Ends-unread reading is_silent start state number block later input rest after old new flushed Read so_far late (taken, none) few flushes =
+    Ends-read reading is_silent start state number block later input rest after old new flushed [] so_far (omega (arith, late)) nothing taken none flushes
+Ends-unread reading is_silent start state number block later input rest after old new flushed Write so_far late (taken, none, text) few flushes =
+    Ends-flush reading is_silent start state number block later input rest after old new flushed [] so_far (omega (arith, late)) taken none text few
+Ends-unread reading is_silent start state number block later input rest after old new flushed NoMemory so_far late part few flushes = absurd part
+
+-- at the input's end, after as many lines as may stand
+pub Ends-full : {S : Type 0} (reading : Reading S) (is_silent : S → Bool) (start state : S) (number : ℕ) (block later : BlockState) (input rest after old new flushed newer : Option (List ℕ)) (result : Result Bool ScriptFault)
+    → Progress reading is_silent start state number block input rest old new → number ≡ reading.most_lines + 1 → TakesByte block later rest after (Ok None) → Keeps new flushed
+    → TakesRest (reading.ending state number) (is_silent state) flushed newer result → Ends reading start input after old newer result
+Ends-full reading is_silent start state number block later input rest after old new flushed newer result so_far late (taken, none, at_end) flushes takes =
+    Ends-rest reading is_silent start state number block later input rest after old new flushed newer [] result so_far (omega (arith, late)) nothing taken none at_end flushes takes

@@ -1,0 +1,193 @@
+-- A set-up line that may stand has room.
+use Rattle.std.proofs.Common.{◌≡◌, ◌<◌, ◌≤◌, ℕ, ◌+◌, List, [], ◌∷◌, length, Bool, true, false, ◌&&◌, ◌||◌, nat_lt, nat_le, Option, None, Some, Result, Ok, Err, refl, sym, ap, ◌∙◌, arith, if◌then◌else◌, rules}
+use Rattle.std.proofs.lemmas.Bool.Decides.{nat_tests}
+use Rattle.bridge_core.specs.declared.Config.{Config as Limits}
+use Rattle.world_run.specs.Setups.{SetupLists}
+use Rattle.script_text.specs.Forms.{first_wrong, form_of, read_as, unless_wrong, told_as, address_field, count_field, kind_field}
+use Rattle.script_text.specs.SetupLines.{config_in, config_fields, region_in, region_fields, page_fields, kind_in}
+use Rattle.script_text.specs.Stages.{HasRoomFor, Kind, MayStand, Opening, Running, SettingUp, Stage, has_no_room, is_misplaced, is_setup_form, line_as, line_in, line_of_form, setup_line}
+use Rattle.script_text.specs.Words.{word_at, dec_at, hex_at}
+use Rattle.script_text.specs.declared.keywords.Form.{Form}
+use Rattle.script_text.specs.declared.keywords.Form.TheVariants as form
+use Rattle.script_text.specs.declared.setup_parser.SetupLine.{SetupLine}
+use Rattle.script_text.specs.declared.setup_parser.SetupLine.TheVariants.{Config, Region, Pages, BadWord}
+use Rattle.script_text.specs.declared.stages.LineOf.{LineOf}
+use Rattle.script_text.specs.declared.stages.LineOf.TheVariants.{Setup, Command}
+
+apart : false ≡ true → ⊥
+apart wrong = search rules
+
+-- ---- what a set-up line says
+
+abbrev told : SetupLine → Result SetupLine ℕ → SetupLine
+told other (Ok line) = line
+told other (Err word) = other
+
+abbrev went : Result SetupLine ℕ → Bool
+went (Ok line) = true
+went (Err word) = false
+
+-- what a line's fields say, where they say it
+said : (value line : SetupLine) (fault : Option ℕ) → unless_wrong value fault ≡ Ok line → (fault ≡ None) × (line ≡ value)
+said value line None same = (refl, sym (ap (told value) same))
+said value line (Some word) same = absurd (apart (ap went same))
+
+said_config : (value : Limits) (line : SetupLine) (fault : Option ℕ) → told_as Config (unless_wrong value fault) ≡ Ok line → line ≡ Config value
+said_config value line None same = sym (ap (told (Config value)) same)
+said_config value line (Some word) same = absurd (apart (ap went same))
+
+-- the fields of a `page` line that are right
+page_right : (first count kind : Bool) (last : Option ℕ) → (if first then (if count then (if kind then last else Some 4) else Some 3) else Some 2) ≡ None → (first ≡ true) × (count ≡ true) × (kind ≡ true)
+page_right true true true last same = (refl, refl, refl)
+page_right true true false last same = search rules
+page_right true false kind last same = search rules
+page_right false count kind last same = search rules
+
+-- what a set-up line of a form says
+abbrev SaysAs : Form → List (List ℕ) → SetupLine → Type 0
+SaysAs form.Config words line = line ≡ Config (config_in words)
+SaysAs form.Region words line = line ≡ Region (region_in words)
+SaysAs form.Page words line =
+    (address_field (word_at words 2) ≡ true) × (count_field (word_at words 3) ≡ true)
+    × (line ≡ Pages (hex_at words 2) (dec_at words 3) (kind_in (word_at words 4)))
+SaysAs form.BadWord words line = line ≡ BadWord (hex_at words 2)
+SaysAs _ words line = ⊥
+
+page_says : (words : List (List ℕ)) (line : SetupLine) → read_as page_fields words (Pages (hex_at words 2) (dec_at words 3) (kind_in (word_at words 4))) ≡ Ok line → SaysAs form.Page words line
+page_says words line same =
+    let says = said _ line (first_wrong page_fields words 2) same in
+    let right = page_right (address_field (word_at words 2)) (count_field (word_at words 3)) (kind_field (word_at words 4)) _ says.0 in
+    (right.0, right.1, says.1)
+
+says : (f : Form) (words : List (List ℕ)) (line : SetupLine) → setup_line f words ≡ Ok line → SaysAs f words line
+says form.Config words line same = said_config (config_in words) line (first_wrong (config_fields words) words 2) same
+says form.Region words line same = (said (Region (region_in words)) line (first_wrong region_fields words 2) same).1
+says form.Page words line same = page_says words line same
+says form.BadWord words line same = (said (BadWord (hex_at words 2)) line (first_wrong (address_field ∷ []) words 2) same).1
+says form.Offer words line same = apart (ap went same)
+says form.Pump words line same = apart (ap went same)
+says form.Perform words line same = apart (ap went same)
+says form.AnswerB words line same = apart (ap went same)
+says form.AnswerR words line same = apart (ap went same)
+says form.Take words line same = apart (ap went same)
+says form.Drain words line same = apart (ap went same)
+says form.Mem words line same = apart (ap went same)
+says form.Work words line same = apart (ap went same)
+says form.Free words line same = apart (ap went same)
+
+-- ---- what a line says
+
+abbrev is_setup : {C : Type 0} → Result (LineOf C) ℕ → Bool
+is_setup (Ok (Setup line)) = true
+is_setup (Ok (Command command)) = false
+is_setup (Err word) = false
+
+abbrev told_line : {C : Type 0} → SetupLine → Result (LineOf C) ℕ → SetupLine
+told_line other (Ok (Setup line)) = line
+told_line other (Ok (Command command)) = other
+told_line other (Err word) = other
+
+-- a test that was passed
+passed : {C : Type 0} (test : Bool) (line : SetupLine) (other : Result (LineOf C) ℕ) → (if test then Err 1 else other) ≡ Ok (Setup line) → (test ≡ false) × (other ≡ Ok (Setup line))
+passed true line other same = absurd (apart (ap is_setup same))
+passed false line other same = (refl, same)
+
+abbrev as_set_up : {C : Type 0} → Result SetupLine ℕ → Result (LineOf C) ℕ
+as_set_up result = told_as Setup result
+
+set_up_said : {C : Type 0} (line : SetupLine) (result : Result SetupLine ℕ) → as_set_up {C = C} result ≡ Ok (Setup line) → result ≡ Ok line
+set_up_said line (Ok value) same = ap (λ l. Ok (told_line value l)) same
+set_up_said line (Err word) same = absurd (apart (ap is_setup same))
+
+command_never : {C : Type 0} (line : SetupLine) (result : Result C ℕ) → told_as Command result ≡ Ok (Setup line) → ⊥
+command_never line (Ok value) same = apart (ap is_setup same)
+command_never line (Err word) same = apart (ap is_setup same)
+
+line_said : {W C : Type 0} (kind : Kind W C) (f : Form) (words : List (List ℕ)) (line : SetupLine) → line_of_form kind f words ≡ Ok (Setup line) → setup_line f words ≡ Ok line
+line_said kind f words line same = by_test (is_setup_form f) (kind.takes f) same
+  where
+    by_test : (set_up takes : Bool) → (if set_up then (if takes then told_as Setup (setup_line f words) else Err 1) else told_as Command (kind.command_of f words)) ≡ Ok (Setup line) → setup_line f words ≡ Ok line
+    by_test true true is = set_up_said line (setup_line f words) is
+    by_test true false is = absurd (apart (ap is_setup is))
+    by_test false takes is = absurd (command_never line (kind.command_of f words) is)
+
+-- ---- room
+
+-- the pages of a line that has room
+pages_fit : (held count first : ℕ) (counted addressed : Bool) → counted ≡ true → addressed ≡ true
+    → (nat_le 64 held || counted && (nat_lt 64 (held + count) || addressed && nat_lt 4294967296 (first + count))) ≡ false → (held + count ≤ 64) × (first + count ≤ 4294967296)
+pages_fit held count first counted addressed is_count is_address fits = by_tests (nat_le 64 held) (nat_lt 64 (held + count)) (nat_lt 4294967296 (first + count)) refl refl (rw (is_count, is_address) at fits)
+  where
+    by_tests : (full many late : Bool) → nat_lt 64 (held + count) ≡ many → nat_lt 4294967296 (first + count) ≡ late → (full || true && (many || true && late)) ≡ false
+        → (held + count ≤ 64) × (first + count ≤ 4294967296)
+    by_tests true many late m l wrong = search rules
+    by_tests false true late m l wrong = search rules
+    by_tests false false true m l wrong = search rules
+    by_tests false false false m l fits' = (grind (arith, nat_tests, m), grind (arith, nat_tests, l))
+
+set_up_room : (setup : SetupLists) (f : Form) (words : List (List ℕ)) (line : SetupLine) → has_no_room setup f words ≡ false → SaysAs f words line → HasRoomFor setup line
+set_up_room setup form.Config words line test is = absurd (apart (sym test))
+set_up_room setup form.Region words line test is = let few : length setup.regions < 16 = grind (arith, nat_tests, test) in rw is few
+set_up_room setup form.Page words line test (address, count, is) =
+    let fits = pages_fit (length setup.pages) (dec_at words 3) (hex_at words 2) (count_field (word_at words 3)) (address_field (word_at words 2)) count address test in
+    rw is fits
+set_up_room setup form.BadWord words line test is = let few : length setup.bad_words < 64 = grind (arith, nat_tests, test) in rw is few
+set_up_room setup form.Offer words line test is = absurd is
+set_up_room setup form.Pump words line test is = absurd is
+set_up_room setup form.Perform words line test is = absurd is
+set_up_room setup form.AnswerB words line test is = absurd is
+set_up_room setup form.AnswerR words line test is = absurd is
+set_up_room setup form.Take words line test is = absurd is
+set_up_room setup form.Drain words line test is = absurd is
+set_up_room setup form.Mem words line test is = absurd is
+set_up_room setup form.Work words line test is = absurd is
+set_up_room setup form.Free words line test is = absurd is
+
+abbrev opening : (W : Type 0) → Stage W
+opening W = Opening
+
+opening_room : (W : Type 0) (f : Form) (words : List (List ℕ)) (line : SetupLine) → is_misplaced (opening W) f words ≡ false → SaysAs f words line → MayStand (opening W) line
+opening_room W form.Config words line test is = rw is tt
+opening_room W form.Region words line test is = absurd (apart (sym test))
+opening_room W form.Page words line test is = absurd (apart (sym test))
+opening_room W form.BadWord words line test is = absurd (apart (sym test))
+opening_room W form.Offer words line test is = absurd is
+opening_room W form.Pump words line test is = absurd is
+opening_room W form.Perform words line test is = absurd is
+opening_room W form.AnswerB words line test is = absurd is
+opening_room W form.AnswerR words line test is = absurd is
+opening_room W form.Take words line test is = absurd is
+opening_room W form.Drain words line test is = absurd is
+opening_room W form.Mem words line test is = absurd is
+opening_room W form.Work words line test is = absurd is
+opening_room W form.Free words line test is = absurd is
+
+running_room : (f : Form) (words : List (List ℕ)) (line : SetupLine) → is_setup_form f ≡ false → SaysAs f words line → ⊥
+running_room form.Config words line test is = apart (sym test)
+running_room form.Region words line test is = apart (sym test)
+running_room form.Page words line test is = apart (sym test)
+running_room form.BadWord words line test is = apart (sym test)
+running_room form.Offer words line test is = is
+running_room form.Pump words line test is = is
+running_room form.Perform words line test is = is
+running_room form.AnswerB words line test is = is
+running_room form.AnswerR words line test is = is
+running_room form.Take words line test is = is
+running_room form.Drain words line test is = is
+running_room form.Mem words line test is = is
+running_room form.Work words line test is = is
+running_room form.Free words line test is = is
+
+room : {W : Type 0} (stage : Stage W) (f : Form) (words : List (List ℕ)) (line : SetupLine) → is_misplaced stage f words ≡ false → SaysAs f words line → MayStand stage line
+room {W} Opening f words line test is = opening_room W f words line test is
+room (SettingUp setup) f words line test is = set_up_room setup f words line test is
+room (Running world) f words line test is = running_room f words line test is
+
+line_as-room : {W C : Type 0} (kind : Kind W C) (stage : Stage W) (words : List (List ℕ)) (f : Option Form) (line : SetupLine) → line_as kind stage words f ≡ Ok (Setup line) → MayStand stage line
+line_as-room kind stage words None line same = absurd (apart (ap is_setup same))
+line_as-room kind stage words (Some f) line same =
+    let parts = passed (is_misplaced stage f words) line (line_of_form kind f words) same in
+    room stage f words line parts.0 (says f words line (line_said kind f words line parts.1))
+
+pub line_in-room : {W C : Type 0} (kind : Kind W C) (stage : Stage W) (words : List (List ℕ)) (line : SetupLine) → line_in kind stage words ≡ Ok (Setup line) → MayStand stage line
+line_in-room kind stage words line same = line_as-room kind stage words (form_of (word_at words 1)) line same

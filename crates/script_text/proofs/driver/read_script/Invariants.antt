@@ -1,0 +1,7 @@
+use Rattle.script_text.proofs.Progress.{Progress}
+use Rattle.script_text.proofs.driver.read_script.Given as goal
+
+abbrev pub invariant-loop-number : goal.invariant-loop-number
+invariant-loop-number g l =
+    Progress g.S.Script.reading g.S.Script.is_silent l.fn.script l.script l.number l.block (g.R.Read.remaining l.fn.reader) (g.R.Read.remaining l.reader) (g.W.Write.contents l.fn.writer)
+    (g.W.Write.contents l.writer)

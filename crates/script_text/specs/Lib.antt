@@ -1,0 +1,9 @@
+pub mod Forms
+pub mod Names
+pub mod OfferLines
+pub mod Reads
+pub mod Scripts
+pub mod SetupLines
+pub mod Stages
+pub mod Steps
+pub mod Words

@@ -1,0 +1,72 @@
+-- How the input is read: by blocks, and of these by lines.
+use Rattle.std.specs.Prelude.{◌≡◌, ◌≢◌, ◌<◌, ◌≤◌, ◌+◌, ℕ, Bool, true, false, List, [], ◌∷◌, ◌++◌, length, slice_index_or, Option, Some, None, Result, Ok, Err}
+use Rattle.std.specs.Io.KnownBytes.{Consumes, IsAtEnd, prepend_known}
+use Rattle.script_text.specs.declared.faults.ScriptFault.{ScriptFault}
+use Rattle.script_text.specs.declared.faults.ScriptFault.TheVariants.{Script, Setup, Read, Write, NoMemory}
+use Rattle.script_text.specs.declared.reader.Ending.{Ending}
+use Rattle.script_text.specs.declared.reader.Ending.TheVariants.{LineFeed, Input, Room}
+
+-- ---- blocks
+
+-- the block that was read last: what is left of it, how many bytes were taken off its front, and whether text was written since it was read
+pub record BlockState : Type 0 where
+  pub ahead : List ℕ
+  pub taken : ℕ
+  pub has_text : Bool
+
+-- what is left of an input: of its block, and by its reader
+abbrev pub left : BlockState → Option (List ℕ) → Option (List ℕ)
+left block rest = prepend_known block.ahead rest
+
+-- a block has at most 65,536 bytes
+abbrev pub IsSmall : BlockState → Type 0
+IsSmall block = block.taken + length block.ahead ≤ 65536
+
+-- these bytes were taken; where text that was written isn't flushed, it stood before them, and no block was read meanwhile
+pub record Takes (old new : BlockState) (input rest : Option (List ℕ)) (bytes : List ℕ) : Type 0 where
+  pub consumed : Consumes (left old input) (left new rest) bytes
+  pub same_block : new.has_text ≡ true → (old.has_text ≡ true) × (new.taken ≡ old.taken + length bytes)
+
+-- the next block was read after text was flushed; it has no bytes only at the input's end
+abbrev pub Fills : BlockState → BlockState → Option (List ℕ) → Option (List ℕ) → Result (Unit {0}) ScriptFault → Type 0
+Fills old new input rest (Ok done) = Takes old new input rest [] × (new.has_text ≡ false) × (new.taken ≡ 0) × (new.ahead ≡ [] → IsAtEnd rest)
+Fills old new input rest (Err Read) = Takes old new input rest [] × (new.ahead ≡ [])
+Fills old new input rest (Err Write) = Takes old new input rest [] × (new.ahead ≡ []) × (new.has_text ≡ true)
+Fills old new input rest (Err (Script line word)) = ⊥
+Fills old new input rest (Err (Setup fault)) = ⊥
+Fills old new input rest (Err NoMemory) = ⊥
+
+-- a byte was taken, none at the input's end, or the read or the flush before it failed
+abbrev pub TakesByte : BlockState → BlockState → Option (List ℕ) → Option (List ℕ) → Result (Option ℕ) ScriptFault → Type 0
+TakesByte old new input rest (Ok (Some byte)) = Takes old new input rest (byte ∷ [])
+TakesByte old new input rest (Ok None) = Takes old new input rest [] × (new.ahead ≡ []) × IsAtEnd rest
+TakesByte old new input rest (Err Read) = Takes old new input rest [] × (new.ahead ≡ [])
+TakesByte old new input rest (Err Write) = Takes old new input rest [] × (new.ahead ≡ []) × (new.has_text ≡ true)
+TakesByte old new input rest (Err (Script line word)) = ⊥
+TakesByte old new input rest (Err (Setup fault)) = ⊥
+TakesByte old new input rest (Err NoMemory) = ⊥
+
+-- ---- lines
+
+-- no byte is a line feed
+abbrev pub IsOneLine : List ℕ → Type 0
+IsOneLine bytes = (i : ℕ) → i < length bytes → slice_index_or bytes i 0 ≢ 10
+
+-- what was taken where a line ended so
+abbrev pub Ends : BlockState → BlockState → Option (List ℕ) → Option (List ℕ) → List ℕ → Ending → Type 0
+Ends old new input rest line LineFeed = Takes old new input rest (line ++ 10 ∷ [])
+Ends old new input rest line Input = Takes old new input rest line × (new.ahead ≡ []) × IsAtEnd rest
+Ends old new input rest line Room = (byte : ℕ) × (byte ≢ 10) × (length line ≡ 129) × Takes old new input rest (line ++ byte ∷ [])
+
+-- why a line wasn't read to its end
+abbrev pub Stops : BlockState → BlockState → Option (List ℕ) → Option (List ℕ) → List ℕ → ScriptFault → Type 0
+Stops old new input rest line Read = Takes old new input rest line × (new.ahead ≡ [])
+Stops old new input rest line Write = Takes old new input rest line × (new.ahead ≡ []) × (new.has_text ≡ true)
+Stops old new input rest line (Script number word) = ⊥
+Stops old new input rest line (Setup fault) = ⊥
+Stops old new input rest line NoMemory = ⊥
+
+-- what was taken and how: a line of at most 129 bytes and what ended it, or a part of one where the read or a flush failed
+abbrev pub ReadsLine : BlockState → BlockState → Option (List ℕ) → Option (List ℕ) → List ℕ → Result Ending ScriptFault → Type 0
+ReadsLine old new input rest line (Ok ending) = IsOneLine line × (length line ≤ 129) × Ends old new input rest line ending
+ReadsLine old new input rest line (Err fault) = IsOneLine line × (length line ≤ 129) × Stops old new input rest line fault

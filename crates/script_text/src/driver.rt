@@ -1,0 +1,163 @@
+//! How a script is read and carried out, line by line, whatever its lines do.
+ghost use Rattle.std.specs.Prelude.{◌≡◌, ◌≤◌, ◌<◌, true, false, MatchOption};
+ghost use Rattle.std.specs.List.{list_all};
+ghost use Rattle.std.specs.Str.Lines.{strip_carriage_return};
+ghost use Rattle.script_text.specs.Reads.{IsOneLine};
+ghost use Rattle.script_text.specs.Words.{is_plain_byte, is_plain_line};
+ghost use Rattle.script_text.specs.Scripts.{line_step, text_from, text_of, text_before_failure, EndsAs};
+ghost use Rattle.script_text.specs.Steps.{TakesStep, TakesRest};
+
+use crate::faults::ScriptFault;
+use crate::reader::{Block, Ending, Line};
+use crate::words::Words;
+use std::alloc::Global;
+use std::io::{Read, Write};
+
+/// The state of a script that is read line by line.
+pub trait Script {
+    ghost use Rattle.std.specs.Prelude.{Bool};
+    ghost use Rattle.script_text.specs.Scripts.{Reading};
+
+    /// What its lines do.
+    ghost reading: { Reading Self };
+
+    /// Whether nothing was written so far, so that memory may still be asked for.
+    ghost is_silent: { Self → Bool };
+
+    /// How many lines it may have.
+    fn most_lines() -> u32
+        ensures most { result ≡ reading.most_lines }
+        ensures small { result < 4294967295 };
+
+    /// Carries out a line, by its number from 1 and its words, which aren't skipped. The answer is whether it wrote something.
+    fn take_words<W: Write>(
+        &mut self,
+        alloc: Global,
+        number: u32,
+        words: &Words<'_>,
+        writer: &mut W,
+    ) -> Result<bool, ScriptFault>
+        ensures { TakesStep reading (reading.step self.old number words.now) is_silent self.old self.new (W.contents writer.old) (W.contents writer.new) result };
+
+    /// Ends the script, by the number of the line after the last.
+    fn end<W: Write>(
+        &mut self,
+        alloc: Global,
+        number: u32,
+        writer: &mut W,
+    ) -> Result<bool, ScriptFault>
+        ensures { TakesRest (reading.ending self.old number) (is_silent self.old) (W.contents writer.old) (W.contents writer.new) result };
+}
+
+fn are_plain(bytes: &[u8]) -> bool
+    ensures { result ≡ list_all is_plain_byte bytes.now }
+{
+    bytes.iter().all(|byte| 0x20 <= *byte && *byte <= 0x7e)
+}
+
+/// The text of a line that may stand: at most 128 bytes, each from 0x20 to 0x7e.
+fn plain(line: &[u8]) -> Option<&str>
+    ensures { MatchOption result (is_plain_line line.now ≡ false) (λ text. (is_plain_line line.now ≡ true) × (text.now ≡ line.now)) }
+{
+    if line.len() > 128 || !are_plain(line) {
+        return None;
+    }
+    match str::from_utf8(line) {
+        Ok(text) => Some(text),
+        Err(_) => None,
+    }
+}
+
+/// A line without the carriage return at its end, if it has one.
+fn without_return(line: &[u8]) -> &[u8]
+    ensures { result.now ≡ strip_carriage_return line.now }
+{
+    line.strip_suffix(b"\r").unwrap_or(line)
+}
+
+/// Carries out one line, which has no line feed but may end with a carriage return. The answer is whether it wrote
+/// something.
+fn take_line<S: Script, W: Write>(
+    script: &mut S,
+    alloc: Global,
+    number: u32,
+    line: &[u8],
+    writer: &mut W,
+) -> Result<bool, ScriptFault>
+    requires { number ≤ S.reading.most_lines }
+    ensures { TakesStep S.reading (line_step S.reading script.old number (strip_carriage_return line.now)) S.is_silent script.old script.new (W.contents writer.old) (W.contents writer.new) result }
+{
+    let Some(text) = plain(without_return(line)) else {
+        return Err(ScriptFault::Script {
+            line: number,
+            word: 0,
+        });
+    };
+    let words = Words::of(text);
+    if words.are_skipped() {
+        return Ok(false);
+    }
+    script.take_words(alloc, number, &words, writer)
+}
+
+/// Carries out the line that the input's end ended, if there is one, and ends the script.
+fn take_rest<S: Script, W: Write>(
+    script: &mut S,
+    alloc: Global,
+    number: u32,
+    line: &[u8],
+    writer: &mut W,
+) -> Result<bool, ScriptFault>
+    requires number { number ≤ S.reading.most_lines }
+    requires small { number < 4294967295 }
+    requires line { IsOneLine line.now }
+    ensures { TakesRest (text_from S.reading script.old number line.now) (S.is_silent script.old) (W.contents writer.old) (W.contents writer.new) result }
+{
+    if line.is_empty() {
+        return script.end(alloc, number, writer);
+    }
+    if let Err(fault) = take_line(script, alloc, number, line, writer) {
+        return Err(fault);
+    }
+    script.end(alloc, number + 1, writer)
+}
+
+/// Reads a script to its end or its first fault. Each line is carried out before the next is looked at, and its text is
+/// flushed before the reader is asked for more.
+pub fn read_script<S: Script, R: Read, W: Write>(
+    script: &mut S,
+    alloc: Global,
+    reader: &mut R,
+    writer: &mut W,
+) -> Result<bool, ScriptFault>
+    requires { S.is_silent script.old ≡ true }
+    ensures { EndsAs S.reading.most_lines (text_of S.reading script.old) (text_before_failure S.reading script.old) (R.remaining reader.old) (R.remaining reader.new) (W.contents writer.old) (W.contents writer.new) result }
+{
+    let Ok(mut block) = Block::new(alloc) else {
+        return Err(ScriptFault::NoMemory);
+    };
+    let mut line = Line::new();
+    let late = S::most_lines() + 1;
+    for number in 1..late {
+        match block.read_line(reader, writer, &mut line)? {
+            Ending::LineFeed => {}
+            Ending::Input => return take_rest(script, alloc, number, line.as_slice(), writer),
+            Ending::Room => {
+                return Err(ScriptFault::Script {
+                    line: number,
+                    word: 0,
+                });
+            }
+        }
+        if take_line(script, alloc, number, line.as_slice(), writer)? {
+            block.note_text();
+        }
+    }
+    if let Some(_) = block.next_byte(reader, writer)? {
+        return Err(ScriptFault::Script {
+            line: late,
+            word: 0,
+        });
+    }
+    script.end(alloc, late, writer)
+}

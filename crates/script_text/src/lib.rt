@@ -1,0 +1,25 @@
+//! The text of scripts and traces: how lines are read, parsed, carried out one after another, and written.
+#![tactic(auto)]
+
+mod driver;
+mod faults;
+mod keywords;
+mod offer_parser;
+mod reader;
+mod setup_parser;
+mod stages;
+#[cfg(test)]
+mod tests;
+mod trace_writer;
+mod words;
+
+pub use driver::{Script, read_script};
+pub use faults::ScriptFault;
+pub use keywords::Form;
+pub use offer_parser::offer_line;
+pub use setup_parser::{SetupLine, bad_line, config_line, page_count, page_line, region_line};
+pub use stages::{Kind, LineOf, StagedScript};
+pub use trace_writer::{
+    answer_line, burst_lines, drained_line, mem_line, refused_line, reply_lines, work_line,
+};
+pub use words::Words;

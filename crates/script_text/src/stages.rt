@@ -1,0 +1,327 @@
+//! What every kind of script has in common: a `config` line, other set-up lines, and then commands.
+ghost use Rattle.std.specs.Prelude.{◌≡◌, ◌≢◌, ◌≤◌, ◌<◌, ◌+◌, ◌++◌, ◌^◌, [], length, true};
+ghost use Rattle.world_run.specs.Setups.{lists_of};
+ghost use Rattle.script_text.specs.SetupLines.{pages_from, too_many_pages, with_line};
+ghost use Rattle.script_text.specs.Stages.{HasRoomFor, MayStand, OpensAs, Opening, OpensStage, Writes, WritesEnd, command_step, has_no_room, is_misplaced, is_setup_form, line_in, line_of_form, nothing_written, reading_of, setup_line, with_setup_line, world_at};
+ghost use Rattle.script_text.specs.Steps.{TakesStep};
+
+use crate::driver::Script;
+use crate::faults::ScriptFault;
+use crate::keywords::Form;
+use crate::setup_parser::{SetupLine, bad_line, config_line, page_count, page_line, region_line};
+use crate::words::Words;
+use std::alloc::Global;
+use std::io;
+use std::io::Write;
+use std::marker::Model;
+use subordinate::PageKind;
+use world_run::{Setup, SetupFault};
+
+/// The most pages of a set-up.
+const MOST_PAGES: usize = 64;
+
+/// A kind of script: the lines that it has, and what its commands do.
+pub trait Kind {
+    ghost use Rattle.std.specs.Prelude.{ℕ};
+    ghost use Rattle.script_text.specs.Stages.{Kind as Rules};
+
+    /// What its commands work on.
+    type World: Drop;
+
+    /// What a line says that is a command.
+    type Command: Drop;
+
+    /// What its lines do.
+    ghost rules: { Rules Self.World Self.Command };
+
+    /// How many lines a script may have.
+    fn most_lines() -> u32
+        ensures most { result ≡ rules.most_lines }
+        ensures small { result < 4294967295 };
+
+    /// Whether it has set-up lines of this form.
+    fn takes(form: Form) -> bool
+        ensures { result ≡ rules.takes form };
+
+    /// What a command's line says, or its first wrong word.
+    fn command_of(form: Form, words: &Words<'_>) -> Result<Self::Command, u32>
+        ensures { result ≡ rules.command_of form words.now };
+
+    /// Makes what commands work on.
+    fn open(&mut self, alloc: Global, setup: &Setup) -> Result<Self::World, SetupFault>
+        ensures { OpensAs rules.asks (rules.opened (lists_of setup.now)) result };
+
+    /// Carries out a command and writes its text. The answer is whether there was any.
+    fn carry_out<W: Write>(
+        &mut self,
+        world: &mut Self::World,
+        command: &Self::Command,
+        writer: &mut W,
+    ) -> io::Result<bool>
+        ensures { Writes (rules.commanded world.old command.now) world.new (W.contents writer.old) (W.contents writer.new) result };
+
+    /// Writes the text of the input's end. The answer is whether something was refused.
+    fn end<W: Write>(&mut self, world: &Self::World, writer: &mut W) -> io::Result<bool>
+        ensures { WritesEnd (rules.ending world.now) (W.contents writer.old) (W.contents writer.new) result };
+
+    /// Where memory is asked for, a command has text, or a script that ends after it.
+    ghost gives_text: { rules.asks ≡ true → (world : Self.World) (command : Self.Command) → (rules.commanded world command).0 ++ (rules.ending (rules.commanded world command).1).0 ≢ [] };
+}
+
+/// What a line says.
+#[derive(Clone, Copy, Debug, PartialEq, Eq)]
+pub enum LineOf<C> {
+    /// A set-up line.
+    Setup(SetupLine),
+    /// A command.
+    Command(C),
+}
+
+/// How far a script has come.
+#[derive(Drop)]
+enum Stage<W> {
+    /// No line yet.
+    Opening,
+    /// Set-up lines.
+    SettingUp(Setup),
+    /// Commands.
+    Running(W),
+}
+
+/// A script of a kind, and how far it has come.
+#[derive(Drop)]
+pub struct StagedScript<K: Kind> {
+    kind: K,
+    stage: Stage<K::World>,
+}
+
+impl<K: Kind> Model for StagedScript<K> {
+    ghost use Rattle.script_text.specs.Stages.{Stage as ScriptStage, stage_of};
+
+    ghost Value = { ScriptStage K.World };
+
+    ghost view = { λ s. stage_of s.stage };
+}
+
+/// Whether so many pages more have room, and numbers to 2^32 - 1, where the words of their line tell.
+fn too_many_pages(pages: usize, words: &Words<'_>) -> bool
+    ensures { result ≡ too_many_pages pages words.now }
+{
+    if pages >= MOST_PAGES {
+        return true;
+    }
+    let Ok(count) = page_count(words) else {
+        return false;
+    };
+    if pages + usize::from(count) > MOST_PAGES {
+        return true;
+    }
+    match words.address(2) {
+        Ok(first) => u64::from(first) + u64::from(count) > 1 << 32,
+        Err(_) => false,
+    }
+}
+
+fn has_no_room(setup: &Setup, form: Form, words: &Words<'_>) -> bool
+    ensures { result ≡ has_no_room (lists_of setup.now) form words.now }
+{
+    match form {
+        Form::Config => true,
+        Form::Region => setup.regions.is_full(),
+        Form::Page => too_many_pages(setup.pages.len(), words),
+        Form::BadWord => setup.bad_words.is_full(),
+        _ => false,
+    }
+}
+
+fn is_setup_form(form: Form) -> bool
+    ensures { result ≡ is_setup_form form }
+{
+    matches!(
+        form,
+        Form::Config | Form::Region | Form::Page | Form::BadWord
+    )
+}
+
+fn setup_line(form: Form, words: &Words<'_>) -> Result<SetupLine, u32>
+    ensures { result ≡ setup_line form words.now }
+{
+    match form {
+        Form::Config => Ok(SetupLine::Config(config_line(words)?)),
+        Form::Region => region_line(words),
+        Form::Page => page_line(words),
+        Form::BadWord => bad_line(words),
+        _ => Err(1),
+    }
+}
+
+fn line_of_form<K: Kind>(form: Form, words: &Words<'_>) -> Result<LineOf<K::Command>, u32>
+    ensures { result ≡ line_of_form K.rules form words.now }
+{
+    if !is_setup_form(form) {
+        return Ok(LineOf::Command(K::command_of(form, words)?));
+    }
+    if !K::takes(form) {
+        return Err(1);
+    }
+    Ok(LineOf::Setup(setup_line(form, words)?))
+}
+
+fn add_pages(setup: &mut Setup, first: u32, count: u8, kind: PageKind)
+    requires room { length setup.old.pages.items + count ≤ 64 }
+    requires numbers { first + count ≤ 2 ^ 32 }
+    ensures pages { setup.new.pages.items ≡ setup.old.pages.items ++ pages_from first count kind }
+    ensures config { setup.new.config ≡ setup.old.config }
+    ensures regions { setup.new.regions ≡ setup.old.regions }
+    ensures bad_words { setup.new.bad_words ≡ setup.old.bad_words }
+{
+    for k in 0..u32::from(count) {
+        setup.pages.push((first + k, kind));
+    }
+}
+
+/// Adds a line that isn't `config` to a set-up.
+fn add(setup: &mut Setup, line: SetupLine)
+    requires { HasRoomFor (lists_of setup.old) line }
+    ensures { lists_of setup.new ≡ with_line (lists_of setup.old) line }
+{
+    match line {
+        SetupLine::Config(config) => setup.config = config,
+        SetupLine::Region(region) => setup.regions.push(region),
+        SetupLine::Pages(first, count, kind) => add_pages(setup, first, count, kind),
+        SetupLine::BadWord(address) => setup.bad_words.push(address),
+    }
+}
+
+impl<K: Kind> StagedScript<K> {
+    /// A script of which no line was read.
+    pub fn new(kind: K) -> StagedScript<K>
+        ensures { result ≡ Opening }
+    {
+        StagedScript {
+            kind,
+            stage: Stage::Opening,
+        }
+    }
+
+    fn is_misplaced(&self, form: Form, words: &Words<'_>) -> bool
+        ensures { result ≡ is_misplaced self.now form words.now }
+    {
+        match &self.stage {
+            Stage::Opening => !matches!(form, Form::Config),
+            Stage::SettingUp(setup) => has_no_room(setup, form, words),
+            Stage::Running(_) => is_setup_form(form),
+        }
+    }
+
+    fn line_in(&self, words: &Words<'_>) -> Result<LineOf<K::Command>, u32>
+        ensures { result ≡ line_in K.rules self.now words.now }
+    {
+        let Some(form) = Form::named(words.at(1)) else {
+            return Err(1);
+        };
+        if self.is_misplaced(form, words) {
+            return Err(1);
+        }
+        line_of_form::<K>(form, words)
+    }
+
+    fn set_up(&mut self, line: SetupLine)
+        requires { MayStand self.old line }
+        ensures { self.new ≡ with_setup_line self.old line }
+    {
+        if let SetupLine::Config(config) = line {
+            self.stage = Stage::SettingUp(Setup::new(config));
+            return;
+        }
+        let Stage::SettingUp(setup) = &mut self.stage else {
+            return;
+        };
+        add(setup, line);
+    }
+
+    /// Makes what commands work on where there is none yet.
+    fn open(&mut self, alloc: Global, number: u32) -> Result<(), ScriptFault>
+        ensures { OpensStage K.rules.asks (world_at K.rules self.old number) (nothing_written self.old) self.new result }
+    {
+        let setup = match &self.stage {
+            Stage::Opening => {
+                return Err(ScriptFault::Script {
+                    line: number,
+                    word: 1,
+                });
+            }
+            Stage::Running(_) => return Ok(()),
+            Stage::SettingUp(setup) => setup,
+        };
+        match self.kind.open(alloc, setup) {
+            Ok(world) => {
+                self.stage = Stage::Running(world);
+                Ok(())
+            }
+            Err(SetupFault::NoMemory) => Err(ScriptFault::NoMemory),
+            Err(fault) => Err(ScriptFault::Setup(fault)),
+        }
+    }
+
+    fn carry_out<W: Write>(
+        &mut self,
+        alloc: Global,
+        number: u32,
+        command: &K::Command,
+        writer: &mut W,
+    ) -> Result<bool, ScriptFault>
+        ensures { TakesStep (reading_of K.rules) (command_step K.rules (world_at K.rules self.old number) command.now) nothing_written self.old self.new (W.contents writer.old) (W.contents writer.new) result }
+    {
+        self.open(alloc, number)?;
+        let Stage::Running(world) = &mut self.stage else {
+            unreachable!();
+        };
+        let Ok(wrote) = self.kind.carry_out(world, command, writer) else {
+            return Err(ScriptFault::Write);
+        };
+        Ok(wrote)
+    }
+}
+
+impl<K: Kind> Script for StagedScript<K> {
+    ghost use Rattle.script_text.specs.Stages.{reading_of, nothing_written};
+
+    ghost reading = { reading_of K.rules };
+
+    ghost is_silent = { nothing_written };
+
+    fn most_lines() -> u32 {
+        K::most_lines()
+    }
+
+    fn take_words<W: Write>(
+        &mut self,
+        alloc: Global,
+        number: u32,
+        words: &Words<'_>,
+        writer: &mut W,
+    ) -> Result<bool, ScriptFault> {
+        match self.line_in(words) {
+            Err(word) => Err(ScriptFault::Script { line: number, word }),
+            Ok(LineOf::Setup(line)) => {
+                self.set_up(line);
+                Ok(false)
+            }
+            Ok(LineOf::Command(command)) => self.carry_out(alloc, number, &command, writer),
+        }
+    }
+
+    fn end<W: Write>(
+        &mut self,
+        alloc: Global,
+        number: u32,
+        writer: &mut W,
+    ) -> Result<bool, ScriptFault> {
+        self.open(alloc, number)?;
+        let Stage::Running(world) = &self.stage else {
+            unreachable!();
+        };
+        self.kind.end(world, writer).map_err(|_| ScriptFault::Write)
+    }
+}

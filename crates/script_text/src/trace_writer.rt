@@ -1,0 +1,103 @@
+//! The lines of a trace. A fault of the writer is answered as it is.
+ghost use Rattle.std.specs.Prelude.{OnOk, flat_map};
+ghost use Rattle.std.specs.Io.KnownBytes.{Appends};
+ghost use Rattle.script_text.specs.Names.{answer_text, refused_text, held_text, reply_text, drained_text, mem_text, work_text};
+ghost use Rattle.axi_beats.specs.Boxes.{w_beats_of};
+ghost use Rattle.axi_beats.specs.Lines.{w_text};
+
+use axi_beats::{BurstBox, ar_line, aw_line, b_line, r_line, w_line};
+use std::io;
+use std::io::Write;
+use tl_checker::TlRule;
+use tl_messages::{DBeat, d_line};
+use world_run::Answer;
+
+/// Writes the line of a refused beat.
+pub fn refused_line<W: Write>(rule: TlRule, writer: &mut W) -> io::Result<()>
+    ensures { OnOk result (Appends (W.contents writer.old) (W.contents writer.new) (refused_text rule)) }
+{
+    let number = rule.number();
+    let name = rule.name();
+    writeln!(writer, "= refused {number} {name}")
+}
+
+/// Writes the line of an answer.
+pub fn answer_line<W: Write>(answer: &Answer, writer: &mut W) -> io::Result<()>
+    ensures { OnOk result (Appends (W.contents writer.old) (W.contents writer.new) (answer_text answer.now)) }
+{
+    match *answer {
+        Answer::More => writeln!(writer, "= more"),
+        Answer::Accepted(number) => writeln!(writer, "= accepted {number}"),
+        Answer::NotReady => writeln!(writer, "= notready"),
+        Answer::Exhausted => writeln!(writer, "= exhausted"),
+        Answer::Refused(rule) => refused_line(rule, writer),
+        Answer::NoClient => writeln!(writer, "= noclient"),
+        Answer::Sent(serial) => writeln!(writer, "= sent {serial}"),
+        Answer::Idle => writeln!(writer, "= idle"),
+        Answer::Done => writeln!(writer, "= done"),
+        Answer::NoSuch => writeln!(writer, "= nosuch"),
+        Answer::Already => writeln!(writer, "= already"),
+        Answer::B(beat) => b_line(&beat, writer),
+        Answer::R(beat) => r_line(&beat, writer),
+        Answer::Nothing => writeln!(writer, "= nothing"),
+        Answer::Reply(number) => writeln!(writer, "= reply {number}"),
+    }
+}
+
+/// Writes the line of each W beat of a write.
+fn w_lines<W: Write>(burst: &BurstBox, writer: &mut W) -> io::Result<()>
+    ensures { OnOk result (Appends (W.contents writer.old) (W.contents writer.new) (flat_map w_text (w_beats_of burst.now))) }
+{
+    for k in 0..burst.w_beats() {
+        w_line(&burst.w(k), writer)?;
+    }
+    Ok(())
+}
+
+/// Writes the lines of a burst that was sent: its address, and the beats of a write.
+pub fn burst_lines<W: Write>(burst: &BurstBox, writer: &mut W) -> io::Result<()>
+    ensures { OnOk result (Appends (W.contents writer.old) (W.contents writer.new) (held_text burst.now)) }
+{
+    if burst.is_empty() {
+        return Ok(());
+    }
+    if !burst.is_write() {
+        return ar_line(&burst.ar(), writer);
+    }
+    aw_line(&burst.aw(), writer)?;
+    w_lines(burst, writer)
+}
+
+/// Writes the lines of a reply's beats.
+pub fn reply_lines<W: Write>(client: u8, beats: &[DBeat], writer: &mut W) -> io::Result<()>
+    ensures { OnOk result (Appends (W.contents writer.old) (W.contents writer.new) (reply_text client beats.now)) }
+{
+    for beat in beats {
+        d_line(client, beat, writer)?;
+    }
+    Ok(())
+}
+
+/// Writes the line of a byte of the memory.
+pub fn mem_line<W: Write>(byte: Option<u8>, writer: &mut W) -> io::Result<()>
+    ensures { OnOk result (Appends (W.contents writer.old) (W.contents writer.new) (mem_text byte)) }
+{
+    match byte {
+        Some(byte) => writeln!(writer, "= mem {byte:02x}"),
+        None => writeln!(writer, "= mem --"),
+    }
+}
+
+/// Writes the line of a drain.
+pub fn drained_line<W: Write>(steps: u64, writer: &mut W) -> io::Result<()>
+    ensures { OnOk result (Appends (W.contents writer.old) (W.contents writer.new) (drained_text steps)) }
+{
+    writeln!(writer, "= drained {steps}")
+}
+
+/// Writes the line of the work left.
+pub fn work_line<W: Write>(work: u64, writer: &mut W) -> io::Result<()>
+    ensures { OnOk result (Appends (W.contents writer.old) (W.contents writer.new) (work_text work)) }
+{
+    writeln!(writer, "= work {work}")
+}

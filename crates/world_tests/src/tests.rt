@@ -1,0 +1,12 @@
+mod answers;
+mod atomics;
+mod bench;
+mod choices;
+mod errors;
+mod limits;
+mod narrow;
+mod offers;
+mod order;
+mod replayer;
+mod requests;
+mod runs;
