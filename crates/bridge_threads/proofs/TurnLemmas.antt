@@ -1,0 +1,21 @@
+-- Choices of a memory thread, with one more. What a step does is hidden.
+use Rattle.std.proofs.Common.{◌≡◌, ℕ, List, [], ◌∷◌, ◌++◌, length, refl, sym, ap, ◌∙◌, subst}
+use Rattle.world_run.specs.World.{WorldState, after, next}
+use Rattle.world_run.specs.declared.Step.{Step}
+use Rattle.bridge_threads.specs.Histories.{SharedState, turned}
+use Rattle.bridge_threads.specs.Turns.{AreChosen, IsChosen, after_turns, place_after, word_at}
+
+pub after_turns-append : (shared : SharedState) (steps : List Step) (step : Step) → after_turns shared (steps ++ step ∷ []) ≡ turned (after_turns shared steps) step
+after_turns-append shared [] step = refl
+after_turns-append shared (first ∷ steps) step = after_turns-append (turned shared first) steps step
+
+-- the world goes with the steps, whether they are stored or not
+pub world_after_turns : (shared : SharedState) (steps : List Step) → (after_turns shared steps).world ≡ after shared.world steps
+world_after_turns shared [] = refl
+world_after_turns shared (first ∷ steps) = world_after_turns (turned shared first) steps
+
+pub AreChosen-append : (words : List ℕ) (place : ℕ) (state : WorldState) (steps : List Step) (middle : ℕ) (step : Step) (end : ℕ) → AreChosen words place state steps middle
+    → IsChosen (after state steps) (word_at words middle) step → end ≡ place_after (length words) middle → AreChosen words place state (steps ++ step ∷ []) end
+AreChosen-append words place state [] middle step end here chosen is = (subst (λ k. IsChosen state (word_at words k) step) (sym here) chosen, ap (place_after (length words)) here ∙ sym is)
+AreChosen-append words place state (first ∷ steps) middle step end are chosen is =
+    (are.0, AreChosen-append words (place_after (length words) place) (next state first).state steps middle step end are.1 chosen is)

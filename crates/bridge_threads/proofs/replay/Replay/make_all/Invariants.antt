@@ -1,0 +1,11 @@
+-- The record is that of a replay of the steps so far, and the laws hold along them.
+use Rattle.std.proofs.Common.{List, [], take}
+use Rattle.world_run.specs.Laws.{AreSoundAlong, IsSoundWorld}
+use Rattle.world_run.specs.World.{WorldState}
+use Rattle.bridge_threads.specs.Replays.{IsReplay, items_of}
+use Rattle.bridge_threads.proofs.replay.Replay.make_all.Given as goal
+
+abbrev pub invariant-loop-step : goal.invariant-loop-step
+invariant-loop-step l =
+    ((start : WorldState) → IsReplay start [] (items_of l.fn.scripts) l.fn.receipts l.fn.self → IsReplay start (take l.step-index l.steps) (items_of l.fn.scripts) l.fn.receipts l.self)
+    × ((start : WorldState) → IsReplay start [] (items_of l.fn.scripts) l.fn.receipts l.fn.self → IsSoundWorld start → AreSoundAlong start (take l.step-index l.steps))

@@ -1,0 +1,43 @@
+-- What is kept under the lock: a history of the world, as one thread could have made it. It knows the steps that changed the world, in the order
+-- in which they were made; which worker made each, and when, is told by nothing.
+use Rattle.std.specs.Prelude.{ℕ, ◌≡◌, Bool, false, List, [], ◌∷◌, ◌++◌, not, if◌then◌else◌, IsTrue}
+use Rattle.std.specs.List.{list_all}
+use Rattle.world_run.specs.Setups.{SetupLists}
+use Rattle.world_run.specs.World.{WorldState, Outcome, after, leaves_all, next, opening_world, outcomes}
+use Rattle.world_run.specs.declared.Step.{Step}
+
+-- whether an event changed the world
+abbrev pub has_changed : Outcome → Bool
+has_changed outcome = not (leaves_all outcome.answer)
+
+-- whether each of some steps changed the world
+abbrev pub all_change : WorldState → List Step → Bool
+all_change start steps = list_all has_changed (outcomes start steps)
+
+-- a history: the world is its start after the stored steps, and each of them changed it
+pub record IsHistory (start : WorldState) (steps : List Step) (world : WorldState) : Type 0 where
+  pub replays : world ≡ after start steps
+  pub changes : IsTrue (all_change start steps)
+
+-- what lies under the lock: the set-up, the world, the stored steps and how many there may be, how many clients are at work, and whether all
+-- workers are to stop
+pub record SharedState : Type 0 where
+  pub setup : SetupLists
+  pub world : WorldState
+  pub steps : List Step
+  pub room : ℕ
+  pub working : ℕ
+  pub stop : Bool
+
+-- before the first step: the opening world, and every client at work
+abbrev pub opening_shared : SetupLists → ℕ → SharedState
+opening_shared setup room =
+    record { setup = setup; world = opening_world setup; steps = []; room = room; working = setup.config.clients; stop = false }
+
+-- after a step, which is stored where it changed the world
+abbrev pub with_outcome : SharedState → Step → Outcome → SharedState
+with_outcome shared step outcome =
+    record shared { world = outcome.state; steps = if leaves_all outcome.answer then shared.steps else shared.steps ++ step ∷ [] }
+
+abbrev pub turned : SharedState → Step → SharedState
+turned shared step = with_outcome shared step (next shared.world step)

@@ -1,0 +1,6 @@
+pub mod Faults
+pub mod Histories
+pub mod Refusals
+pub mod Replays
+pub mod Reports
+pub mod Turns

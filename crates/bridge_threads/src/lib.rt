@@ -1,0 +1,15 @@
+//! The world in several threads, under one lock: a thread for each client, and one to four for bridge and memory.
+#![tactic(auto)]
+
+mod clients;
+mod limits;
+mod ports;
+mod receipts;
+mod replay;
+mod shared;
+mod threads;
+mod turns;
+
+pub use receipts::Receipts;
+pub use shared::{HistoryFull, Shared};
+pub use threads::{Fault, Gate, Limits, Report, Who, run_threads};

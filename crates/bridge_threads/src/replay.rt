@@ -1,0 +1,398 @@
+//! The stored steps once more, in a world of their own, beside scripts and receipts.
+ghost use Rattle.std.specs.Prelude.{◌≡◌, ◌+◌, ◌^◌, ◌&&◌, not, ◌-◌, ◌++◌, ◌∷◌, ◌<◌, ◌≤◌, IfOk, None, ℕ, List, [], length, Some, true, false, is_some, slice_get, if◌then◌else◌};
+ghost use Rattle.tl_messages.specs.declared.ABeat.{ABeat};
+ghost use Rattle.tl_messages.specs.declared.DBeat.{DBeat};
+ghost use Rattle.world_run.specs.Laws.{AreSoundAlong, IsSoundWorld};
+ghost use Rattle.world_run.specs.Headline.{IsOneAtATime};
+ghost use Rattle.world_run.specs.Runs.{answers_of, handed_at, handed_in, sent_in};
+ghost use Rattle.world_run.specs.Setups.{SetupLists, setup_fault};
+ghost use Rattle.world_run.specs.World.{WorldState, after, byte_of, in_flight, leaves_all, next, opening_world};
+ghost use Rattle.bridge_threads.specs.Refusals.{BeginScripts, IsFullHistory};
+ghost use Rattle.world_run.specs.declared.Answer.TheVariants.{Reply};
+ghost use Rattle.world_run.specs.declared.Step.{Step};
+ghost use Rattle.world_run.specs.declared.Step.TheVariants.{Offer, Take};
+ghost use Rattle.bridge_threads.specs.Replays.{HasReceipt, AreFound, IsCount, IsFound, IsReplay, items_of};
+ghost use Rattle.bridge_threads.specs.Reports.{AreClientReports, IsClientReport, IsReport, is_accepted, takes_beat};
+ghost use Rattle.bridge_threads.specs.declared.receipts.Receipts.{Receipts};
+
+use crate::clients::place;
+use crate::receipts::Receipts;
+use crate::shared::leaves_all;
+use std::alloc::{AllocError, Global};
+use tl_messages::{ABeat, ReplyBox};
+use world_run::{Answer, Step, World};
+
+/// The most clients that a bridge has.
+pub(crate) const MOST_CLIENTS: usize = 8;
+
+/// What a replay finds of one client.
+#[derive(Clone, Copy, Debug, PartialEq, Eq)]
+pub(crate) struct Found {
+    /// How many beats it offered as its script has them.
+    pub offered: usize,
+    /// Whether an Offer wasn't the script's next beat, or wasn't taken.
+    pub strayed: bool,
+    /// How many requests were accepted; it stays at the largest number.
+    pub accepted: usize,
+    /// How many replies are as its receipts have them.
+    pub right: usize,
+    /// How many beats these have.
+    pub beats: usize,
+    /// Whether the reply after these isn't as its receipts have it.
+    pub differs: bool,
+}
+
+impl Found {
+    pub(crate) const NOTHING: Found = Found {
+        offered: 0,
+        strayed: false,
+        accepted: 0,
+        right: 0,
+        beats: 0,
+        differs: false,
+    };
+
+    /// Whether an Offer is of the script's next beat, and is taken, where all before it were so.
+    fn goes_on(&self, script: &[ABeat], beat: &ABeat, answer: Answer) -> bool
+        ensures goes { result ≡ true → (self.now.strayed ≡ false) × (takes_beat answer ≡ true) × (slice_get script.now self.now.offered ≡ Some beat.now) × (self.now.offered + 1 < 2 ^ 64) }
+        ensures strays { result ≡ false → self.now.strayed ≡ false → takes_beat answer ≡ true → slice_get script.now self.now.offered ≡ Some beat.now → ⊥ }
+    {
+        !self.strayed && takes_beat(answer) && is_next(script, self.offered, beat)
+    }
+
+    /// Whether a reply is the receipts' next one, where all before it were so.
+    fn receives(&self, received: &Receipts, number: u64, reply: &ReplyBox) -> bool
+        ensures same { result ≡ true → (self.now.differs ≡ false) × HasReceipt received.now self.now.right self.now.beats number reply.now × (self.now.right < length received.now.heads.items) × (self.now.beats + length reply.now ≤ length received.now.beats.items) }
+        ensures differs { result ≡ false → self.now.differs ≡ false → self.now.beats ≤ length received.now.beats.items → HasReceipt received.now self.now.right self.now.beats number reply.now → ⊥ }
+    {
+        !self.differs && received.has(self.right, self.beats, number, reply)
+    }
+
+    /// After an Offer of the client.
+    fn after_offer(self, script: &[ABeat], beat: &ABeat, answer: Answer) -> Found
+        ensures { (start : WorldState) (past : List Step) (client : ℕ) (received : Receipts) → IsFound start past client script.now received self → answer ≡ (next (after start past) (Offer client beat.now)).answer → IsFound start (past ++ Offer client beat.now ∷ []) client script.now received result }
+    {
+        let accepted = accepted_with(self.accepted, answer);
+        if !self.goes_on(script, beat, answer) {
+            return Found {
+                strayed: true,
+                accepted,
+                ..self
+            };
+        }
+        Found {
+            offered: self.offered + 1,
+            accepted,
+            ..self
+        }
+    }
+
+    /// After a Take of the client that was answered by a reply.
+    fn after_reply(self, received: &Receipts, number: u64, reply: &ReplyBox) -> Found
+        ensures { (start : WorldState) (past : List Step) (client : ℕ) (script : List ABeat) → IsFound start past client script received.now self → (next (after start past) (Take client)).answer ≡ Reply number → reply.now ≡ (next (after start past) (Take client)).reply → IsFound start (past ++ Take client ∷ []) client script received.now result }
+    {
+        if !self.receives(received, number, reply) {
+            return Found {
+                differs: true,
+                ..self
+            };
+        }
+        Found {
+            right: self.right + 1,
+            beats: self.beats + usize::from(reply.beats()),
+            ..self
+        }
+    }
+}
+
+/// Whether an answer tells that a beat was taken.
+fn takes_beat(answer: Answer) -> bool
+    ensures { result ≡ takes_beat answer }
+{
+    matches!(answer, Answer::More | Answer::Accepted(_))
+}
+
+/// Whether a beat is the one at a place of a script.
+fn is_next(script: &[ABeat], place: usize, beat: &ABeat) -> bool
+    ensures next { result ≡ true → (slice_get script.now place ≡ Some beat.now) × (place + 1 < 2 ^ 64) }
+    ensures other { result ≡ false → slice_get script.now place ≡ Some beat.now → ⊥ }
+{
+    place < script.len() && script[place] == *beat
+}
+
+/// A count of accepted requests with an answer; it stays at the largest number.
+fn accepted_with(count: usize, answer: Answer) -> usize
+    ensures { (of : ℕ) → IsCount count of → IsCount result (if is_accepted answer then of + 1 else of) }
+{
+    match answer {
+        Answer::Accepted(_) => count.saturating_add(1),
+        _ => count,
+    }
+}
+
+/// A world of its own, and what it found of the steps so far.
+#[derive(Drop)]
+pub(crate) struct Replay {
+    world: World,
+    reply: ReplyBox,
+    found: [Found; MOST_CLIENTS],
+    /// Whether each step changed the world.
+    changes: bool,
+    /// How many requests were accepted, and how many replies handed out; they stay at the largest number.
+    accepted: usize,
+    handed: usize,
+}
+
+impl Replay {
+    /// A world before the first step, of which nothing was found.
+    pub(crate) fn new(alloc: Global, world: World) -> Result<Replay, AllocError>
+        ensures { IfOk result (λ replay. (scripts : List (List ABeat)) (receipts : List Receipts) → IsReplay world [] scripts receipts replay) }
+    {
+        Ok(Replay {
+            world,
+            reply: ReplyBox::new(alloc)?,
+            found: [Found::NOTHING; MOST_CLIENTS],
+            changes: true,
+            accepted: 0,
+            handed: 0,
+        })
+    }
+
+    /// Makes one step more.
+    fn make(&mut self, scripts: &[Vec<ABeat>], receipts: &[Receipts], step: &Step)
+        ensures grows { (start : WorldState) (past : List Step) → IsReplay start past (items_of scripts.now) receipts.now self.old → IsReplay start (past ++ step.now ∷ []) (items_of scripts.now) receipts.now self.new }
+        ensures laws { IsSoundWorld self.new.world }
+    {
+        let answer = self.world.step(step, &mut self.reply);
+        self.changes = changes_with(self.changes, answer);
+        self.accepted = accepted_with(self.accepted, answer);
+        self.handed = handed_with(self.handed, step, answer);
+        match *step {
+            Step::Offer(client, beat) => offered(&mut self.found, scripts, client, &beat, answer),
+            Step::Take(client) => {
+                if let Answer::Reply(number) = answer {
+                    taken(&mut self.found, receipts, client, number, &self.reply);
+                }
+            }
+            _ => {}
+        }
+    }
+
+    /// Makes all steps.
+    fn make_all(&mut self, scripts: &[Vec<ABeat>], receipts: &[Receipts], steps: &[Step])
+        ensures replays { (start : WorldState) → IsReplay start [] (items_of scripts.now) receipts.now self.old → IsReplay start steps.now (items_of scripts.now) receipts.now self.new }
+        ensures laws { (start : WorldState) → IsReplay start [] (items_of scripts.now) receipts.now self.old → IsSoundWorld start → AreSoundAlong start steps.now }
+    {
+        for step in steps {
+            self.make(scripts, receipts, step);
+        }
+    }
+}
+
+/// Whether all steps changed the world, with one of this answer.
+fn changes_with(changes: bool, answer: Answer) -> bool
+    ensures { result ≡ (changes && not (leaves_all answer)) }
+{
+    changes && !leaves_all(answer)
+}
+
+/// How many replies were handed out, with a step and its answer; it stays at the largest number.
+fn handed_with(count: usize, step: &Step, answer: Answer) -> usize
+    ensures { (of : ℕ) (beats : List DBeat) → IsCount count of → IsCount result (if is_some (handed_at step.now answer beats) then of + 1 else of) }
+{
+    match (*step, answer) {
+        (Step::Take(_), Answer::Reply(_)) => count.saturating_add(1),
+        _ => count,
+    }
+}
+
+/// What was found of a client.
+fn found_of(found: &[Found; MOST_CLIENTS], client: usize) -> Found
+    requires { client < 8 }
+    ensures { slice_get found.now client ≡ Some result }
+{
+    found[client]
+}
+
+/// After an Offer of a client, where it has a script.
+fn offered(
+    found: &mut [Found; MOST_CLIENTS],
+    scripts: &[Vec<ABeat>],
+    client: u8,
+    beat: &ABeat,
+    answer: Answer,
+)
+    ensures { (start : WorldState) (past : List Step) (receipts : List Receipts) → AreFound start past (items_of scripts.now) receipts found.old → answer ≡ (next (after start past) (Offer client beat.now)).answer → AreFound start (past ++ Offer client beat.now ∷ []) (items_of scripts.now) receipts found.new }
+{
+    let client = usize::from(client);
+    if client >= MOST_CLIENTS {
+        return;
+    }
+    if client >= scripts.len() {
+        return;
+    }
+    let before = found_of(found, client);
+    let script = scripts[client].as_slice();
+    found[client] = before.after_offer(script, beat, answer);
+}
+
+/// After a reply that a client took, where it has receipts.
+fn taken(
+    found: &mut [Found; MOST_CLIENTS],
+    receipts: &[Receipts],
+    client: u8,
+    number: u64,
+    reply: &ReplyBox,
+)
+    ensures { (start : WorldState) (past : List Step) (scripts : List (List ABeat)) → AreFound start past scripts receipts.now found.old → (next (after start past) (Take client)).answer ≡ Reply number → reply.now ≡ (next (after start past) (Take client)).reply → AreFound start (past ++ Take client ∷ []) scripts receipts.now found.new }
+{
+    let client = usize::from(client);
+    if client >= MOST_CLIENTS {
+        return;
+    }
+    if client >= receipts.len() {
+        return;
+    }
+    let before = found_of(found, client);
+    found[client] = before.after_reply(&receipts[client], number, reply);
+}
+
+/// A client, and the place in its receipts, at which the history differs.
+#[derive(Clone, Copy, Debug, PartialEq, Eq)]
+pub(crate) struct Mismatch {
+    pub client: u8,
+    pub index: u32,
+}
+
+/// Whether each of a client's facts holds.
+fn is_right(found: &Found, script: &[ABeat], received: &Receipts) -> bool
+    ensures right { result ≡ true → (start : WorldState) (steps : List Step) (client : ℕ) → IsFound start steps client script.now received.now found.now → IsClientReport start steps client script.now received.now }
+{
+    !found.strayed
+        && found.offered == script.len()
+        && !found.differs
+        && found.right == received.heads.len()
+        && found.beats == received.beats.len()
+        && found.accepted == found.right
+}
+
+/// The first client of whom not all is right.
+fn first_wrong(
+    found: &[Found; MOST_CLIENTS],
+    scripts: &[Vec<ABeat>],
+    receipts: &[Receipts],
+) -> Option<usize>
+    ensures none { result ≡ None → (start : WorldState) (steps : List Step) → AreFound start steps (items_of scripts.now) receipts.now found.now → AreClientReports start steps (items_of scripts.now) receipts.now }
+{
+    for client in 0..scripts.len() {
+        if client >= MOST_CLIENTS {
+            return Some(client);
+        }
+        if client >= receipts.len() {
+            return Some(client);
+        }
+        let its = found_of(found, client);
+        if !is_right(&its, scripts[client].as_slice(), &receipts[client]) {
+            return Some(client);
+        }
+    }
+    None
+}
+
+/// Whether each client has receipts, and none strayed from its script.
+fn none_strayed(
+    found: &[Found; MOST_CLIENTS],
+    scripts: &[Vec<ABeat>],
+    receipts: &[Receipts],
+) -> bool
+    ensures { result ≡ true → (start : WorldState) (steps : List Step) → AreFound start steps (items_of scripts.now) receipts.now found.now → BeginScripts steps (items_of scripts.now) }
+{
+    for client in 0..scripts.len() {
+        if client >= MOST_CLIENTS {
+            return false;
+        }
+        if client >= receipts.len() {
+            return false;
+        }
+        let its = found_of(found, client);
+        if its.strayed {
+            return false;
+        }
+    }
+    true
+}
+
+impl Replay {
+    /// Whether all that no client shows is right too.
+    fn is_settled(&self) -> bool
+        ensures { result ≡ true → (self.now.changes ≡ true) × (in_flight self.now.world ≡ 0) × (self.now.accepted ≡ self.now.handed) × (self.now.accepted < 2 ^ 64 - 1) }
+    {
+        self.changes
+            && self.world.in_flight() == 0
+            && self.accepted == self.handed
+            && self.accepted < usize::MAX
+    }
+
+    /// The place after the receipts of a client that are right.
+    fn place_of(&self, client: usize) -> u32 {
+        if client < MOST_CLIENTS {
+            place(self.found[client].right)
+        } else {
+            0
+        }
+    }
+
+    /// Makes the stored steps, and answers the world after them where they are a report's; else who differs first, by number.
+    pub(crate) fn compared(
+        self,
+        scripts: &[Vec<ABeat>],
+        steps: &[Step],
+        receipts: &[Receipts],
+    ) -> Result<World, Mismatch>
+        ensures report { IfOk result (λ world. (setup : SetupLists) → setup_fault setup ≡ None → length scripts.now ≡ setup.config.clients → IsReplay (opening_world setup) [] (items_of scripts.now) receipts.now self → IsSoundWorld (opening_world setup) → IsReport setup (items_of scripts.now) steps.now receipts.now world) }
+        ensures one_at_a_time { IfOk result (λ world. (setup : SetupLists) → IsReplay (opening_world setup) [] (items_of scripts.now) receipts.now self → IsSoundWorld (opening_world setup) → IsOneAtATime setup steps.now (answers_of (opening_world setup) steps.now) (handed_in (opening_world setup) steps.now) (sent_in (opening_world setup) steps.now) (in_flight world) (byte_of world)) }
+    {
+        let mut replay = self;
+        replay.make_all(scripts, receipts, steps);
+        if let Some(client) = first_wrong(&replay.found, scripts, receipts) {
+            return Err(Mismatch {
+                client: u8::try_from(client).unwrap_or(u8::MAX),
+                index: replay.place_of(client),
+            });
+        }
+        if receipts.len() != scripts.len() {
+            return Err(Mismatch {
+                client: 0,
+                index: 0,
+            });
+        }
+        if !replay.is_settled() {
+            return Err(Mismatch {
+                client: 0,
+                index: 0,
+            });
+        }
+        let Replay { world, .. } = replay;
+        Ok(world)
+    }
+
+    /// Whether so many steps are stored, each of which changes the world, and each client's offers begin its script.
+    pub(crate) fn fills(
+        &mut self,
+        scripts: &[Vec<ABeat>],
+        steps: &[Step],
+        receipts: &[Receipts],
+        room: u32,
+    ) -> bool
+        ensures { result ≡ true → (setup : SetupLists) → IsReplay (opening_world setup) [] (items_of scripts.now) receipts.now self.old → IsFullHistory setup (items_of scripts.now) room steps.now }
+    {
+        if steps.len() != room as usize {
+            return false;
+        }
+        self.make_all(scripts, receipts, steps);
+        if !self.changes {
+            return false;
+        }
+        none_strayed(&self.found, scripts, receipts)
+    }
+}

@@ -1,0 +1,545 @@
+//! The threads, which ask the gate, lock, make a turn and let go.
+ghost use Rattle.std.specs.Prelude.{◌≡◌, ◌↔◌, List, [], None, Some, Ok, Err, true, false, IfOk, IfSome, IsTrue};
+ghost use Rattle.tl_messages.specs.declared.ABeat.{ABeat};
+ghost use Rattle.bridge_core.specs.Configs.{is_valid};
+ghost use Rattle.world_run.specs.Headline.{IsOneAtATime};
+ghost use Rattle.world_run.specs.Laws.{IsSoundWorld};
+ghost use Rattle.world_run.specs.Runs.{answers_of, handed_in, sent_in};
+ghost use Rattle.world_run.specs.Setups.{lists_of, setup_fault};
+ghost use Rattle.world_run.specs.World.{byte_of, in_flight, opening_world};
+ghost use Rattle.world_run.specs.declared.Step.{Step};
+ghost use Rattle.bridge_threads.specs.Faults.{is_mismatch, is_of_worker};
+ghost use Rattle.bridge_threads.specs.Refusals.{IsFullHistory, is_refused};
+ghost use Rattle.bridge_threads.specs.Replays.{IsReplay, items_of};
+ghost use Rattle.bridge_threads.specs.Reports.{IsReport};
+ghost use Rattle.bridge_threads.specs.declared.receipts.Receipts.{Receipts};
+ghost use Rattle.bridge_threads.specs.declared.threads.Fault.TheVariants.{BadConfig, HistoryFull, NoMemory};
+
+use crate::Shared;
+use crate::clients::{ClientWork, client_turn};
+use crate::limits::is_refused;
+use crate::ports::{refused_at, room_for};
+use crate::receipts::Receipts;
+use crate::replay::{Mismatch, Replay};
+use crate::turns::{Turn, WorkerFault, memory_turn, paced};
+use std::alloc::{AllocError, Global};
+use std::sync::{Mutex, Wait};
+use std::thread;
+use std::thread::{JoinHandle, Threads};
+use tl_checker::{Port, TlRule};
+use tl_messages::{ABeat, ReplyBox};
+use world_run::{Setup, Step, World};
+
+/// A worker.
+#[derive(Clone, Copy, Debug, PartialEq, Eq)]
+pub enum Who {
+    /// The thread of the client of this number.
+    Client(u8),
+    /// The memory thread of this number.
+    Memory(u8),
+}
+
+/// Is asked before each turn of a worker, without the lock: by it a caller can hold workers up, or end a run.
+pub trait Gate {
+    /// Whether a worker may make its turn `index`, counted from 0; the count stays at the largest number.
+    fn pass(&self, who: Who, index: u32) -> bool;
+}
+
+/// The limits of a threaded run.
+#[derive(Clone, Copy, Debug, PartialEq, Eq)]
+pub struct Limits {
+    /// How many steps may be stored, 1 to 1,000,000.
+    pub steps: u32,
+    /// How many idle turns in a row end a worker, at least 1.
+    pub idle: u32,
+}
+
+/// Why a threaded run has no report.
+#[derive(Clone, Copy, Debug, PartialEq, Eq)]
+pub enum Fault {
+    /// The set-up is refused for another cause than memory; there isn't one script for each client, or one has over 4,096
+    /// beats; there are not 1 to 4 lists of words; or a limit is 0, or over 1,000,000 steps.
+    BadConfig,
+    /// Memory was refused, before the first thread started.
+    NoMemory,
+    /// A thread was refused.
+    Spawn,
+    /// The gate answered false.
+    GateShut,
+    /// A worker had too many idle turns in a row.
+    IdleLimit,
+    /// The history has no room.
+    HistoryFull,
+    /// A beat of a client's script was refused, by another rule than a busy source.
+    BeatRefused {
+        /// The client.
+        client: u8,
+        /// The beat's place in its script, from 0.
+        index: u32,
+        /// The first rule that it breaks.
+        rule: TlRule,
+    },
+    /// The stored steps, made once more, don't give what the workers received and offered.
+    ReceiptMismatch {
+        /// The first client by number of whom this is so.
+        client: u8,
+        /// The first of its receipts that differs, or the place after its last.
+        index: u32,
+    },
+}
+
+/// What a threaded run gave.
+#[derive(Drop)]
+pub struct Report {
+    /// The steps that changed the world, in order.
+    pub steps: Vec<Step>,
+    /// What each client received.
+    pub receipts: Vec<Receipts>,
+    /// The world after the steps.
+    pub world: World,
+}
+
+/// What a client hands back.
+#[derive(Drop)]
+struct ClientOutcome {
+    fault: Option<WorkerFault>,
+    receipts: Receipts,
+}
+
+/// A client with its box, before its thread starts.
+#[derive(Drop)]
+struct Seat {
+    work: ClientWork,
+    reply: ReplyBox,
+}
+
+/// One client's thread.
+fn client<R: Wait, G: Gate>(
+    rt: &R,
+    lock: &Mutex<Shared>,
+    gate: &G,
+    seat: Seat,
+    script: &[ABeat],
+    limit: u32,
+) -> ClientOutcome {
+    let Seat {
+        mut work,
+        mut reply,
+    } = seat;
+    let who = Who::Client(work.number);
+    let mut fault = None;
+    let mut index = 0u32;
+    let mut left = limit;
+    for _ in rt.forever() {
+        let turn = if gate.pass(who, index) {
+            let mut held = lock.lock(rt);
+            client_turn(&mut work, &mut held, script, &mut reply)
+        } else {
+            Turn::Failed(WorkerFault::GateShut)
+        };
+        index = index.saturating_add(1);
+        match paced(turn, &mut left, limit) {
+            Turn::Moved | Turn::Idle => {}
+            Turn::Ended => break,
+            Turn::Failed(failed) => {
+                lock.lock(rt).stop();
+                fault = Some(failed);
+                break;
+            }
+        }
+    }
+    let ClientWork { receipts, .. } = work;
+    ClientOutcome { fault, receipts }
+}
+
+/// A memory thread.
+fn memory<R: Wait, G: Gate>(
+    rt: &R,
+    lock: &Mutex<Shared>,
+    gate: &G,
+    number: u8,
+    words: &[u64],
+    limit: u32,
+    reply: ReplyBox,
+) -> Option<WorkerFault> {
+    let mut reply = reply;
+    let mut place = 0usize;
+    let mut index = 0u32;
+    let mut left = limit;
+    for _ in rt.forever() {
+        let turn = if gate.pass(Who::Memory(number), index) {
+            let mut held = lock.lock(rt);
+            memory_turn(&mut held, words, &mut place, &mut reply)
+        } else {
+            Turn::Failed(WorkerFault::GateShut)
+        };
+        index = index.saturating_add(1);
+        match paced(turn, &mut left, limit) {
+            Turn::Moved | Turn::Idle => {}
+            Turn::Ended => break,
+            Turn::Failed(failed) => {
+                lock.lock(rt).stop();
+                return Some(failed);
+            }
+        }
+    }
+    None
+}
+
+/// All that a run needs, made before its first thread.
+#[derive(Drop)]
+struct Prepared {
+    shared: Shared,
+    replay: Replay,
+    ports: Vec<Port>,
+    crew: Crew,
+}
+
+/// One client's place, and its port, by whose walk over the script its receipts have room.
+fn seat_of(
+    alloc: Global,
+    setup: &Setup,
+    number: u8,
+    script: &[ABeat],
+) -> Result<(Seat, Port), AllocError>
+    requires { is_valid setup.now.config ≡ true }
+{
+    let level = setup.config.level_of(number);
+    let mut port = Port::new(alloc, number, level, setup.config.max_size)?;
+    let room = room_for(&mut port, script);
+    let receipts = Receipts::new(alloc, room.replies, room.beats)?;
+    let reply = ReplyBox::new(alloc)?;
+    let work = ClientWork::new(number, receipts);
+    Ok((Seat { work, reply }, port))
+}
+
+/// A second world, in which nothing was replayed yet.
+fn second_world(alloc: Global, setup: &Setup) -> Result<Replay, AllocError>
+    requires { setup_fault (lists_of setup.now) ≡ None }
+    ensures fresh { IfOk result (λ replay. (given : List (List ABeat)) (receipts : List Receipts) → IsReplay (opening_world (lists_of setup.now)) [] given receipts replay) }
+    ensures sound { IfOk result (λ replay. IsSoundWorld (opening_world (lists_of setup.now))) }
+{
+    let Ok(world) = World::new(alloc, setup) else {
+        return Err(AllocError);
+    };
+    Replay::new(alloc, world)
+}
+
+/// Each client's place, and its port.
+fn seats_of(
+    alloc: Global,
+    setup: &Setup,
+    scripts: &[Vec<ABeat>],
+) -> Result<(Vec<Seat>, Vec<Port>), AllocError>
+    requires { is_valid setup.now.config ≡ true }
+{
+    let mut seats = Vec::with_capacity(alloc, scripts.len())?;
+    let mut ports = Vec::with_capacity(alloc, scripts.len())?;
+    let mut number = 0u8;
+    for script in scripts {
+        let (seat, port) = seat_of(alloc, setup, number, script.as_slice())?;
+        seats.push(seat)?;
+        ports.push(port)?;
+        number = number.saturating_add(1);
+    }
+    Ok((seats, ports))
+}
+
+/// So many reply boxes.
+fn boxes_of(alloc: Global, count: usize) -> Result<Vec<ReplyBox>, AllocError> {
+    let mut boxes = Vec::with_capacity(alloc, count)?;
+    for _ in 0..count {
+        boxes.push(ReplyBox::new(alloc)?)?;
+    }
+    Ok(boxes)
+}
+
+/// The crew of these clients, and of so many memory threads.
+fn crew_of(alloc: Global, seats: Vec<Seat>, memories: usize) -> Result<Crew, AllocError> {
+    let clients = seats.len();
+    Ok(Crew {
+        seats,
+        boxes: boxes_of(alloc, memories)?,
+        clients: Vec::with_capacity(alloc, clients)?,
+        memories: Vec::with_capacity(alloc, memories)?,
+        faults: Vec::with_capacity(alloc, clients.saturating_add(memories))?,
+        receipts: Vec::with_capacity(alloc, clients)?,
+    })
+}
+
+/// Takes all room.
+fn prepare(
+    alloc: Global,
+    setup: &Setup,
+    scripts: &[Vec<ABeat>],
+    memories: usize,
+    limits: Limits,
+) -> Result<Prepared, AllocError>
+    requires { setup_fault (lists_of setup.now) ≡ None }
+    ensures fresh { IfOk result (λ room. (given : List (List ABeat)) (receipts : List Receipts) → IsReplay (opening_world (lists_of setup.now)) [] given receipts room.replay) }
+    ensures sound { IfOk result (λ room. IsSoundWorld (opening_world (lists_of setup.now))) }
+{
+    let Ok(replay) = second_world(alloc, setup) else {
+        return Err(AllocError);
+    };
+    let Ok(shared) = Shared::new(alloc, setup, limits.steps) else {
+        return Err(AllocError);
+    };
+    let (seats, ports) = seats_of(alloc, setup, scripts)?;
+    let crew = crew_of(alloc, seats, memories)?;
+    Ok(Prepared {
+        shared,
+        replay,
+        ports,
+        crew,
+    })
+}
+
+/// What came of all threads: whether one was refused, the fault of each worker, clients by number before memory threads, and
+/// what each client received.
+#[derive(Drop)]
+struct Joined {
+    refused: bool,
+    faults: Vec<Option<WorkerFault>>,
+    receipts: Vec<Receipts>,
+}
+
+/// What the threads of a run take with them, and the lists of what they hand back.
+#[derive(Drop)]
+struct Crew {
+    seats: Vec<Seat>,
+    boxes: Vec<ReplyBox>,
+    clients: Vec<JoinHandle<ClientOutcome>>,
+    memories: Vec<JoinHandle<Option<WorkerFault>>>,
+    faults: Vec<Option<WorkerFault>>,
+    receipts: Vec<Receipts>,
+}
+
+/// Item `k` of some lists; an empty one where there are not so many.
+fn list_at<T>(lists: &[Vec<T>], k: u8) -> &[T] {
+    let k = usize::from(k);
+    if k < lists.len() {
+        lists[k].as_slice()
+    } else {
+        &[]
+    }
+}
+
+/// Starts a thread for each client and for each list of words, and joins them all. Where one is refused, all are told to stop.
+fn run_crew<R: Threads + Wait + Sync, G: Gate + Sync>(
+    rt: &R,
+    lock: &Mutex<Shared>,
+    gate: &G,
+    scripts: &[Vec<ABeat>],
+    words: &[Vec<u64>],
+    limit: u32,
+    crew: Crew,
+) -> Joined {
+    let Crew {
+        seats,
+        boxes,
+        mut clients,
+        mut memories,
+        mut faults,
+        mut receipts,
+    } = crew;
+    thread::scope(thread::scope_env(), rt, |scope| {
+        let mut refused = false;
+        for seat in seats {
+            let script = list_at(scripts, seat.work.number);
+            match scope.spawn(move || client(rt, lock, gate, seat, script, limit)) {
+                Ok(handle) => {
+                    let _ = clients.push(handle);
+                }
+                Err(_) => refused = true,
+            }
+        }
+        let mut number = 0u8;
+        for reply in boxes {
+            let ring = list_at(words, number);
+            let mine = number;
+            match scope.spawn(move || memory(rt, lock, gate, mine, ring, limit, reply)) {
+                Ok(handle) => {
+                    let _ = memories.push(handle);
+                }
+                Err(_) => refused = true,
+            }
+            number = number.saturating_add(1);
+        }
+        if refused {
+            lock.lock(rt).stop();
+        }
+        for handle in clients {
+            let ClientOutcome {
+                fault,
+                receipts: received,
+            } = handle.join(rt);
+            let _ = faults.push(fault);
+            let _ = receipts.push(received);
+        }
+        for handle in memories {
+            let _ = faults.push(handle.join(rt));
+        }
+        Joined {
+            refused,
+            faults,
+            receipts,
+        }
+    })
+}
+
+/// What a worker's fault is told as, or where it doesn't hold, what fault 8 would tell.
+fn confirmed(
+    fault: WorkerFault,
+    worker: usize,
+    ports: &mut Vec<Port>,
+    scripts: &[Vec<ABeat>],
+    full: bool,
+) -> Result<Fault, Mismatch>
+    ensures own { IfOk result (λ told. is_of_worker told ≡ true) }
+    ensures full { result ≡ Ok HistoryFull → full ≡ true }
+{
+    let client = worker.min(usize::from(u8::MAX)) as u8;
+    match fault {
+        WorkerFault::GateShut => Ok(Fault::GateShut),
+        WorkerFault::IdleLimit => Ok(Fault::IdleLimit),
+        WorkerFault::HistoryFull if full => Ok(Fault::HistoryFull),
+        WorkerFault::HistoryFull => Err(Mismatch {
+            client: 0,
+            index: 0,
+        }),
+        WorkerFault::BeatRefused(index, rule) => {
+            if worker < ports.len()
+                && worker < scripts.len()
+                && refused_at(&mut ports[worker], scripts[worker].as_slice(), index) == Some(rule)
+            {
+                return Ok(Fault::BeatRefused {
+                    client,
+                    index,
+                    rule,
+                });
+            }
+            Err(Mismatch { client, index })
+        }
+        WorkerFault::NoRoom(index) => Err(Mismatch { client, index }),
+    }
+}
+
+/// The fault to tell of the workers': the first that holds, else the first that doesn't, as fault 8; none where none met one.
+fn told(
+    faults: &[Option<WorkerFault>],
+    ports: &mut Vec<Port>,
+    scripts: &[Vec<ABeat>],
+    full: bool,
+) -> Option<Fault>
+    ensures own { IfSome result (λ told. is_of_worker told ≡ true) }
+    ensures full { result ≡ Some HistoryFull → full ≡ true }
+{
+    let mut late = None;
+    for worker in 0..faults.len() {
+        let Some(fault) = faults[worker] else {
+            continue;
+        };
+        match confirmed(fault, worker, ports, scripts, full) {
+            Ok(fault) => return Some(fault),
+            Err(mismatch) => {
+                if late.is_none() {
+                    late = Some(mismatched(mismatch));
+                }
+            }
+        }
+    }
+    late
+}
+
+fn mismatched(mismatch: Mismatch) -> Fault
+    ensures { is_mismatch result ≡ true }
+{
+    Fault::ReceiptMismatch {
+        client: mismatch.client,
+        index: mismatch.index,
+    }
+}
+
+/// The fault to tell where a worker met a full history, which is full or isn't.
+fn told_at_full(
+    faults: &[Option<WorkerFault>],
+    ports: &mut Vec<Port>,
+    scripts: &[Vec<ABeat>],
+    full: bool,
+) -> Fault
+    ensures own { is_of_worker result ≡ true }
+    ensures full { result ≡ HistoryFull → full ≡ true }
+{
+    match told(faults, ports, scripts, full) {
+        Some(fault) => fault,
+        None => Fault::ReceiptMismatch {
+            client: 0,
+            index: 0,
+        },
+    }
+}
+
+/// Whether a worker met a full history.
+fn met_full_history(faults: &[Option<WorkerFault>]) -> bool {
+    faults
+        .iter()
+        .any(|fault| matches!(fault, Some(WorkerFault::HistoryFull)))
+}
+
+/// Runs a set-up in threads: one for each client, which offers its script and takes its replies, and one for each list of
+/// words, which makes the choices of bridge and memory by these words, over and over.
+pub fn run_threads<R: Threads + Wait + Sync, G: Gate + Sync>(
+    rt: &R,
+    alloc: Global,
+    setup: &Setup,
+    scripts: &[Vec<ABeat>],
+    words: &[Vec<u64>],
+    gate: &G,
+    limits: Limits,
+) -> Result<Report, Fault>
+    ensures report { IfOk result (λ report. IsReport (lists_of setup.now) (items_of scripts.now) report.steps.items report.receipts.items report.world) }
+    ensures one_at_a_time { IfOk result (λ report. IsOneAtATime (lists_of setup.now) report.steps.items (answers_of (opening_world (lists_of setup.now)) report.steps.items) (handed_in (opening_world (lists_of setup.now)) report.steps.items) (sent_in (opening_world (lists_of setup.now)) report.steps.items) (in_flight report.world) (byte_of report.world)) }
+    ensures refused { (result ≡ Err BadConfig) ↔ IsTrue (is_refused (lists_of setup.now) (items_of scripts.now) (items_of words.now) limits.steps limits.idle) }
+    ensures full { result ≡ Err HistoryFull → (steps : List Step) × IsFullHistory (lists_of setup.now) (items_of scripts.now) limits.steps steps }
+    ensures memory { result ≡ Err NoMemory → is_refused (lists_of setup.now) (items_of scripts.now) (items_of words.now) limits.steps limits.idle ≡ false }
+{
+    if is_refused(setup, scripts, words, limits) {
+        return Err(Fault::BadConfig);
+    }
+    let Ok(room) = prepare(alloc, setup, scripts, words.len(), limits) else {
+        return Err(Fault::NoMemory);
+    };
+    let Prepared {
+        shared,
+        mut replay,
+        mut ports,
+        crew,
+    } = room;
+    let lock = Mutex::new(shared);
+    let Joined {
+        refused,
+        faults,
+        receipts,
+    } = run_crew(rt, &lock, gate, scripts, words, limits.idle, crew);
+    if refused {
+        return Err(Fault::Spawn);
+    }
+    let steps = lock.into_inner().into_steps();
+    let faults = faults.as_slice();
+    if met_full_history(faults) {
+        let full = replay.fills(scripts, steps.as_slice(), receipts.as_slice(), limits.steps);
+        return Err(told_at_full(faults, &mut ports, scripts, full));
+    }
+    if let Some(fault) = told(faults, &mut ports, scripts, false) {
+        return Err(fault);
+    }
+    match replay.compared(scripts, steps.as_slice(), receipts.as_slice()) {
+        Ok(world) => Ok(Report {
+            steps,
+            receipts,
+            world,
+        }),
+        Err(mismatch) => Err(mismatched(mismatch)),
+    }
+}
