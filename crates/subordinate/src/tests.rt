@@ -1,33 +1,98 @@
-ghost use Rattle.std.specs.Prelude.{◌≤◌, length};
-
+//! Scripts of events on a memory alone, and the lists that it refuses.
 use super::*;
 use axi_beats::{ArBeat, AwBeat, BBeat, RBeat, Resp, WBeat};
-use std::alloc::{AllocError, Global};
-use std::test::Fail;
+use std::alloc::Global;
 
-const PAGES: &[(u32, PageKind)] = &[(0x10, PageKind::Good)];
+/// A data beat of a write: its payload, its strobes, and whether it is the last.
+type Data = (u64, u8, bool);
+
+/// A burst that is sent, or that a box holds: its ID, address, len and size, and a write's data.
+#[derive(Clone, Copy)]
+enum Burst<'a> {
+    Write(u8, u32, u8, u8, &'a [Data]),
+    /// A write whose addresses don't rise.
+    Fixed(u8, u32, u8, u8, &'a [Data]),
+    Read(u8, u32, u8, u8),
+}
 
 /// What became of a burst that was to be sent.
 #[derive(Clone, Copy, Debug, PartialEq, Eq)]
 enum Sent {
     Serial(u64),
-    /// The number of the rule that it breaks.
-    Broken(u8),
-    /// It may not be sent now: the box is empty, or a closed one waits to be taken back.
+    /// It breaks this rule, and its box came back as it was.
+    Broken(AxiRule),
+    /// It may not be sent now: a closed one waits to be taken back.
     NotAllowed,
 }
 
-const fn write(id: u8, address: u32, len: u8, size: u8) -> AwBeat {
+/// What is done to a memory, or seen of it, and the answer that it has to give.
+#[derive(Clone, Copy)]
+enum Event {
+    Send(Burst<'static>, Sent),
+    Perform(u64, u16, Performed),
+    /// The B of an ID is asked for.
+    B(u8, Option<Resp>),
+    /// The R of an ID is asked for: its payload, its response, and whether it is its burst's last.
+    R(u8, Option<(u64, Resp, bool)>),
+    /// Whether the B of an ID can come, and whether its R can.
+    Can(u8, bool, bool),
+    /// How many bursts were sent, beats wait to be performed, and performed beats wait for their answer.
+    Counts(u64, u32, u64),
+    /// A beat that waits to be performed: its burst's serial, and which beat of it.
+    Waits(u32, Option<(u64, u16)>),
+    Byte(u32, Option<u8>),
+    /// The open burst of a serial.
+    Open(u64, Option<Burst<'static>>),
+    /// The box that closed first of those that wait is taken back.
+    Take(Option<Burst<'static>>),
+    /// So many boxes wait to be taken back.
+    Closed(u8),
+}
+
+use Burst::{Fixed, Read, Write};
+use Event::{B, Byte, Can, Closed, Counts, Open, Perform, R, Send, Take, Waits};
+use Performed::{Already, Done, NoSuch};
+use Resp::{DecErr, Okay, SlvErr};
+use Sent::{Broken, NotAllowed, Serial};
+
+/// Events on a fresh memory.
+#[derive(Clone, Copy)]
+struct Script {
+    name: &'static str,
+    /// Whether the bus has four bytes in place of eight.
+    narrow: bool,
+    pages: &'static [(u32, PageKind)],
+    bad_words: &'static [u32],
+    events: &'static [Event],
+}
+
+/// A bus of eight bytes, and one page.
+const PLAIN: Script = Script {
+    name: "",
+    narrow: false,
+    pages: &[(0x10, PageKind::Good)],
+    bad_words: &[],
+    events: &[],
+};
+
+/// Eight bytes, the last of a burst.
+const SEVEN: &[Data] = &[(7, 0xff, true)];
+
+const ONES: &[Data] = &[(u64::MAX, 0xff, true)];
+
+/// The fields of a write.
+const fn write_address(id: u8, address: u32, len: u8, size: u8, burst: u8) -> AwBeat {
     AwBeat {
         id,
         address,
         len,
         size,
-        burst: 1,
+        burst,
     }
 }
 
-const fn read(id: u8, address: u32, len: u8, size: u8) -> ArBeat {
+/// The fields of a read whose addresses rise.
+const fn read_address(id: u8, address: u32, len: u8, size: u8) -> ArBeat {
     ArBeat {
         id,
         address,
@@ -37,7 +102,7 @@ const fn read(id: u8, address: u32, len: u8, size: u8) -> ArBeat {
     }
 }
 
-const fn data(payload: u64, strobes: u8, last: bool) -> WBeat {
+const fn data((payload, strobes, last): Data) -> WBeat {
     WBeat {
         payload,
         strobes,
@@ -45,558 +110,611 @@ const fn data(payload: u64, strobes: u8, last: bool) -> WBeat {
     }
 }
 
-fn response(id: u8, resp: Resp) -> Option<BBeat> {
-    Some(BBeat { id, resp })
-}
-
-fn read_data(id: u8, payload: u64, resp: Resp, last: bool) -> Option<RBeat> {
-    Some(RBeat {
-        id,
-        payload,
-        resp,
-        last,
-    })
-}
-
-fn send(device: &mut Device, burst: BurstBox) -> Sent {
-    if burst.is_empty() || device.closed() > 0 || device.sent() >= 1 << 60 {
-        return Sent::NotAllowed;
-    }
-    match device.send_box(burst) {
-        Ok(serial) => Sent::Serial(serial),
-        Err(refused) => Sent::Broken(refused.rule.number()),
+/// Whether a box holds a burst.
+fn holds(burst: &BurstBox, expected: Burst<'_>) -> bool {
+    match expected {
+        Read(id, address, len, size) => {
+            !burst.is_empty()
+                && !burst.is_write()
+                && burst.ar() == read_address(id, address, len, size)
+        }
+        Write(id, address, len, size, data) => {
+            holds_write(burst, write_address(id, address, len, size, 1), data)
+        }
+        Fixed(id, address, len, size, data) => {
+            holds_write(burst, write_address(id, address, len, size, 0), data)
+        }
     }
 }
 
-fn send_read(alloc: Global, device: &mut Device, ar: ArBeat) -> Result<Sent, AllocError> {
-    let mut burst = BurstBox::new(alloc)?;
-    burst.set_read(ar);
-    Ok(send(device, burst))
-}
-
-fn send_write(
-    alloc: Global,
-    device: &mut Device,
-    aw: AwBeat,
-    beats: &[WBeat],
-) -> Result<Sent, AllocError>
-    requires { length beats.now ≤ 256 }
-{
-    let mut burst = BurstBox::new(alloc)?;
-    burst.set_write(aw, beats);
-    Ok(send(device, burst))
-}
-
-/// Whether a box holds a write of this address and these data.
-fn holds(burst: &BurstBox, aw: AwBeat, beats: &[WBeat]) -> bool {
+/// Whether a box holds a write of these data.
+fn holds_write(burst: &BurstBox, aw: AwBeat, beats: &[Data]) -> bool {
     if !burst.is_write() || burst.aw() != aw || usize::from(burst.w_beats()) != beats.len() {
         return false;
     }
     for k in 0..burst.w_beats() {
-        if beats.get(usize::from(k)).copied() != Some(burst.w(k)) {
+        if beats.get(usize::from(k)).map(|beat| data(*beat)) != Some(burst.w(k)) {
             return false;
         }
     }
     true
 }
 
-/// Two reads of one ID: any beat may be performed, and only the next beat of the older read may be answered.
-#[test]
-fn reads_of_one_id(rt: HostRuntime) -> Result<(), Fail> {
-    let mut device = Device::new(rt.alloc(), 8, PAGES, &[]).expect(&rt, "memory");
-    let first = send_read(rt.alloc(), &mut device, read(0, 0x10000, 15, 3))?;
-    let second = send_read(rt.alloc(), &mut device, read(0, 0x10080, 15, 3))?;
-    assert_eq!(rt; (first, second), (Sent::Serial(0), Sent::Serial(1)));
-    assert_eq!(rt; (device.sent(), device.pending()), (2, 32));
-    for (serial, beat, answer) in [
-        (99, 0, Performed::NoSuch),
-        (2, 0, Performed::NoSuch),
-        (0, 16, Performed::NoSuch),
-        (1, 16, Performed::NoSuch),
-        (1, 15, Performed::Done),
-        (1, 15, Performed::Already),
-        (1, 0, Performed::Done),
-    ] {
-        assert_eq!(rt; device.perform(serial, beat), answer, "{serial} {beat}");
+/// Whether there is a box that holds the burst, where there should be one.
+fn holds_expected(burst: Option<&BurstBox>, expected: Option<Burst<'_>>) -> bool {
+    match (burst, expected) {
+        (Some(burst), Some(expected)) => holds(burst, expected),
+        (None, None) => true,
+        _ => false,
     }
-    assert!(rt; !device.can_r(0));
-    assert_eq!(rt; device.answer_r(0), None);
-    assert_eq!(rt; device.perform(0, 0), Performed::Done);
-    assert_eq!(rt; (device.pending(), device.performed_waiting()), (29, 3));
-    assert!(rt; device.can_r(0) && !device.can_r(1) && !device.can_b(0));
-    assert_eq!(rt; device.answer_r(1), None);
-    assert_eq!(rt; device.answer_b(0), None);
-    assert_eq!(rt; device.answer_r(0), read_data(0, 0, Resp::Okay, false));
-    assert_eq!(rt; device.answer_r(0), None);
-    assert_eq!(rt; (device.pending(), device.performed_waiting()), (29, 2));
-    assert_eq!(rt; device.perform(0, 0), Performed::Already);
-    assert_eq!(rt; device.closed(), 0);
-    for (k, waiting) in [(0, (0, 1)), (14, (0, 15)), (15, (1, 1)), (28, (1, 14))] {
-        let found = if k < device.pending() {
-            Some(device.pending_at(k))
-        } else {
-            None
-        };
-        assert_eq!(rt; found, Some(waiting), "beat {k}");
-    }
-    Ok(())
 }
 
-/// A write and a read of the same words, their beats performed in turn.
-#[test]
-fn beats_in_any_order(rt: HostRuntime) -> Result<(), Fail> {
-    let mut device = Device::new(rt.alloc(), 8, PAGES, &[]).expect(&rt, "memory");
-    let beats = [data(1, 0xff, false), data(2, 0xff, true)];
-    let put = send_write(rt.alloc(), &mut device, write(0, 0x10000, 1, 3), &beats)?;
-    let get = send_read(rt.alloc(), &mut device, read(0, 0x10000, 1, 3))?;
-    assert_eq!(rt; (put, get), (Sent::Serial(0), Sent::Serial(1)));
-    assert_eq!(rt; device.perform(1, 1), Performed::Done);
-    assert_eq!(rt; device.perform(0, 1), Performed::Done);
-    assert_eq!(rt; device.byte(0x10008), Some(2));
-    assert_eq!(rt; device.byte(0x10000), Some(0));
-    assert_eq!(rt; device.answer_b(0), None);
-    assert_eq!(rt; device.answer_r(0), None);
-    assert_eq!(rt; device.perform(0, 0), Performed::Done);
-    assert_eq!(rt; device.perform(1, 0), Performed::Done);
-    assert_eq!(rt; device.performed_waiting(), 4);
-    assert_eq!(rt; device.answer_r(0), read_data(0, 1, Resp::Okay, false));
-    assert_eq!(rt; device.performed_waiting(), 3);
-    assert_eq!(rt; device.answer_r(0), read_data(0, 0, Resp::Okay, true));
-    assert_eq!(rt; device.answer_r(0), None);
-    assert_eq!(rt; device.performed_waiting(), 2);
-    assert!(rt; device.burst(0).is_some() && device.burst(1).is_none());
-    assert_eq!(rt; device.answer_b(0), response(0, Resp::Okay));
-    assert_eq!(rt; device.answer_b(0), None);
-    assert_eq!(rt; device.perform(0, 0), Performed::NoSuch);
-    assert_eq!(rt; (device.sent(), device.closed()), (2, 2));
-    Ok(())
-}
-
-/// Each ID's answers come in the order of its addresses, on each side alone; the boxes of closed bursts in the order in
-/// which these closed.
-#[test]
-fn answers_and_boxes_in_order(rt: HostRuntime) -> Result<(), Fail> {
-    let mut device = Device::new(rt.alloc(), 8, PAGES, &[]).expect(&rt, "memory");
-    let put = |id, address| (write(id, address, 0, 3), [data(7, 0xff, true)]);
-    for (serial, (aw, beats)) in [put(5, 0x10000), put(5, 0x10008), put(6, 0x10010)]
-        .into_iter()
-        .enumerate()
-    {
-        let sent = send_write(rt.alloc(), &mut device, aw, &beats)?;
-        assert_eq!(rt; sent, Sent::Serial(serial as u64));
-    }
-    let get = send_read(rt.alloc(), &mut device, read(5, 0x10018, 0, 3))?;
-    assert_eq!(rt; get, Sent::Serial(3));
-    assert_eq!(rt; device.perform(1, 0), Performed::Done);
-    assert!(rt; !device.can_b(5) && !device.can_b(6) && !device.can_r(5));
-    assert_eq!(rt; device.answer_b(5), None);
-    assert_eq!(rt; device.perform(3, 0), Performed::Done);
-    assert_eq!(rt; device.perform(2, 0), Performed::Done);
-    assert!(rt; !device.can_b(5) && device.can_b(6) && device.can_r(5));
-    assert!(rt; device.take_closed().is_none());
-    assert_eq!(rt; device.answer_b(6), response(6, Resp::Okay));
-    assert_eq!(rt; device.perform(0, 0), Performed::Done);
-    assert_eq!(rt; device.answer_b(5), response(5, Resp::Okay));
-    assert_eq!(rt; device.answer_r(5), read_data(5, 0, Resp::Okay, true));
-    assert_eq!(rt; device.closed(), 3);
-    let held = device.burst(1).is_some_and(|b| holds(
-        b,
-        write(5, 0x10008, 0, 3),
-        &[data(7, 0xff, true)],
-    ));
-    assert!(rt; held);
-    let sixth = device.take_closed().is_some_and(|b| holds(
-        &b,
-        write(6, 0x10010, 0, 3),
-        &[data(7, 0xff, true)],
-    ));
-    let fifth = device.take_closed().is_some_and(|b| holds(
-        &b,
-        write(5, 0x10000, 0, 3),
-        &[data(7, 0xff, true)],
-    ));
-    assert!(rt; sixth && fifth);
-    assert_eq!(rt; device.closed(), 1);
-    assert!(rt; device.take_closed().is_some_and(|b| !b.is_write()));
-    assert!(rt; device.take_closed().is_none());
-    assert_eq!(rt; device.answer_b(5), response(5, Resp::Okay));
-    Ok(())
-}
-
-/// A read beat holds what it took when it was performed, whatever is written before it is answered.
-#[test]
-fn data_are_taken_when_performed(rt: HostRuntime) -> Result<(), Fail> {
-    let mut device = Device::new(rt.alloc(), 8, PAGES, &[]).expect(&rt, "memory");
-    let get = send_read(rt.alloc(), &mut device, read(0, 0x10000, 0, 3))?;
-    let again = send_read(rt.alloc(), &mut device, read(1, 0x10000, 0, 3))?;
-    let put = send_write(
-        rt.alloc(),
-        &mut device,
-        write(0, 0x10000, 0, 3),
-        &[data(9, 0xff, true)],
-    )?;
-    assert_eq!(rt;
-        (get, again, put),
-        (Sent::Serial(0), Sent::Serial(1), Sent::Serial(2))
-    );
-    for serial in [0, 2, 1] {
-        assert_eq!(rt; device.perform(serial, 0), Performed::Done);
-    }
-    assert_eq!(rt; device.answer_r(1), read_data(1, 9, Resp::Okay, true));
-    assert_eq!(rt; device.answer_r(0), read_data(0, 0, Resp::Okay, true));
-    Ok(())
-}
-
-/// Slave-error pages and absent pages answer with their errors and change nothing; a write to a bad word is taken, and it
-/// stays bad.
-#[test]
-fn error_pages_and_bad_words(rt: HostRuntime) -> Result<(), Fail> {
-    let pages = [(0x11, PageKind::SlaveError), (0x10, PageKind::Good)];
-    let mut device = Device::new(rt.alloc(), 8, &pages, &[0x10008]).expect(&rt, "memory");
-    for (serial, (address, resp, byte)) in [
-        (0x11000, Resp::SlvErr, None),
-        (0x12000, Resp::DecErr, None),
-        (0x10008, Resp::Okay, Some(0xff)),
-    ]
-    .into_iter()
-    .enumerate()
-    {
-        let full = [data(u64::MAX, 0xff, true)];
-        let put = send_write(rt.alloc(), &mut device, write(0, address, 0, 3), &full)?;
-        assert_eq!(rt; put, Sent::Serial(2 * serial as u64));
-        let get = send_read(rt.alloc(), &mut device, read(0, address, 0, 3))?;
-        assert_eq!(rt; get, Sent::Serial(2 * serial as u64 + 1));
-        assert_eq!(rt; device.perform(2 * serial as u64, 0), Performed::Done);
-        assert_eq!(rt; device.perform(2 * serial as u64 + 1, 0), Performed::Done);
-        assert_eq!(rt; device.answer_b(0), response(0, resp), "{address:x}");
-        let error = if byte.is_some() { Resp::SlvErr } else { resp };
-        assert_eq!(rt;
-            device.answer_r(0),
-            read_data(0, 0, error, true),
-            "{address:x}"
-        );
-        assert_eq!(rt; device.byte(address), byte, "{address:x}");
-        assert!(rt; device.take_closed().is_some() && device.take_closed().is_some());
-    }
-    for (address, byte) in [(0x10007, 0), (0x1000f, 0xff), (0x10010, 0)] {
-        assert_eq!(rt; device.byte(address), Some(byte), "{address:x}");
-    }
-    let get = send_read(rt.alloc(), &mut device, read(0, 0x10000, 3, 3))?;
-    assert_eq!(rt; get, Sent::Serial(6));
-    for (beat, resp) in [
-        (0, Resp::Okay),
-        (1, Resp::SlvErr),
-        (2, Resp::Okay),
-        (3, Resp::Okay),
-    ] {
-        assert_eq!(rt; device.perform(6, beat), Performed::Done);
-        assert_eq!(rt;
-            device.answer_r(0),
-            read_data(0, 0, resp, beat == 3),
-            "beat {beat}"
-        );
-    }
-    Ok(())
-}
-
-/// A burst that breaks a rule changes nothing, and its box comes back.
-#[test]
-fn refusals_hand_the_box_back(rt: HostRuntime) -> Result<(), Fail> {
-    let mut device = Device::new(rt.alloc(), 8, PAGES, &[]).expect(&rt, "memory");
-    let more = data(u64::MAX, 0xff, false);
-    let last = data(u64::MAX, 0xff, true);
-    let fixed = AwBeat {
-        burst: 0,
-        ..write(0, 0x10000, 0, 3)
-    };
-    for (place, (aw, beats, count, rule)) in [
-        (write(0, 0x10000, 0, 4), [last, last], 1, AxiRule::Size),
-        (fixed, [last, last], 1, AxiRule::BurstKind),
-        (write(0, 0x10ff8, 1, 3), [more, last], 2, AxiRule::Cross4K),
-        (write(16, 0x10000, 0, 3), [last, last], 1, AxiRule::IdRange),
-        (
-            write(0, 0x10000, 0, 3),
-            [last, last],
-            2,
-            AxiRule::WWithoutAw,
-        ),
-        (write(0, 0x10000, 0, 2), [last, last], 1, AxiRule::Strobe),
-        // Data that end too early, `last` too late, and `last` too early.
-        (write(0, 0x10000, 1, 3), [more, last], 1, AxiRule::WLast),
-        (write(0, 0x10000, 0, 3), [more, last], 1, AxiRule::WLast),
-        (write(0, 0x10000, 1, 3), [last, last], 2, AxiRule::WLast),
-        (write(0, 0x10000, 0, 3), [last, last], 0, AxiRule::WLast),
-    ]
-    .into_iter()
-    .enumerate()
-    {
-        let beats = &beats[..beats.len().min(count)];
-        let mut burst = BurstBox::new(rt.alloc())?;
-        burst.set_write(aw, beats);
-        assert_eq!(rt; (device.closed(), device.sent()), (0, 0), "burst {place}");
-        match device.send_box(burst) {
-            Ok(_) => assert!(rt; false, "burst {place}"),
-            Err(refused) => {
-                assert_eq!(rt; refused.rule, rule, "burst {place}");
-                assert!(rt; holds(&refused.burst, aw, beats), "burst {place}");
-            }
+/// A box with a burst of at most 256 data beats; none where there is no memory for it.
+fn boxed(alloc: Global, burst: Burst<'_>) -> Option<BurstBox> {
+    let (aw, beats) = match burst {
+        Read(id, address, len, size) => {
+            let mut made = BurstBox::new(alloc).ok()?;
+            made.set_read(read_address(id, address, len, size));
+            return Some(made);
         }
-        assert_eq!(rt;
-            (device.sent(), device.pending(), device.closed()),
-            (0, 0, 0)
-        );
-        assert_eq!(rt; device.byte(0x10000), Some(0), "burst {place}");
-    }
-    Ok(())
+        Write(id, address, len, size, beats) => (write_address(id, address, len, size, 1), beats),
+        Fixed(id, address, len, size, beats) => (write_address(id, address, len, size, 0), beats),
+    };
+    boxed_write(alloc, aw, beats)
 }
 
-/// Each ID has four open bursts on each side, counted apart; a read is open until its last R came.
+/// The same of a write.
+fn boxed_write(alloc: Global, aw: AwBeat, beats: &[Data]) -> Option<BurstBox> {
+    let mut copied = [data((0, 0, false)); 256];
+    if beats.len() > copied.len() {
+        return None;
+    }
+    for (to, from) in copied.iter_mut().zip(beats) {
+        *to = data(*from);
+    }
+    let mut made = BurstBox::new(alloc).ok()?;
+    made.set_write(aw, &copied[..beats.len()]);
+    Some(made)
+}
+
+/// What becomes of a burst; none where it comes back as another, or there is no memory for it.
+fn send(alloc: Global, device: &mut Device, burst: Burst<'_>) -> Option<Sent> {
+    let boxed = boxed(alloc, burst)?;
+    if boxed.is_empty() || device.closed() > 0 || device.sent() >= 1 << 60 {
+        return Some(NotAllowed);
+    }
+    match device.send_box(boxed) {
+        Ok(serial) => Some(Serial(serial)),
+        Err(refused) if holds(&refused.burst, burst) => Some(Broken(refused.rule)),
+        Err(_) => None,
+    }
+}
+
+/// A beat that waits to be performed.
+fn waiting(device: &Device, k: u32) -> Option<(u64, u16)> {
+    if k < device.pending() {
+        Some(device.pending_at(k))
+    } else {
+        None
+    }
+}
+
+/// Whether what is seen of a memory is what the event tells.
+fn shows(device: &Device, event: Event) -> bool {
+    match event {
+        Can(id, b, r) => (device.can_b(id), device.can_r(id)) == (b, r),
+        Counts(sent, pending, performed) => {
+            (device.sent(), device.pending(), device.performed_waiting())
+                == (sent, pending, performed)
+        }
+        Waits(k, beat) => waiting(device, k) == beat,
+        Byte(address, byte) => device.byte(address) == byte,
+        Open(serial, burst) => holds_expected(device.burst(serial), burst),
+        Closed(count) => device.closed() == count,
+        _ => false,
+    }
+}
+
+/// Whether the answer is the one that the event has to give.
+fn carries(alloc: Global, device: &mut Device, event: Event) -> bool {
+    match event {
+        Send(burst, wanted) => send(alloc, device, burst) == Some(wanted),
+        Perform(serial, beat, wanted) => device.perform(serial, beat) == wanted,
+        B(id, wanted) => device.answer_b(id) == wanted.map(|resp| BBeat { id, resp }),
+        R(id, wanted) => {
+            device.answer_r(id)
+                == wanted.map(|(payload, resp, last)| RBeat {
+                    id,
+                    payload,
+                    resp,
+                    last,
+                })
+        }
+        Take(wanted) => holds_expected(device.take_closed().as_ref(), wanted),
+        event => shows(device, event),
+    }
+}
+
+/// How many events of a script gave their answers before one didn't; none where there is no memory for it.
+fn carried(alloc: Global, script: &Script) -> Option<usize> {
+    let bus_bytes = if script.narrow { 4 } else { 8 };
+    if script.pages.len() > 64 || script.bad_words.len() > 64 {
+        return None;
+    }
+    let mut device = Device::new(alloc, bus_bytes, script.pages, script.bad_words).ok()?;
+    let mut done = 0usize;
+    for event in script.events {
+        if !carries(alloc, &mut device, *event) {
+            return Some(done);
+        }
+        done = done.saturating_add(1);
+    }
+    Some(done)
+}
+
+/// The name of the first script that fails, and how many of its events gave their answers.
+fn failing(alloc: Global, scripts: &[Script]) -> Option<(&'static str, usize)> {
+    for script in scripts {
+        let done = carried(alloc, script).unwrap_or(0);
+        if done != script.events.len() {
+            return Some((script.name, done));
+        }
+    }
+    None
+}
+
+const FIRST: Burst<'static> = Read(0, 0x10000, 15, 3);
+
+const SECOND: Burst<'static> = Read(0, 0x10080, 15, 3);
+
+const ONE_AND_TWO: &[Data] = &[(1, 0xff, false), (2, 0xff, true)];
+
+const ORDER: &[Script] = &[
+    Script {
+        name: "of two reads of one ID any beat is performed, and the next beat of the older is answered",
+        events: &[
+            Send(FIRST, Serial(0)),
+            Send(SECOND, Serial(1)),
+            Counts(2, 32, 0),
+            Perform(99, 0, NoSuch),
+            Perform(2, 0, NoSuch),
+            Perform(0, 16, NoSuch),
+            Perform(1, 16, NoSuch),
+            Perform(1, 15, Done),
+            Perform(1, 15, Already),
+            Perform(1, 0, Done),
+            Can(0, false, false),
+            R(0, None),
+            Perform(0, 0, Done),
+            Counts(2, 29, 3),
+            Can(0, false, true),
+            Can(1, false, false),
+            R(1, None),
+            B(0, None),
+            R(0, Some((0, Okay, false))),
+            R(0, None),
+            Counts(2, 29, 2),
+            Perform(0, 0, Already),
+            Closed(0),
+            Waits(0, Some((0, 1))),
+            Waits(14, Some((0, 15))),
+            Waits(15, Some((1, 1))),
+            Waits(28, Some((1, 14))),
+            Waits(29, None),
+        ],
+        ..PLAIN
+    },
+    Script {
+        name: "a write and a read of the same words, their beats performed in turn",
+        events: &[
+            Send(Write(0, 0x10000, 1, 3, ONE_AND_TWO), Serial(0)),
+            Send(Read(0, 0x10000, 1, 3), Serial(1)),
+            Perform(1, 1, Done),
+            Perform(0, 1, Done),
+            Byte(0x10008, Some(2)),
+            Byte(0x10000, Some(0)),
+            B(0, None),
+            R(0, None),
+            Perform(0, 0, Done),
+            Perform(1, 0, Done),
+            Counts(2, 0, 4),
+            R(0, Some((1, Okay, false))),
+            Counts(2, 0, 3),
+            R(0, Some((0, Okay, true))),
+            R(0, None),
+            Counts(2, 0, 2),
+            Open(0, Some(Write(0, 0x10000, 1, 3, ONE_AND_TWO))),
+            Open(1, None),
+            B(0, Some(Okay)),
+            B(0, None),
+            Perform(0, 0, NoSuch),
+            Counts(2, 0, 0),
+            Closed(2),
+        ],
+        ..PLAIN
+    },
+    Script {
+        name: "each ID is answered in the order of its addresses, each side alone; boxes come back as they closed",
+        events: &[
+            Send(Write(5, 0x10000, 0, 3, SEVEN), Serial(0)),
+            Send(Write(5, 0x10008, 0, 3, SEVEN), Serial(1)),
+            Send(Write(6, 0x10010, 0, 3, SEVEN), Serial(2)),
+            Send(Read(5, 0x10018, 0, 3), Serial(3)),
+            Perform(1, 0, Done),
+            Can(5, false, false),
+            Can(6, false, false),
+            B(5, None),
+            Perform(3, 0, Done),
+            Perform(2, 0, Done),
+            Can(5, false, true),
+            Can(6, true, false),
+            Take(None),
+            B(6, Some(Okay)),
+            Perform(0, 0, Done),
+            B(5, Some(Okay)),
+            R(5, Some((0, Okay, true))),
+            Closed(3),
+            Send(Read(5, 0x10018, 0, 3), NotAllowed),
+            Open(1, Some(Write(5, 0x10008, 0, 3, SEVEN))),
+            Take(Some(Write(6, 0x10010, 0, 3, SEVEN))),
+            Take(Some(Write(5, 0x10000, 0, 3, SEVEN))),
+            Closed(1),
+            Take(Some(Read(5, 0x10018, 0, 3))),
+            Take(None),
+            B(5, Some(Okay)),
+        ],
+        ..PLAIN
+    },
+    Script {
+        name: "a read beat holds what it took when it was performed, whatever is written before it is answered",
+        events: &[
+            Send(Read(0, 0x10000, 0, 3), Serial(0)),
+            Send(Read(1, 0x10000, 0, 3), Serial(1)),
+            Send(Write(0, 0x10000, 0, 3, SEVEN), Serial(2)),
+            Perform(0, 0, Done),
+            Perform(2, 0, Done),
+            Perform(1, 0, Done),
+            R(1, Some((7, Okay, true))),
+            R(0, Some((0, Okay, true))),
+        ],
+        ..PLAIN
+    },
+];
+
+const ERRORS: &[Script] = &[Script {
+    name: "error pages and absent ones change nothing; a bad word takes what is written, and stays bad",
+    pages: &[(0x11, PageKind::SlaveError), (0x10, PageKind::Good)],
+    bad_words: &[0x10008],
+    events: &[
+        Send(Write(0, 0x11000, 0, 3, ONES), Serial(0)),
+        Send(Read(0, 0x11000, 0, 3), Serial(1)),
+        Perform(0, 0, Done),
+        Perform(1, 0, Done),
+        B(0, Some(SlvErr)),
+        R(0, Some((0, SlvErr, true))),
+        Byte(0x11000, None),
+        Take(Some(Write(0, 0x11000, 0, 3, ONES))),
+        Take(Some(Read(0, 0x11000, 0, 3))),
+        Send(Write(0, 0x12000, 0, 3, ONES), Serial(2)),
+        Send(Read(0, 0x12000, 0, 3), Serial(3)),
+        Perform(2, 0, Done),
+        Perform(3, 0, Done),
+        B(0, Some(DecErr)),
+        R(0, Some((0, DecErr, true))),
+        Byte(0x12000, None),
+        Take(Some(Write(0, 0x12000, 0, 3, ONES))),
+        Take(Some(Read(0, 0x12000, 0, 3))),
+        Send(Write(0, 0x10008, 0, 3, ONES), Serial(4)),
+        Send(Read(0, 0x10000, 3, 3), Serial(5)),
+        Perform(4, 0, Done),
+        B(0, Some(Okay)),
+        Byte(0x10007, Some(0)),
+        Byte(0x10008, Some(0xff)),
+        Byte(0x1000f, Some(0xff)),
+        Byte(0x10010, Some(0)),
+        Perform(5, 0, Done),
+        Perform(5, 1, Done),
+        Perform(5, 2, Done),
+        Perform(5, 3, Done),
+        R(0, Some((0, Okay, false))),
+        R(0, Some((0, SlvErr, false))),
+        R(0, Some((0, Okay, false))),
+        R(0, Some((0, Okay, true))),
+    ],
+    ..PLAIN
+}];
+
+const MORE: Data = (u64::MAX, 0xff, false);
+
+const LAST: Data = (u64::MAX, 0xff, true);
+
+const REFUSALS: &[Script] = &[
+    Script {
+        name: "a burst that breaks a rule changes nothing, and its box comes back",
+        events: &[
+            Send(Write(0, 0x10000, 0, 4, &[LAST]), Broken(AxiRule::Size)),
+            Send(Fixed(0, 0x10000, 0, 3, &[LAST]), Broken(AxiRule::BurstKind)),
+            Send(
+                Write(0, 0x10ff8, 1, 3, &[MORE, LAST]),
+                Broken(AxiRule::Cross4K),
+            ),
+            Send(Write(16, 0x10000, 0, 3, &[LAST]), Broken(AxiRule::IdRange)),
+            Send(
+                Write(0, 0x10000, 0, 3, &[LAST, LAST]),
+                Broken(AxiRule::WWithoutAw),
+            ),
+            Send(Write(0, 0x10000, 0, 2, &[LAST]), Broken(AxiRule::Strobe)),
+            // Data that end too early, `last` too late, and `last` too early.
+            Send(Write(0, 0x10000, 1, 3, &[MORE]), Broken(AxiRule::WLast)),
+            Send(Write(0, 0x10000, 0, 3, &[MORE]), Broken(AxiRule::WLast)),
+            Send(
+                Write(0, 0x10000, 1, 3, &[LAST, LAST]),
+                Broken(AxiRule::WLast),
+            ),
+            Send(Write(0, 0x10000, 0, 3, &[]), Broken(AxiRule::WLast)),
+            Counts(0, 0, 0),
+            Closed(0),
+            Byte(0x10000, Some(0)),
+            Byte(0x10ff8, Some(0)),
+        ],
+        ..PLAIN
+    },
+    Script {
+        name: "each ID has four open bursts on each side, counted apart; a read is open until its last R came",
+        events: &[
+            Send(Write(15, 0x10000, 0, 3, SEVEN), Serial(0)),
+            Send(Read(15, 0x10000, 1, 3), Serial(1)),
+            Send(Write(15, 0x10000, 0, 3, SEVEN), Serial(2)),
+            Send(Read(15, 0x10000, 1, 3), Serial(3)),
+            Send(Write(15, 0x10000, 0, 3, SEVEN), Serial(4)),
+            Send(Read(15, 0x10000, 1, 3), Serial(5)),
+            Send(Write(15, 0x10000, 0, 3, SEVEN), Serial(6)),
+            Send(Read(15, 0x10000, 1, 3), Serial(7)),
+            Send(Write(15, 0x10000, 0, 3, SEVEN), Broken(AxiRule::Depth)),
+            Send(Read(15, 0x10000, 0, 3), Broken(AxiRule::Depth)),
+            Send(Read(16, 0x10000, 0, 3), Broken(AxiRule::IdRange)),
+            Send(Read(14, 0x10000, 0, 3), Serial(8)),
+            Perform(1, 0, Done),
+            R(15, Some((0, Okay, false))),
+            Take(None),
+            Send(Read(15, 0x10000, 0, 3), Broken(AxiRule::Depth)),
+            Perform(1, 1, Done),
+            R(15, Some((0, Okay, true))),
+            Take(Some(Read(15, 0x10000, 1, 3))),
+            Send(Read(15, 0x10000, 0, 3), Serial(9)),
+            Send(Write(15, 0x10000, 0, 3, SEVEN), Broken(AxiRule::Depth)),
+        ],
+        ..PLAIN
+    },
+];
+
+/// The first of two transfers of four bytes begins in lane 3.
+const UNEVEN: Burst<'static> = Write(
+    0,
+    0x10003,
+    1,
+    2,
+    &[(u64::MAX, 0x08, false), (0x4433_2211_0000_0000, 0xf0, true)],
+);
+
+const LANES: &[Script] = &[Script {
+    name: "a transfer's bytes stand in the lanes that its addresses name, and its other lanes are zero",
+    events: &[
+        Send(
+            Write(0, 0x10013, 0, 0, &[(0xff00_0000, 0x08, true)]),
+            Serial(0),
+        ),
+        Send(
+            Write(0, 0x10016, 0, 1, &[(0x8000_0000_0000_0000, 0xc0, true)]),
+            Serial(1),
+        ),
+        Send(Write(0, 0x10010, 0, 3, &[(0, 0, true)]), Serial(2)),
+        Send(UNEVEN, Serial(3)),
+        Perform(0, 0, Done),
+        Perform(1, 0, Done),
+        Perform(2, 0, Done),
+        Perform(3, 1, Done),
+        Perform(3, 0, Done),
+        Byte(0x10002, Some(0)),
+        Byte(0x10003, Some(0xff)),
+        Byte(0x10004, Some(0x11)),
+        Byte(0x10007, Some(0x44)),
+        Byte(0x10012, Some(0)),
+        Byte(0x10013, Some(0xff)),
+        Byte(0x10014, Some(0)),
+        Byte(0x10017, Some(0x80)),
+        Send(Read(1, 0x10013, 0, 0), Serial(4)),
+        Send(Read(2, 0x10010, 0, 3), Serial(5)),
+        Send(Read(3, 0x10004, 0, 1), Serial(6)),
+        Perform(4, 0, Done),
+        Perform(5, 0, Done),
+        Perform(6, 0, Done),
+        R(1, Some((0xff00_0000, Okay, true))),
+        R(2, Some((0x8000_0000_ff00_0000, Okay, true))),
+        R(3, Some((0x2211_0000_0000, Okay, true))),
+    ],
+    ..PLAIN
+}];
+
+/// A bus of four bytes.
+const NARROW: Script = Script {
+    narrow: true,
+    ..PLAIN
+};
+
+const FOUR_BYTES: &[Script] = &[
+    Script {
+        name: "two transfers make a word of eight",
+        events: &[
+            Send(
+                Write(
+                    0,
+                    0x10008,
+                    1,
+                    2,
+                    &[(0x5566_7788, 0x0f, false), (0x1122_3344, 0x0f, true)],
+                ),
+                Serial(0),
+            ),
+            Perform(0, 1, Done),
+            Byte(0x1000c, Some(0x44)),
+            B(0, None),
+            Perform(0, 0, Done),
+            B(0, Some(Okay)),
+            Byte(0x10008, Some(0x88)),
+            Byte(0x10009, Some(0x77)),
+            Byte(0x1000a, Some(0x66)),
+            Byte(0x1000b, Some(0x55)),
+            Byte(0x1000c, Some(0x44)),
+            Byte(0x1000d, Some(0x33)),
+            Byte(0x1000e, Some(0x22)),
+            Byte(0x1000f, Some(0x11)),
+        ],
+        ..NARROW
+    },
+    Script {
+        name: "there are four lanes, and no transfer has more bytes",
+        events: &[
+            Send(Read(0, 0x10008, 0, 3), Broken(AxiRule::Size)),
+            Send(
+                Write(0, 0x10014, 0, 2, &[(0, 0xf0, true)]),
+                Broken(AxiRule::Strobe),
+            ),
+            Send(
+                Write(0, 0x10014, 0, 2, &[(0xffff_ffff, 0x0f, true)]),
+                Serial(0),
+            ),
+            Send(Read(0, 0x10014, 0, 2), Serial(1)),
+            Send(Write(0, 0x10014, 0, 2, &[(0, 0x0f, true)]), Serial(2)),
+            Send(Read(0, 0x10014, 0, 2), Serial(3)),
+            Send(Write(0, 0x1000d, 0, 0, &[(0xbb00, 0x02, true)]), Serial(4)),
+            Send(Read(0, 0x1000d, 0, 0), Serial(5)),
+            Send(
+                Write(0, 0x10016, 0, 1, &[(0x8000_0000, 0x0c, true)]),
+                Serial(6),
+            ),
+            Send(Read(0, 0x10016, 0, 1), Serial(7)),
+            Perform(0, 0, Done),
+            Perform(1, 0, Done),
+            Perform(2, 0, Done),
+            Perform(3, 0, Done),
+            Perform(4, 0, Done),
+            Perform(5, 0, Done),
+            Perform(6, 0, Done),
+            Perform(7, 0, Done),
+            B(0, Some(Okay)),
+            R(0, Some((0xffff_ffff, Okay, true))),
+            R(0, Some((0, Okay, true))),
+            R(0, Some((0xbb00, Okay, true))),
+            R(0, Some((0x8000_0000, Okay, true))),
+            Byte(0x1000c, Some(0)),
+            Byte(0x1000d, Some(0xbb)),
+            Byte(0x1000e, Some(0)),
+            Byte(0x10015, Some(0)),
+            Byte(0x10017, Some(0x80)),
+        ],
+        ..NARROW
+    },
+];
+
 #[test]
-fn depth_of_each_side(rt: HostRuntime) -> Result<(), Fail> {
-    let mut device = Device::new(rt.alloc(), 8, PAGES, &[]).expect(&rt, "memory");
-    let full = [data(1, 0xff, true)];
-    for k in 0..4 {
-        let put = send_write(rt.alloc(), &mut device, write(15, 0x10000, 0, 3), &full)?;
-        assert_eq!(rt; put, Sent::Serial(2 * k));
-        let get = send_read(rt.alloc(), &mut device, read(15, 0x10000, 1, 3))?;
-        assert_eq!(rt; get, Sent::Serial(2 * k + 1));
+fn order(rt: HostRuntime) {
+    assert_eq!(rt; failing(rt.alloc(), ORDER), None);
+}
+
+#[test]
+fn errors(rt: HostRuntime) {
+    assert_eq!(rt; failing(rt.alloc(), ERRORS), None);
+}
+
+#[test]
+fn refusals(rt: HostRuntime) {
+    assert_eq!(rt; failing(rt.alloc(), REFUSALS), None);
+}
+
+#[test]
+fn lanes(rt: HostRuntime) {
+    assert_eq!(rt; failing(rt.alloc(), LANES), None);
+}
+
+#[test]
+fn four_bytes(rt: HostRuntime) {
+    assert_eq!(rt; failing(rt.alloc(), FOUR_BYTES), None);
+}
+
+/// Whether as many bursts were sent as may be open: a write and a read of each ID four times over, in turn of transfers of
+/// one byte and of eight.
+fn fills(alloc: Global, device: &mut Device, beats: &[Data]) -> bool {
+    for k in 0..64u8 {
+        let (id, size) = (k / 4, 3 * (k % 2));
+        let serial = 2 * u64::from(k);
+        let put = send(alloc, device, Write(id, 0x10000, 255, size, beats));
+        let get = send(alloc, device, Read(id, 0x10000, 255, size));
+        if (put, get) != (Some(Serial(serial)), Some(Serial(serial + 1))) {
+            return false;
+        }
     }
-    let put = send_write(rt.alloc(), &mut device, write(15, 0x10000, 0, 3), &full)?;
-    assert_eq!(rt; put, Sent::Broken(5));
-    for (id, sent) in [
-        (15, Sent::Broken(5)),
-        (16, Sent::Broken(4)),
-        (14, Sent::Serial(8)),
-    ] {
-        let get = send_read(rt.alloc(), &mut device, read(id, 0x10000, 0, 3))?;
-        assert_eq!(rt; get, sent, "id {id}");
-    }
-    for (beat, last, sent) in [(0, false, Sent::Broken(5)), (1, true, Sent::Serial(9))] {
-        assert_eq!(rt; device.perform(1, beat), Performed::Done);
-        assert_eq!(rt; device.answer_r(15), read_data(15, 0, Resp::Okay, last));
-        assert_eq!(rt; device.take_closed().is_some(), last);
-        let get = send_read(rt.alloc(), &mut device, read(15, 0x10000, 0, 3))?;
-        assert_eq!(rt; get, sent, "beat {beat}");
-    }
-    let put = send_write(rt.alloc(), &mut device, write(15, 0x10000, 0, 3), &full)?;
-    assert_eq!(rt; put, Sent::Broken(5));
-    assert_eq!(rt; device.sent(), 10);
-    Ok(())
+    true
 }
 
 /// As many bursts as may be open, each as long as may be.
 #[test]
-fn room_for_all(rt: HostRuntime) -> Result<(), Fail> {
-    let mut device = Device::new(rt.alloc(), 8, PAGES, &[]).expect(&rt, "memory");
-    let mut beats = [data(0, 0, false); 256];
-    beats[255].last = true;
-    for k in 0..64 {
-        let id = k / 4;
-        let put = send_write(
-            rt.alloc(),
-            &mut device,
-            write(id, 0x10000, 255, 3 * (k % 2)),
-            &beats,
-        )?;
-        let get = send_read(rt.alloc(), &mut device, read(id, 0x10000, 255, 3 * (k % 2)))?;
-        let serial = 2 * u64::from(k);
-        assert_eq!(rt;
-            (put, get),
-            (Sent::Serial(serial), Sent::Serial(serial + 1))
-        );
-    }
-    assert_eq!(rt; (device.sent(), device.pending()), (128, 32768));
+fn room_for_all(rt: HostRuntime) {
+    let mut device = Device::new(rt.alloc(), 8, PLAIN.pages, &[]).expect(&rt, "memory");
+    let mut beats = [(0, 0, false); 256];
+    beats[255] = (0, 0, true);
+    assert!(rt; fills(rt.alloc(), &mut device, &beats));
+    assert!(rt; shows(&device, Counts(128, 32768, 0)));
     // The beats, an answer for each write, and one for each beat of a read.
     assert_eq!(rt; device.work_left(), 32768 + 64 + 64 * 256);
-    assert_eq!(rt; device.perform(127, 255), Performed::Done);
-    assert_eq!(rt; (device.pending(), device.performed_waiting()), (32767, 1));
+    assert_eq!(rt; device.perform(127, 255), Done);
+    assert!(rt; shows(&device, Counts(128, 32767, 1)));
     assert_eq!(rt; device.work_left(), 32767 + 64 + 64 * 256);
-    Ok(())
 }
 
-/// A transfer's bytes stand in the lanes that its addresses name, and its other lanes are zero.
-#[test]
-fn bytes_in_their_lanes(rt: HostRuntime) -> Result<(), Fail> {
-    let mut device = Device::new(rt.alloc(), 8, PAGES, &[]).expect(&rt, "memory");
-    for (serial, (aw, beat)) in [
-        (write(0, 0x10013, 0, 0), data(0xff00_0000, 0x08, true)),
-        (
-            write(0, 0x10016, 0, 1),
-            data(0x8000_0000_0000_0000, 0xc0, true),
-        ),
-        (write(0, 0x10010, 0, 3), data(0, 0, true)),
-    ]
-    .into_iter()
-    .enumerate()
-    {
-        let put = send_write(rt.alloc(), &mut device, aw, &[beat])?;
-        assert_eq!(rt; put, Sent::Serial(serial as u64));
-        assert_eq!(rt; device.perform(serial as u64, 0), Performed::Done);
-        assert_eq!(rt; device.answer_b(0), response(0, Resp::Okay));
-        assert!(rt; device.take_closed().is_some());
-    }
-    // The first of two transfers of four bytes begins in lane 3.
-    let uneven = [
-        data(u64::MAX, 0x08, false),
-        data(0x4433_2211_0000_0000, 0xf0, true),
-    ];
-    let put = send_write(rt.alloc(), &mut device, write(0, 0x10003, 1, 2), &uneven)?;
-    assert_eq!(rt; put, Sent::Serial(3));
-    assert_eq!(rt;
-        (device.perform(3, 1), device.perform(3, 0)),
-        (Performed::Done, Performed::Done)
-    );
-    for (address, byte) in [
-        (0x10002, 0),
-        (0x10003, 0xff),
-        (0x10004, 0x11),
-        (0x10007, 0x44),
-        (0x10012, 0),
-        (0x10013, 0xff),
-        (0x10014, 0),
-        (0x10017, 0x80),
-    ] {
-        assert_eq!(rt; device.byte(address), Some(byte), "{address:x}");
-    }
-    for (serial, (ar, payload)) in [
-        (read(1, 0x10013, 0, 0), 0xff00_0000),
-        (read(2, 0x10010, 0, 3), 0x8000_0000_ff00_0000),
-        (read(3, 0x10004, 0, 1), 0x2211_0000_0000),
-    ]
-    .into_iter()
-    .enumerate()
-    {
-        let get = send_read(rt.alloc(), &mut device, ar)?;
-        assert_eq!(rt; get, Sent::Serial(serial as u64 + 4));
-        assert_eq!(rt; device.perform(serial as u64 + 4, 0), Performed::Done);
-        assert_eq!(rt;
-            device.answer_r(ar.id),
-            read_data(ar.id, payload, Resp::Okay, true)
-        );
-        assert!(rt; device.take_closed().is_some());
-    }
-    Ok(())
-}
+const GOOD: PageKind = PageKind::Good;
 
-/// On a bus of four bytes two transfers make a word of eight.
-#[test]
-fn word_of_two_transfers(rt: HostRuntime) -> Result<(), Fail> {
-    let mut device = Device::new(rt.alloc(), 4, PAGES, &[]).expect(&rt, "memory");
-    let whole = [
-        data(0x5566_7788, 0x0f, false),
-        data(0x1122_3344, 0x0f, true),
-    ];
-    let put = send_write(rt.alloc(), &mut device, write(0, 0x10008, 1, 2), &whole)?;
-    assert_eq!(rt; put, Sent::Serial(0));
-    assert_eq!(rt; device.perform(0, 1), Performed::Done);
-    assert_eq!(rt; device.byte(0x1000c), Some(0x44));
-    assert_eq!(rt; device.answer_b(0), None);
-    assert_eq!(rt; device.perform(0, 0), Performed::Done);
-    assert_eq!(rt; device.answer_b(0), response(0, Resp::Okay));
-    for (place, byte) in [0x88, 0x77, 0x66, 0x55, 0x44, 0x33, 0x22, 0x11]
-        .iter()
-        .enumerate()
-    {
-        assert_eq!(rt; device.byte(0x10008 + place as u32), Some(*byte), "{place}");
-    }
-    Ok(())
-}
-
-/// On a bus of four bytes there are four lanes, and no transfer has more bytes.
-#[test]
-fn bus_of_four_bytes(rt: HostRuntime) -> Result<(), Fail> {
-    let mut device = Device::new(rt.alloc(), 4, PAGES, &[]).expect(&rt, "memory");
-    let wide = send_read(rt.alloc(), &mut device, read(0, 0x10008, 0, 3))?;
-    assert_eq!(rt; wide, Sent::Broken(1));
-    let high = send_write(
-        rt.alloc(),
-        &mut device,
-        write(0, 0x10014, 0, 2),
-        &[data(0, 0xf0, true)],
-    )?;
-    assert_eq!(rt; high, Sent::Broken(7));
-    for (place, (aw, beat, payload)) in [
-        (
-            write(0, 0x10014, 0, 2),
-            data(0xffff_ffff, 0x0f, true),
-            0xffff_ffff,
-        ),
-        (write(0, 0x10014, 0, 2), data(0, 0x0f, true), 0),
-        (write(0, 0x1000d, 0, 0), data(0xbb00, 0x02, true), 0xbb00),
-        (
-            write(0, 0x10016, 0, 1),
-            data(0x8000_0000, 0x0c, true),
-            0x8000_0000,
-        ),
-    ]
-    .into_iter()
-    .enumerate()
-    {
-        let serial = 2 * place as u64;
-        let put = send_write(rt.alloc(), &mut device, aw, &[beat])?;
-        let get = send_read(rt.alloc(), &mut device, read(0, aw.address, 0, aw.size))?;
-        assert_eq!(rt;
-            (put, get),
-            (Sent::Serial(serial), Sent::Serial(serial + 1))
-        );
-        assert_eq!(rt; device.perform(serial, 0), Performed::Done);
-        assert_eq!(rt; device.perform(serial + 1, 0), Performed::Done);
-        assert_eq!(rt; device.answer_b(0), response(0, Resp::Okay));
-        assert_eq!(rt; device.answer_r(0), read_data(0, payload, Resp::Okay, true));
-        assert!(rt; device.take_closed().is_some() && device.take_closed().is_some());
-    }
-    for (address, byte) in [
-        (0x1000c, 0),
-        (0x1000d, 0xbb),
-        (0x1000e, 0),
-        (0x10015, 0),
-        (0x10017, 0x80),
-    ] {
-        assert_eq!(rt; device.byte(address), Some(byte), "{address:x}");
-    }
-    Ok(())
-}
+const SLOW: PageKind = PageKind::SlaveError;
 
 #[test]
 fn refuses_lists(rt: HostRuntime) {
-    let good = |number| (number, PageKind::Good);
-    let slow = |number| (number, PageKind::SlaveError);
+    // Two pages, two words, and the fault of these lists.
     for (pages, bad, fault) in [
-        ([good(1), slow(2)], [0x1000, 0x1ff8], None),
-        ([good(0xfffff), slow(0)], [0xfffff000, 0xfffff000], None),
+        ([(1, GOOD), (2, SLOW)], [0x1000, 0x1ff8], None),
+        ([(0xfffff, GOOD), (0, SLOW)], [0xfffff000, 0xfffff000], None),
         (
-            [good(1), good(0x100000)],
+            [(1, GOOD), (0x100000, GOOD)],
             [0x1000, 0x1001],
             Some(DeviceFault::PageRange(1)),
         ),
         (
-            [good(0x100000), good(0x100000)],
+            [(0x100000, GOOD), (0x100000, GOOD)],
             [0, 0],
             Some(DeviceFault::PageRange(0)),
         ),
         (
-            [good(1), slow(1)],
+            [(1, GOOD), (1, SLOW)],
             [0x1000, 0x1001],
             Some(DeviceFault::PageTwice(1)),
         ),
         (
-            [good(1), slow(2)],
+            [(1, GOOD), (2, SLOW)],
             [0x1000, 0x1004],
             Some(DeviceFault::BadWord(1)),
         ),
         (
-            [good(1), slow(2)],
+            [(1, GOOD), (2, SLOW)],
             [0x2000, 0x1000],
             Some(DeviceFault::BadWord(0)),
         ),
         (
-            [good(1), slow(2)],
+            [(1, GOOD), (2, SLOW)],
             [0x1000, 0x3000],
             Some(DeviceFault::BadWord(1)),
         ),
     ] {
         assert_eq!(rt; device_fault(&pages, &bad), fault);
     }
-    let twice = Device::new(rt.alloc(), 8, &[good(1), good(1)], &[]);
+    let twice = Device::new(rt.alloc(), 8, &[(1, GOOD), (1, GOOD)], &[]);
     assert_eq!(rt; twice.err(), Some(DeviceFault::PageTwice(1)));
 }
