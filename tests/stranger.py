@@ -34,8 +34,8 @@ def given(program, word, text, status, trace, line):
 
 def piped(program, command, word, status, line):
     """What another program prints is the standard input."""
-    whole = f'{command} 2>/dev/null | {{ "$0" {word}; echo "status $?"; }}'
-    ran = subprocess.run(["sh", "-c", whole, program], capture_output=True, timeout=SECONDS)
+    whole = f'{command} 2>/dev/null | {{ timeout {SECONDS - 1} "$0" {word}; echo "status $?"; }}'
+    ran = subprocess.run(["sh", "-c", whole, program], capture_output=True)
     ran.returncode = int(ran.stdout.rpartition(b" ")[2])
     return wrong(ran, status, None, line)
 
@@ -113,17 +113,20 @@ def reader_leaves(program):
     """A reader that leaves after the first bytes of a long text."""
     pipe = subprocess.PIPE
     with subprocess.Popen([program, "run"], bufsize=0, stdin=pipe, stdout=pipe, stderr=pipe) as ran:
-        ran.stdin.write(FIRST.given)
-        ran.stdout.read(10)
-        ran.stdout.close()
         try:
-            ran.stdin.write(b"work\n" * 20_000)
-        except BrokenPipeError:
-            pass
-        ran.stdin.close()
-        line = ran.stderr.read()
-        status = ran.wait(SECONDS)
-        return None if (status, line) == (3, WRITE) else f"status {status} with {line!r}"
+            ran.stdin.write(FIRST.given)
+            ran.stdout.read(10)
+            ran.stdout.close()
+            try:
+                ran.stdin.write(b"work\n" * 20_000)
+            except BrokenPipeError:
+                pass
+            ran.stdin.close()
+            line = ran.stderr.read()
+            status = ran.wait(SECONDS)
+        finally:
+            ran.kill()
+    return None if (status, line) == (3, WRITE) else f"status {status} with {line!r}"
 
 
 def most_memory(process):
@@ -134,14 +137,8 @@ def most_memory(process):
     raise ValueError("it tells no VmHWM")
 
 
-def too_long(*_):
-    raise TimeoutError("it doesn't answer")
-
-
 def flat(program):
     """30,000 commands, and the largest lines beside them, take no memory over that of the first."""
-    signal.signal(signal.SIGALRM, too_long)
-    signal.alarm(SECONDS)
     with subprocess.Popen([program, "run"], stdin=subprocess.PIPE, stdout=subprocess.PIPE) as ran:
         try:
             ran.stdin.write(SETUP + b"work\n" + (b"#" * 128 + b"\n") * 2000 + b"work\n")
@@ -157,7 +154,6 @@ def flat(program):
             ran.stdin.close()
             status = ran.wait(SECONDS)
         finally:
-            signal.alarm(0)
             ran.kill()
     print(f"in memory {before // 1024} KiB after the first commands, {after // 1024} KiB after 30,000")
     if (status, text) != (0, b"= work 0\n" * 30_002):
@@ -191,17 +187,31 @@ def address_spaces(program):
     return None if seen and seen[-1] == stages[-1] else "it never found room"
 
 
+def too_long(*_):
+    raise TimeoutError("it doesn't answer")
+
+
+def tried(case):
+    """What is wrong with a case, or that it took too long."""
+    signal.signal(signal.SIGALRM, too_long)
+    signal.alarm(SECONDS)
+    try:
+        return case()
+    except (TimeoutError, subprocess.TimeoutExpired) as error:
+        return f"{error}"
+    finally:
+        signal.alarm(0)
+
+
 def cases(program):
     program = str(Path(program).resolve())
-    yield from ((name, case()) for name, case in of_input(program))
-    yield "nothing to read yet", nothing_there_yet(program)
-    yield "a standard input that can only be written", other_way(program, "input")
-    yield "a standard output that can only be read", other_way(program, "output")
-    for case in (reader_leaves, flat, address_spaces):
-        try:
-            yield case.__doc__, case(program)
-        except (TimeoutError, subprocess.TimeoutExpired) as error:
-            yield case.__doc__, f"{error}"
+    yield from ((name, tried(case)) for name, case in of_input(program))
+    yield "nothing to read yet", tried(lambda: nothing_there_yet(program))
+    yield "a standard input that can only be written", tried(lambda: other_way(program, "input"))
+    yield "a standard output that can only be read", tried(lambda: other_way(program, "output"))
+    yield "a reader that leaves", tried(lambda: reader_leaves(program))
+    yield "flat memory", tried(lambda: flat(program))
+    yield "small address spaces", tried(lambda: address_spaces(program))
 
 
 if __name__ == "__main__":
