@@ -30,6 +30,7 @@ class Shim:
         self.program = str(Path(program).resolve())
         self.room = tempfile.TemporaryDirectory(prefix="shim-")
         self.library, self.orders = f"{self.room.name}/refuse.so", f"{self.room.name}/orders"
+        self.given = f"{self.room.name}/given"
         compiler = shutil.which("cc") or shutil.which("gcc")
         if not compiler:
             raise SystemExit("a C compiler is needed, cc or gcc\n0 passed, 1 failed")
@@ -44,7 +45,10 @@ class Shim:
             first[KINDS.index(refuse)], last[KINDS.index(refuse)] = at, until or at
         Path(self.orders).write_bytes(LAYOUT.pack(0, 0, 0, 0, *first, *last, error, most))
         environment = {"LD_PRELOAD": self.library, "REFUSE": self.orders}
-        ran = subprocess.run([self.program, *words], input=given, capture_output=True, timeout=60, env=environment)
+        # From a file, since a pipe gives what is there at the time, and so any number of reads.
+        Path(self.given).write_bytes(given)
+        with open(self.given, "rb") as file:
+            ran = subprocess.run([self.program, *words], stdin=file, capture_output=True, timeout=60, env=environment)
         counts = LAYOUT.unpack(Path(self.orders).read_bytes())[:4]
         return Ran(ran.returncode, ran.stdout, ran.stderr, dict(zip(KINDS, counts)))
 
