@@ -1,5 +1,6 @@
 """Runs a program with refuse.c between it and the C library."""
 
+import os
 import shutil
 import struct
 import subprocess
@@ -29,8 +30,11 @@ class Shim:
     def __init__(self, program):
         self.program = str(Path(program).resolve())
         self.room = tempfile.TemporaryDirectory(prefix="shim-")
-        self.library, self.orders = f"{self.room.name}/refuse.so", f"{self.room.name}/orders"
-        self.given = f"{self.room.name}/given"
+        # Orders and input change with each run: in memory, where there is such a folder, they cost no write to a disc.
+        memory = "/dev/shm" if os.access("/dev/shm", os.W_OK) else None
+        self.files = tempfile.TemporaryDirectory(prefix="shim-", dir=memory)
+        self.library = f"{self.room.name}/refuse.so"
+        self.orders, self.given = f"{self.files.name}/orders", f"{self.files.name}/given"
         compiler = shutil.which("cc") or shutil.which("gcc")
         if not compiler:
             raise SystemExit("a C compiler is needed, cc or gcc\n0 passed, 1 failed")
