@@ -7,6 +7,8 @@ mod ports;
 mod receipts;
 mod replay;
 mod shared;
+#[cfg(test)]
+mod tests;
 mod threads;
 mod turns;
 

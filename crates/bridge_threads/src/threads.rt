@@ -26,6 +26,7 @@ use std::alloc::{AllocError, Global};
 use std::sync::{Mutex, Wait};
 use std::thread;
 use std::thread::{JoinHandle, Threads};
+use thiserror::Error;
 use tl_checker::{Port, TlRule};
 use tl_messages::{ABeat, ReplyBox};
 use world_run::{Setup, Step, World};
@@ -55,22 +56,29 @@ pub struct Limits {
 }
 
 /// Why a threaded run has no report.
-#[derive(Clone, Copy, Debug, PartialEq, Eq)]
+#[derive(Clone, Copy, Debug, PartialEq, Eq, Error)]
 pub enum Fault {
     /// The set-up is refused for another cause than memory; there isn't one script for each client, or one has over 4,096
     /// beats; there are not 1 to 4 lists of words; or a limit is 0, or over 1,000,000 steps.
+    #[error("1 BadConfig")]
     BadConfig,
     /// Memory was refused, before the first thread started.
+    #[error("out of memory")]
     NoMemory,
     /// A thread was refused.
+    #[error("3 Spawn")]
     Spawn,
     /// The gate answered false.
+    #[error("4 GateShut")]
     GateShut,
     /// A worker had too many idle turns in a row.
+    #[error("5 IdleLimit")]
     IdleLimit,
     /// The history has no room.
+    #[error("6 HistoryFull")]
     HistoryFull,
     /// A beat of a client's script was refused, by another rule than a busy source.
+    #[error("7 BeatRefused client {client} beat {index} rule {} {}", .rule.number(), .rule.name())]
     BeatRefused {
         /// The client.
         client: u8,
@@ -80,6 +88,7 @@ pub enum Fault {
         rule: TlRule,
     },
     /// The stored steps, made once more, don't give what the workers received and offered.
+    #[error("8 ReceiptMismatch client {client} index {index}")]
     ReceiptMismatch {
         /// The first client by number of whom this is so.
         client: u8,
