@@ -1,1 +1,6 @@
+mod gates;
+mod given;
+mod refusals;
+mod runs;
+mod shared;
 mod texts;

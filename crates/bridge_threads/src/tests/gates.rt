@@ -1,0 +1,122 @@
+//! Gates.
+use crate::{Gate, Who};
+use std::sync::atomic::{AtomicBool, AtomicU64, Ordering};
+
+/// Lets everyone pass.
+pub(crate) struct Open;
+
+impl Gate for Open {
+    fn pass(&self, _who: Who, _index: u32) -> bool {
+        true
+    }
+}
+
+/// Answers false to a worker's first turn.
+#[derive(Drop)]
+pub(crate) struct Shut(pub(crate) Who);
+
+impl Gate for Shut {
+    fn pass(&self, who: Who, _index: u32) -> bool {
+        who != self.0
+    }
+}
+
+/// At each index below 4, two clients and some memory threads wait for one another.
+#[derive(Drop)]
+pub(crate) struct Meeting {
+    /// A bit for each worker that meets: two clients, then the memory threads.
+    all: u64,
+    /// A flag for each worker, as such a bit, at each index.
+    seen: [AtomicU64; 4],
+    /// How many answers were false.
+    shut: AtomicU64,
+}
+
+impl Meeting {
+    /// Before anyone came.
+    pub(crate) fn new(all: u64) -> Meeting {
+        Meeting {
+            all,
+            seen: [
+                AtomicU64::new(0),
+                AtomicU64::new(0),
+                AtomicU64::new(0),
+                AtomicU64::new(0),
+            ],
+            shut: AtomicU64::new(0),
+        }
+    }
+
+    /// At how many indexes all flags are set, and no other.
+    pub(crate) fn met(&self) -> usize {
+        let mut met = 0usize;
+        for flags in &self.seen {
+            if flags.load(Ordering::SeqCst) == self.all {
+                met = met.saturating_add(1);
+            }
+        }
+        met
+    }
+
+    /// How many answers were false.
+    pub(crate) fn shut(&self) -> u64 {
+        self.shut.load(Ordering::SeqCst)
+    }
+}
+
+impl Gate for Meeting {
+    fn pass(&self, who: Who, index: u32) -> bool {
+        if index >= 4 {
+            return true;
+        }
+        let worker = match who {
+            Who::Client(client) => u32::from(client),
+            Who::Memory(memory) => 2 + u32::from(memory),
+        };
+        let flags = &self.seen[index as usize];
+        flags.fetch_or(1u64.wrapping_shl(worker), Ordering::SeqCst);
+        for _ in 0..100_000_000u32 {
+            if flags.load(Ordering::SeqCst) & self.all == self.all {
+                return true;
+            }
+        }
+        self.shut.fetch_add(1, Ordering::SeqCst);
+        false
+    }
+}
+
+/// Holds memory thread 0 before its first turn until client 0 has asked for its eleventh, and some time more; then
+/// answers false.
+#[derive(Drop)]
+pub(crate) struct Holding {
+    asked: AtomicBool,
+}
+
+impl Holding {
+    pub(crate) fn new() -> Holding {
+        Holding {
+            asked: AtomicBool::new(false),
+        }
+    }
+}
+
+impl Gate for Holding {
+    fn pass(&self, who: Who, index: u32) -> bool {
+        if who == Who::Client(0) && index == 10 {
+            self.asked.store(true, Ordering::SeqCst);
+        }
+        if who != Who::Memory(0) || index != 0 {
+            return true;
+        }
+        for _ in 0..1_000_000_000u32 {
+            if self.asked.load(Ordering::SeqCst) {
+                break;
+            }
+        }
+        let mut seen = true;
+        for _ in 0..100_000_000u32 {
+            seen = self.asked.load(Ordering::SeqCst);
+        }
+        !seen
+    }
+}

@@ -1,0 +1,220 @@
+//! Whole runs in threads.
+use super::gates::{Holding, Meeting, Open, Shut};
+use super::given::*;
+use crate::{Fault, Limits, Receipts, Report, Who};
+use bridge_core::Config;
+use std::alloc::Global;
+use std::test::Fail;
+use tl_checker::TlRule;
+use tl_messages::{ABeat, DBeat, ReplyBox};
+use world_run::{Answer, Step, World};
+
+/// A Put and a Get of the second client, in another page.
+const OTHER_PUT: ABeat = ABeat {
+    address: 0x1008,
+    payload: 0x99,
+    ..PUT
+};
+
+const OTHER_GET: ABeat = ABeat {
+    address: 0x1008,
+    ..GET
+};
+
+/// Two clients with a Put and a Get each.
+const TWO_SCRIPTS: Asked = Asked {
+    config: TWO_CLIENTS,
+    scripts: &[&[PUT, GET], &[OTHER_PUT, OTHER_GET]],
+    words: &[&[7]],
+    limits: WIDE,
+};
+
+/// The lists of words of the meetings, and a bit for each worker.
+const MEETINGS: [(&[&[u64]], u64); 2] = [(&[&[7]], 0b111), (&[&[7], &[1, 2], &[], &[9]], 0b111111)];
+
+/// The reply to the other Get.
+const OTHER_REPLY: DBeat = DBeat {
+    payload: 0x99,
+    ..GET_REPLY
+};
+
+/// One client that puts a word and gets it.
+const ONE_SCRIPT: Asked = Asked {
+    config: ONE_CLIENT,
+    scripts: &[&[PUT, GET]],
+    words: &[&[7]],
+    limits: WIDE,
+};
+
+/// The scripts and the lists of words of its runs, the source of its second reply, and how many steps may be stored. A source
+/// that is used again waits for its first reply.
+const ONE_CLIENT_RUNS: [(&[&[ABeat]], &[&[u64]], u8, u32); 3] = [
+    (&[&[PUT, GET]], &[&[7]], 1, 1_000_000),
+    (&[&[PUT, ABeat { source: 0, ..GET }]], &[&[7]], 0, 200_000),
+    (&[&[PUT, GET]], &[&[7], &[], &[3]], 1, 200_000),
+];
+
+/// What a client took in a history that is made once more.
+fn taken(alloc: Global, config: Config, steps: &[Step], client: u8) -> Option<Receipts> {
+    let setup = set_up(config);
+    let mut world = World::new(alloc, &setup).ok()?;
+    let mut reply = ReplyBox::new(alloc).ok()?;
+    let mut heads = Vec::new(alloc);
+    let mut beats = Vec::new(alloc);
+    for step in steps {
+        let answer = world.step(step, &mut reply);
+        if *step != Step::Take(client) {
+            continue;
+        }
+        if let Answer::Reply(number) = answer {
+            heads.push((number, reply.beats())).ok()?;
+            beats.extend_from_slice(reply.as_slice()).ok()?;
+        }
+    }
+    Some(Receipts { heads, beats })
+}
+
+/// Whether the client took these beats, in a reply each, and the history made once more hands it the same.
+fn received(alloc: Global, config: Config, report: &Report, client: u8, beats: &[DBeat]) -> bool {
+    let Some(receipts) = report.receipts.get(usize::from(client)) else {
+        return false;
+    };
+    let Some(taken) = taken(alloc, config, report.steps.as_slice(), client) else {
+        return false;
+    };
+    receipts.heads.as_slice() == taken.heads.as_slice()
+        && receipts.beats.as_slice() == taken.beats.as_slice()
+        && receipts.heads.len() == beats.len()
+        && receipts.beats.as_slice() == beats
+}
+
+/// Two clients and one memory thread, or four, of whom each waits for all others before each of its first four turns. One
+/// after another they would wait in vain.
+#[test]
+fn threads_meet(rt: HostRuntime) {
+    let alloc = rt.alloc();
+    for (words, all) in MEETINGS {
+        let gate = Meeting::new(all);
+        let asked = Asked {
+            words,
+            ..TWO_SCRIPTS
+        };
+        let answer = ran(&rt, alloc, asked, &gate);
+        assert_eq!(rt;
+            (gate.met(), gate.shut()),
+            (4, 0),
+            "{} memory threads",
+            words.len()
+        );
+        match answer {
+            Ok(report) => {
+                assert_eq!(rt; report.steps.len(), 20);
+                assert_eq!(rt; report.receipts.len(), 2);
+                assert!(rt; received(alloc, TWO_CLIENTS, &report, 0, &[PUT_REPLY, GET_REPLY]));
+                assert!(rt; received(alloc, TWO_CLIENTS, &report, 1, &[PUT_REPLY, OTHER_REPLY]));
+            }
+            Err(fault) => assert_eq!(rt; Some(fault), None),
+        }
+    }
+}
+
+/// The same run of one client, whatever the words and the threads are.
+#[test]
+fn one_client(rt: HostRuntime) {
+    let alloc = rt.alloc();
+    for (scripts, words, source, steps) in ONE_CLIENT_RUNS {
+        let asked = Asked {
+            scripts,
+            words,
+            limits: Limits { steps, ..WIDE },
+            ..ONE_SCRIPT
+        };
+        let second = DBeat {
+            source,
+            ..GET_REPLY
+        };
+        match ran(&rt, alloc, asked, &Open) {
+            Ok(report) => {
+                assert_eq!(rt; report.steps.len(), 10);
+                assert_eq!(rt; report.receipts.len(), 1);
+                assert_eq!(rt;
+                    report.receipts[0].heads.as_slice(),
+                    [(0u64, 1u16), (1, 1)].as_slice()
+                );
+                assert_eq!(rt;
+                    report.receipts[0].beats.as_slice(),
+                    [PUT_REPLY, second].as_slice()
+                );
+                assert_eq!(rt; report.world.byte(0x10008), Some(0x88));
+            }
+            Err(fault) => assert_eq!(rt; Some(fault), None),
+        }
+    }
+}
+
+/// Where there is nothing to do.
+#[test]
+fn nothing_to_do(rt: HostRuntime) {
+    let alloc = rt.alloc();
+    let asked = Asked {
+        scripts: &[&[], &[]],
+        words: &[&[]],
+        ..TWO_SCRIPTS
+    };
+    match ran(&rt, alloc, asked, &Open) {
+        Ok(report) => {
+            assert_eq!(rt; report.steps.len(), 0);
+            assert_eq!(rt; report.receipts.len(), 2);
+            for receipts in &report.receipts {
+                assert_eq!(rt; (receipts.heads.len(), receipts.beats.len()), (0, 0));
+            }
+        }
+        Err(fault) => assert_eq!(rt; Some(fault), None),
+    }
+}
+
+/// A Get of eight bytes at 4.
+const UNALIGNED: ABeat = ABeat { address: 4, ..GET };
+
+/// One client that puts a word.
+const ONE_PUT: Asked = Asked {
+    scripts: &[&[PUT]],
+    ..ONE_SCRIPT
+};
+
+#[test]
+fn faults(rt: HostRuntime) {
+    let alloc = rt.alloc();
+    let refused = Asked {
+        scripts: &[&[UNALIGNED], &[]],
+        ..TWO_SCRIPTS
+    };
+    let beat_refused = Fault::BeatRefused {
+        client: 0,
+        index: 0,
+        rule: TlRule::Align,
+    };
+    assert_eq!(rt; ran(&rt, alloc, refused, &Open).err(), Some(beat_refused));
+    let one_step = Asked {
+        limits: Limits { steps: 1, ..WIDE },
+        ..ONE_PUT
+    };
+    assert_eq!(rt;
+        ran(&rt, alloc, one_step, &Open).err(),
+        Some(Fault::HistoryFull)
+    );
+    let shut = Shut(Who::Memory(0));
+    assert_eq!(rt;
+        ran(&rt, alloc, ONE_PUT, &shut).err(),
+        Some(Fault::GateShut)
+    );
+    let impatient = Asked {
+        limits: Limits { idle: 10, ..WIDE },
+        ..ONE_PUT
+    };
+    let gate = Holding::new();
+    assert_eq!(rt;
+        ran(&rt, alloc, impatient, &gate).err(),
+        Some(Fault::IdleLimit)
+    );
+}
