@@ -27,48 +27,48 @@ Appends-after a b c xs kept grown = Appends-trans a b c [] xs (Appends-none a b 
 
 -- ---- what stands after a text
 
-ok_after : (whole rest : TextResult) (text : List ℕ) → whole ≡ after_text text rest → IsOk rest.result → IsOk whole.result
+ok_after : {A : Type 0} (whole rest : TextResult A) (text : List ℕ) → whole ≡ after_text text rest → IsOk rest.result → IsOk whole.result
 ok_after whole rest text told ok = rw told ok
 
-text_after : (whole rest : TextResult) (text : List ℕ) → whole ≡ after_text text rest → HasText rest → HasText whole
+text_after : {A : Type 0} (whole rest : TextResult A) (text : List ℕ) → whole ≡ after_text text rest → HasText rest → HasText whole
 text_after whole rest text told some = rw told (some_after text rest.output some)
 
 -- a script that ends after a line with text, and one that ends after a line that gives some
-speaks_well : {S : Type 0} (reading : Reading S) (step : LineStep S) (line : Speaks reading step) (number : ℕ) (whole : TextResult) → whole ≡ after_text line.0.text (reading.ending line.0.next number)
+speaks_well : {S A : Type 0} (reading : Reading S A) (step : LineStep S) (line : Speaks reading step) (number : ℕ) (whole : TextResult A) → whole ≡ after_text line.0.text (reading.ending line.0.next number)
     → IsOk whole.result × HasText whole
 speaks_well reading step (line, some) number whole told = rw told (line.may_end number, some_before line.text (reading.ending line.next number).output some)
 
-gives_well : {S : Type 0} (reading : Reading S) (step : LineStep S) (line : GivesText reading step) (number : ℕ) (whole : TextResult) → whole ≡ after_text line.0.text (reading.ending line.0.next number)
+gives_well : {S A : Type 0} (reading : Reading S A) (step : LineStep S) (line : GivesText reading step) (number : ℕ) (whole : TextResult A) → whole ≡ after_text line.0.text (reading.ending line.0.next number)
     → IsOk whole.result × HasText whole
 gives_well reading step (line, some) number whole told = rw told (line.may_end number, some number)
 
 -- ---- the last line
 
 -- what a line gave stands before how the script ended
-told_with_line : {S : Type 0} (reading : Reading S) (state next : S) (number : ℕ) (line text : List ℕ) → Lacks 10 line → 0 < length line
+told_with_line : {S A : Type 0} (reading : Reading S A) (state next : S) (number : ℕ) (line text : List ℕ) → Lacks 10 line → 0 < length line
     → line_step reading state number (strip_carriage_return line) ≡ Ok (text, next) → text_from reading state number line ≡ after_text text (reading.ending next (number + 1))
 told_with_line reading state next number line text lacks some went =
     ap (lines_result reading reading.ending state number) (lines_of-last line lacks some) ∙ lines_result-went reading reading.ending state next number (strip_carriage_return line) text [] went
 
-told_with_fault : {S : Type 0} (reading : Reading S) (state : S) (number : ℕ) (line : List ℕ) (fault : ScriptFault) → Lacks 10 line → 0 < length line
+told_with_fault : {S A : Type 0} (reading : Reading S A) (state : S) (number : ℕ) (line : List ℕ) (fault : ScriptFault) → Lacks 10 line → 0 < length line
     → line_step reading state number (strip_carriage_return line) ≡ Err fault → text_from reading state number line ≡ ended (Err fault)
 told_with_fault reading state number line fault lacks some stops =
     ap (lines_result reading reading.ending state number) (lines_of-last line lacks some) ∙ lines_result-fault reading reading.ending state number (strip_carriage_return line) [] fault stops
 
 -- what is told after a text
-tells_after : (whole rest : TextResult) (text : List ℕ) (old new newer : Option (List ℕ)) (result : Result Bool ScriptFault) → whole ≡ after_text text rest → Appends old new text → Tells rest new newer result → Tells whole old newer result
+tells_after : {A : Type 0} (whole rest : TextResult A) (text : List ℕ) (old new newer : Option (List ℕ)) (result : Result A ScriptFault) → whole ≡ after_text text rest → Appends old new text → Tells rest new newer result → Tells whole old newer result
 tells_after whole rest text old new newer result told before (written, same) = rw told ((Appends-trans old new newer text rest.output before written, same))
 
-pub TakesRest-line : {S : Type 0} (reading : Reading S) (is_silent : S → Bool) (state next : S) (number : ℕ) (line : List ℕ) (w v z : Option (List ℕ)) (wrote : Bool) (result : Result Bool ScriptFault) → Lacks 10 line → 0 < length line
+pub TakesRest-line : {S A : Type 0} (reading : Reading S A) (is_silent : S → Bool) (state next : S) (number : ℕ) (line : List ℕ) (w v z : Option (List ℕ)) (wrote : Bool) (result : Result A ScriptFault) → Lacks 10 line → 0 < length line
     → Goes reading (line_step reading state number (strip_carriage_return line)) is_silent state next w v wrote → TakesRest (reading.ending next (number + 1)) (is_silent next) v z result
     → TakesRest (text_from reading state number line) (is_silent state) w z result
-TakesRest-line reading is_silent state next number line w v z wrote result lacks some goes ends = by_result result ends
+TakesRest-line {A = A} reading is_silent state next number line w v z wrote result lacks some goes ends = by_result result ends
   where
     told : text_from reading state number line ≡ after_text goes.text (reading.ending next (number + 1))
     told = told_with_line reading state next number line goes.text lacks some goes.step_is
 
-    by_result : (r : Result Bool ScriptFault) → TakesRest (reading.ending next (number + 1)) (is_silent next) v z r → TakesRest (text_from reading state number line) (is_silent state) w z r
-    by_result (Ok refused) tells = tells_after _ _ goes.text w v z (Ok refused) told goes.written tells
+    by_result : (r : Result A ScriptFault) → TakesRest (reading.ending next (number + 1)) (is_silent next) v z r → TakesRest (text_from reading state number line) (is_silent state) w z r
+    by_result (Ok answer) tells = tells_after _ _ goes.text w v z (Ok answer) told goes.written tells
     by_result (Err (Script l word)) tells = tells_after _ _ goes.text w v z (Err (Script l word)) told goes.written tells
     by_result (Err (Setup fault)) tells = tells_after _ _ goes.text w v z (Err (Setup fault)) told goes.written tells
     by_result (Err Read) wrong = wrong
@@ -77,10 +77,10 @@ TakesRest-line reading is_silent state next number line w v z wrote result lacks
         let quiet = goes.silent still in
         (quiet.0, ok_after _ _ goes.text told ok, Keeps-trans w v z (Keeps-none w v (rw quiet.1 at goes.written)) kept)
 
-tells_fault : (whole : TextResult) (fault : ScriptFault) (before after : Option (List ℕ)) → whole ≡ ended (Err fault) → Keeps before after → Tells whole before after (Err fault)
+tells_fault : {A : Type 0} (whole : TextResult A) (fault : ScriptFault) (before after : Option (List ℕ)) → whole ≡ ended (Err fault) → Keeps before after → Tells whole before after (Err fault)
 tells_fault whole fault before after told kept = rw told ((Appends-none before after kept, refl))
 
-pub TakesRest-fault : {S : Type 0} (reading : Reading S) (is_silent : S → Bool) (state next : S) (number : ℕ) (line : List ℕ) (w v : Option (List ℕ)) (fault : ScriptFault) → Lacks 10 line → 0 < length line
+pub TakesRest-fault : {S A : Type 0} (reading : Reading S A) (is_silent : S → Bool) (state next : S) (number : ℕ) (line : List ℕ) (w v : Option (List ℕ)) (fault : ScriptFault) → Lacks 10 line → 0 < length line
     → TakesStep reading (line_step reading state number (strip_carriage_return line)) is_silent state next w v (Err fault) → TakesRest (text_from reading state number line) (is_silent state) w v (Err fault)
 TakesRest-fault reading is_silent state next number line w v (Script l word) lacks some (stops, kept) = tells_fault _ _ w v (told_with_fault reading state number line _ lacks some stops) kept
 TakesRest-fault reading is_silent state next number line w v (Setup fault) lacks some (stops, kept) = tells_fault _ _ w v (told_with_fault reading state number line _ lacks some stops) kept
@@ -92,11 +92,11 @@ TakesRest-fault reading is_silent state next number line w v NoMemory lacks some
 
 -- ---- the whole call
 
-abbrev pub Ends : {S : Type 0} → Reading S → S → Option (List ℕ) → Option (List ℕ) → Option (List ℕ) → Option (List ℕ) → Result Bool ScriptFault → Type 0
+abbrev pub Ends : {S A : Type 0} → Reading S A → S → Option (List ℕ) → Option (List ℕ) → Option (List ℕ) → Option (List ℕ) → Result A ScriptFault → Type 0
 Ends reading start input rest old new result = EndsAs reading.most_lines (text_of reading start) (text_before_failure reading start) input rest old new result
 
 -- which is nothing while the script is silent
-silent_within : {S : Type 0} (reading : Reading S) (is_silent : S → Bool) (start state : S) (number : ℕ) (block : BlockState) (input rest old new : Option (List ℕ)) (line : List ℕ)
+silent_within : {S A : Type 0} (reading : Reading S A) (is_silent : S → Bool) (start state : S) (number : ℕ) (block : BlockState) (input rest old new : Option (List ℕ)) (line : List ℕ)
     → (so_far : Progress reading is_silent start state number block input rest old new) → Lacks 10 line → is_silent state ≡ true → (text_before_failure reading start (so_far.read ++ line)).output ≡ []
 silent_within reading is_silent start state number block input rest old new line so_far lacks quiet =
     rw (failed_within reading is_silent start state number block input rest old new line so_far lacks, so_far.silent quiet) refl
@@ -108,7 +108,7 @@ read_ahead (Some xs) None ahead taken consumed = absurd consumed
 read_ahead (Some xs) (Some ys) ahead taken consumed = consumed ∙ sym (append_assoc taken ahead ys)
 
 -- what was taken so far, and then
-took : {S : Type 0} (reading : Reading S) (is_silent : S → Bool) (start state : S) (number : ℕ) (block later : BlockState) (input rest after old new : Option (List ℕ)) (bytes : List ℕ)
+took : {S A : Type 0} (reading : Reading S A) (is_silent : S → Bool) (start state : S) (number : ℕ) (block later : BlockState) (input rest after old new : Option (List ℕ)) (bytes : List ℕ)
     → (so_far : Progress reading is_silent start state number block input rest old new) → Takes block later rest after bytes → Consumes input after ((so_far.read ++ bytes) ++ later.ahead)
 took reading is_silent start state number block later input rest after old new bytes so_far takes =
     read_ahead input after later.ahead (so_far.read ++ bytes) (Consumes-trans input (left block rest) (left later after) so_far.read bytes so_far.consumed takes.consumed)
@@ -117,15 +117,15 @@ small : (block : BlockState) → IsSmall block → length block.ahead ≤ 65536
 small block few = omega (arith, few)
 
 -- what was written so far, and then nothing but a flush
-written_till : {S : Type 0} (reading : Reading S) (is_silent : S → Bool) (start state : S) (number : ℕ) (block : BlockState) (input rest old new flushed : Option (List ℕ))
+written_till : {S A : Type 0} (reading : Reading S A) (is_silent : S → Bool) (start state : S) (number : ℕ) (block : BlockState) (input rest old new flushed : Option (List ℕ))
     → (so_far : Progress reading is_silent start state number block input rest old new) → Keeps new flushed → Appends old flushed so_far.text
 written_till reading is_silent start state number block input rest old new flushed so_far kept = Appends-kept old new flushed so_far.text so_far.written kept
 
 -- to the input's end
-pub Ends-rest : {S : Type 0} (reading : Reading S) (is_silent : S → Bool) (start state : S) (number : ℕ) (block later : BlockState) (input rest after old new flushed newer : Option (List ℕ)) (line : List ℕ) (result : Result Bool ScriptFault)
+pub Ends-rest : {S A : Type 0} (reading : Reading S A) (is_silent : S → Bool) (start state : S) (number : ℕ) (block later : BlockState) (input rest after old new flushed newer : Option (List ℕ)) (line : List ℕ) (result : Result A ScriptFault)
     → Progress reading is_silent start state number block input rest old new → 130 * number + length line ≤ 130 * reading.most_lines + 131 → Lacks 10 line → Takes block later rest after line → later.ahead ≡ [] → IsAtEnd after
     → Keeps new flushed → TakesRest (text_from reading state number line) (is_silent state) flushed newer result → Ends reading start input after old newer result
-Ends-rest reading is_silent start state number block later input rest after old new flushed newer line result so_far within lacks taken none at_end flushes takes = by_result result takes
+Ends-rest {A = A} reading is_silent start state number block later input rest after old new flushed newer line result so_far within lacks taken none at_end flushes takes = by_result result takes
   where
     read : List ℕ
     read = so_far.read ++ line
@@ -139,14 +139,14 @@ Ends-rest reading is_silent start state number block later input rest after old 
     bound : length read ≤ 130 * reading.most_lines + 1
     bound = omega (arith, length-append so_far.read line, so_far.bound, within)
 
-    tells : (r : Result Bool ScriptFault) → Tells (text_from reading state number line) flushed newer r → Tells (text_of reading start read) old newer r
+    tells : (r : Result A ScriptFault) → Tells (text_from reading state number line) flushed newer r → Tells (text_of reading start read) old newer r
     tells r told = tells_after _ _ so_far.text old flushed newer r (so_far.whole line) written told
 
     whole_input : IsAllJudged [] after
     whole_input = (refl, at_end)
 
-    by_result : (r : Result Bool ScriptFault) → TakesRest (text_from reading state number line) (is_silent state) flushed newer r → Ends reading start input after old newer r
-    by_result (Ok refused) told = record { judged = read; ahead = []; consumed = all; bound = bound; block = omega arith; ends = (whole_input, tells (Ok refused) told) }
+    by_result : (r : Result A ScriptFault) → TakesRest (text_from reading state number line) (is_silent state) flushed newer r → Ends reading start input after old newer r
+    by_result (Ok answer) told = record { judged = read; ahead = []; consumed = all; bound = bound; block = omega arith; ends = (whole_input, tells (Ok answer) told) }
     by_result (Err (Script l word)) told = record { judged = read; ahead = []; consumed = all; bound = bound; block = omega arith; ends = (inl whole_input, tells (Err (Script l word)) told) }
     by_result (Err (Setup fault)) told = record { judged = read; ahead = []; consumed = all; bound = bound; block = omega arith; ends = (inl whole_input, tells (Err (Setup fault)) told) }
     by_result (Err Read) told = absurd told
@@ -179,7 +179,7 @@ Ends-rest reading is_silent start state number block later input rest after old 
         }
 
 -- at a fault that stands whatever follows
-settled : {S : Type 0} (reading : Reading S) (start state : S) (number : ℕ) (ahead : List ℕ) (rest old new newer : Option (List ℕ)) (read text tail : List ℕ) (fault : ScriptFault)
+settled : {S A : Type 0} (reading : Reading S A) (start state : S) (number : ℕ) (ahead : List ℕ) (rest old new newer : Option (List ℕ)) (read text tail : List ℕ) (fault : ScriptFault)
     → ((more : List ℕ) → text_of reading start (read ++ more) ≡ after_text text (text_from reading state number more))
     → ((more : List ℕ) → text_from reading state number (tail ++ more) ≡ ended (Err fault)) → Appends old new text → Keeps new newer
     → (IsAllJudged ahead rest ⊎ IsSettled (text_of reading start) (read ++ tail)) × Tells (text_of reading start (read ++ tail)) old newer (Err fault)
@@ -191,7 +191,7 @@ settled reading start state number ahead rest old new newer read text tail fault
     )
 
 -- at a fault of a line
-pub Ends-fault : {S : Type 0} (reading : Reading S) (is_silent : S → Bool) (start state next : S) (number : ℕ) (block later : BlockState) (input rest after old new flushed newer : Option (List ℕ)) (line : List ℕ) (fault : ScriptFault)
+pub Ends-fault : {S A : Type 0} (reading : Reading S A) (is_silent : S → Bool) (start state next : S) (number : ℕ) (block later : BlockState) (input rest after old new flushed newer : Option (List ℕ)) (line : List ℕ) (fault : ScriptFault)
     → Progress reading is_silent start state number block input rest old new → number ≤ reading.most_lines → Lacks 10 line → length line ≤ 129 → Takes block later rest after (line ++ 10 ∷ []) → IsSmall later → Keeps new flushed
     → TakesStep reading (line_step reading state number (strip_carriage_return line)) is_silent state next flushed newer (Err fault) → Ends reading start input after old newer (Err fault)
 Ends-fault {S} reading is_silent start state next number block later input rest after old new flushed newer line fault so_far within lacks short taken few flushes takes = by_fault fault takes
@@ -278,7 +278,7 @@ Ends-fault {S} reading is_silent start state next number block later input rest 
         }
 
 -- at a line that is too long
-pub Ends-long : {S : Type 0} (reading : Reading S) (is_silent : S → Bool) (start state : S) (number : ℕ) (block later : BlockState) (input rest after old new flushed : Option (List ℕ)) (line : List ℕ) (byte : ℕ)
+pub Ends-long : {S A : Type 0} (reading : Reading S A) (is_silent : S → Bool) (start state : S) (number : ℕ) (block later : BlockState) (input rest after old new flushed : Option (List ℕ)) (line : List ℕ) (byte : ℕ)
     → Progress reading is_silent start state number block input rest old new → number ≤ reading.most_lines → Lacks 10 line → byte ≢ 10 → length line ≡ 129 → Takes block later rest after (line ++ byte ∷ []) → IsSmall later → Keeps new flushed
     → Ends reading start input after old flushed (Err (Script number 0))
 Ends-long reading is_silent start state number block later input rest after old new flushed line byte so_far within lacks other full taken few flushes =
@@ -305,7 +305,7 @@ Ends-long reading is_silent start state number block later input rest after old 
         (line_step-not_plain reading state number (strip_carriage_return (tail ++ first.more)) (begins-not_plain tail first.more (omega (arith, size))))
 
 -- at a line more than a script may have
-pub Ends-late : {S : Type 0} (reading : Reading S) (is_silent : S → Bool) (start state : S) (number : ℕ) (block later : BlockState) (input rest after old new flushed : Option (List ℕ)) (byte : ℕ)
+pub Ends-late : {S A : Type 0} (reading : Reading S A) (is_silent : S → Bool) (start state : S) (number : ℕ) (block later : BlockState) (input rest after old new flushed : Option (List ℕ)) (byte : ℕ)
     → Progress reading is_silent start state number block input rest old new → number ≡ reading.most_lines + 1 → Takes block later rest after (byte ∷ []) → IsSmall later → Keeps new flushed
     → Ends reading start input after old flushed (Err (Script number 0))
 Ends-late reading is_silent start state number block later input rest after old new flushed byte so_far late taken few flushes =
@@ -325,7 +325,7 @@ Ends-late reading is_silent start state number block later input rest after old 
         ∙ lines_result-fault reading reading.ending state number (strip_carriage_return first.line) first.lines _ (rw late (line_step-late reading state (strip_carriage_return first.line)))
 
 -- where the reader failed
-pub Ends-read : {S : Type 0} (reading : Reading S) (is_silent : S → Bool) (start state : S) (number : ℕ) (block later : BlockState) (input rest after old new flushed : Option (List ℕ)) (line : List ℕ)
+pub Ends-read : {S A : Type 0} (reading : Reading S A) (is_silent : S → Bool) (start state : S) (number : ℕ) (block later : BlockState) (input rest after old new flushed : Option (List ℕ)) (line : List ℕ)
     → Progress reading is_silent start state number block input rest old new → 130 * number + length line ≤ 130 * reading.most_lines + 131 → Lacks 10 line → Takes block later rest after line → later.ahead ≡ [] → Keeps new flushed
     → Ends reading start input after old flushed (Err Read)
 Ends-read reading is_silent start state number block later input rest after old new flushed line so_far within lacks taken none flushes =
@@ -343,7 +343,7 @@ Ends-read reading is_silent start state number block later input rest after old 
     }
 
 -- where a flush failed: before the last line with text stands a front of what was taken
-pub Ends-flush : {S : Type 0} (reading : Reading S) (is_silent : S → Bool) (start state : S) (number : ℕ) (block later : BlockState) (input rest after old new flushed : Option (List ℕ)) (line : List ℕ)
+pub Ends-flush : {S A : Type 0} (reading : Reading S A) (is_silent : S → Bool) (start state : S) (number : ℕ) (block later : BlockState) (input rest after old new flushed : Option (List ℕ)) (line : List ℕ)
     → Progress reading is_silent start state number block input rest old new → number ≤ reading.most_lines + 1 → Takes block later rest after line → later.ahead ≡ [] → later.has_text ≡ true → IsSmall later
     → Ends reading start input after old flushed (Err Write)
 Ends-flush reading is_silent start state number block later input rest after old new flushed line so_far within taken none text few =
@@ -369,7 +369,7 @@ Ends-flush reading is_silent start state number block later input rest after old
     joined = ap (λ xs. xs ++ line) last.is ∙ append_assoc judged last.tail line
 
 -- where a line wasn't read to its end
-pub Ends-stopped : {S : Type 0} (reading : Reading S) (is_silent : S → Bool) (start state : S) (number : ℕ) (block later : BlockState) (input rest after old new flushed : Option (List ℕ)) (line : List ℕ) (fault : ScriptFault)
+pub Ends-stopped : {S A : Type 0} (reading : Reading S A) (is_silent : S → Bool) (start state : S) (number : ℕ) (block later : BlockState) (input rest after old new flushed : Option (List ℕ)) (line : List ℕ) (fault : ScriptFault)
     → Progress reading is_silent start state number block input rest old new → number ≤ reading.most_lines → Lacks 10 line × (length line ≤ 129) × Stops block later rest after line fault → IsSmall later → Keeps new flushed
     → Ends reading start input after old flushed (Err fault)
 Ends-stopped reading is_silent start state number block later input rest after old new flushed line (Script l word) so_far within part few flushes = absurd part.2
@@ -384,7 +384,7 @@ nothing : Lacks 10 []
 nothing i within = absurd (omega (arith, within))
 
 -- where what follows the last line that may stand wasn't read
-pub Ends-unread : {S : Type 0} (reading : Reading S) (is_silent : S → Bool) (start state : S) (number : ℕ) (block later : BlockState) (input rest after old new flushed : Option (List ℕ)) (fault : ScriptFault)
+pub Ends-unread : {S A : Type 0} (reading : Reading S A) (is_silent : S → Bool) (start state : S) (number : ℕ) (block later : BlockState) (input rest after old new flushed : Option (List ℕ)) (fault : ScriptFault)
     → Progress reading is_silent start state number block input rest old new → number ≡ reading.most_lines + 1 → TakesByte block later rest after (Err fault) → IsSmall later → Keeps new flushed
     → Ends reading start input after old flushed (Err fault)
 Ends-unread reading is_silent start state number block later input rest after old new flushed (Script l word) so_far late part few flushes = absurd part
@@ -396,7 +396,7 @@ Ends-unread reading is_silent start state number block later input rest after ol
 Ends-unread reading is_silent start state number block later input rest after old new flushed NoMemory so_far late part few flushes = absurd part
 
 -- at the input's end, after as many lines as may stand
-pub Ends-full : {S : Type 0} (reading : Reading S) (is_silent : S → Bool) (start state : S) (number : ℕ) (block later : BlockState) (input rest after old new flushed newer : Option (List ℕ)) (result : Result Bool ScriptFault)
+pub Ends-full : {S A : Type 0} (reading : Reading S A) (is_silent : S → Bool) (start state : S) (number : ℕ) (block later : BlockState) (input rest after old new flushed newer : Option (List ℕ)) (result : Result A ScriptFault)
     → Progress reading is_silent start state number block input rest old new → number ≡ reading.most_lines + 1 → TakesByte block later rest after (Ok None) → Keeps new flushed
     → TakesRest (reading.ending state number) (is_silent state) flushed newer result → Ends reading start input after old newer result
 Ends-full reading is_silent start state number block later input rest after old new flushed newer result so_far late (taken, none, at_end) flushes takes =

@@ -16,14 +16,14 @@ use Rattle.script_text.specs.declared.faults.ScriptFault.TheVariants.{Script, Re
 
 -- ---- one line
 
-line_step-skipped : {S : Type 0} (reading : Reading S) (state : S) (number : ℕ) (line : List ℕ) → is_plain_line line ≡ true → number ≤ reading.most_lines → true ≡ is_skipped (words_of line)
+line_step-skipped : {S A : Type 0} (reading : Reading S A) (state : S) (number : ℕ) (line : List ℕ) → is_plain_line line ≡ true → number ≤ reading.most_lines → true ≡ is_skipped (words_of line)
     → line_step reading state number line ≡ Ok ([], state)
 line_step-skipped reading state number line plain within skipped =
     let small : nat_lt reading.most_lines number ≡ false = grind (arith, nat_tests, within) in
     rw (plain, small, ← skipped) refl
 
 -- a line that was skipped went well
-pub Goes-skipped : {S : Type 0} (reading : Reading S) (is_silent : S → Bool) (state : S) (number : ℕ) (line : List ℕ) (w : Option (List ℕ)) → is_plain_line line ≡ true → number ≤ reading.most_lines
+pub Goes-skipped : {S A : Type 0} (reading : Reading S A) (is_silent : S → Bool) (state : S) (number : ℕ) (line : List ℕ) (w : Option (List ℕ)) → is_plain_line line ≡ true → number ≤ reading.most_lines
     → true ≡ is_skipped (words_of line) → Goes reading (line_step reading state number line) is_silent state state w w false
 Goes-skipped reading is_silent state number line w plain within skipped =
     record {
@@ -35,10 +35,10 @@ Goes-skipped reading is_silent state number line w plain within skipped =
       silent = λ still. (still, refl);
     }
 
-pub line_step-not_plain : {S : Type 0} (reading : Reading S) (state : S) (number : ℕ) (line : List ℕ) → is_plain_line line ≡ false → line_step reading state number line ≡ Err (Script number 0)
+pub line_step-not_plain : {S A : Type 0} (reading : Reading S A) (state : S) (number : ℕ) (line : List ℕ) → is_plain_line line ≡ false → line_step reading state number line ≡ Err (Script number 0)
 line_step-not_plain reading state number line bad = rw bad refl
 
-pub line_step-late : {S : Type 0} (reading : Reading S) (state : S) (line : List ℕ) → line_step reading state (reading.most_lines + 1) line ≡ Err (Script (reading.most_lines + 1) 0)
+pub line_step-late : {S A : Type 0} (reading : Reading S A) (state : S) (line : List ℕ) → line_step reading state (reading.most_lines + 1) line ≡ Err (Script (reading.most_lines + 1) 0)
 line_step-late reading state line =
     let late : nat_lt reading.most_lines (reading.most_lines + 1) ≡ true = grind (arith, nat_tests) in
     by_test (is_plain_line line) (nat_lt reading.most_lines (reading.most_lines + 1)) late
@@ -49,21 +49,21 @@ line_step-late reading state line =
     by_test false over is = refl
 
 -- what stands after a line that went well, and after one at fault
-pub lines_result-went : {S : Type 0} (reading : Reading S) (ending : S → ℕ → TextResult) (state next : S) (number : ℕ) (line text : List ℕ) (lines : List (List ℕ))
+pub lines_result-went : {S A : Type 0} (reading : Reading S A) (ending : S → ℕ → TextResult A) (state next : S) (number : ℕ) (line text : List ℕ) (lines : List (List ℕ))
     → line_step reading state number line ≡ Ok (text, next) → lines_result reading ending state number (line ∷ lines) ≡ after_text text (lines_result reading ending next (number + 1) lines)
 lines_result-went reading ending state next number line text lines went = ap (after_step (λ after. lines_result reading ending after (number + 1) lines)) went
 
-pub lines_result-fault : {S : Type 0} (reading : Reading S) (ending : S → ℕ → TextResult) (state : S) (number : ℕ) (line : List ℕ) (lines : List (List ℕ)) (fault : ScriptFault)
+pub lines_result-fault : {S A : Type 0} (reading : Reading S A) (ending : S → ℕ → TextResult A) (state : S) (number : ℕ) (line : List ℕ) (lines : List (List ℕ)) (fault : ScriptFault)
     → line_step reading state number line ≡ Err fault → lines_result reading ending state number (line ∷ lines) ≡ ended (Err fault)
 lines_result-fault reading ending state number line lines fault stops = ap (after_step (λ after. lines_result reading ending after (number + 1) lines)) stops
 
-after_text-twice : (first second : List ℕ) (rest : TextResult) → after_text first (after_text second rest) ≡ after_text (first ++ second) rest
+after_text-twice : {A : Type 0} (first second : List ℕ) (rest : TextResult A) → after_text first (after_text second rest) ≡ after_text (first ++ second) rest
 after_text-twice first second rest = ap (λ output. record { output = output; result = rest.result }) (sym (append_assoc first second rest.output))
 
 -- ---- the lines read so far
 
 -- the last line that has text among bytes that were read, so that the script may end after it, and what was taken since
-pub record LastText {S : Type 0} (reading : Reading S) (start : S) (read : List ℕ) (taken : ℕ) : Type 0 where
+pub record LastText {S A : Type 0} (reading : Reading S A) (start : S) (read : List ℕ) (taken : ℕ) : Type 0 where
   pub front : List ℕ
   pub tail : List ℕ
   pub is : read ≡ (front ++ 10 ∷ []) ++ tail
@@ -73,7 +73,7 @@ pub record LastText {S : Type 0} (reading : Reading S) (start : S) (read : List 
 
 -- bytes that are whole lines before a number, the text that they gave, and the state after them; what follows goes on from there. Text that isn't
 -- flushed was given by a line of the block that was read last
-pub record Progress {S : Type 0} (reading : Reading S) (is_silent : S → Bool) (start state : S) (number : ℕ) (block : BlockState) (input rest old new : Option (List ℕ)) : Type 0 where
+pub record Progress {S A : Type 0} (reading : Reading S A) (is_silent : S → Bool) (start state : S) (number : ℕ) (block : BlockState) (input rest old new : Option (List ℕ)) : Type 0 where
   pub read : List ℕ
   pub text : List ℕ
   pub consumed : Consumes input (left block rest) read
@@ -85,7 +85,7 @@ pub record Progress {S : Type 0} (reading : Reading S) (is_silent : S → Bool) 
   pub silent : is_silent state ≡ true → text ≡ []
   pub last : block.has_text ≡ true → LastText reading start read block.taken
 
-pub Progress-start : {S : Type 0} (reading : Reading S) (is_silent : S → Bool) (start : S) (block : BlockState) (input old : Option (List ℕ)) → block ≡ record { ahead = []; taken = 0; has_text = false }
+pub Progress-start : {S A : Type 0} (reading : Reading S A) (is_silent : S → Bool) (start : S) (block : BlockState) (input old : Option (List ℕ)) → block ≡ record { ahead = []; taken = 0; has_text = false }
     → Progress reading is_silent start start 1 block input input old old
 Progress-start reading is_silent start block input old none =
     record {
@@ -108,17 +108,17 @@ Progress-start reading is_silent start block input old none =
     never wrong = search rules
 
 -- what the reader's failure leaves of bytes that end within a line
-pub failed_within : {S : Type 0} (reading : Reading S) (is_silent : S → Bool) (start state : S) (number : ℕ) (block : BlockState) (input rest old new : Option (List ℕ)) (line : List ℕ)
+pub failed_within : {S A : Type 0} (reading : Reading S A) (is_silent : S → Bool) (start state : S) (number : ℕ) (block : BlockState) (input rest old new : Option (List ℕ)) (line : List ℕ)
     → (so_far : Progress reading is_silent start state number block input rest old new) → Lacks 10 line → text_before_failure reading start (so_far.read ++ line) ≡ after_text so_far.text (ended (Err Read))
 failed_within reading is_silent start state number block input rest old new line so_far lacks =
     so_far.failed line ∙ ap (after_text so_far.text) (ap (lines_result reading (λ s n. ended (Err Read)) state number) (ended_lines_of-last line lacks))
 
 -- a text that goes on after a failure's
-pub grown_after : (before whole rest : TextResult) (text : List ℕ) (fault : ScriptFault) → before ≡ after_text text (ended (Err fault)) → whole ≡ after_text text rest → rest.output ≢ [] → before.output ≢ whole.output
+pub grown_after : {A : Type 0} (before whole rest : TextResult A) (text : List ℕ) (fault : ScriptFault) → before ≡ after_text text (ended (Err fault)) → whole ≡ after_text text rest → rest.output ≢ [] → before.output ≢ whole.output
 grown_after before whole rest text fault is told some = rw (is, told, append-nil text) (grows text rest.output some)
 
 -- what has text after a line was taken that wrote none, and after one that did
-last_before : {S : Type 0} (reading : Reading S) (start : S) (read bytes : List ℕ) (taken after : ℕ) → LastText reading start read taken → after ≡ taken + length bytes → LastText reading start (read ++ bytes) after
+last_before : {S A : Type 0} (reading : Reading S A) (start : S) (read bytes : List ℕ) (taken after : ℕ) → LastText reading start read taken → after ≡ taken + length bytes → LastText reading start (read ++ bytes) after
 last_before reading start read bytes taken after last same =
     record {
       front = last.front;
@@ -129,7 +129,7 @@ last_before reading start read bytes taken after last same =
       some = last.some;
     }
 
-last_here : {S : Type 0} (reading : Reading S) (is_silent : S → Bool) (start state next : S) (number : ℕ) (block : BlockState) (input rest old new : Option (List ℕ)) (line text : List ℕ) (taken : ℕ)
+last_here : {S A : Type 0} (reading : Reading S A) (is_silent : S → Bool) (start state next : S) (number : ℕ) (block : BlockState) (input rest old new : Option (List ℕ)) (line text : List ℕ) (taken : ℕ)
     → (so_far : Progress reading is_silent start state number block input rest old new) → Lacks 10 line → line_step reading state number (strip_carriage_return line) ≡ Ok (text, next)
     → text ≢ [] → IsOk (reading.ending next (number + 1)).result → LastText reading start (so_far.read ++ (line ++ 10 ∷ [])) taken
 last_here reading is_silent start state next number block input rest old new line text taken so_far lacks went some ok =
@@ -155,7 +155,7 @@ last_here reading is_silent start state next number block input rest old new lin
     told = so_far.whole (line ++ 10 ∷ []) ∙ ap (after_text so_far.text) here
 
 -- one line more
-progress_by : {S : Type 0} (reading : Reading S) (is_silent : S → Bool) (start state next : S) (number : ℕ) (block later noted : BlockState) (input rest after old new flushed newer : Option (List ℕ)) (line : List ℕ) (wrote : Bool)
+progress_by : {S A : Type 0} (reading : Reading S A) (is_silent : S → Bool) (start state next : S) (number : ℕ) (block later noted : BlockState) (input rest after old new flushed newer : Option (List ℕ)) (line : List ℕ) (wrote : Bool)
     → (so_far : Progress reading is_silent start state number block input rest old new) → Lacks 10 line → length line ≤ 129 → Takes block later rest after (line ++ 10 ∷ []) → Keeps new flushed
     → Goes reading (line_step reading state number (strip_carriage_return line)) is_silent state next flushed newer wrote
     → noted.ahead ≡ later.ahead → (noted.has_text ≡ true → LastText reading start (so_far.read ++ (line ++ 10 ∷ [])) noted.taken)
@@ -186,7 +186,7 @@ progress_by reading is_silent start state next number block later noted input re
     joined more = append_assoc so_far.read (line ++ 10 ∷ []) more ∙ ap (λ xs. so_far.read ++ xs) (append_assoc line (10 ∷ []) more)
 
 -- one that wrote nothing
-pub Progress-quiet : {S : Type 0} (reading : Reading S) (is_silent : S → Bool) (start state next : S) (number : ℕ) (block later : BlockState) (input rest after old new flushed newer : Option (List ℕ)) (line : List ℕ)
+pub Progress-quiet : {S A : Type 0} (reading : Reading S A) (is_silent : S → Bool) (start state next : S) (number : ℕ) (block later : BlockState) (input rest after old new flushed newer : Option (List ℕ)) (line : List ℕ)
     → Progress reading is_silent start state number block input rest old new → Lacks 10 line → length line ≤ 129 → Takes block later rest after (line ++ 10 ∷ []) → Keeps new flushed
     → Goes reading (line_step reading state number (strip_carriage_return line)) is_silent state next flushed newer false
     → Progress reading is_silent start next (number + 1) later input after old newer
@@ -195,7 +195,7 @@ Progress-quiet reading is_silent start state next number block later input rest 
     (λ text. let same = takes.same_block text in last_before reading start so_far.read (line ++ 10 ∷ []) block.taken later.taken (so_far.last same.0) same.1)
 
 -- one that wrote something, which was noted
-pub Progress-wrote : {S : Type 0} (reading : Reading S) (is_silent : S → Bool) (start state next : S) (number : ℕ) (block later noted : BlockState) (input rest after old new flushed newer : Option (List ℕ)) (line : List ℕ)
+pub Progress-wrote : {S A : Type 0} (reading : Reading S A) (is_silent : S → Bool) (start state next : S) (number : ℕ) (block later noted : BlockState) (input rest after old new flushed newer : Option (List ℕ)) (line : List ℕ)
     → Progress reading is_silent start state number block input rest old new → Lacks 10 line → length line ≤ 129 → Takes block later rest after (line ++ 10 ∷ []) → Keeps new flushed
     → Goes reading (line_step reading state number (strip_carriage_return line)) is_silent state next flushed newer true → noted ≡ record later { has_text = true }
     → Progress reading is_silent start next (number + 1) noted input after old newer

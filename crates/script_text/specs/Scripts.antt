@@ -1,5 +1,5 @@
 -- How a script is read, whatever its lines do, and how a call that reads one ends (this project's profile).
-use Rattle.std.specs.Prelude.{◌≡◌, ◌≢◌, ◌≤◌, ◌⊎◌, ℕ, ◌+◌, ◌*◌, Bool, not, ◌||◌, List, [], ◌∷◌, ◌++◌, length, Option, Result, Ok, Err, IsOk, if◌then◌else◌, nat_lt}
+use Rattle.std.specs.Prelude.{◌≡◌, ◌≢◌, ◌≤◌, ◌⊎◌, ℕ, ◌+◌, ◌*◌, not, ◌||◌, List, [], ◌∷◌, ◌++◌, length, Option, Result, Ok, Err, IsOk, if◌then◌else◌, nat_lt}
 use Rattle.std.specs.Io.KnownBytes.{Appends, Consumes, Keeps, IsAtEnd}
 use Rattle.script_text.specs.Words.{lines_of, ended_lines_of, is_plain_line, is_skipped, words_of}
 use Rattle.script_text.specs.declared.faults.ScriptFault.{ScriptFault}
@@ -7,24 +7,24 @@ use Rattle.script_text.specs.declared.faults.ScriptFault.TheVariants.{Script, Se
 
 -- ---- lines
 
--- the output of a script, and its result: true where something was refused, or the fault that ended it
-pub record TextResult : Type 0 where
+-- the output of a script, and its result: what a script that ends answers, or the fault that ended it
+pub record TextResult (A : Type 0) : Type 0 where
   pub output : List ℕ
-  pub result : Result Bool ScriptFault
+  pub result : Result A ScriptFault
 
 -- what a line makes of a script's state: the text that is written and the state after it, or the fault that ends the script
 abbrev pub LineStep : Type 0 → Type 0
 LineStep S = Result (List ℕ × S) ScriptFault
 
--- a kind of script: how many lines it may have, what the words of a line do, by the line's number from 1, and how the script ends where no
--- line has a fault, by the number of the line after the last
-pub record Reading (S : Type 0) : Type 0 where
+-- a kind of script, by its states and its answers: how many lines it may have, what the words of a line do, by the line's number from 1, and
+-- how the script ends where no line has a fault, by the number of the line after the last
+pub record Reading (S A : Type 0) : Type 0 where
   pub most_lines : ℕ
   pub step : S → ℕ → List (List ℕ) → LineStep S
-  pub ending : S → ℕ → TextResult
+  pub ending : S → ℕ → TextResult A
 
 -- one line: at fault at word 0 where its bytes may not stand or it is one more than a script may have, skipped, or read by its words
-abbrev pub line_step : {S : Type 0} → Reading S → S → ℕ → List ℕ → LineStep S
+abbrev pub line_step : {S A : Type 0} → Reading S A → S → ℕ → List ℕ → LineStep S
 line_step reading state number line =
     if not (is_plain_line line) || nat_lt reading.most_lines number
     then Err (Script number 0)
@@ -33,46 +33,46 @@ line_step reading state number line =
 -- ---- a whole script
 
 -- nothing is written
-abbrev pub ended : Result Bool ScriptFault → TextResult
+abbrev pub ended : {A : Type 0} → Result A ScriptFault → TextResult A
 ended result = record { output = []; result = result }
 
-abbrev pub after_text : List ℕ → TextResult → TextResult
+abbrev pub after_text : {A : Type 0} → List ℕ → TextResult A → TextResult A
 after_text text rest = record rest { output = text ++ rest.output }
 
 -- what one line gives, with what stands after it
-abbrev pub after_step : {S : Type 0} → (S → TextResult) → LineStep S → TextResult
+abbrev pub after_step : {S A : Type 0} → (S → TextResult A) → LineStep S → TextResult A
 after_step rest (Err fault) = ended (Err fault)
 after_step rest (Ok went) = after_text went.0 (rest went.1)
 
 -- the lines from a number on; `ending` says how the script ends after the last
-abbrev pub lines_result : {S : Type 0} → Reading S → (S → ℕ → TextResult) → S → ℕ → List (List ℕ) → TextResult
+abbrev pub lines_result : {S A : Type 0} → Reading S A → (S → ℕ → TextResult A) → S → ℕ → List (List ℕ) → TextResult A
 lines_result reading ending state number [] = ending state number
 lines_result reading ending state number (line ∷ lines) =
     after_step (λ next. lines_result reading ending next (number + 1) lines) (line_step reading state number line)
 
 -- the text of a whole input, from a state and a line's number on
-abbrev pub text_from : {S : Type 0} → Reading S → S → ℕ → List ℕ → TextResult
+abbrev pub text_from : {S A : Type 0} → Reading S A → S → ℕ → List ℕ → TextResult A
 text_from reading state number input = lines_result reading reading.ending state number (lines_of input)
 
-abbrev pub text_of : {S : Type 0} → Reading S → S → List ℕ → TextResult
+abbrev pub text_of : {S A : Type 0} → Reading S A → S → List ℕ → TextResult A
 text_of reading start input = text_from reading start 1 input
 
 -- the text where the reader failed after these bytes: that of the lines whose line feed was read, and a fault in them comes first
-abbrev pub text_before_failure : {S : Type 0} → Reading S → S → List ℕ → TextResult
+abbrev pub text_before_failure : {S A : Type 0} → Reading S A → S → List ℕ → TextResult A
 text_before_failure reading start input = lines_result reading (λ state number. ended (Err Read)) start 1 (ended_lines_of input)
 
 -- ---- how a call ends
 
 -- what was written and answered is the text of these bytes
-abbrev pub Tells : TextResult → Option (List ℕ) → Option (List ℕ) → Result Bool ScriptFault → Type 0
+abbrev pub Tells : {A : Type 0} → TextResult A → Option (List ℕ) → Option (List ℕ) → Result A ScriptFault → Type 0
 Tells text old new result = Appends old new text.output × (text.result ≡ result)
 
 -- a script that writes something
-abbrev pub HasText : TextResult → Type 0
+abbrev pub HasText : {A : Type 0} → TextResult A → Type 0
 HasText text = text.output ≢ []
 
 -- a fault that stands whatever follows
-abbrev pub IsSettled : (List ℕ → TextResult) → List ℕ → Type 0
+abbrev pub IsSettled : {A : Type 0} → (List ℕ → TextResult A) → List ℕ → Type 0
 IsSettled whole judged = (more : List ℕ) → whole (judged ++ more) ≡ whole judged
 
 -- all of the input was judged: nothing was read ahead, and the reader is at its end
@@ -84,13 +84,13 @@ abbrev pub IsFront : List ℕ → List ℕ → List ℕ → Option (List ℕ) �
 IsFront front judged ahead rest = (judged ≡ front ++ 10 ∷ []) ⊎ ((judged ≡ front) × IsAllJudged ahead rest)
 
 -- no line is at fault, and the last, or the script's end after it, has text: more than the lines before it
-abbrev pub EndsWithText : (List ℕ → TextResult) → (List ℕ → TextResult) → List ℕ → List ℕ → Option (List ℕ) → Type 0
+abbrev pub EndsWithText : {A : Type 0} → (List ℕ → TextResult A) → (List ℕ → TextResult A) → List ℕ → List ℕ → Option (List ℕ) → Type 0
 EndsWithText whole before_failure judged ahead rest =
     IsOk (whole judged).result × ((front : List ℕ) × IsFront front judged ahead rest × ((before_failure front).output ≢ (whole judged).output))
 
 -- where a call asks for memory: before its first read, or where no line is at fault, at the first line with which a script that ends has text, or at
 -- the input's end
-abbrev pub AsksForMemory : (List ℕ → TextResult) → (List ℕ → TextResult) → List ℕ → List ℕ → Option (List ℕ) → Type 0
+abbrev pub AsksForMemory : {A : Type 0} → (List ℕ → TextResult A) → (List ℕ → TextResult A) → List ℕ → List ℕ → Option (List ℕ) → Type 0
 AsksForMemory whole before_failure judged ahead rest =
     (judged ++ ahead ≡ [])
     ⊎ (IsOk (whole judged).result
@@ -98,9 +98,9 @@ AsksForMemory whole before_failure judged ahead rest =
 
 -- how a call ends that has judged these bytes and read those ahead: `whole` and `before_failure` are the texts of a whole input and of one
 -- whose reader failed
-abbrev pub EndsAfter : (List ℕ → TextResult) → (List ℕ → TextResult) → List ℕ → List ℕ → Option (List ℕ) → Option (List ℕ) → Option (List ℕ) → Result Bool ScriptFault → Type 0
+abbrev pub EndsAfter : {A : Type 0} → (List ℕ → TextResult A) → (List ℕ → TextResult A) → List ℕ → List ℕ → Option (List ℕ) → Option (List ℕ) → Option (List ℕ) → Result A ScriptFault → Type 0
 -- to the end, with the text of all of it
-EndsAfter whole before_failure judged ahead rest old new (Ok refused) = IsAllJudged ahead rest × Tells (whole judged) old new (Ok refused)
+EndsAfter whole before_failure judged ahead rest old new (Ok answer) = IsAllJudged ahead rest × Tells (whole judged) old new (Ok answer)
 -- with the text of the lines before the fault, and no later than where the fault stands whatever follows
 EndsAfter whole before_failure judged ahead rest old new (Err (Script line word)) =
     (IsAllJudged ahead rest ⊎ IsSettled whole judged) × Tells (whole judged) old new (Err (Script line word))
@@ -116,7 +116,7 @@ EndsAfter whole before_failure judged ahead rest old new (Err NoMemory) = Keeps 
 -- how a call ends, by what the reader has left before and after it and what the writer holds before and after it, where these are known. What
 -- left the reader was judged, at most the lines that a script may have, of 128 bytes with their line ends, and one byte more; but for what was
 -- read ahead, at most a block of 65,536 bytes
-pub record EndsAs (most_lines : ℕ) (whole before_failure : List ℕ → TextResult) (input rest old new : Option (List ℕ)) (result : Result Bool ScriptFault) : Type 0 where
+pub record EndsAs {A : Type 0} (most_lines : ℕ) (whole before_failure : List ℕ → TextResult A) (input rest old new : Option (List ℕ)) (result : Result A ScriptFault) : Type 0 where
   pub judged : List ℕ
   pub ahead : List ℕ
   pub consumed : Consumes input rest (judged ++ ahead)

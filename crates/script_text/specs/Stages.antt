@@ -127,14 +127,14 @@ abbrev pub stage_step : {W C : Type 0} → Kind W C → Stage W → ℕ → List
 stage_step kind stage number words = step_of_line kind stage number (line_in kind stage words)
 
 -- at the input's end what commands work on is made where none came
-abbrev pub ending_of : {W C : Type 0} → Kind W C → Result W ScriptFault → TextResult
+abbrev pub ending_of : {W C : Type 0} → Kind W C → Result W ScriptFault → TextResult Bool
 ending_of kind (Ok world) = record { output = (kind.ending world).0; result = Ok (kind.ending world).1 }
 ending_of kind (Err fault) = ended (Err fault)
 
-abbrev pub stage_ending : {W C : Type 0} → Kind W C → Stage W → ℕ → TextResult
+abbrev pub stage_ending : {W C : Type 0} → Kind W C → Stage W → ℕ → TextResult Bool
 stage_ending kind stage number = ending_of kind (world_at kind stage number)
 
-abbrev pub reading_of : {W C : Type 0} → Kind W C → Reading (Stage W)
+abbrev pub reading_of : {W C : Type 0} → Kind W C → Reading (Stage W) Bool
 reading_of kind = record { most_lines = kind.most_lines; step = stage_step kind; ending = stage_ending kind }
 
 -- ---- what the calls of a kind answer

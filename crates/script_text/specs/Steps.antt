@@ -7,7 +7,7 @@ use Rattle.script_text.specs.declared.faults.ScriptFault.TheVariants.{Script, Se
 
 -- the text of a line that went well was written, and `wrote` tells whether it has any; a script may end after a line that has. A script that is
 -- still silent was so before, and wrote nothing
-pub record Goes {S : Type 0} (reading : Reading S) (step : LineStep S) (is_silent : S → Bool) (old new : S) (before after : Option (List ℕ)) (wrote : Bool) : Type 0 where
+pub record Goes {S A : Type 0} (reading : Reading S A) (step : LineStep S) (is_silent : S → Bool) (old new : S) (before after : Option (List ℕ)) (wrote : Bool) : Type 0 where
   pub text : List ℕ
   pub step_is : step ≡ Ok (text, new)
   pub written : Appends before after text
@@ -16,22 +16,22 @@ pub record Goes {S : Type 0} (reading : Reading S) (step : LineStep S) (is_silen
   pub silent : is_silent new ≡ true → (is_silent old ≡ true) × (text ≡ [])
 
 -- a line without fault, after which the script may end
-pub record Stands {S : Type 0} (reading : Reading S) (step : LineStep S) : Type 0 where
+pub record Stands {S A : Type 0} (reading : Reading S A) (step : LineStep S) : Type 0 where
   pub text : List ℕ
   pub next : S
   pub step_is : step ≡ Ok (text, next)
   pub may_end : (number : ℕ) → IsOk (reading.ending next number).result
 
 -- a line with text
-abbrev pub Speaks : {S : Type 0} → Reading S → LineStep S → Type 0
+abbrev pub Speaks : {S A : Type 0} → Reading S A → LineStep S → Type 0
 Speaks reading step = (line : Stands reading step) × (line.text ≢ [])
 
 -- a line that has text, or after which a script that ends has
-abbrev pub GivesText : {S : Type 0} → Reading S → LineStep S → Type 0
+abbrev pub GivesText : {S A : Type 0} → Reading S A → LineStep S → Type 0
 GivesText reading step = (line : Stands reading step) × ((number : ℕ) → line.text ++ (reading.ending line.next number).output ≢ [])
 
 -- a line was carried out; a write fails only at one with text, and memory is asked for only while nothing was written, at one that gives text
-abbrev pub TakesStep : {S : Type 0} → Reading S → LineStep S → (S → Bool) → S → S → Option (List ℕ) → Option (List ℕ) → Result Bool ScriptFault → Type 0
+abbrev pub TakesStep : {S A : Type 0} → Reading S A → LineStep S → (S → Bool) → S → S → Option (List ℕ) → Option (List ℕ) → Result Bool ScriptFault → Type 0
 TakesStep reading step is_silent old new before after (Ok wrote) = Goes reading step is_silent old new before after wrote
 TakesStep reading step is_silent old new before after (Err (Script line word)) = (step ≡ Err (Script line word)) × Keeps before after
 TakesStep reading step is_silent old new before after (Err (Setup fault)) = (step ≡ Err (Setup fault)) × Keeps before after
@@ -41,8 +41,8 @@ TakesStep reading step is_silent old new before after (Err NoMemory) = (is_silen
 
 -- a script was ended, after its last line or within it; a write fails only where there is text, and memory is asked for only where there is no
 -- fault and nothing was written
-abbrev pub TakesRest : TextResult → Bool → Option (List ℕ) → Option (List ℕ) → Result Bool ScriptFault → Type 0
-TakesRest text silent before after (Ok refused) = Tells text before after (Ok refused)
+abbrev pub TakesRest : {A : Type 0} → TextResult A → Bool → Option (List ℕ) → Option (List ℕ) → Result A ScriptFault → Type 0
+TakesRest text silent before after (Ok answer) = Tells text before after (Ok answer)
 TakesRest text silent before after (Err (Script line word)) = Tells text before after (Err (Script line word))
 TakesRest text silent before after (Err (Setup fault)) = Tells text before after (Err (Setup fault))
 TakesRest text silent before after (Err Read) = ⊥

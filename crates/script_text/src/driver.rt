@@ -18,8 +18,11 @@ pub trait Script {
     ghost use Rattle.std.specs.Prelude.{Bool};
     ghost use Rattle.script_text.specs.Scripts.{Reading};
 
+    /// What a script that ends answers.
+    type Answer: Drop;
+
     /// What its lines do.
-    ghost reading: { Reading Self };
+    ghost reading: { Reading Self Self.Answer };
 
     /// Whether nothing was written so far, so that memory may still be asked for.
     ghost is_silent: { Self → Bool };
@@ -45,7 +48,7 @@ pub trait Script {
         alloc: Global,
         number: u32,
         writer: &mut W,
-    ) -> Result<bool, ScriptFault>
+    ) -> Result<Self::Answer, ScriptFault>
         ensures { TakesRest (reading.ending self.old number) (is_silent self.old) (W.contents writer.old) (W.contents writer.new) result };
 }
 
@@ -107,7 +110,7 @@ fn take_rest<S: Script, W: Write>(
     number: u32,
     line: &[u8],
     writer: &mut W,
-) -> Result<bool, ScriptFault>
+) -> Result<S::Answer, ScriptFault>
     requires number { number ≤ S.reading.most_lines }
     requires small { number < 4294967295 }
     requires line { IsOneLine line.now }
@@ -122,14 +125,14 @@ fn take_rest<S: Script, W: Write>(
     script.end(alloc, number + 1, writer)
 }
 
-/// Reads a script to its end or its first fault. Each line is carried out before the next is looked at, and its text is
-/// flushed before the reader is asked for more.
+/// Reads a script to its end or its first fault, and answers what the script does. Each line is carried out before the next
+/// is looked at, and its text is flushed before the reader is asked for more.
 pub fn read_script<S: Script, R: Read, W: Write>(
     script: &mut S,
     alloc: Global,
     reader: &mut R,
     writer: &mut W,
-) -> Result<bool, ScriptFault>
+) -> Result<S::Answer, ScriptFault>
     requires { S.is_silent script.old ≡ true }
     ensures { EndsAs S.reading.most_lines (text_of S.reading script.old) (text_before_failure S.reading script.old) (R.remaining reader.old) (R.remaining reader.new) (W.contents writer.old) (W.contents writer.new) result }
 {

@@ -287,6 +287,9 @@ impl<K: Kind> StagedScript<K> {
 impl<K: Kind> Script for StagedScript<K> {
     ghost use Rattle.script_text.specs.Stages.{reading_of, nothing_written};
 
+    /// Whether something was refused.
+    type Answer = bool;
+
     ghost reading = { reading_of K.rules };
 
     ghost is_silent = { nothing_written };

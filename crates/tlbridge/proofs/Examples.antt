@@ -1,5 +1,5 @@
 -- Worked scripts, by the definitions alone.
-use Rattle.std.specs.Prelude.{◌≡◌, false, List, [], ◌∷◌, ◌++◌, ℕ, Ok, Err, refl, codes, flat_map, replicate}
+use Rattle.std.specs.Prelude.{◌≡◌, Bool, false, List, [], ◌∷◌, ◌++◌, ℕ, Ok, Err, refl, codes, flat_map, replicate}
 use Rattle.world_run.specs.declared.SetupFault.TheVariants.{BadConfig, Map, Device}
 use Rattle.burst_plan.specs.declared.MapFault.TheVariants.{RegionOverlap}
 use Rattle.subordinate.specs.declared.DeviceFault.TheVariants.{BadWord}
@@ -8,7 +8,7 @@ use Rattle.tlbridge.specs.Run.{run_reading}
 use Rattle.script_text.specs.Scripts.{TextResult, text_of}
 use Rattle.script_text.specs.declared.faults.ScriptFault.TheVariants.{Script, Setup}
 
-abbrev run_result : List ℕ → TextResult
+abbrev run_result : List ℕ → TextResult Bool
 run_result input = text_of run_reading Opening input
 
 -- lines, each with its line feed

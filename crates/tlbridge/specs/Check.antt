@@ -47,5 +47,5 @@ check_kind =
       ending = λ table. ([], table.refused);
     }
 
-abbrev pub check_reading : Reading (Stage PortTable)
+abbrev pub check_reading : Reading (Stage PortTable) Bool
 check_reading = reading_of check_kind

@@ -20,6 +20,6 @@ text_ending (Ok refused) = Ok refused
 text_ending (Err fault) = Err (text_fault fault)
 
 -- as the reading of a script of at most 65,536 lines ends
-abbrev pub EndsAs : (List ℕ → TextResult) → (List ℕ → TextResult) → Option (List ℕ) → Option (List ℕ) → Option (List ℕ) → Option (List ℕ) → Result Bool TextFault → Type 0
+abbrev pub EndsAs : (List ℕ → TextResult Bool) → (List ℕ → TextResult Bool) → Option (List ℕ) → Option (List ℕ) → Option (List ℕ) → Option (List ℕ) → Result Bool TextFault → Type 0
 EndsAs whole before_failure input rest old new result =
     (ending : Result Bool ScriptFault) × (result ≡ text_ending ending) × script.EndsAs 65536 whole before_failure input rest old new ending

@@ -88,5 +88,5 @@ run_kind =
       ending = λ world. ([], false);
     }
 
-abbrev pub run_reading : Reading (Stage WorldState)
+abbrev pub run_reading : Reading (Stage WorldState) Bool
 run_reading = reading_of run_kind
