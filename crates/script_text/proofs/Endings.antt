@@ -1,13 +1,13 @@
 -- How a call ends that reads a script.
 use Rattle.std.proofs.Common.{◌≡◌, ◌≢◌, ◌<◌, ◌≤◌, ◌⊎◌, inl, inr, ℕ, ◌+◌, ◌*◌, List, [], ◌∷◌, ◌++◌, length, length-append, Bool, true, Option, None, Some, Result, Ok, Err, IsOk, refl, sym, ap, ◌∙◌, append_assoc, append-nil, arith}
-use Rattle.std.proofs.KnownBytes.{Appends-nil, Appends-trans, Appends-kept, Consumes-nil, Consumes-trans, Keeps-refl, Keeps-trans}
+use Rattle.std.proofs.KnownBytes.{Appends-nil, Appends-trans, Appends-kept, Consumes-trans, Keeps-trans}
 use Rattle.std.specs.Io.KnownBytes.{Appends, Consumes, Keeps, IsAtEnd, prepend_known}
 use Rattle.std.specs.Str.Lines.{strip_carriage_return}
 use Rattle.script_text.proofs.Parts.{Lacks, Lacks-push}
 use Rattle.script_text.proofs.Progress.{LastText, Progress, failed_within, grown_after, line_step-not_plain, line_step-late, lines_result-went, lines_result-fault}
 use Rattle.script_text.proofs.ScriptLines.{lines_of-line, lines_of-last, begins, begins-not_plain, lines_of-some}
 use Rattle.script_text.proofs.TraceTexts.{some_after, some_before}
-use Rattle.script_text.specs.Reads.{BlockState, IsOneLine, IsSmall, Stops, Takes, TakesByte, left}
+use Rattle.script_text.specs.Reads.{BlockState, IsSmall, Stops, Takes, TakesByte, left}
 use Rattle.script_text.specs.Scripts.{Reading, TextResult, EndsAs, HasText, IsAllJudged, IsFront, IsSettled, LineStep, Tells, after_text, ended, line_step, lines_result, text_from, text_of, text_before_failure}
 use Rattle.script_text.specs.Steps.{GivesText, Goes, Speaks, TakesStep, TakesRest}
 use Rattle.script_text.specs.Words.{lines_of}

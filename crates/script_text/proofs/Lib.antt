@@ -1,5 +1,5 @@
 mod Endings
-mod LineRooms
+pub mod LineRooms
 mod Numbers
 pub mod PageLists
 mod Parts

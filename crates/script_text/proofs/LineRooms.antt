@@ -1,5 +1,5 @@
 -- A set-up line that may stand has room.
-use Rattle.std.proofs.Common.{◌≡◌, ◌<◌, ◌≤◌, ℕ, ◌+◌, List, [], ◌∷◌, length, Bool, true, false, ◌&&◌, ◌||◌, nat_lt, nat_le, Option, None, Some, Result, Ok, Err, refl, sym, ap, ◌∙◌, arith, if◌then◌else◌, rules}
+use Rattle.std.proofs.Common.{◌≡◌, ◌<◌, ◌≤◌, ℕ, ◌+◌, List, [], ◌∷◌, length, Bool, true, false, ◌&&◌, ◌||◌, nat_lt, nat_le, Option, None, Some, Result, Ok, Err, refl, sym, ap, arith, if◌then◌else◌, rules}
 use Rattle.std.proofs.lemmas.Bool.Decides.{nat_tests}
 use Rattle.bridge_core.specs.declared.Config.{Config as Limits}
 use Rattle.world_run.specs.Setups.{SetupLists}
@@ -142,6 +142,10 @@ set_up_room setup form.Drain words line test is = absurd is
 set_up_room setup form.Mem words line test is = absurd is
 set_up_room setup form.Work words line test is = absurd is
 set_up_room setup form.Free words line test is = absurd is
+
+-- a set-up line that was read has room where one of its form has
+pub setup_line-room : (setup : SetupLists) (f : Form) (words : List (List ℕ)) (line : SetupLine) → has_no_room setup f words ≡ false → setup_line f words ≡ Ok line → HasRoomFor setup line
+setup_line-room setup f words line test same = set_up_room setup f words line test (says f words line same)
 
 abbrev opening : (W : Type 0) → Stage W
 opening W = Opening

@@ -1,9 +1,8 @@
 -- What a command makes of a script, and what a refused opening does.
-use Rattle.std.proofs.Common.{◌≡◌, ◌≢◌, ◌++◌, ℕ, List, [], Bool, true, false, Option, Result, Ok, Err, IsOk, refl, sym, ap, ◌∙◌, rules}
+use Rattle.std.proofs.Common.{◌≡◌, ◌≢◌, ◌++◌, ℕ, List, [], Bool, true, Option, Result, Ok, Err, IsOk, refl, sym, ap, ◌∙◌, rules}
 use Rattle.std.proofs.KnownBytes.{Keeps-refl}
-use Rattle.std.specs.Io.KnownBytes.{Keeps}
 use Rattle.script_text.specs.Stages.{Kind, OpensStage, Opening, Running, SettingUp, Stage, Writes, command_step, nothing_written, reading_of, world_at}
-use Rattle.script_text.specs.Steps.{GivesText, Speaks, TakesStep}
+use Rattle.script_text.specs.Steps.{GivesText, TakesStep}
 use Rattle.script_text.specs.declared.faults.ScriptFault.{ScriptFault}
 use Rattle.script_text.specs.declared.faults.ScriptFault.TheVariants.{Script, Setup, Read, Write, NoMemory}
 

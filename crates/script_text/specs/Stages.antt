@@ -1,7 +1,6 @@
 -- What every kind of script has in common: a `config` line, other set-up lines, and then commands (this project's profile).
-use Rattle.std.specs.Prelude.{◌≡◌, ◌≢◌, ◌<◌, ◌≤◌, ◌+◌, ◌^◌, ⊤, ℕ, Bool, true, false, not, List, [], ◌++◌, length, Option, Some, None, Result, Ok, Err, IsOk, if◌then◌else◌, nat_le}
+use Rattle.std.specs.Prelude.{◌≡◌, ◌≢◌, ◌<◌, ◌≤◌, ◌+◌, ◌^◌, ⊤, ℕ, Bool, true, false, not, List, [], length, Option, Some, None, Result, Ok, Err, IsOk, if◌then◌else◌, nat_le}
 use Rattle.std.specs.Io.KnownBytes.{Appends}
-use Rattle.bridge_core.specs.declared.Config.{Config as Limits}
 use Rattle.world_run.specs.Setups.{SetupLists, lists_of}
 use Rattle.world_run.specs.declared.SetupFault.{SetupFault}
 use Rattle.world_run.specs.declared.SetupFault.TheVariants as refused

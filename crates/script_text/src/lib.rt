@@ -6,6 +6,7 @@ mod faults;
 mod keywords;
 mod offer_parser;
 mod reader;
+mod setup_lines;
 mod setup_parser;
 mod stages;
 #[cfg(test)]
@@ -17,6 +18,7 @@ pub use driver::{Script, read_script};
 pub use faults::ScriptFault;
 pub use keywords::Form;
 pub use offer_parser::offer_line;
+pub use setup_lines::{add_setup_line, has_no_room, is_setup_form, setup_line};
 pub use setup_parser::{SetupLine, bad_line, config_line, page_count, page_line, region_line};
 pub use stages::{Kind, LineOf, StagedScript};
 pub use trace_writer::{

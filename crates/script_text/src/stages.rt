@@ -1,24 +1,20 @@
 //! What every kind of script has in common: a `config` line, other set-up lines, and then commands.
-ghost use Rattle.std.specs.Prelude.{◌≡◌, ◌≢◌, ◌≤◌, ◌<◌, ◌+◌, ◌++◌, ◌^◌, [], length, true};
+ghost use Rattle.std.specs.Prelude.{◌≡◌, ◌≢◌, ◌<◌, ◌++◌, [], true};
 ghost use Rattle.world_run.specs.Setups.{lists_of};
-ghost use Rattle.script_text.specs.SetupLines.{pages_from, too_many_pages, with_line};
-ghost use Rattle.script_text.specs.Stages.{HasRoomFor, MayStand, OpensAs, Opening, OpensStage, Writes, WritesEnd, command_step, has_no_room, is_misplaced, is_setup_form, line_in, line_of_form, nothing_written, reading_of, setup_line, with_setup_line, world_at};
+ghost use Rattle.script_text.specs.Stages.{MayStand, OpensAs, Opening, OpensStage, Writes, WritesEnd, command_step, is_misplaced, line_in, line_of_form, nothing_written, reading_of, with_setup_line, world_at};
 ghost use Rattle.script_text.specs.Steps.{TakesStep};
 
 use crate::driver::Script;
 use crate::faults::ScriptFault;
 use crate::keywords::Form;
-use crate::setup_parser::{SetupLine, bad_line, config_line, page_count, page_line, region_line};
+use crate::setup_lines::{add_setup_line, has_no_room, is_setup_form, setup_line};
+use crate::setup_parser::SetupLine;
 use crate::words::Words;
 use std::alloc::Global;
 use std::io;
 use std::io::Write;
 use std::marker::Model;
-use subordinate::PageKind;
 use world_run::{Setup, SetupFault};
-
-/// The most pages of a set-up.
-const MOST_PAGES: usize = 64;
 
 /// A kind of script: the lines that it has, and what its commands do.
 pub trait Kind {
@@ -103,58 +99,6 @@ impl<K: Kind> Model for StagedScript<K> {
     ghost view = { λ s. stage_of s.stage };
 }
 
-/// Whether so many pages more have room, and numbers to 2^32 - 1, where the words of their line tell.
-fn too_many_pages(pages: usize, words: &Words<'_>) -> bool
-    ensures { result ≡ too_many_pages pages words.now }
-{
-    if pages >= MOST_PAGES {
-        return true;
-    }
-    let Ok(count) = page_count(words) else {
-        return false;
-    };
-    if pages + usize::from(count) > MOST_PAGES {
-        return true;
-    }
-    match words.address(2) {
-        Ok(first) => u64::from(first) + u64::from(count) > 1 << 32,
-        Err(_) => false,
-    }
-}
-
-fn has_no_room(setup: &Setup, form: Form, words: &Words<'_>) -> bool
-    ensures { result ≡ has_no_room (lists_of setup.now) form words.now }
-{
-    match form {
-        Form::Config => true,
-        Form::Region => setup.regions.is_full(),
-        Form::Page => too_many_pages(setup.pages.len(), words),
-        Form::BadWord => setup.bad_words.is_full(),
-        _ => false,
-    }
-}
-
-fn is_setup_form(form: Form) -> bool
-    ensures { result ≡ is_setup_form form }
-{
-    matches!(
-        form,
-        Form::Config | Form::Region | Form::Page | Form::BadWord
-    )
-}
-
-fn setup_line(form: Form, words: &Words<'_>) -> Result<SetupLine, u32>
-    ensures { result ≡ setup_line form words.now }
-{
-    match form {
-        Form::Config => Ok(SetupLine::Config(config_line(words)?)),
-        Form::Region => region_line(words),
-        Form::Page => page_line(words),
-        Form::BadWord => bad_line(words),
-        _ => Err(1),
-    }
-}
-
 fn line_of_form<K: Kind>(form: Form, words: &Words<'_>) -> Result<LineOf<K::Command>, u32>
     ensures { result ≡ line_of_form K.rules form words.now }
 {
@@ -165,32 +109,6 @@ fn line_of_form<K: Kind>(form: Form, words: &Words<'_>) -> Result<LineOf<K::Comm
         return Err(1);
     }
     Ok(LineOf::Setup(setup_line(form, words)?))
-}
-
-fn add_pages(setup: &mut Setup, first: u32, count: u8, kind: PageKind)
-    requires room { length setup.old.pages.items + count ≤ 64 }
-    requires numbers { first + count ≤ 2 ^ 32 }
-    ensures pages { setup.new.pages.items ≡ setup.old.pages.items ++ pages_from first count kind }
-    ensures config { setup.new.config ≡ setup.old.config }
-    ensures regions { setup.new.regions ≡ setup.old.regions }
-    ensures bad_words { setup.new.bad_words ≡ setup.old.bad_words }
-{
-    for k in 0..u32::from(count) {
-        setup.pages.push((first + k, kind));
-    }
-}
-
-/// Adds a line that isn't `config` to a set-up.
-fn add(setup: &mut Setup, line: SetupLine)
-    requires { HasRoomFor (lists_of setup.old) line }
-    ensures { lists_of setup.new ≡ with_line (lists_of setup.old) line }
-{
-    match line {
-        SetupLine::Config(config) => setup.config = config,
-        SetupLine::Region(region) => setup.regions.push(region),
-        SetupLine::Pages(first, count, kind) => add_pages(setup, first, count, kind),
-        SetupLine::BadWord(address) => setup.bad_words.push(address),
-    }
 }
 
 impl<K: Kind> StagedScript<K> {
@@ -237,7 +155,7 @@ impl<K: Kind> StagedScript<K> {
         let Stage::SettingUp(setup) = &mut self.stage else {
             return;
         };
-        add(setup, line);
+        add_setup_line(setup, line);
     }
 
     /// Makes what commands work on where there is none yet.

@@ -1,4 +1,4 @@
-use Rattle.std.proofs.Common.{◌≡◌, ◌+◌, [], Err, None, Some, Ok, inl, refl, subst, arith, rules, sym, ap, ◌∙◌, true, false}
+use Rattle.std.proofs.Common.{◌≡◌, ◌+◌, [], Err, inl, refl, subst, arith, rules, ◌∙◌}
 use Rattle.std.specs.Str.Lines.{strip_carriage_return}
 use Rattle.std.proofs.KnownBytes.{Consumes-nil, Keeps-refl}
 use Rattle.script_text.proofs.Endings.{Ends-fault, Ends-full, Ends-late, Ends-long, Ends-rest, Ends-stopped, Ends-unread}

@@ -2,7 +2,7 @@ use Rattle.subordinate.specs.declared.PageKind.{PageKind}
 use Rattle.std.proofs.Common.{◌≡◌, ℕ, ◌<◌, ◌+◌, ◌++◌, ◌∷◌, [], length, ap, sym, ◌∙◌, append_assoc, length-append, arith}
 use Rattle.script_text.proofs.PageLists.{pages_from-length, pages_from-more}
 use Rattle.script_text.specs.SetupLines.{pages_from}
-use Rattle.script_text.proofs.stages.add_pages.Goals as goal
+use Rattle.script_text.proofs.setup_lines.add_pages.Goals as goal
 
 pub push-requires : goal.push-requires
 push-requires c =

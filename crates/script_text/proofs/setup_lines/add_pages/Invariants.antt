@@ -1,6 +1,6 @@
 use Rattle.std.proofs.Common.{◌≡◌, ◌++◌}
 use Rattle.script_text.specs.SetupLines.{pages_from}
-use Rattle.script_text.proofs.stages.add_pages.Given as goal
+use Rattle.script_text.proofs.setup_lines.add_pages.Given as goal
 
 abbrev pub invariant-loop-k : goal.invariant-loop-k
 invariant-loop-k l =
