@@ -74,6 +74,7 @@ says form.Drain words line same = apart (ap went same)
 says form.Mem words line same = apart (ap went same)
 says form.Work words line same = apart (ap went same)
 says form.Free words line same = apart (ap went same)
+says form.Word words line same = apart (ap went same)
 
 -- ---- what a line says
 
@@ -142,6 +143,7 @@ set_up_room setup form.Drain words line test is = absurd is
 set_up_room setup form.Mem words line test is = absurd is
 set_up_room setup form.Work words line test is = absurd is
 set_up_room setup form.Free words line test is = absurd is
+set_up_room setup form.Word words line test is = absurd is
 
 -- a set-up line that was read has room where one of its form has
 pub setup_line-room : (setup : SetupLists) (f : Form) (words : List (List ℕ)) (line : SetupLine) → has_no_room setup f words ≡ false → setup_line f words ≡ Ok line → HasRoomFor setup line
@@ -165,6 +167,7 @@ opening_room W form.Drain words line test is = absurd is
 opening_room W form.Mem words line test is = absurd is
 opening_room W form.Work words line test is = absurd is
 opening_room W form.Free words line test is = absurd is
+opening_room W form.Word words line test is = absurd is
 
 running_room : (f : Form) (words : List (List ℕ)) (line : SetupLine) → is_setup_form f ≡ false → SaysAs f words line → ⊥
 running_room form.Config words line test is = apart (sym test)
@@ -181,6 +184,7 @@ running_room form.Drain words line test is = is
 running_room form.Mem words line test is = is
 running_room form.Work words line test is = is
 running_room form.Free words line test is = is
+running_room form.Word words line test is = is
 
 room : {W : Type 0} (stage : Stage W) (f : Form) (words : List (List ℕ)) (line : SetupLine) → is_misplaced stage f words ≡ false → SaysAs f words line → MayStand stage line
 room {W} Opening f words line test is = opening_room W f words line test is

@@ -5,14 +5,14 @@ use Rattle.std.specs.Str.{bytes_eq}
 use Rattle.std.specs.Str.Parse.{digits_value}
 use Rattle.script_text.specs.Words.{is_dec_to, is_hex_to, word_at}
 use Rattle.script_text.specs.declared.keywords.Form.{Form}
-use Rattle.script_text.specs.declared.keywords.Form.TheVariants.{Config, Region, Page, BadWord, Offer, Pump, Perform, AnswerB, AnswerR, Take, Drain, Mem, Work, Free}
+use Rattle.script_text.specs.declared.keywords.Form.TheVariants.{Config, Region, Page, BadWord, Offer, Pump, Perform, AnswerB, AnswerR, Take, Drain, Mem, Work, Free, Word}
 
 -- the first word of each form
 abbrev pub forms : List (List ℕ × Form)
 forms =
     (codes "config", Config) ∷ (codes "region", Region) ∷ (codes "page", Page) ∷ (codes "bad", BadWord) ∷ (codes "a", Offer)
     ∷ (codes "pump", Pump) ∷ (codes "do", Perform) ∷ (codes "b", AnswerB) ∷ (codes "r", AnswerR) ∷ (codes "take", Take)
-    ∷ (codes "drain", Drain) ∷ (codes "mem", Mem) ∷ (codes "work", Work) ∷ (codes "free", Free) ∷ []
+    ∷ (codes "drain", Drain) ∷ (codes "mem", Mem) ∷ (codes "work", Work) ∷ (codes "free", Free) ∷ (codes "word", Word) ∷ []
 
 abbrev pub form_of : List ℕ → Option Form
 form_of word = option_map (λ row. row.1) (find (λ row. bytes_eq word row.0) forms)

@@ -33,6 +33,8 @@ pub enum Form {
     Work,
     /// `free`: a source is free again.
     Free,
+    /// `word`: a choice of bridge and memory.
+    Word,
 }
 
 impl Form {
@@ -55,6 +57,7 @@ impl Form {
             "mem" => Some(Form::Mem),
             "work" => Some(Form::Work),
             "free" => Some(Form::Free),
+            "word" => Some(Form::Word),
             _ => None,
         }
     }

@@ -61,7 +61,7 @@ fn judged_scripts(rt: HostRuntime) -> Result<(), Fail> {
 }
 
 /// Scripts with a fault, its line and word, and the trace before it.
-const FAULTY: [(&str, u32, u32, &str); 24] = [
+const FAULTY: [(&str, u32, u32, &str); 25] = [
     ("", 1, 1, ""),
     ("\n# config\n", 3, 1, ""),
     ("free 0 0\n", 1, 1, ""),
@@ -77,6 +77,7 @@ const FAULTY: [(&str, u32, u32, &str); 24] = [
     ("config 1 1 1 1 1 12 h 8 8", 1, 10, ""),
     ("config 1 1 1 1 1 12 h\nmem 0", 2, 1, ""),
     ("config 1 1 1 1 1 12 h\nfrob", 2, 1, ""),
+    ("config 1 1 1 1 1 12 h\nword 7", 2, 1, ""),
     ("config 1 1 1 1 1 12 h\nfree 0", 2, 3, ""),
     ("config 1 1 1 1 1 12 h\nfree 256 0", 2, 2, ""),
     ("config 1 1 1 1 1 12 h\nfree 0 256", 2, 3, ""),

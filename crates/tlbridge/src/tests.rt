@@ -297,7 +297,7 @@ const SILENT: [(&str, u32, u32); 11] = [
 ];
 
 /// Lines after a set-up, and the word at fault.
-const FAULTY: [(&str, u32); 30] = [
+const FAULTY: [(&str, u32); 31] = [
     ("a 0 0 0 3 5 8 zz 0 0", 8),
     ("a 0 0 0 3 5 8 100 0 0", 8),
     ("a 256 0 0 3 5 8 ff 0 0", 2),
@@ -313,6 +313,7 @@ const FAULTY: [(&str, u32); 30] = [
     ("b x", 2),
     ("frob", 1),
     ("free 0 0", 1),
+    ("word 7", 1),
     ("region 8 1 20 gpha", 5),
     ("bad x", 2),
     ("bad 100000000", 2),
