@@ -18,6 +18,18 @@ answer_line words = line (codes "=" ∷ words)
 abbrev pub refused_text : TlRule → List ℕ
 refused_text rule = answer_line (codes "refused" ∷ decimal (number_of rule) ∷ name_of rule ∷ [])
 
+-- the line of a reply, by its request's number
+abbrev pub reply_line_text : ℕ → List ℕ
+reply_line_text number = answer_line (codes "reply" ∷ decimal number ∷ [])
+
+-- the line of a run that went well
+abbrev pub ok_text : List ℕ
+ok_text = answer_line (codes "ok" ∷ [])
+
+-- the line that names a client, whose lines follow
+abbrev pub client_text : ℕ → List ℕ
+client_text client = line (codes "client" ∷ decimal client ∷ [])
+
 -- the line of an answer; a beat of the memory is its own line
 abbrev pub answer_text : Answer → List ℕ
 answer_text More = answer_line (codes "more" ∷ [])
@@ -34,7 +46,7 @@ answer_text Already = answer_line (codes "already" ∷ [])
 answer_text (B b) = b_text b
 answer_text (R r) = r_text r
 answer_text Nothing = answer_line (codes "nothing" ∷ [])
-answer_text (Reply number) = answer_line (codes "reply" ∷ decimal number ∷ [])
+answer_text (Reply number) = reply_line_text number
 
 -- the lines of a burst that was sent
 abbrev pub burst_text : Burst → List ℕ

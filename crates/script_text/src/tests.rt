@@ -1,5 +1,6 @@
 use crate::{
-    ScriptFault, Words, answer_line, drained_line, mem_line, offer_line, refused_line, work_line,
+    ScriptFault, Words, answer_line, client_line, drained_line, mem_line, offer_line, ok_line,
+    refused_line, reply_line, work_line,
 };
 use std::test::Fail;
 use tl_checker::TlRule;
@@ -59,8 +60,11 @@ fn trace_lines(rt: HostRuntime) -> Result<(), Fail> {
     mem_line(None, &mut text)?;
     drained_line(12, &mut text)?;
     work_line(0, &mut text)?;
+    reply_line(u64::MAX, &mut text)?;
+    client_line(7, &mut text)?;
+    ok_line(&mut text)?;
     let wanted =
-        "= accepted 7\n= refused 5 ALIGN\n= refused 10 BURST_CONTROL\n= reply 0\n= mem 08\n= mem --\n= drained 12\n= work 0\n";
+        "= accepted 7\n= refused 5 ALIGN\n= refused 10 BURST_CONTROL\n= reply 0\n= mem 08\n= mem --\n= drained 12\n= work 0\n= reply 18446744073709551615\nclient 7\n= ok\n";
     assert_eq!(rt; text.as_slice(), wanted.as_bytes());
     Ok(())
 }

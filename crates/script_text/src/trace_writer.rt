@@ -1,7 +1,7 @@
 //! The lines of a trace. A fault of the writer is answered as it is.
 ghost use Rattle.std.specs.Prelude.{OnOk, flat_map};
 ghost use Rattle.std.specs.Io.KnownBytes.{Appends};
-ghost use Rattle.script_text.specs.Names.{answer_text, refused_text, held_text, reply_text, drained_text, mem_text, work_text};
+ghost use Rattle.script_text.specs.Names.{answer_text, client_text, drained_text, held_text, mem_text, ok_text, refused_text, reply_line_text, reply_text, work_text};
 ghost use Rattle.axi_beats.specs.Boxes.{w_beats_of};
 ghost use Rattle.axi_beats.specs.Lines.{w_text};
 
@@ -19,6 +19,27 @@ pub fn refused_line<W: Write>(rule: TlRule, writer: &mut W) -> io::Result<()>
     let number = rule.number();
     let name = rule.name();
     writeln!(writer, "= refused {number} {name}")
+}
+
+/// Writes the line of a reply, by its request's number.
+pub fn reply_line<W: Write>(number: u64, writer: &mut W) -> io::Result<()>
+    ensures { OnOk result (Appends (W.contents writer.old) (W.contents writer.new) (reply_line_text number)) }
+{
+    writeln!(writer, "= reply {number}")
+}
+
+/// Writes the line of a run that went well.
+pub fn ok_line<W: Write>(writer: &mut W) -> io::Result<()>
+    ensures { OnOk result (Appends (W.contents writer.old) (W.contents writer.new) ok_text) }
+{
+    writeln!(writer, "= ok")
+}
+
+/// Writes the line that names a client, whose lines follow.
+pub fn client_line<W: Write>(client: u8, writer: &mut W) -> io::Result<()>
+    ensures { OnOk result (Appends (W.contents writer.old) (W.contents writer.new) (client_text client)) }
+{
+    writeln!(writer, "client {client}")
 }
 
 /// Writes the line of an answer.
@@ -40,7 +61,7 @@ pub fn answer_line<W: Write>(answer: &Answer, writer: &mut W) -> io::Result<()>
         Answer::B(beat) => b_line(&beat, writer),
         Answer::R(beat) => r_line(&beat, writer),
         Answer::Nothing => writeln!(writer, "= nothing"),
-        Answer::Reply(number) => writeln!(writer, "= reply {number}"),
+        Answer::Reply(number) => reply_line(number, writer),
     }
 }
 
