@@ -44,12 +44,12 @@ pub trait Script {
 
     /// Ends the script, by the number of the line after the last.
     fn end<W: Write>(
-        &mut self,
+        self,
         alloc: Global,
         number: u32,
         writer: &mut W,
     ) -> Result<Self::Answer, ScriptFault>
-        ensures { TakesRest (reading.ending self.old number) (is_silent self.old) (W.contents writer.old) (W.contents writer.new) result };
+        ensures { TakesRest (reading.ending self number) (is_silent self) (W.contents writer.old) (W.contents writer.new) result };
 }
 
 fn are_plain(bytes: &[u8]) -> bool
@@ -104,8 +104,8 @@ fn take_line<S: Script, W: Write>(
 }
 
 /// Carries out the line that the input's end ended, if there is one, and ends the script.
-fn take_rest<S: Script, W: Write>(
-    script: &mut S,
+fn take_rest<S: Script + Drop, W: Write>(
+    script: S,
     alloc: Global,
     number: u32,
     line: &[u8],
@@ -114,12 +114,13 @@ fn take_rest<S: Script, W: Write>(
     requires number { number ≤ S.reading.most_lines }
     requires small { number < 4294967295 }
     requires line { IsOneLine line.now }
-    ensures { TakesRest (text_from S.reading script.old number line.now) (S.is_silent script.old) (W.contents writer.old) (W.contents writer.new) result }
+    ensures { TakesRest (text_from S.reading script number line.now) (S.is_silent script) (W.contents writer.old) (W.contents writer.new) result }
 {
     if line.is_empty() {
         return script.end(alloc, number, writer);
     }
-    if let Err(fault) = take_line(script, alloc, number, line, writer) {
+    let mut script = script;
+    if let Err(fault) = take_line(&mut script, alloc, number, line, writer) {
         return Err(fault);
     }
     script.end(alloc, number + 1, writer)
@@ -127,18 +128,19 @@ fn take_rest<S: Script, W: Write>(
 
 /// Reads a script to its end or its first fault, and answers what the script does. Each line is carried out before the next
 /// is looked at, and its text is flushed before the reader is asked for more.
-pub fn read_script<S: Script, R: Read, W: Write>(
-    script: &mut S,
+pub fn read_script<S: Script + Drop, R: Read, W: Write>(
+    script: S,
     alloc: Global,
     reader: &mut R,
     writer: &mut W,
 ) -> Result<S::Answer, ScriptFault>
-    requires { S.is_silent script.old ≡ true }
-    ensures { EndsAs S.reading.most_lines (text_of S.reading script.old) (text_before_failure S.reading script.old) (R.remaining reader.old) (R.remaining reader.new) (W.contents writer.old) (W.contents writer.new) result }
+    requires { S.is_silent script ≡ true }
+    ensures { EndsAs S.reading.most_lines (text_of S.reading script) (text_before_failure S.reading script) (R.remaining reader.old) (R.remaining reader.new) (W.contents writer.old) (W.contents writer.new) result }
 {
     let Ok(mut block) = Block::new(alloc) else {
         return Err(ScriptFault::NoMemory);
     };
+    let mut script = script;
     let mut line = Line::new();
     let late = S::most_lines() + 1;
     for number in 1..late {
@@ -152,7 +154,7 @@ pub fn read_script<S: Script, R: Read, W: Write>(
                 });
             }
         }
-        if take_line(script, alloc, number, line.as_slice(), writer)? {
+        if take_line(&mut script, alloc, number, line.as_slice(), writer)? {
             block.note_text();
         }
     }

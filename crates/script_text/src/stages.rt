@@ -1,8 +1,8 @@
 //! What every kind of script has in common: a `config` line, other set-up lines, and then commands.
 ghost use Rattle.std.specs.Prelude.{◌≡◌, ◌≢◌, ◌<◌, ◌++◌, [], true};
 ghost use Rattle.world_run.specs.Setups.{lists_of};
-ghost use Rattle.script_text.specs.Stages.{MayStand, OpensAs, Opening, OpensStage, Writes, WritesEnd, command_step, is_misplaced, line_in, line_of_form, nothing_written, reading_of, with_setup_line, world_at};
-ghost use Rattle.script_text.specs.Steps.{TakesStep};
+ghost use Rattle.script_text.specs.Stages.{MayStand, OpensAs, Opening, OpensStage, Writes, WritesEnd, command_step, is_misplaced, line_in, line_of_form, nothing_written, reading_of, stage_ending, with_setup_line, world_at};
+ghost use Rattle.script_text.specs.Steps.{TakesRest, TakesStep};
 
 use crate::driver::Script;
 use crate::faults::ScriptFault;
@@ -200,9 +200,25 @@ impl<K: Kind> StagedScript<K> {
         };
         Ok(wrote)
     }
+
+    /// Ends the script, for whose commands all is made where none came.
+    fn end_stage<W: Write>(
+        &mut self,
+        alloc: Global,
+        number: u32,
+        writer: &mut W,
+    ) -> Result<bool, ScriptFault>
+        ensures { TakesRest (stage_ending K.rules self.old number) (nothing_written self.old) (W.contents writer.old) (W.contents writer.new) result }
+    {
+        self.open(alloc, number)?;
+        let Stage::Running(world) = &self.stage else {
+            unreachable!();
+        };
+        self.kind.end(world, writer).map_err(|_| ScriptFault::Write)
+    }
 }
 
-impl<K: Kind> Script for StagedScript<K> {
+impl<K: Kind + Drop> Script for StagedScript<K> {
     ghost use Rattle.script_text.specs.Stages.{reading_of, nothing_written};
 
     /// Whether something was refused.
@@ -234,15 +250,12 @@ impl<K: Kind> Script for StagedScript<K> {
     }
 
     fn end<W: Write>(
-        &mut self,
+        self,
         alloc: Global,
         number: u32,
         writer: &mut W,
     ) -> Result<bool, ScriptFault> {
-        self.open(alloc, number)?;
-        let Stage::Running(world) = &self.stage else {
-            unreachable!();
-        };
-        self.kind.end(world, writer).map_err(|_| ScriptFault::Write)
+        let mut script = self;
+        script.end_stage(alloc, number, writer)
     }
 }

@@ -109,6 +109,6 @@ pub fn check_text<R: Read, W: Write>(
 ) -> Result<bool, TextFault>
     ensures { EndsAs (text_of check_reading Opening) (text_before_failure check_reading Opening) (R.remaining reader.old) (R.remaining reader.new) (W.contents writer.old) (W.contents writer.new) result }
 {
-    let mut script = StagedScript::new(CheckScript);
-    Ok(read_script(&mut script, alloc, reader, writer)?)
+    let script = StagedScript::new(CheckScript);
+    Ok(read_script(script, alloc, reader, writer)?)
 }

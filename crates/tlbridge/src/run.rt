@@ -129,6 +129,6 @@ pub fn run_text<R: Read, W: Write>(
     let Ok(reply) = ReplyBox::new(alloc) else {
         return Err(TextFault::NoMemory);
     };
-    let mut script = StagedScript::new(RunScript { reply });
-    Ok(read_script(&mut script, alloc, reader, writer)?)
+    let script = StagedScript::new(RunScript { reply });
+    Ok(read_script(script, alloc, reader, writer)?)
 }
