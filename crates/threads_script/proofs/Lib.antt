@@ -1,0 +1,3 @@
+mod AskedLines
+mod ListLemmas
+mod ReceiptLemmas

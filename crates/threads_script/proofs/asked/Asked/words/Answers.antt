@@ -1,0 +1,7 @@
+-- The first lists are the lists of the first.
+use Rattle.std.proofs.Common.{◌∙◌, sym, rules}
+use Rattle.std.proofs.lemmas.List.{take-map}
+use Rattle.threads_script.proofs.asked.Asked.words.Goals as goal
+
+pub returns : goal.returns
+returns c = sym (take-map (λ list. list.items) c.from.result c.deref.result.now) ∙ search rules
