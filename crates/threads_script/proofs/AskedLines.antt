@@ -1,16 +1,16 @@
 -- What is known of a line that may stand: there is room for what it adds.
-use Rattle.std.proofs.Common.{◌≡◌, ◌<◌, ◌+◌, ◌∙◌, ℕ, Bool, true, false, ◌&&◌, ◌||◌, not, List, length, Option, Some, None, Result, Ok, Err, refl, sym, ap, arith, rules, if◌then◌else◌}
+use Rattle.std.proofs.Common.{◌≡◌, ◌<◌, ℕ, Bool, true, false, ◌&&◌, ◌||◌, List, length, Option, Some, None, Ok, refl, sym, ap, rules, if◌then◌else◌}
 use Rattle.std.specs.Prelude.{nat_le}
 use Rattle.std.proofs.lemmas.Bool.{false≢true}
 use Rattle.tl_messages.specs.declared.ABeat.{ABeat}
 use Rattle.world_run.specs.Setups.{SetupLists}
-use Rattle.script_text.specs.Forms.{Field, byte_field, first_wrong, read_as, unless_wrong}
+use Rattle.script_text.specs.Forms.{byte_field, unless_wrong}
 use Rattle.script_text.specs.OfferLines.{offer_line}
 use Rattle.script_text.specs.Stages.{has_no_room, is_setup_form}
 use Rattle.script_text.specs.Words.{dec_at, word_at}
 use Rattle.script_text.specs.declared.keywords.Form.{Form}
 use Rattle.script_text.specs.declared.keywords.Form.TheVariants as form
-use Rattle.threads_script.specs.Asked.{AskedLists, is_full, is_misplaced}
+use Rattle.threads_script.specs.Asked.{AskedLists, is_misplaced}
 use Rattle.threads_script.specs.Lists.{list_at}
 
 -- a line that was read has its fields, and says its value

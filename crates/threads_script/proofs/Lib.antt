@@ -1,3 +1,4 @@
 mod AskedLines
+pub mod AskedScripts
 mod ListLemmas
 mod ReceiptLemmas

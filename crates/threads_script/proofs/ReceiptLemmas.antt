@@ -1,5 +1,5 @@
 -- The next of a client's receipts, and what a report says of all of them.
-use Rattle.std.proofs.Common.{◌≡◌, ◌<◌, ◌+◌, ◌∙◌, ℕ, zero, suc, List, [], ◌∷◌, ◌++◌, append-nil, append_assoc, drop, flat_map, length, map, Option, Some, None, Result, Ok, Err, refl, sym, take, ap, arith, rules}
+use Rattle.std.proofs.Common.{◌≡◌, ◌<◌, ◌+◌, ◌∙◌, ℕ, zero, suc, List, [], ◌∷◌, ◌++◌, append-nil, append_assoc, drop, flat_map, length, map, Some, Result, Ok, Err, refl, sym, take, ap, arith, rules}
 use Rattle.std.specs.Prelude.{OnOk, get_or, option_map, slice_get}
 use Rattle.std.proofs.lemmas.List.{length-map}
 use Rattle.std.proofs.lemmas.Option.{get_or_from_slice_get, slice_get-map, slice_get_within}

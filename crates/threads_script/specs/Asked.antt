@@ -9,7 +9,6 @@ use Rattle.script_text.specs.Scripts.{LineStep, Reading, TextResult, ended}
 use Rattle.script_text.specs.SetupLines.{with_config, with_line}
 use Rattle.script_text.specs.Stages.{has_no_room, is_config_form, is_setup_form, setup_line}
 use Rattle.script_text.specs.Words.{is_dec_to, word_at, dec_at, hex_at}
-use Rattle.script_text.specs.declared.faults.ScriptFault.{ScriptFault}
 use Rattle.script_text.specs.declared.faults.ScriptFault.TheVariants.{Script, Setup}
 use Rattle.script_text.specs.declared.keywords.Form.{Form}
 use Rattle.script_text.specs.declared.keywords.Form.TheVariants as form
@@ -159,3 +158,9 @@ pub record IsFit (asked : AskedLists) : Type 0 where
   pub rings : length asked.words ≡ 4
   pub some : 1 ≤ asked.threads
   pub few : asked.threads ≤ 4
+
+-- a script that asks has a set-up, which isn't refused
+pub record IsSoundAsked (asked : AskedLists) : Type 0 where
+  pub setup : SetupLists
+  pub set_up : asked.setup ≡ Some setup
+  pub sound : setup_fault setup ≡ None

@@ -1,7 +1,6 @@
 -- The text of a threaded run's report (this project's profile).
-use Rattle.std.specs.Prelude.{ℕ, ◌≡◌, ◌++◌, List, ◌∷◌, [], map, take, Option, Some, None, flat_map, slice_get}
+use Rattle.std.specs.Prelude.{ℕ, ◌≡◌, ◌++◌, List, take, Some, flat_map, slice_get}
 use Rattle.std.specs.List.{range_with_len}
-use Rattle.tl_messages.specs.declared.ABeat.{ABeat}
 use Rattle.script_text.specs.Names.{client_text, mem_text, ok_text, reply_line_text, reply_text}
 use Rattle.world_run.specs.Headline.{IsOneAtATime}
 use Rattle.world_run.specs.Runs.{HandedReply, answers_of, handed_in, sent_in}
@@ -29,7 +28,6 @@ received_text start steps client = client_text client ++ flat_map (receipt_text 
 abbrev pub report_text : WorldState → List Step → WorldState → ℕ → List ℕ → List ℕ
 report_text start steps world clients addresses =
     ok_text ++ (flat_map (received_text start steps) (range_with_len 0 clients) ++ flat_map (λ address. mem_text (byte_of world address)) addresses)
-
 
 -- a text is that of a report of what is asked: there are steps of which the report's facts and the main theorem hold, with the set-up and the
 -- scripts of the input, and it is the text of the replies that these hand out and of the memory after them

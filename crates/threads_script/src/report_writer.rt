@@ -58,11 +58,7 @@ fn byte_lines<W: Write>(world: &World, addresses: &[u32], writer: &mut W) -> io:
 }
 
 /// Writes the text of a report: `= ok`, what each client received, and the bytes at these addresses.
-pub fn report_lines<W: Write>(
-    report: &Report,
-    addresses: &[u32],
-    writer: &mut W,
-) -> io::Result<()>
+pub fn report_lines<W: Write>(report: &Report, addresses: &[u32], writer: &mut W) -> io::Result<()>
     requires { (setup : SetupLists) × ((scripts : List (List ABeat)) × IsReport setup scripts report.now.steps.items report.now.receipts.items report.now.world) }
     ensures { (setup : SetupLists) (scripts : List (List ABeat)) → IsReport setup scripts report.now.steps.items report.now.receipts.items report.now.world → OnOk result (Appends (W.contents writer.old) (W.contents writer.new) (report_text (opening_world setup) report.now.steps.items report.now.world setup.config.clients addresses.now)) }
 {

@@ -10,6 +10,6 @@ pub loop-preserved : goal.loop-preserved
 loop-preserved g c =
     let list = c.in_ok-with_capacity.field-0 in (
       ap items_of c.in_ok-push.ensures.items ∙ map_push (λ xs. xs.items) c.loop.lists.items list ∙ ap₂ (λ xs x. xs ++ x ∷ []) c.loop.invariant.0 c.in_ok-with_capacity.ensures.items
-      ∙ sym (replicate_more c.loop.counter []),
+          ∙ sym (replicate_more c.loop.counter []),
       rw c.in_ok-push.ensures.items (each_push (λ xs. c.args.most ≤ vec_capacity xs) c.loop.lists.items list c.loop.invariant.1 c.in_ok-with_capacity.ensures.capacity),
     )

@@ -1,5 +1,5 @@
 -- One client more: its line, and its replies.
-use Rattle.std.proofs.Common.{◌≡◌, ◌+◌, ◌++◌, ◌∷◌, [], Some, flat_map, length, refl}
+use Rattle.std.proofs.Common.{◌≡◌, Some, flat_map, length, refl}
 use Rattle.std.specs.Prelude.{slice_get}
 use Rattle.std.specs.List.{range_with_len}
 use Rattle.std.proofs.KnownBytes.{Appends-trans}
