@@ -1,4 +1,5 @@
 mod AskedLines
+pub mod AskedRuns
 pub mod AskedScripts
 mod ListLemmas
 mod ReceiptLemmas
