@@ -5,3 +5,4 @@ pub mod Endings
 pub mod Modes
 pub mod Results
 pub mod Run
+pub mod Threads

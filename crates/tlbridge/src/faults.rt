@@ -2,6 +2,7 @@
 ghost use Rattle.std.specs.Prelude.{◌≡◌};
 ghost use Rattle.tlbridge.specs.Results.{status_of};
 
+use bridge_threads::Fault;
 use burst_plan::MapFault;
 use script_text::ScriptFault;
 use subordinate::DeviceFault;
@@ -31,6 +32,9 @@ pub enum TextFault {
     /// Memory was refused.
     #[error("out of memory")]
     NoMemory,
+    /// A threaded run has no report.
+    #[error("thread fault: {0}")]
+    Thread(Fault),
 }
 
 impl From<ScriptFault> for TextFault {
@@ -51,7 +55,7 @@ impl From<ScriptFault> for TextFault {
 }
 
 /// The exit status of a text call's result: 0 where all went well, 1 where `check` refused something, 2 for a fault of
-/// the script or its set-up, 3 for one of the reader or writer, 4 for want of memory.
+/// the script or its set-up, 3 for one of the reader or writer, 4 for want of memory, 5 for a fault of the threads.
 pub fn status_of(ending: &Result<bool, TextFault>) -> u8
     ensures { result ≡ status_of ending.now }
 {
@@ -67,6 +71,7 @@ pub fn status_of(ending: &Result<bool, TextFault>) -> u8
         ) => 4,
         Err(TextFault::Setup(_)) => 2,
         Err(TextFault::Read | TextFault::Write) => 3,
-        Err(TextFault::NoMemory) => 4,
+        Err(TextFault::NoMemory | TextFault::Thread(Fault::NoMemory)) => 4,
+        Err(TextFault::Thread(_)) => 5,
     }
 }

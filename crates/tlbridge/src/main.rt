@@ -14,6 +14,7 @@ mod run;
 mod run_lines;
 #[cfg(test)]
 mod tests;
+mod threads;
 
 use clap::Command;
 use faults::{TextFault, status_of};

@@ -1,0 +1,93 @@
+//! `tlbridge threads`: a script that asks for a run in threads.
+ghost use Rattle.std.specs.Prelude.{◌≡◌, ◌≢◌, Some, take, IfErr, IfOk};
+ghost use Rattle.bridge_threads.specs.Reports.{IsReport};
+ghost use Rattle.threads_script.specs.Asked.{IsSoundAsked};
+ghost use Rattle.tlbridge.specs.Threads.{EndsAsRead, FailsToRun};
+ghost use Rattle.world_run.specs.Headline.{IsOneAtATime};
+ghost use Rattle.world_run.specs.Runs.{answers_of, handed_in, sent_in};
+ghost use Rattle.world_run.specs.Setups.{SetupLists};
+ghost use Rattle.world_run.specs.World.{byte_of, in_flight, opening_world};
+
+use crate::faults::TextFault;
+use bridge_threads::{Fault, Gate, Limits, Report, Who, run_threads};
+use script_text::read_script;
+use std::alloc::Global;
+use std::io::{Read, Write};
+use std::sync::Wait;
+use std::thread::Threads;
+use threads_script::{Asked, report_lines};
+
+/// How many steps and idle turns the program's run may have.
+const LIMITS: Limits = Limits {
+    steps: 200_000,
+    idle: 100_000_000,
+};
+
+/// Lets each worker make each of its turns.
+#[derive(Drop)]
+struct OpenGate;
+
+impl Gate for OpenGate {
+    fn pass(&self, _who: Who, _index: u32) -> bool {
+        true
+    }
+}
+
+/// A fault of the threads; want of memory is told as such.
+fn run_fault(fault: Fault) -> TextFault
+    requires { fault ≢ Fault.BadConfig }
+    ensures { FailsToRun result }
+{
+    match fault {
+        Fault::NoMemory => TextFault::NoMemory,
+        _ => TextFault::Thread(fault),
+    }
+}
+
+/// Runs what a script asks for.
+fn run_asked<T: Threads + Wait + Sync>(
+    rt: &T,
+    alloc: Global,
+    asked: &Asked,
+) -> Result<Report, TextFault>
+    requires { IsSoundAsked asked.now }
+    ensures report { IfOk result (λ report. (setup : SetupLists) → asked.now.setup ≡ Some setup → IsReport setup (take setup.config.clients asked.now.scripts) report.steps.items report.receipts.items report.world) }
+    ensures one_at_a_time { IfOk result (λ report. (setup : SetupLists) → asked.now.setup ≡ Some setup → IsOneAtATime setup report.steps.items (answers_of (opening_world setup) report.steps.items) (handed_in (opening_world setup) report.steps.items) (sent_in (opening_world setup) report.steps.items) (in_flight report.world) (byte_of report.world)) }
+    ensures fault { IfErr result FailsToRun }
+{
+    let Some(setup) = asked.setup() else {
+        unreachable!();
+    };
+    let scripts = asked.scripts(setup.config.clients);
+    match run_threads(rt, alloc, setup, scripts, asked.words(), &OpenGate, LIMITS) {
+        Ok(report) => Ok(report),
+        Err(fault) => Err(run_fault(fault)),
+    }
+}
+
+/// Reads a script to its end, runs what it asks for in threads, and writes the text of the report. Nothing is written before
+/// that.
+pub fn threads_text<T: Threads + Wait + Sync, R: Read, W: Write>(
+    rt: &T,
+    alloc: Global,
+    reader: &mut R,
+    writer: &mut W,
+) -> Result<bool, TextFault>
+    ensures { EndsAsRead (R.remaining reader.old) (R.remaining reader.new) (W.contents writer.old) (W.contents writer.new) result }
+{
+    let Ok(nothing) = Asked::new(alloc) else {
+        return Err(TextFault::NoMemory);
+    };
+    let asked = match read_script(nothing, alloc, reader, writer) {
+        Ok(asked) => asked,
+        Err(fault) => return Err(TextFault::from(fault)),
+    };
+    let report = match run_asked(rt, alloc, &asked) {
+        Ok(report) => report,
+        Err(fault) => return Err(fault),
+    };
+    match report_lines(&report, asked.addresses(), writer) {
+        Ok(()) => Ok(false),
+        Err(_) => Err(TextFault::Write),
+    }
+}
