@@ -37,7 +37,7 @@ RunsAs asked before after (Err fault) = FailsToRun fault × Keeps before after
 -- the run of a script that was read without fault, or the fault of its reading
 abbrev pub RunsOn : Result AskedLists ScriptFault → Option (List ℕ) → Option (List ℕ) → Result Bool TextFault → Type 0
 RunsOn (Ok asked) before after result = RunsAs asked before after result
-RunsOn (Err fault) before after result = (result ≡ Err (text_fault fault)) × (before ≡ after)
+RunsOn (Err fault) before after result = (result ≡ Err (text_fault fault)) × Keeps before after
 
 -- the script is read to its end or its first fault, and nothing is written meanwhile; then what it asks for is run
 pub record EndsAsRead (input rest old new : Option (List ℕ)) (result : Result Bool TextFault) : Type 0 where

@@ -1,9 +1,10 @@
-//! What the program is asked to do, and the call that does it.
+//! What the program is asked to do, and the calls that do it.
 ghost use Rattle.std.specs.Prelude.{◌≡◌, ◌⊎◌, [], Err};
 ghost use Rattle.std.specs.Io.Buffered.{writer_buffer, writer_contents};
 ghost use Rattle.tlbridge.specs.Check as check;
 ghost use Rattle.tlbridge.specs.Modes.{Flushes};
 ghost use Rattle.tlbridge.specs.Run as run;
+ghost use Rattle.tlbridge.specs.Threads.{EndsAsRead};
 ghost use Rattle.script_text.specs.Scripts.{text_of, text_before_failure};
 ghost use Rattle.script_text.specs.Stages.{Opening};
 ghost use Rattle.tlbridge.specs.Endings.{EndsAs};
@@ -11,16 +12,28 @@ ghost use Rattle.tlbridge.specs.Endings.{EndsAs};
 use crate::check::check_text;
 use crate::faults::TextFault;
 use crate::run::run_text;
+use crate::threads::threads_text;
 use std::alloc::Global;
 use std::io::{BufWriter, Read, Write};
+use std::sync::Wait;
+use std::thread::Threads;
 
-/// What the program is asked to do.
+/// What the program is asked to do with a script by itself.
 #[derive(Clone, Copy, Debug, PartialEq, Eq)]
 pub enum Mode {
     /// Carry out a script.
     Run,
     /// Judge a script's beats.
     Check,
+}
+
+/// What the program is asked to do.
+#[derive(Clone, Copy, Debug, PartialEq, Eq)]
+pub enum Task {
+    /// Read a script in a mode.
+    Script(Mode),
+    /// Run what a script asks for in threads.
+    Threads,
 }
 
 /// Carries out a script in a mode.
@@ -54,6 +67,26 @@ pub fn carried_out<R: Read, W: Write + Drop>(
     ensures flushed { (result ≡ Err TextFault.Write) ⊎ (writer_buffer writer.new ≡ []) }
 {
     let ending = ending_in(mode, alloc, reader, writer);
+    match writer.flush() {
+        Ok(()) => ending,
+        Err(_) => Err(TextFault::Write),
+    }
+}
+
+/// Runs what a script asks for in threads, and flushes the output. Output that can't be flushed is a write fault, whatever the
+/// script ended with.
+pub fn carried_out_in_threads<T: Threads + Wait + Sync, R: Read, W: Write + Drop>(
+    rt: &T,
+    alloc: Global,
+    reader: &mut R,
+    writer: &mut BufWriter<W>,
+) -> Result<bool, TextFault>
+    ensures ending { Flushes (EndsAsRead (R.remaining reader.old) (R.remaining reader.new) (writer_contents W.contents writer.old) (writer_contents W.contents writer.new)) result }
+
+    // Nothing is left in the buffer, but where a write failed.
+    ensures flushed { (result ≡ Err TextFault.Write) ⊎ (writer_buffer writer.new ≡ []) }
+{
+    let ending = threads_text(rt, alloc, reader, writer);
     match writer.flush() {
         Ok(()) => ending,
         Err(_) => Err(TextFault::Write),

@@ -49,7 +49,7 @@ returns-in_default g c =
             block = omega arith;
             ends = (Keeps-refl (g.W.Write.contents c.args.writer.now), inl refl);
           };
-      ran = (refl, refl);
+      ran = (refl, Keeps-refl (g.W.Write.contents c.args.writer.now));
     }
 
 pub run_asked-requires-after_bounds : goal.run_asked-requires-after_bounds
