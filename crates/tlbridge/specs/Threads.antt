@@ -18,6 +18,11 @@ IsOfThreads fault.BadConfig = ⊥
 IsOfThreads fault.NoMemory = ⊥
 IsOfThreads _ = ⊤
 
+-- a fault of a run; want of memory is told as such
+abbrev pub run_fault : Fault → TextFault
+run_fault fault.NoMemory = NoMemory
+run_fault other = Thread other
+
 -- how a run of what is asked may fail before its text is written
 abbrev pub FailsToRun : TextFault → Type 0
 FailsToRun (Thread fault) = IsOfThreads fault

@@ -87,8 +87,8 @@ pub fn carried_out_in_threads<T: Threads + Wait + Sync, R: Read, W: Write + Drop
     ensures flushed { (result ≡ Err TextFault.Write) ⊎ (writer_buffer writer.new ≡ []) }
 {
     let ending = threads_text(rt, alloc, reader, writer);
-    match writer.flush() {
-        Ok(()) => ending,
-        Err(_) => Err(TextFault::Write),
+    if writer.flush().is_err() {
+        return Err(TextFault::Write);
     }
+    ending
 }

@@ -2,7 +2,7 @@
 ghost use Rattle.std.specs.Prelude.{◌≡◌, ◌≢◌, Some, take, IfErr, IfOk};
 ghost use Rattle.bridge_threads.specs.Reports.{IsReport};
 ghost use Rattle.threads_script.specs.Asked.{IsSoundAsked};
-ghost use Rattle.tlbridge.specs.Threads.{EndsAsRead, FailsToRun};
+ghost use Rattle.tlbridge.specs.Threads.{EndsAsRead, FailsToRun, run_fault};
 ghost use Rattle.world_run.specs.Headline.{IsOneAtATime};
 ghost use Rattle.world_run.specs.Runs.{answers_of, handed_in, sent_in};
 ghost use Rattle.world_run.specs.Setups.{SetupLists};
@@ -36,7 +36,8 @@ impl Gate for OpenGate {
 /// A fault of the threads; want of memory is told as such.
 fn run_fault(fault: Fault) -> TextFault
     requires { fault ≢ Fault.BadConfig }
-    ensures { FailsToRun result }
+    ensures told { result ≡ run_fault fault }
+    ensures fails { FailsToRun result }
 {
     match fault {
         Fault::NoMemory => TextFault::NoMemory,

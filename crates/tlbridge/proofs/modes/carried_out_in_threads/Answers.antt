@@ -37,11 +37,11 @@ flushed EndsWith (Err Read) ends = ends
 flushed EndsWith (Err NoMemory) ends = ends
 flushed EndsWith (Err (Thread fault)) ends = ends
 
-pub returns-in-Ok-clause-ending : goal.returns-in-Ok-clause-ending
-returns-in-Ok-clause-ending g c =
+pub returns-clause-ending : goal.returns-clause-ending
+returns-clause-ending g c =
     flushed
     (EndsAsRead (g.R.Read.remaining c.args.reader.now) (g.R.Read.remaining c.threads_text-ending.new.reader) (writer_contents g.W.Write.contents c.args.writer.now) (writer_contents g.W.Write.contents c.flush.new.self))
     c.threads_text-ending.result (ends_kept _ _ _ _ _ c.threads_text-ending.result c.flush.ensures.bytes c.threads_text-ending.ensures)
 
-pub returns-in-Err-clause-ending : goal.returns-in-Err-clause-ending
-returns-in-Err-clause-ending g c = (c.threads_text-ending.result, ends_kept _ _ _ _ _ c.threads_text-ending.result c.flush.ensures.bytes c.threads_text-ending.ensures)
+pub returns-then-is_err-clause-ending : goal.returns-then-is_err-clause-ending
+returns-then-is_err-clause-ending g c = (c.threads_text-ending.result, ends_kept _ _ _ _ _ c.threads_text-ending.result c.flush.ensures.bytes c.threads_text-ending.ensures)
