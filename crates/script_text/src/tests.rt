@@ -1,7 +1,9 @@
 use crate::{
-    ScriptFault, Words, answer_line, client_line, drained_line, mem_line, offer_line, ok_line,
-    refused_line, reply_line, work_line,
+    Script, ScriptFault, Words, answer_line, client_line, drained_line, mem_line, offer_line,
+    ok_line, read_script, refused_line, reply_line, work_line,
 };
+use std::alloc::Global;
+use std::io::Write;
 use std::test::Fail;
 use tl_checker::TlRule;
 use world_run::Answer;
@@ -76,5 +78,63 @@ fn faults_as_text(rt: HostRuntime) -> Result<(), Fail> {
         fault.to_string(rt.alloc())?.as_str(),
         "script fault: line 5, word 8"
     );
+    Ok(())
+}
+
+/// A script of at most three lines, which answers the number of its last line that has words.
+#[derive(Drop)]
+struct LastLine {
+    number: u32,
+}
+
+impl Script for LastLine {
+    ghost use Rattle.std.specs.Prelude.{Ok, [], true};
+
+    type Answer = u32;
+
+    ghost reading = { record { most_lines = 3; step = λ state number words. Ok ([], record { number = number }); ending = λ state number. record { output = []; result = Ok state.number } } };
+
+    ghost is_silent = { λ state. true };
+
+    fn most_lines() -> u32 {
+        3
+    }
+
+    fn take_words<W: Write>(
+        &mut self,
+        _alloc: Global,
+        number: u32,
+        _words: &Words<'_>,
+        _writer: &mut W,
+    ) -> Result<bool, ScriptFault> {
+        self.number = number;
+        Ok(false)
+    }
+
+    fn end<W: Write>(
+        &mut self,
+        _alloc: Global,
+        _number: u32,
+        _writer: &mut W,
+    ) -> Result<u32, ScriptFault> {
+        Ok(self.number)
+    }
+}
+
+#[test]
+fn a_script_answers_what_it_says(rt: HostRuntime) -> Result<(), Fail> {
+    let late = ScriptFault::Script { line: 4, word: 0 };
+    for (text, answer) in [
+        ("", Ok(0)),
+        ("a\n#b\nc\n", Ok(3)),
+        ("a\nb\n\n", Ok(2)),
+        ("a\nb\n\nc", Err(late)),
+    ] {
+        let mut script = LastLine { number: 0 };
+        let mut output = Vec::new(rt.alloc());
+        let ended = read_script(&mut script, rt.alloc(), &mut text.as_bytes(), &mut output);
+        assert_eq!(rt; ended, answer, "{text:?}");
+        assert!(rt; output.is_empty());
+    }
     Ok(())
 }
