@@ -112,12 +112,13 @@ impl Script for LastLine {
     }
 
     fn end<W: Write>(
-        &mut self,
+        self,
         _alloc: Global,
         _number: u32,
         _writer: &mut W,
     ) -> Result<u32, ScriptFault> {
-        Ok(self.number)
+        let LastLine { number } = self;
+        Ok(number)
     }
 }
 
@@ -130,9 +131,9 @@ fn a_script_answers_what_it_says(rt: HostRuntime) -> Result<(), Fail> {
         ("a\nb\n\n", Ok(2)),
         ("a\nb\n\nc", Err(late)),
     ] {
-        let mut script = LastLine { number: 0 };
+        let script = LastLine { number: 0 };
         let mut output = Vec::new(rt.alloc());
-        let ended = read_script(&mut script, rt.alloc(), &mut text.as_bytes(), &mut output);
+        let ended = read_script(script, rt.alloc(), &mut text.as_bytes(), &mut output);
         assert_eq!(rt; ended, answer, "{text:?}");
         assert!(rt; output.is_empty());
     }

@@ -15,6 +15,8 @@ mod run_lines;
 #[cfg(test)]
 mod tests;
 mod threads;
+#[cfg(test)]
+mod threads_tests;
 
 use clap::Command;
 use faults::{TextFault, status_of};

@@ -1,11 +1,13 @@
 use crate::faults::{TextFault, status_of};
 use crate::run::run_text;
+use bridge_threads::Fault;
 use burst_plan::MapFault;
 use std::alloc::{AllocError, Global};
 use std::io;
 use std::io::{ErrorKind, Read, Write};
 use std::test::Fail;
 use subordinate::DeviceFault;
+use tl_checker::TlRule;
 use world_run::SetupFault;
 
 /// The first script, line by line: the line; for each number of its bytes the word at fault where the input ends there, or
@@ -509,7 +511,7 @@ fn lists_that_are_full(rt: HostRuntime) -> Result<(), Fail> {
 }
 
 /// Results, the exit status of each, and its text on standard error.
-const STATUSES: [(Result<bool, TextFault>, u8, &str); 13] = [
+const STATUSES: [(Result<bool, TextFault>, u8, &str); 19] = [
     (Ok(false), 0, ""),
     (Ok(true), 1, ""),
     (
@@ -555,10 +557,49 @@ const STATUSES: [(Result<bool, TextFault>, u8, &str); 13] = [
     (Err(TextFault::Read), 3, "read fault"),
     (Err(TextFault::Write), 3, "write fault"),
     (Err(TextFault::NoMemory), 4, "out of memory"),
+    (
+        Err(TextFault::Thread(Fault::Spawn)),
+        5,
+        "thread fault: 3 Spawn",
+    ),
+    (
+        Err(TextFault::Thread(Fault::GateShut)),
+        5,
+        "thread fault: 4 GateShut",
+    ),
+    (
+        Err(TextFault::Thread(Fault::IdleLimit)),
+        5,
+        "thread fault: 5 IdleLimit",
+    ),
+    (
+        Err(TextFault::Thread(Fault::HistoryFull)),
+        5,
+        "thread fault: 6 HistoryFull",
+    ),
+    (
+        Err(TextFault::Thread(Fault::BeatRefused {
+            client: 3,
+            index: 4095,
+            rule: TlRule::Align,
+        })),
+        5,
+        "thread fault: 7 BeatRefused client 3 beat 4095 rule 5 ALIGN",
+    ),
+    (
+        Err(TextFault::Thread(Fault::ReceiptMismatch {
+            client: 1,
+            index: 2,
+        })),
+        5,
+        "thread fault: 8 ReceiptMismatch client 1 index 2",
+    ),
 ];
 
 #[test]
 fn statuses_and_texts(rt: HostRuntime) -> Result<(), Fail> {
+    let unwell: Result<bool, TextFault> = Err(TextFault::Thread(Fault::NoMemory));
+    assert_eq!(rt; status_of(&unwell), 4);
     for (ending, status, text) in STATUSES {
         assert_eq!(rt; status_of(&ending), status, "{text}");
         if let Err(fault) = ending {
