@@ -1,10 +1,10 @@
 -- What was found of a client, one step on: by a step that isn't its own, by an Offer of it, and by a reply that it took. It knows what the steps
 -- showed; what they do to the world is hidden.
-use Rattle.std.proofs.Common.{◌≡◌, ℕ, ◌+◌, ◌<◌, ◌≤◌, ◌==◌, ◌^◌, ◌-◌, Bool, true, false, List, [], ◌∷◌, ◌++◌, map, length, take, drop, suc, zero, Option, Some, None, option_to_list, refl, sym, subst, ap, ◌∙◌, arith, flat_map}
-use Rattle.std.specs.Prelude.{filter, option_map, ◌&&◌, ◌||◌, not, slice_get, if◌then◌else◌, IsTrue}
+use Rattle.std.proofs.Common.{◌≡◌, ℕ, ◌+◌, ◌<◌, ◌≤◌, ◌==◌, Bool, true, false, List, [], ◌∷◌, ◌++◌, map, length, take, drop, suc, zero, Some, None, refl, sym, subst, ap, ◌∙◌, arith}
+use Rattle.std.specs.Prelude.{filter, option_map, ◌&&◌, slice_get, if◌then◌else◌}
 use Rattle.std.specs.List.{cons_option, list_all}
 use Rattle.std.proofs.lemmas.Bool.{eq-eqb, false≢true}
-use Rattle.std.proofs.lemmas.List.{append_assoc, append-nil, drop_at, length-append, length-take-le, length_push, map-append, map_push, take_at, take_more, take-append-drop}
+use Rattle.std.proofs.lemmas.List.{append_assoc, append-nil, drop_at, length-append, length-take-le, length_push, map_push, take_at, take_more}
 use Rattle.std.proofs.lemmas.List.Elements.{filter-append}
 use Rattle.std.proofs.lemmas.Option.{get_or_from_slice_get, slice_get_within, slice_get-map}
 use Rattle.tl_messages.specs.declared.ABeat.{ABeat}

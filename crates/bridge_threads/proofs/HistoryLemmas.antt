@@ -1,6 +1,6 @@
 -- A history with one step more. It knows lists of outcomes; what a step does is hidden.
 use Rattle.std.proofs.Common.{◌≡◌, Bool, true, false, List, [], ◌∷◌, ◌++◌, refl, ap, ◌∙◌}
-use Rattle.std.specs.Prelude.{◌&&◌, if◌then◌else◌, IsTrue}
+use Rattle.std.specs.Prelude.{◌&&◌}
 use Rattle.std.specs.List.{list_all}
 use Rattle.world_run.specs.World.{WorldState, Outcome, after, leaves_all, next, outcomes}
 use Rattle.world_run.specs.declared.Step.{Step}

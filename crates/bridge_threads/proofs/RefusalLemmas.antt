@@ -1,10 +1,17 @@
 -- A run that isn't refused.
-use Rattle.std.proofs.Common.{◌≡◌, ℕ, ◌==◌, Bool, true, false, List, length, Option, Some, None, refl, sym}
-use Rattle.std.specs.Prelude.{◌&&◌, ◌||◌, not, is_some, nat_le, nat_lt}
+use Rattle.std.proofs.Common.{◌≡◌, ℕ, ◌≤◌, ◌==◌, Bool, true, false, List, length, Option, Some, None, refl, sym}
+use Rattle.std.specs.Prelude.{◌&&◌, ◌||◌, not, is_some, nat_le, nat_lt, if◌then◌else◌}
+use Rattle.std.specs.Option.{option_or}
 use Rattle.std.specs.List.{list_any}
-use Rattle.std.proofs.lemmas.Bool.{eqb-true, false≢true, not-false}
+use Rattle.std.proofs.lemmas.Bool.{eqb-true, false≢true, leb-true, not-false}
+use Rattle.std.proofs.lemmas.Option.{none-some}
+use Rattle.bus_words.specs.Lanes.{is_between}
 use Rattle.tl_messages.specs.declared.ABeat.{ABeat}
+use Rattle.burst_plan.specs.Pieces.{is_max_len}
+use Rattle.bridge_core.specs.Configs.{is_valid}
 use Rattle.world_run.specs.Setups.{SetupLists, setup_fault}
+use Rattle.world_run.specs.declared.SetupFault.{SetupFault}
+use Rattle.world_run.specs.declared.SetupFault.TheVariants.{BadConfig}
 use Rattle.bridge_threads.specs.Refusals.{is_refused}
 
 -- where none of some tests holds, the first two don't
@@ -24,3 +31,25 @@ not_refused setup scripts words steps idle none =
     let both = first_two (is_some (setup_fault setup)) (not (length scripts == setup.config.clients)) (list_any (λ script. nat_lt 4096 (length script)) scripts)
     (not (nat_le 1 (length words) && nat_le (length words) 4)) (nat_lt 1000000 steps) (steps == 0) (idle == 0) none in
     (none_is (setup_fault setup) both.0, eqb-true (length scripts) setup.config.clients (not-false (length scripts == setup.config.clients) both.1))
+
+-- a set-up that isn't refused has valid limits
+valid_of : (valid : Bool) (rest : Option SetupFault) → option_or (if valid then None else Some BadConfig) rest ≡ None → valid ≡ true
+valid_of true rest none = refl
+valid_of false rest none = absurd (none-some BadConfig (sym none))
+
+first_of_seven : (a b c d e f g : Bool) → (a && b && c && d && e && f && g) ≡ true → a ≡ true
+first_of_seven true b c d e f g all = refl
+first_of_seven false b c d e f g all = absurd (false≢true all)
+
+second_of_two : (a b : Bool) → (a && b) ≡ true → b ≡ true
+second_of_two true b both = both
+second_of_two false b both = absurd (false≢true both)
+
+-- it has at most eight clients
+pub few_clients : (setup : SetupLists) → setup_fault setup ≡ None → setup.config.clients ≤ 8
+few_clients setup none =
+    let valid : is_valid setup.config ≡ true = valid_of (is_valid setup.config) _ none in
+    let between = first_of_seven (is_between 1 8 setup.config.clients) (is_between 1 8 setup.config.quota) (is_between 1 16 setup.config.ids) (is_between 1 4 setup.config.depth) (is_max_len setup.config.max_len)
+    (is_between 3 12 setup.config.max_size) (setup.config.axi_bytes == 8 || setup.config.axi_bytes == 4 && nat_le 2 setup.config.max_len) valid in
+    let most = second_of_two (nat_le 1 setup.config.clients) (nat_le setup.config.clients 8) between in
+    leb-true setup.config.clients 8 most

@@ -1,8 +1,8 @@
 -- A replay in which all was found right is a report's, and each accepted number was handed out. It knows counts and lists; what a step does is
 -- hidden.
-use Rattle.std.proofs.Common.{◌≡◌, ℕ, ◌+◌, ◌<◌, ◌≤◌, ◌==◌, ◌^◌, ◌-◌, Bool, true, false, List, [], ◌∷◌, ◌++◌, map, length, take, Option, Some, None, refl, sym, subst, ap, ◌∙◌, arith, suc, zero}
-use Rattle.std.specs.Prelude.{nat_eq, ◌||◌, slice_get, IsTrue}
-use Rattle.std.specs.List.{AllByRecursion, IsDistinct, list_any, list_all, range_with_len}
+use Rattle.std.proofs.Common.{◌≡◌, ℕ, ◌+◌, ◌<◌, ◌≤◌, ◌^◌, ◌-◌, Bool, true, false, List, [], ◌∷◌, map, length, None, refl, sym, subst, ap, ◌∙◌, arith, suc, zero}
+use Rattle.std.specs.Prelude.{nat_eq, ◌||◌, IsTrue}
+use Rattle.std.specs.List.{AllByRecursion, IsDistinct, list_any, range_with_len}
 use Rattle.std.proofs.lemmas.Bool.{eqb-true, false≢true}
 use Rattle.std.proofs.lemmas.List.{take_all, length-map}
 use Rattle.std.proofs.lemmas.Map.Steps.{length-le_from_distinct_below}
@@ -14,13 +14,12 @@ use Rattle.world_run.specs.Headline.{IsOneAtATime, IsReplyTo, replies_of}
 use Rattle.world_run.specs.Laws.{AreSoundAlong}
 use Rattle.world_run.specs.Runs.{HandedReply, accepted_in, accepted_numbers, answers_of, handed_in, sent_in}
 use Rattle.world_run.specs.Setups.{SetupLists, setup_fault}
-use Rattle.world_run.specs.World.{WorldState, IsQuiet, after, byte_of, in_flight, opening_world}
+use Rattle.world_run.specs.World.{WorldState, after, byte_of, in_flight, opening_world}
 use Rattle.world_run.specs.declared.Step.{Step}
 use Rattle.world_run.proofs.CarriedOut.{is_carried_out}
 use Rattle.world_run.proofs.MainTheorem.{one_at_a_time}
-use Rattle.bridge_threads.specs.Histories.{IsHistory, all_change}
-use Rattle.bridge_threads.specs.Replays.{FoundOffers, FoundReplies, IsCount, IsFound, IsReplay}
-use Rattle.bridge_threads.specs.Reports.{AreClientReports, AreReceiptsOf, IsClientReport, IsReport, handed_to, offers_of}
+use Rattle.bridge_threads.specs.Replays.{FoundOffers, FoundReplies, IsFound, IsReplay}
+use Rattle.bridge_threads.specs.Reports.{AreClientReports, IsClientReport, IsReport}
 use Rattle.bridge_threads.specs.declared.receipts.Receipts.{Receipts}
 use Rattle.bridge_threads.specs.declared.replay.Found.{Found}
 use Rattle.bridge_threads.specs.declared.replay.Replay.{Replay}

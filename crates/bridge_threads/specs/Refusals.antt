@@ -1,13 +1,14 @@
 -- Why a threaded run has no report, where that is said exactly: a run that is refused before it starts, a history that is full, and a beat that
 -- breaks a rule. It knows set-ups, scripts and words; the threads are hidden.
-use Rattle.std.specs.Prelude.{ℕ, ◌+◌, ◌==◌, ◌≡◌, Bool, false, ◌&&◌, ◌||◌, not, List, [], ◌∷◌, ◌++◌, length, take, Option, Some, None, is_some, nat_le, nat_lt, slice_get, if◌then◌else◌, IsTrue}
-use Rattle.std.specs.List.{list_any}
+use Rattle.std.specs.Prelude.{ℕ, ◌==◌, ◌≡◌, Bool, false, ◌&&◌, ◌||◌, not, List, [], ◌∷◌, ◌++◌, length, map, take, Option, Some, None, is_some, nat_le, nat_lt, slice_get, if◌then◌else◌, IsTrue}
+use Rattle.std.specs.List.{list_any, range_with_len}
 use Rattle.tl_messages.specs.Requests.{HeldMessage, is_whole}
 use Rattle.tl_messages.specs.declared.ABeat.{ABeat}
-use Rattle.tl_checker.specs.Ports.{joined}
+use Rattle.tl_checker.specs.Ports.{PortState, joined}
 use Rattle.tl_checker.specs.Requests.{TlPortLimits, first_fault}
 use Rattle.tl_checker.specs.declared.TlRule.{TlRule}
 use Rattle.bridge_core.specs.Configs.{port_of}
+use Rattle.bridge_core.specs.declared.Config.{Config}
 use Rattle.world_run.specs.Setups.{SetupLists, setup_fault}
 use Rattle.world_run.specs.World.{opening_world}
 use Rattle.world_run.specs.declared.Step.{Step}
@@ -44,12 +45,24 @@ front_after limits front (beat ∷ beats) =
     elim (first_fault limits front beat false) as (λ _. Option (Option HeldMessage))
     [ Some rule ↦ None | None ↦ front_after limits (front_with limits front beat) beats ]
 
--- a beat of a client's script breaks this rule first, where a port with no source busy took those before it
-pub record IsRefusedBeat (setup : SetupLists) (scripts : List (List ABeat)) (client index : ℕ) (rule : TlRule) : Type 0 where
-  pub script : List ABeat
+-- a beat of a script breaks this rule first, where a port with no source busy took those before it
+pub record BreaksRule (limits : TlPortLimits) (script : List ABeat) (index : ℕ) (rule : TlRule) : Type 0 where
   pub beat : ABeat
   pub front : Option HeldMessage
-  pub script_is : slice_get scripts client ≡ Some script
   pub beat_is : slice_get script index ≡ Some beat
-  pub front_is : front_after (port_of setup.config client) None (take index script) ≡ Some front
-  pub broken : first_fault (port_of setup.config client) front beat false ≡ Some rule
+  pub front_is : front_after limits None (take index script) ≡ Some front
+  pub broken : first_fault limits front beat false ≡ Some rule
+
+-- a beat of a client's script breaks this rule first, on the client's port
+pub record IsRefusedBeat (setup : SetupLists) (scripts : List (List ABeat)) (client index : ℕ) (rule : TlRule) : Type 0 where
+  pub script : List ABeat
+  pub script_is : slice_get scripts client ≡ Some script
+  pub breaks : BreaksRule (port_of setup.config client) script index rule
+
+-- the limits of some ports, in order
+abbrev pub limits_of_ports : List PortState → List TlPortLimits
+limits_of_ports ports = map (λ port. port.limits) ports
+
+-- the limits of the ports of so many clients
+abbrev pub client_limits : Config → ℕ → List TlPortLimits
+client_limits config clients = map (port_of config) (range_with_len 0 clients)

@@ -1,5 +1,5 @@
 -- What a replay of the stored steps finds: how far each client's offers are its script, and its replies its receipts. It knows lists alone.
-use Rattle.std.specs.Prelude.{ℕ, ◌+◌, ◌≡◌, ◌<◌, ◌≤◌, ◌^◌, ◌-◌, Bool, true, false, List, [], ◌∷◌, ◌++◌, drop, length, map, take, zip, Some, slice_get, IsTrue, if◌then◌else◌}
+use Rattle.std.specs.Prelude.{ℕ, ◌≡◌, ◌<◌, ◌≤◌, ◌^◌, ◌-◌, Bool, true, false, List, ◌++◌, drop, length, map, take, zip, Some, slice_get, IsTrue}
 use Rattle.std.specs.List.{list_all}
 use Rattle.std.specs.declared.vec.Vec.{Vec}
 use Rattle.std.specs.declared.alloc.Global.{Global}

@@ -1,6 +1,6 @@
 -- What a threaded run reports: a history of the world in which each client offered its script and received all its replies. It knows what was
 -- offered and handed out; how the world came to do so is told by world_run.
-use Rattle.std.specs.Prelude.{ℕ, ◌+◌, ◌==◌, ◌<◌, ◌≤◌, ◌≡◌, Bool, true, false, ◌&&◌, ◌||◌, not, List, [], ◌∷◌, filter, length, map, take, zip, Option, Some, None, flat_map, if◌then◌else◌, nat_eq, slice_get, IsTrue}
+use Rattle.std.specs.Prelude.{ℕ, ◌==◌, ◌<◌, ◌≡◌, Bool, true, false, ◌&&◌, ◌||◌, not, List, [], ◌∷◌, filter, length, map, zip, Option, Some, None, flat_map, if◌then◌else◌, nat_eq, slice_get, IsTrue}
 use Rattle.std.specs.List.{list_all, list_any, cons_option}
 use Rattle.tl_messages.specs.declared.ABeat.{ABeat}
 use Rattle.tl_messages.specs.declared.DBeat.{DBeat}

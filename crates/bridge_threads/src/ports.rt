@@ -1,4 +1,8 @@
 //! What a client's script is on a port of its own.
+ghost use Rattle.std.specs.Prelude.{◌≡◌, None, true, false, IfSome};
+ghost use Rattle.tl_checker.specs.Ports.{opening_port};
+ghost use Rattle.tl_checker.specs.Requests.{first_fault};
+ghost use Rattle.bridge_threads.specs.Refusals.{BreaksRule, front_with};
 
 use std::alloc::{AllocError, Global};
 use tl_checker::{Port, Progress, TlRule};
@@ -21,7 +25,9 @@ fn with_reply(room: Room, request: &Request) -> Room {
 }
 
 /// The room for the replies to a script's requests, by one walk over its beats. A beat that is refused is passed over.
-pub(crate) fn room_for(port: &mut Port, script: &[ABeat]) -> Room {
+pub(crate) fn room_for(port: &mut Port, script: &[ABeat]) -> Room
+    ensures { port.new ≡ opening_port port.old.limits }
+{
     let mut room = Room {
         replies: 0,
         beats: 0,
@@ -39,19 +45,36 @@ pub(crate) fn room_for(port: &mut Port, script: &[ABeat]) -> Room {
     room
 }
 
+/// Whether a port takes a beat with no source busy. A request that stands whole then is let go of.
+fn passes(port: &mut Port, beat: &ABeat) -> bool
+    requires { port.old.whole ≡ None }
+    ensures taken { result ≡ true → (first_fault port.old.limits port.old.front beat.now false ≡ None) × (port.new ≡ record port.old { front = front_with port.old.limits port.old.front beat.now }) }
+    ensures kept { result ≡ false → port.new ≡ port.old }
+{
+    let Ok(progress) = port.take_beat(beat, false) else {
+        return false;
+    };
+    if progress == Progress::Whole {
+        port.clear_whole();
+        return true;
+    }
+    true
+}
+
 /// The rule that a beat of a script breaks where those before it were taken, with no source busy; none where it breaks none,
 /// where one before it does, or where there is no such beat.
-pub(crate) fn refused_at(port: &mut Port, script: &[ABeat], index: u32) -> Option<TlRule> {
+pub(crate) fn refused_at(port: &mut Port, script: &[ABeat], index: u32) -> Option<TlRule>
+    ensures rule { IfSome result (λ rule. BreaksRule port.old.limits script.now index rule) }
+    ensures limits { port.new.limits ≡ port.old.limits }
+{
     let index = index as usize;
     if index >= script.len() {
         return None;
     }
     port.clear_whole();
     for beat in &script[..index] {
-        match port.take_beat(beat, false) {
-            Err(_) => return None,
-            Ok(Progress::Whole) => port.clear_whole(),
-            Ok(Progress::More) => {}
+        if !passes(port, beat) {
+            return None;
         }
     }
     port.judge(&script[index], false).err()

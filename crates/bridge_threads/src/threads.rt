@@ -1,19 +1,22 @@
 //! The threads, which ask the gate, lock, make a turn and let go.
-ghost use Rattle.std.specs.Prelude.{◌≡◌, ◌↔◌, List, [], None, Some, Ok, Err, true, false, IfOk, IfSome, IsTrue};
+ghost use Rattle.std.specs.Prelude.{◌≡◌, ◌≢◌, ◌<◌, ◌≤◌, ◌↔◌, ℕ, List, [], length, None, Some, Ok, Err, true, false, IfOk, IfSome, IsTrue};
 ghost use Rattle.tl_messages.specs.declared.ABeat.{ABeat};
-ghost use Rattle.bridge_core.specs.Configs.{is_valid};
+ghost use Rattle.tl_checker.specs.Ports.{opening_port};
+ghost use Rattle.tl_checker.specs.declared.TlRule.{TlRule};
+ghost use Rattle.tl_checker.specs.declared.TlRule.TheVariants.{SourceBusy};
+ghost use Rattle.bridge_core.specs.Configs.{is_valid, port_of};
 ghost use Rattle.world_run.specs.Headline.{IsOneAtATime};
 ghost use Rattle.world_run.specs.Laws.{IsSoundWorld};
 ghost use Rattle.world_run.specs.Runs.{answers_of, handed_in, sent_in};
-ghost use Rattle.world_run.specs.Setups.{lists_of, setup_fault};
+ghost use Rattle.world_run.specs.Setups.{SetupLists, lists_of, setup_fault};
 ghost use Rattle.world_run.specs.World.{byte_of, in_flight, opening_world};
 ghost use Rattle.world_run.specs.declared.Step.{Step};
 ghost use Rattle.bridge_threads.specs.Faults.{is_mismatch, is_of_worker};
-ghost use Rattle.bridge_threads.specs.Refusals.{IsFullHistory, is_refused};
+ghost use Rattle.bridge_threads.specs.Refusals.{IsFullHistory, IsRefusedBeat, client_limits, is_refused, limits_of_ports};
 ghost use Rattle.bridge_threads.specs.Replays.{IsReplay, items_of};
 ghost use Rattle.bridge_threads.specs.Reports.{IsReport};
 ghost use Rattle.bridge_threads.specs.declared.receipts.Receipts.{Receipts};
-ghost use Rattle.bridge_threads.specs.declared.threads.Fault.TheVariants.{BadConfig, HistoryFull, NoMemory};
+ghost use Rattle.bridge_threads.specs.declared.threads.Fault.TheVariants.{BadConfig, BeatRefused, HistoryFull, NoMemory};
 
 use crate::Shared;
 use crate::clients::{ClientWork, client_turn};
@@ -212,6 +215,7 @@ fn seat_of(
     script: &[ABeat],
 ) -> Result<(Seat, Port), AllocError>
     requires { is_valid setup.now.config ≡ true }
+    ensures { IfOk result (λ seated. seated.1 ≡ opening_port (port_of setup.now.config number)) }
 {
     let level = setup.config.level_of(number);
     let mut port = Port::new(alloc, number, level, setup.config.max_size)?;
@@ -241,6 +245,7 @@ fn seats_of(
     scripts: &[Vec<ABeat>],
 ) -> Result<(Vec<Seat>, Vec<Port>), AllocError>
     requires { is_valid setup.now.config ≡ true }
+    ensures ports { IfOk result (λ seated. length scripts.now ≤ 256 → limits_of_ports seated.1.items ≡ client_limits setup.now.config (length scripts.now)) }
 {
     let mut seats = Vec::with_capacity(alloc, scripts.len())?;
     let mut ports = Vec::with_capacity(alloc, scripts.len())?;
@@ -287,6 +292,7 @@ fn prepare(
     requires { setup_fault (lists_of setup.now) ≡ None }
     ensures fresh { IfOk result (λ room. (given : List (List ABeat)) (receipts : List Receipts) → IsReplay (opening_world (lists_of setup.now)) [] given receipts room.replay) }
     ensures sound { IfOk result (λ room. IsSoundWorld (opening_world (lists_of setup.now))) }
+    ensures ports { IfOk result (λ room. length scripts.now ≤ 256 → limits_of_ports room.ports.items ≡ client_limits setup.now.config (length scripts.now)) }
 {
     let Ok(replay) = second_world(alloc, setup) else {
         return Err(AllocError);
@@ -397,6 +403,29 @@ fn run_crew<R: Threads + Wait + Sync, G: Gate + Sync>(
     })
 }
 
+/// Whether a beat of a client's script is refused by this rule, where there is such a client.
+fn is_refused_beat(
+    ports: &mut Vec<Port>,
+    scripts: &[Vec<ABeat>],
+    client: usize,
+    index: u32,
+    rule: TlRule,
+) -> bool
+    ensures refused { result ≡ true → (setup : SetupLists) (clients : ℕ) → limits_of_ports ports.old.items ≡ client_limits setup.config clients → IsRefusedBeat setup (items_of scripts.now) client index rule × (client < clients) }
+    ensures limits { limits_of_ports ports.new.items ≡ limits_of_ports ports.old.items }
+{
+    if client >= ports.len() {
+        return false;
+    }
+    if client >= scripts.len() {
+        return false;
+    }
+    match refused_at(&mut ports[client], scripts[client].as_slice(), index) {
+        Some(broken) => broken == rule,
+        None => false,
+    }
+}
+
 /// What a worker's fault is told as, or where it doesn't hold, what fault 8 would tell.
 fn confirmed(
     fault: WorkerFault,
@@ -407,6 +436,8 @@ fn confirmed(
 ) -> Result<Fault, Mismatch>
     ensures own { IfOk result (λ told. is_of_worker told ≡ true) }
     ensures full { result ≡ Ok HistoryFull → full ≡ true }
+    ensures beat { (setup : SetupLists) (clients client index : ℕ) (rule : TlRule) → limits_of_ports ports.old.items ≡ client_limits setup.config clients → clients ≤ 256 → result ≡ Ok (BeatRefused client index rule) → IsRefusedBeat setup (items_of scripts.now) client index rule }
+    ensures limits { limits_of_ports ports.new.items ≡ limits_of_ports ports.old.items }
 {
     let client = worker.min(usize::from(u8::MAX)) as u8;
     match fault {
@@ -418,10 +449,7 @@ fn confirmed(
             index: 0,
         }),
         WorkerFault::BeatRefused(index, rule) => {
-            if worker < ports.len()
-                && worker < scripts.len()
-                && refused_at(&mut ports[worker], scripts[worker].as_slice(), index) == Some(rule)
-            {
+            if is_refused_beat(ports, scripts, worker, index, rule) {
                 return Ok(Fault::BeatRefused {
                     client,
                     index,
@@ -443,6 +471,7 @@ fn told(
 ) -> Option<Fault>
     ensures own { IfSome result (λ told. is_of_worker told ≡ true) }
     ensures full { result ≡ Some HistoryFull → full ≡ true }
+    ensures beat { (setup : SetupLists) (clients client index : ℕ) (rule : TlRule) → limits_of_ports ports.old.items ≡ client_limits setup.config clients → clients ≤ 256 → result ≡ Some (BeatRefused client index rule) → IsRefusedBeat setup (items_of scripts.now) client index rule }
 {
     let mut late = None;
     for worker in 0..faults.len() {
@@ -479,6 +508,7 @@ fn told_at_full(
 ) -> Fault
     ensures own { is_of_worker result ≡ true }
     ensures full { result ≡ HistoryFull → full ≡ true }
+    ensures beat { (setup : SetupLists) (clients client index : ℕ) (rule : TlRule) → limits_of_ports ports.old.items ≡ client_limits setup.config clients → clients ≤ 256 → result ≡ BeatRefused client index rule → IsRefusedBeat setup (items_of scripts.now) client index rule }
 {
     match told(faults, ports, scripts, full) {
         Some(fault) => fault,
@@ -511,6 +541,7 @@ pub fn run_threads<R: Threads + Wait + Sync, G: Gate + Sync>(
     ensures one_at_a_time { IfOk result (λ report. IsOneAtATime (lists_of setup.now) report.steps.items (answers_of (opening_world (lists_of setup.now)) report.steps.items) (handed_in (opening_world (lists_of setup.now)) report.steps.items) (sent_in (opening_world (lists_of setup.now)) report.steps.items) (in_flight report.world) (byte_of report.world)) }
     ensures refused { (result ≡ Err BadConfig) ↔ IsTrue (is_refused (lists_of setup.now) (items_of scripts.now) (items_of words.now) limits.steps limits.idle) }
     ensures full { result ≡ Err HistoryFull → (steps : List Step) × IsFullHistory (lists_of setup.now) (items_of scripts.now) limits.steps steps }
+    ensures beat { (client index : ℕ) (rule : TlRule) → result ≡ Err (BeatRefused client index rule) → IsRefusedBeat (lists_of setup.now) (items_of scripts.now) client index rule × (rule ≢ SourceBusy) }
     ensures memory { result ≡ Err NoMemory → is_refused (lists_of setup.now) (items_of scripts.now) (items_of words.now) limits.steps limits.idle ≡ false }
 {
     if is_refused(setup, scripts, words, limits) {

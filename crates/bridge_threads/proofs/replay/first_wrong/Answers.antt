@@ -1,10 +1,10 @@
 -- One client more has its part, and then all have.
-use Rattle.std.proofs.Common.{◌≡◌, ◌<◌, ℕ, ◌∙◌, List, Some, ap, length, refl, sym, subst, arith}
+use Rattle.std.proofs.Common.{◌≡◌, ◌∙◌, List, Some, ap, length, refl, sym, subst, arith}
 use Rattle.std.specs.Prelude.{option_map, slice_get}
 use Rattle.std.proofs.lemmas.List.{length-map}
 use Rattle.std.proofs.lemmas.Option.{same_Some, slice_get-map, slice_get_read, slice_get_within}
 use Rattle.tl_messages.specs.declared.ABeat.{ABeat}
-use Rattle.bridge_threads.specs.Replays.{IsFound, items_of}
+use Rattle.bridge_threads.specs.Replays.{items_of}
 use Rattle.bridge_threads.specs.Reports.{IsClientReport}
 use Rattle.bridge_threads.specs.declared.receipts.Receipts.{Receipts}
 use Rattle.bridge_threads.proofs.replay.first_wrong.Goals as goal

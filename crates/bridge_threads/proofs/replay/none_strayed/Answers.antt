@@ -1,6 +1,6 @@
 -- The offers of one client more begin its script, and then those of all.
-use Rattle.std.proofs.Common.{◌≡◌, ◌<◌, ℕ, ◌∙◌, ◌++◌, drop, false, List, Some, ap, length, refl, sym, subst, arith}
-use Rattle.std.specs.Prelude.{option_map, slice_get}
+use Rattle.std.proofs.Common.{◌≡◌, ◌∙◌, ◌++◌, drop, false, List, Some, ap, subst, arith}
+use Rattle.std.specs.Prelude.{slice_get}
 use Rattle.std.proofs.lemmas.List.{length-map, take-append-drop}
 use Rattle.std.proofs.lemmas.Option.{slice_get_within}
 use Rattle.tl_messages.specs.declared.ABeat.{ABeat}

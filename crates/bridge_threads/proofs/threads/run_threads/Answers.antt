@@ -1,11 +1,12 @@
 -- The report is that of the replay.
-use Rattle.std.proofs.Common.{◌≡◌, ◌∙◌, false, length, sym}
+use Rattle.std.proofs.Common.{◌≡◌, ◌≤◌, ◌∙◌, Some, ap, arith, length, sym}
 use Rattle.std.proofs.lemmas.List.{length-map}
+use Rattle.bridge_core.specs.Configs.{port_of}
 use Rattle.world_run.specs.Setups.{lists_of}
-use Rattle.bridge_threads.specs.Refusals.{is_refused}
 use Rattle.bridge_threads.specs.Replays.{items_of}
-use Rattle.bridge_threads.specs.declared.threads.Fault.TheVariants.{HistoryFull}
-use Rattle.bridge_threads.proofs.RefusalLemmas.{not_refused}
+use Rattle.bridge_threads.specs.declared.threads.Fault.TheVariants.{BeatRefused, HistoryFull}
+use Rattle.bridge_threads.proofs.FrontLemmas.{never_busy}
+use Rattle.bridge_threads.proofs.RefusalLemmas.{few_clients, not_refused}
 use Rattle.bridge_threads.proofs.threads.run_threads.Goals as goal
 
 pub prepare-requires : goal.prepare-requires
@@ -28,3 +29,23 @@ returns-in-Ok-compared-clause-report g c =
 pub returns-in-Ok-compared-clause-one_at_a_time : goal.returns-in-Ok-compared-clause-one_at_a_time
 returns-in-Ok-compared-clause-one_at_a_time g c =
     rw (← c.as_slice-2.ensures.value) (c.in-Ok-compared.ensures.one_at_a_time (lists_of c.args.setup.now) (c.in-Ok.ensures.fresh (items_of c.args.scripts.now) _) c.in-Ok.ensures.sound)
+
+pub returns-then-met_full_history-clause-beat : goal.returns-then-met_full_history-clause-beat
+returns-then-met_full_history-clause-beat g c client index rule is =
+    let setup = lists_of c.args.setup.now in
+    let sound = not_refused setup (items_of c.args.scripts.now) (items_of c.args.words.now) c.args.limits.steps c.args.limits.idle (sym c.is_refused.ensures ∙ c.if-is_refused.false) in
+    let lists : length (items_of c.args.scripts.now) ≡ length c.args.scripts.now = length-map c.args.scripts.now (λ list. list.items) in
+    let few : length c.args.scripts.now ≤ 256 = omega (arith, lists, sound.1, few_clients setup sound.0) in
+    let same : c.told_at_full.result ≡ BeatRefused client index rule = cc in
+    let refused = c.told_at_full.ensures.beat setup (length c.args.scripts.now) client index rule (c.in-Ok.ensures.ports few) few same in
+    (refused, never_busy (port_of setup.config client) refused.breaks.front refused.breaks.beat rule refused.breaks.broken)
+
+pub returns-in-Some-clause-beat : goal.returns-in-Some-clause-beat
+returns-in-Some-clause-beat g c client index rule is =
+    let setup = lists_of c.args.setup.now in
+    let sound = not_refused setup (items_of c.args.scripts.now) (items_of c.args.words.now) c.args.limits.steps c.args.limits.idle (sym c.is_refused.ensures ∙ c.if-is_refused.false) in
+    let lists : length (items_of c.args.scripts.now) ≡ length c.args.scripts.now = length-map c.args.scripts.now (λ list. list.items) in
+    let few : length c.args.scripts.now ≤ 256 = omega (arith, lists, sound.1, few_clients setup sound.0) in
+    let same : c.in-Some.fault ≡ BeatRefused client index rule = cc in
+    let refused = c.told.ensures.beat setup (length c.args.scripts.now) client index rule (c.in-Ok.ensures.ports few) few (c.in-Some.is ∙ ap (λ fault. Some fault) same) in
+    (refused, never_busy (port_of setup.config client) refused.breaks.front refused.breaks.beat rule refused.breaks.broken)

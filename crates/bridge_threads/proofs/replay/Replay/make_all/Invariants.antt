@@ -1,5 +1,5 @@
 -- The record is that of a replay of the steps so far, and the laws hold along them.
-use Rattle.std.proofs.Common.{List, [], take}
+use Rattle.std.proofs.Common.{[], take}
 use Rattle.world_run.specs.Laws.{AreSoundAlong, IsSoundWorld}
 use Rattle.world_run.specs.World.{WorldState}
 use Rattle.bridge_threads.specs.Replays.{IsReplay, items_of}
