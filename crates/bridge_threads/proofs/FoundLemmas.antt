@@ -15,7 +15,7 @@ use Rattle.world_run.specs.declared.Answer.{Answer}
 use Rattle.world_run.specs.declared.Answer.TheVariants.{Reply}
 use Rattle.world_run.specs.declared.Step.{Step}
 use Rattle.world_run.specs.declared.Step.TheVariants.{Offer, Pump, Perform, AnswerB, AnswerR, Take}
-use Rattle.bridge_threads.specs.Replays.{FoundOffers, FoundReplies, HasReceipt, IsCount, IsFound, KeepsScript}
+use Rattle.bridge_threads.specs.Replays.{DiffersAt, FoundOffers, FoundReplies, HasReceipt, IsCount, IsFound, KeepsScript}
 use Rattle.bridge_threads.specs.Reports.{AreReceiptsOf, accepted_of, accepts, beats_of_all, handed_to, head_of, is_accepted, is_taken, offered_by, offers_of, takes_beat}
 use Rattle.bridge_threads.specs.declared.receipts.Receipts.{Receipts}
 use Rattle.bridge_threads.specs.declared.replay.Found.{Found}
@@ -24,7 +24,7 @@ use Rattle.bridge_threads.proofs.ReplayLemmas.{answered, answered-append, handed
 -- ---- lists
 
 -- what stands after a front
-at_seam : {A : Type 0} (xs : List A) (y : A) (ys : List A) → slice_get (xs ++ y ∷ ys) (length xs) ≡ Some y
+pub at_seam : {A : Type 0} (xs : List A) (y : A) (ys : List A) → slice_get (xs ++ y ∷ ys) (length xs) ≡ Some y
 at_seam [] y ys = refl
 at_seam (x ∷ xs) y ys = at_seam xs y ys
 
@@ -146,8 +146,17 @@ module _ (start : WorldState) (past : List Step) (client : ℕ) (script : List A
 module _ (start : WorldState) (past : List Step) (client : ℕ) (received : Receipts) where
   -- whose receipts differ, differ whatever follows
   differs_on : (right beats : ℕ) (step : Step) → FoundReplies start past client received right beats true → FoundReplies start (past ++ step ∷ []) client received right beats true
-  differs_on right beats step differs more kept =
-      differs (step ∷ more) (subst (λ steps. AreReceiptsOf received (handed_to client start steps)) (append_assoc past (step ∷ []) more) kept)
+  differs_on right beats step found =
+      record {
+        before = found.before;
+        reply = found.reply;
+        rest = found.rest ++ handed_to client (after start past) (step ∷ []);
+        replies_are =
+            handed_to-append client start past (step ∷ []) ∙ ap (λ front. front ++ handed_to client (after start past) (step ∷ [])) found.replies_are
+            ∙ append_assoc found.before (found.reply ∷ found.rest) (handed_to client (after start past) (step ∷ []));
+        same = found.same;
+        differs = found.differs;
+      }
 
   -- a step that hands nothing to the client leaves what was found
   replies_beside : (right beats : ℕ) (different : Bool) (step : Step) → FoundReplies start past client received right beats different → handed_to client (after start past) (step ∷ []) ≡ []
@@ -175,13 +184,6 @@ take_hands client state number reply replied gives =
 
 module _ (start : WorldState) (past : List Step) (client : ℕ) (received : Receipts) (number : ℕ) (reply : List DBeat)
     (replied : (next (after start past) (Take client)).answer ≡ Reply number) (gives : reply ≡ (next (after start past) (Take client)).reply) where
-  handed_more : (more : List Step) → handed_to client start (past ++ Take client ∷ more) ≡ handed_to client start past ++ reply_of client number reply ∷ handed_to client (after start (past ++ Take client ∷ [])) more
-  handed_more more =
-      ap (handed_to client start) (sym (append_assoc past (Take client ∷ []) more))
-      ∙ handed_to-append client start (past ++ Take client ∷ []) more
-      ∙ ap (λ front. front ++ handed_to client (after start (past ++ Take client ∷ [])) more) (handed_to-append client start past (Take client ∷ []) ∙ rw (take_hands client (after start past) number reply replied gives) refl)
-      ∙ append_assoc (handed_to client start past) (reply_of client number reply ∷ []) _
-
   -- the receipts so far, and the next one
   replies_next : (right beats : ℕ) → FoundReplies start past client received right beats false → HasReceipt received right beats number reply
       → right < length received.heads.items → beats + length reply ≤ length received.beats.items
@@ -201,21 +203,32 @@ module _ (start : WorldState) (past : List Step) (client : ℕ) (received : Rece
   -- the receipts so far, and a reply that isn't the next one
   differs_here : (right beats : ℕ) → FoundReplies start past client received right beats false → (HasReceipt received right beats number reply → ⊥)
       → FoundReplies start (past ++ Take client ∷ []) client received right beats true
-  differs_here right beats found wrong more kept =
-      let before = handed_to client start past in
-      let rest = handed_to client (after start (past ++ Take client ∷ [])) more in
-      let all : handed_to client start ((past ++ Take client ∷ []) ++ more) ≡ before ++ reply_of client number reply ∷ rest =
-      ap (handed_to client start) (append_assoc past (Take client ∷ []) more) ∙ handed_more more in
-      let these : AreReceiptsOf received (before ++ reply_of client number reply ∷ rest) = subst (AreReceiptsOf received) all kept in
-      let count : length before ≡ right = sym found.0 in
-      let head : slice_get received.heads.items right ≡ Some (number, length reply) =
-      ap (λ heads. slice_get heads right) these.heads ∙ slice_get-map head_of (before ++ reply_of client number reply ∷ rest) right
-      ∙ subst (λ k. option_map head_of (slice_get (before ++ reply_of client number reply ∷ rest) k) ≡ Some (number, length reply)) count
-      (ap (option_map head_of) (at_seam before (reply_of client number reply) rest)) in
-      let size : length (beats_of_all before) ≡ beats = sym (ap length found.3) ∙ length-take-le beats received.beats.items found.4 in
-      let cut : drop beats received.beats.items ≡ reply ++ beats_of_all rest =
-      ap (drop beats) (these.beats ∙ beats_of_all-append before (reply_of client number reply ∷ rest)) ∙ drop_at (beats_of_all before) (reply ++ beats_of_all rest) beats size in
-      wrong (record { head = head; beats = ap (take (length reply)) cut ∙ take_at reply (beats_of_all rest) (length reply) refl })
+  differs_here right beats found wrong =
+      record {
+        before = handed_to client start past;
+        reply = reply_of client number reply;
+        rest = [];
+        replies_are = handed_to-append client start past (Take client ∷ []) ∙ rw (take_hands client (after start past) number reply replied gives) refl;
+        same = found;
+        differs = wrong;
+      }
+
+-- receipts that differ at a place aren't the replies
+pub differs_wrong : (received : Receipts) (replies : List HandedReply) (right beats : ℕ) → DiffersAt received replies right beats → AreReceiptsOf received replies → ⊥
+differs_wrong received replies right beats differs kept =
+    let before = differs.before in
+    let reply = differs.reply in
+    let rest = differs.rest in
+    let found = differs.same in
+    let these : AreReceiptsOf received (before ++ reply ∷ rest) = subst (AreReceiptsOf received) differs.replies_are kept in
+    let count : length before ≡ right = sym found.0 in
+    let head : slice_get received.heads.items right ≡ Some (head_of reply) =
+    ap (λ heads. slice_get heads right) these.heads ∙ slice_get-map head_of (before ++ reply ∷ rest) right
+    ∙ subst (λ k. option_map head_of (slice_get (before ++ reply ∷ rest) k) ≡ Some (head_of reply)) count (ap (option_map head_of) (at_seam before reply rest)) in
+    let size : length (beats_of_all before) ≡ beats = sym (ap length found.3) ∙ length-take-le beats received.beats.items found.4 in
+    let cut : drop beats received.beats.items ≡ reply.beats ++ beats_of_all rest =
+    ap (drop beats) (these.beats ∙ beats_of_all-append before (reply ∷ rest)) ∙ drop_at (beats_of_all before) (reply.beats ++ beats_of_all rest) beats size in
+    differs.differs (record { head = head; beats = ap (take (length reply.beats)) cut ∙ take_at reply.beats (beats_of_all rest) (length reply.beats) refl })
 
 -- ---- requests accepted
 

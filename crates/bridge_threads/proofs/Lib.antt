@@ -1,6 +1,7 @@
 pub mod FoundLemmas
 pub mod FrontLemmas
 pub mod HistoryLemmas
+pub mod MismatchLemmas
 pub mod PortLemmas
 pub mod RefusalLemmas
 pub mod ReplayLemmas

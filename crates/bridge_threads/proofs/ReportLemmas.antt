@@ -19,7 +19,7 @@ use Rattle.world_run.specs.declared.Step.{Step}
 use Rattle.world_run.proofs.CarriedOut.{is_carried_out}
 use Rattle.world_run.proofs.MainTheorem.{one_at_a_time}
 use Rattle.bridge_threads.specs.Replays.{FoundOffers, FoundReplies, IsFound, IsReplay}
-use Rattle.bridge_threads.specs.Reports.{AreClientReports, IsClientReport, IsReport}
+use Rattle.bridge_threads.specs.Reports.{AreClientReports, IsClientReport, IsReport, accepted_of}
 use Rattle.bridge_threads.specs.declared.receipts.Receipts.{Receipts}
 use Rattle.bridge_threads.specs.declared.replay.Found.{Found}
 use Rattle.bridge_threads.specs.declared.replay.Replay.{Replay}
@@ -98,7 +98,7 @@ pub right_client : {start : WorldState} {steps : List Step} {client : ℕ} {scri
 right_client {start = start} {steps = steps} {client = client} {script = script} {received = received} found is straight whole same heads beats counted small =
     let offers : FoundOffers start steps client script found.offered false = subst (FoundOffers start steps client script found.offered) straight is.offers in
     let replies : FoundReplies start steps client received found.right found.beats false = subst (FoundReplies start steps client received found.right found.beats) same is.replies in
-    let accepted = is.accepted (omega (arith, counted, heads, small)) in
+    let accepted : found.accepted ≡ accepted_of client start steps = omega (arith, is.accepted, counted, heads, small) in
     record {
       script_kept = offers.0 ∙ take_all found.offered script (omega (arith, whole));
       all_taken = offers.2;
@@ -118,8 +118,8 @@ module _ (setup : SetupLists) (scripts : List (List ABeat)) (steps : List Step) 
       → replay.changes ≡ true → in_flight replay.world ≡ 0 → replay.accepted ≡ replay.handed → replay.accepted < 2 ^ 64 - 1
       → IsReport setup scripts steps receipts replay.world
   right_report as_many each clients changes quiet counted small =
-      let accepted = is.accepted small in
-      let handed = is.handed (omega (arith, small, counted)) in
+      let accepted : replay.accepted ≡ length (accepted_numbers (answers_of (opening_world setup) steps)) = omega (arith, is.accepted, small) in
+      let handed : replay.handed ≡ length (handed_in (opening_world setup) steps) = omega (arith, is.handed, small, counted) in
       record {
         sound = sound;
         history = record { replays = is.world; changes = sym is.changes ∙ changes };

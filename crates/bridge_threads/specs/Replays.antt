@@ -1,15 +1,15 @@
 -- What a replay of the stored steps finds: how far each client's offers are its script, and its replies its receipts. It knows lists alone.
-use Rattle.std.specs.Prelude.{ℕ, ◌≡◌, ◌<◌, ◌≤◌, ◌^◌, ◌-◌, Bool, true, false, List, ◌++◌, drop, length, map, take, zip, Some, slice_get, IsTrue}
+use Rattle.std.specs.Prelude.{ℕ, ◌∷◌, ◌≡◌, ◌≤◌, ◌^◌, ◌-◌, Bool, true, false, List, ◌++◌, drop, length, map, min, take, zip, Some, slice_get, IsTrue}
 use Rattle.std.specs.List.{list_all}
 use Rattle.std.specs.declared.vec.Vec.{Vec}
 use Rattle.std.specs.declared.alloc.Global.{Global}
 use Rattle.tl_messages.specs.declared.ABeat.{ABeat}
 use Rattle.tl_messages.specs.declared.DBeat.{DBeat}
-use Rattle.world_run.specs.Runs.{accepted_numbers, answers_of, handed_in}
+use Rattle.world_run.specs.Runs.{HandedReply, accepted_numbers, answers_of, handed_in}
 use Rattle.world_run.specs.World.{WorldState, after}
 use Rattle.world_run.specs.declared.Step.{Step}
 use Rattle.bridge_threads.specs.Histories.{all_change}
-use Rattle.bridge_threads.specs.Reports.{AreReceiptsOf, accepted_of, beats_of_all, handed_to, head_of, is_taken, offers_of}
+use Rattle.bridge_threads.specs.Reports.{accepted_of, beats_of_all, handed_to, head_of, is_taken, offers_of}
 use Rattle.bridge_threads.specs.declared.receipts.Receipts.{Receipts}
 use Rattle.bridge_threads.specs.declared.replay.Found.{Found}
 use Rattle.bridge_threads.specs.declared.replay.Replay.{Replay}
@@ -29,17 +29,29 @@ FoundOffers start steps client script offered false =
     (offers_of client steps ≡ take offered script) × (offered ≤ length script) × IsTrue (list_all (is_taken client) (zip steps (answers_of start steps)))
 FoundOffers start steps client script offered true = (more : List Step) → KeepsScript start (steps ++ more) client script → ⊥
 
--- what was found of a client's replies: its first receipts are these; or, whatever steps follow, its receipts aren't its replies
+-- a client's first `right` receipts are these replies, all of them, and their beats are the first `beats` of its beats
+abbrev pub AreFirstReceipts : Receipts → List HandedReply → ℕ → ℕ → Type 0
+AreFirstReceipts receipts replies right beats =
+    (right ≡ length replies) × (take right receipts.heads.items ≡ map head_of replies) × (right ≤ length receipts.heads.items)
+    × (take beats receipts.beats.items ≡ beats_of_all replies) × (beats ≤ length receipts.beats.items)
+
+-- a client's first `right` receipts are the first of these replies, and the next reply isn't the receipt there
+pub record DiffersAt (receipts : Receipts) (replies : List HandedReply) (right beats : ℕ) : Type 0 where
+  pub before : List HandedReply
+  pub reply : HandedReply
+  pub rest : List HandedReply
+  pub replies_are : replies ≡ before ++ reply ∷ rest
+  pub same : AreFirstReceipts receipts before right beats
+  pub differs : HasReceipt receipts right beats reply.number reply.beats → ⊥
+
+-- what was found of a client's replies: its first receipts are these; or the receipt after some of them isn't the next reply
 abbrev pub FoundReplies : WorldState → List Step → ℕ → Receipts → ℕ → ℕ → Bool → Type 0
-FoundReplies start steps client receipts right beats false =
-    (right ≡ length (handed_to client start steps)) × (take right receipts.heads.items ≡ map head_of (handed_to client start steps))
-    × (right ≤ length receipts.heads.items)
-    × (take beats receipts.beats.items ≡ beats_of_all (handed_to client start steps)) × (beats ≤ length receipts.beats.items)
-FoundReplies start steps client receipts right beats true = (more : List Step) → AreReceiptsOf receipts (handed_to client start (steps ++ more)) → ⊥
+FoundReplies start steps client receipts right beats false = AreFirstReceipts receipts (handed_to client start steps) right beats
+FoundReplies start steps client receipts right beats true = DiffersAt receipts (handed_to client start steps) right beats
 
 -- a count that stays at the largest number
 abbrev pub IsCount : ℕ → ℕ → Type 0
-IsCount count of = count < 2 ^ 64 - 1 → count ≡ of
+IsCount count of = count ≡ min of (2 ^ 64 - 1)
 
 -- what was found of a client
 pub record IsFound (start : WorldState) (steps : List Step) (client : ℕ) (script : List ABeat) (receipts : Receipts) (found : Found) : Type 0 where

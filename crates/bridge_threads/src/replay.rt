@@ -1,5 +1,5 @@
 //! The stored steps once more, in a world of their own, beside scripts and receipts.
-ghost use Rattle.std.specs.Prelude.{◌≡◌, ◌+◌, ◌^◌, ◌&&◌, not, ◌-◌, ◌++◌, ◌∷◌, ◌<◌, ◌≤◌, IfOk, None, ℕ, List, [], length, Some, true, false, is_some, slice_get, if◌then◌else◌};
+ghost use Rattle.std.specs.Prelude.{◌≡◌, ◌≢◌, ◌⊎◌, IfErr, ◌+◌, ◌^◌, ◌&&◌, not, ◌-◌, ◌++◌, ◌∷◌, ◌<◌, ◌≤◌, IfOk, None, ℕ, List, [], length, Some, true, false, is_some, slice_get, if◌then◌else◌};
 ghost use Rattle.tl_messages.specs.declared.ABeat.{ABeat};
 ghost use Rattle.tl_messages.specs.declared.DBeat.{DBeat};
 ghost use Rattle.world_run.specs.Laws.{AreSoundAlong, IsSoundWorld};
@@ -11,9 +11,11 @@ ghost use Rattle.bridge_threads.specs.Refusals.{BeginScripts, IsFullHistory};
 ghost use Rattle.world_run.specs.declared.Answer.TheVariants.{Reply};
 ghost use Rattle.world_run.specs.declared.Step.{Step};
 ghost use Rattle.world_run.specs.declared.Step.TheVariants.{Offer, Take};
+ghost use Rattle.bridge_threads.specs.Mismatches.{IsMismatch, IsWrongClient};
 ghost use Rattle.bridge_threads.specs.Replays.{HasReceipt, AreFound, IsCount, IsFound, IsReplay, items_of};
 ghost use Rattle.bridge_threads.specs.Reports.{AreClientReports, IsClientReport, IsReport, is_accepted, takes_beat};
 ghost use Rattle.bridge_threads.specs.declared.receipts.Receipts.{Receipts};
+ghost use Rattle.bridge_threads.specs.declared.replay.Found.{Found};
 
 use crate::clients::place;
 use crate::receipts::Receipts;
@@ -264,16 +266,34 @@ pub(crate) struct Mismatch {
     pub index: u32,
 }
 
+/// A client as a number that a fault can name.
+fn numbered(client: usize) -> u8
+    ensures { client < 256 → result ≡ client }
+{
+    u8::try_from(client).unwrap_or(u8::MAX)
+}
+
 /// Whether each of a client's facts holds.
 fn is_right(found: &Found, script: &[ABeat], received: &Receipts) -> bool
     ensures right { result ≡ true → (start : WorldState) (steps : List Step) (client : ℕ) → IsFound start steps client script.now received.now found.now → IsClientReport start steps client script.now received.now }
+    ensures wrong { result ≡ false → (start : WorldState) (steps : List Step) (client : ℕ) → IsFound start steps client script.now received.now found.now → IsClientReport start steps client script.now received.now → ⊥ }
 {
-    !found.strayed
-        && found.offered == script.len()
-        && !found.differs
-        && found.right == received.heads.len()
-        && found.beats == received.beats.len()
-        && found.accepted == found.right
+    if found.strayed {
+        return false;
+    }
+    if found.differs {
+        return false;
+    }
+    if found.offered != script.len() {
+        return false;
+    }
+    if found.right != received.heads.len() {
+        return false;
+    }
+    if found.beats != received.beats.len() {
+        return false;
+    }
+    found.accepted == found.right
 }
 
 /// The first client of whom not all is right.
@@ -283,6 +303,7 @@ fn first_wrong(
     receipts: &[Receipts],
 ) -> Option<usize>
     ensures none { result ≡ None → (start : WorldState) (steps : List Step) → AreFound start steps (items_of scripts.now) receipts.now found.now → AreClientReports start steps (items_of scripts.now) receipts.now }
+    ensures some { (client index : ℕ) (start : WorldState) (steps : List Step) → result ≡ Some client → length scripts.now ≤ 8 → length receipts.now ≡ length scripts.now → AreFound start steps (items_of scripts.now) receipts.now found.now → ((of : Found) → slice_get found.now client ≡ Some of → of.right < 2 ^ 32 → index ≡ of.right) → IsWrongClient start steps (items_of scripts.now) receipts.now client index }
 {
     for client in 0..scripts.len() {
         if client >= MOST_CLIENTS {
@@ -325,7 +346,8 @@ fn none_strayed(
 impl Replay {
     /// Whether all that no client shows is right too.
     fn is_settled(&self) -> bool
-        ensures { result ≡ true → (self.now.changes ≡ true) × (in_flight self.now.world ≡ 0) × (self.now.accepted ≡ self.now.handed) × (self.now.accepted < 2 ^ 64 - 1) }
+        ensures settled { result ≡ true → (self.now.changes ≡ true) × (in_flight self.now.world ≡ 0) × (self.now.accepted ≡ self.now.handed) × (self.now.accepted < 2 ^ 64 - 1) }
+        ensures unsettled { result ≡ false → (self.now.changes ≡ false) ⊎ (in_flight self.now.world ≢ 0) ⊎ (self.now.accepted ≢ self.now.handed) ⊎ (2 ^ 64 - 1 ≤ self.now.accepted) }
     {
         self.changes
             && self.world.in_flight() == 0
@@ -334,12 +356,14 @@ impl Replay {
     }
 
     /// The place after the receipts of a client that are right.
-    fn place_of(&self, client: usize) -> u32 {
-        if client < MOST_CLIENTS {
-            place(self.found[client].right)
-        } else {
-            0
+    fn place_of(&self, client: usize) -> u32
+        ensures { (of : Found) → slice_get self.now.found client ≡ Some of → of.right < 2 ^ 32 → result ≡ of.right }
+    {
+        if client >= MOST_CLIENTS {
+            return 0;
         }
+        let its = found_of(&self.found, client);
+        place(its.right)
     }
 
     /// Makes the stored steps, and answers the world after them where they are a report's; else who differs first, by number.
@@ -349,21 +373,23 @@ impl Replay {
         steps: &[Step],
         receipts: &[Receipts],
     ) -> Result<World, Mismatch>
+        ensures mismatch { IfErr result (λ mismatch. (start : WorldState) → length scripts.now ≤ 8 → IsReplay start [] (items_of scripts.now) receipts.now self → IsMismatch start steps.now (items_of scripts.now) receipts.now mismatch.client mismatch.index) }
         ensures report { IfOk result (λ world. (setup : SetupLists) → setup_fault setup ≡ None → length scripts.now ≡ setup.config.clients → IsReplay (opening_world setup) [] (items_of scripts.now) receipts.now self → IsSoundWorld (opening_world setup) → IsReport setup (items_of scripts.now) steps.now receipts.now world) }
         ensures one_at_a_time { IfOk result (λ world. (setup : SetupLists) → IsReplay (opening_world setup) [] (items_of scripts.now) receipts.now self → IsSoundWorld (opening_world setup) → IsOneAtATime setup steps.now (answers_of (opening_world setup) steps.now) (handed_in (opening_world setup) steps.now) (sent_in (opening_world setup) steps.now) (in_flight world) (byte_of world)) }
     {
         let mut replay = self;
         replay.make_all(scripts, receipts, steps);
-        if let Some(client) = first_wrong(&replay.found, scripts, receipts) {
-            return Err(Mismatch {
-                client: u8::try_from(client).unwrap_or(u8::MAX),
-                index: replay.place_of(client),
-            });
-        }
         if receipts.len() != scripts.len() {
             return Err(Mismatch {
                 client: 0,
                 index: 0,
+            });
+        }
+        if let Some(client) = first_wrong(&replay.found, scripts, receipts) {
+            let index = replay.place_of(client);
+            return Err(Mismatch {
+                client: numbered(client),
+                index,
             });
         }
         if !replay.is_settled() {

@@ -93,7 +93,7 @@ pub enum Fault {
     /// The stored steps, made once more, don't give what the workers received and offered.
     #[error("8 ReceiptMismatch client {client} index {index}")]
     ReceiptMismatch {
-        /// The first client by number of whom this is so.
+        /// The first client by number of whom this is so; 0 where no client shows it.
         client: u8,
         /// The first of its receipts that differs, or the place after its last.
         index: u32,
