@@ -2,19 +2,23 @@
 -- was found is hidden.
 use Rattle.std.proofs.Common.{inl, inr, ◌≡◌, ℕ, ◌<◌, ◌≤◌, ◌^◌, ◌-◌, Bool, true, false, List, [], ◌∷◌, ◌++◌, length, take, Some, refl, sym, subst, ap, ◌∙◌, arith}
 use Rattle.std.specs.Prelude.{◌≢◌, ◌⊎◌, min, slice_get}
+use Rattle.std.proofs.lemmas.Bool.{false≢true}
 use Rattle.std.proofs.lemmas.List.{append-nil, length-map, length-take-le, take_all, take_at}
 use Rattle.std.proofs.lemmas.Option.{same_Some, slice_get_within}
 use Rattle.tl_messages.specs.declared.ABeat.{ABeat}
+use Rattle.world_run.specs.Laws.{AreSoundAlong}
 use Rattle.world_run.specs.Runs.{HandedReply}
-use Rattle.world_run.specs.World.{WorldState, in_flight}
+use Rattle.world_run.specs.Setups.{SetupLists}
+use Rattle.world_run.specs.World.{WorldState, in_flight, opening_world}
 use Rattle.world_run.specs.declared.Step.{Step}
-use Rattle.bridge_threads.specs.Mismatches.{EndsAt, IsUnsettled}
+use Rattle.bridge_threads.specs.Mismatches.{EndsAt, IsMismatch, IsUnsettled}
 use Rattle.bridge_threads.specs.Replays.{AreFirstReceipts, DiffersAt, FoundOffers, FoundReplies, HasReceipt, IsFound, IsReplay, KeepsScript}
-use Rattle.bridge_threads.specs.Reports.{IsClientReport, handed_to, head_of}
+use Rattle.bridge_threads.specs.Reports.{IsClientReport, IsReport, handed_to, head_of}
 use Rattle.bridge_threads.specs.declared.receipts.Receipts.{Receipts}
 use Rattle.bridge_threads.specs.declared.replay.Found.{Found}
 use Rattle.bridge_threads.specs.declared.replay.Replay.{Replay}
 use Rattle.bridge_threads.proofs.FoundLemmas.{at_seam, differs_wrong}
+use Rattle.bridge_threads.proofs.ReportLemmas.{as_many_handed, few_accepted}
 
 -- ---- where the receipts end to be the replies
 
@@ -95,3 +99,18 @@ unsettled_of replay is (inl unchanged) = inl (sym is.changes ∙ unchanged)
 unsettled_of replay is (inr (inl flying)) = inr (inl (λ none. flying (ap in_flight is.world ∙ none)))
 unsettled_of replay is (inr (inr (inl apart))) = inr (inr (inl (λ same. apart (is.accepted ∙ ap (λ n. min n (2 ^ 64 - 1)) same ∙ sym is.handed))))
 unsettled_of replay is (inr (inr (inr most))) = inr (inr (inr (omega (arith, is.accepted, most))))
+
+-- ---- no report is a mismatch's
+
+pub no_report : (setup : SetupLists) (scripts : List (List ABeat)) (steps : List Step) (receipts : List Receipts) (world : WorldState) (client index : ℕ) → AreSoundAlong (opening_world setup) steps
+    → length steps < 2 ^ 63 → IsMismatch (opening_world setup) steps scripts receipts client index → IsReport setup scripts steps receipts world → ⊥
+no_report setup scripts steps receipts world client index along short (inl lists) report = lists.0 (report.as_many_receipts ∙ sym report.as_many_scripts)
+no_report setup scripts steps receipts world client index along short (inr (inl its)) report =
+    its.wrong (report.clients client its.script its.received its.script_is its.received_is)
+no_report setup scripts steps receipts world client index along short (inr (inr all)) report = by_cause all.1
+  where
+    by_cause : IsUnsettled (opening_world setup) steps → ⊥
+    by_cause (inl unchanged) = false≢true (sym unchanged ∙ report.history.changes)
+    by_cause (inr (inl flying)) = flying (ap in_flight (sym report.history.replays) ∙ report.quiet)
+    by_cause (inr (inr (inl apart))) = apart (as_many_handed setup steps along report.all_handed)
+    by_cause (inr (inr (inr most))) = absurd (omega (arith, most, few_accepted setup steps along, short))

@@ -5,7 +5,7 @@ use Rattle.std.specs.Prelude.{nat_eq, ◌||◌, IsTrue}
 use Rattle.std.specs.List.{AllByRecursion, IsDistinct, list_any, range_with_len}
 use Rattle.std.proofs.lemmas.Bool.{eqb-true, false≢true}
 use Rattle.std.proofs.lemmas.List.{take_all, length-map}
-use Rattle.std.proofs.lemmas.Map.Steps.{length-le_from_distinct_below}
+use Rattle.std.proofs.lemmas.Map.Steps.{le-length_from_below, length-le_from_distinct_below}
 use Rattle.std.proofs.lemmas.Option.{slice_get_within}
 use Rattle.tl_messages.specs.Requests.{WholeRequest}
 use Rattle.tl_messages.specs.declared.ABeat.{ABeat}
@@ -15,6 +15,8 @@ use Rattle.world_run.specs.Laws.{AreSoundAlong}
 use Rattle.world_run.specs.Runs.{HandedReply, accepted_in, accepted_numbers, answers_of, handed_in, sent_in}
 use Rattle.world_run.specs.Setups.{SetupLists, setup_fault}
 use Rattle.world_run.specs.World.{WorldState, after, byte_of, in_flight, opening_world}
+use Rattle.world_run.specs.declared.Answer.{Answer}
+use Rattle.world_run.specs.declared.Answer.TheVariants.{Accepted}
 use Rattle.world_run.specs.declared.Step.{Step}
 use Rattle.world_run.proofs.CarriedOut.{is_carried_out}
 use Rattle.world_run.proofs.MainTheorem.{one_at_a_time}
@@ -88,6 +90,29 @@ module _ (setup : SetupLists) (steps : List Step) (along : AreSoundAlong (openin
       let count : length (map (λ (reply : HandedReply). reply.number) handed) ≡ length requests =
       length-map handed (λ reply. reply.number) ∙ as_many ∙ ap length carried_out.numbered ∙ length-range 0 (length requests) in
       each_is_there (map (λ reply. reply.number) handed) (length requests) carried_out.once (λ q. number_below requests (replies_of setup requests) handed q carried_out.replies) count number below
+
+  -- where each accepted number was handed out, there are as many
+  pub as_many_handed : ((number : ℕ) → number < length (accepted_in steps (answers_of (opening_world setup) steps)) → IsTrue (list_any (nat_eq number) (map (λ handed. handed.number) (handed_in (opening_world setup) steps))))
+      → length (accepted_numbers (answers_of (opening_world setup) steps)) ≡ length (handed_in (opening_world setup) steps)
+  as_many_handed all =
+      let handed = handed_in (opening_world setup) steps in
+      let requests = accepted_in steps (answers_of (opening_world setup) steps) in
+      let numbers = map (λ (reply : HandedReply). reply.number) handed in
+      let least : length requests ≤ length numbers = le-length_from_below numbers (length requests) all in
+      let most : length numbers ≤ length requests =
+      length-le_from_distinct_below numbers (length requests) carried_out.once (λ q. number_below requests (replies_of setup requests) handed q carried_out.replies) in
+      let accepted : length (accepted_numbers (answers_of (opening_world setup) steps)) ≡ length requests = ap length carried_out.numbered ∙ length-range 0 (length requests) in
+      omega (arith, least, most, accepted, length-map handed (λ reply. reply.number))
+
+  -- there are no more than steps
+  pub few_accepted : length (accepted_numbers (answers_of (opening_world setup) steps)) ≤ length steps
+  few_accepted =
+      omega (arith, no_more (answers_of (opening_world setup) steps), carried_out.answered)
+    where
+      no_more : (answers : List Answer) → length (accepted_numbers answers) ≤ length answers
+      no_more [] = omega arith
+      no_more (Accepted number ∷ answers) = omega (arith, no_more answers)
+      no_more (_ ∷ answers) = omega (arith, no_more answers)
 
 -- ---- one client
 

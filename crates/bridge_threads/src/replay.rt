@@ -374,6 +374,7 @@ impl Replay {
         receipts: &[Receipts],
     ) -> Result<World, Mismatch>
         ensures mismatch { IfErr result (λ mismatch. (start : WorldState) → length scripts.now ≤ 8 → IsReplay start [] (items_of scripts.now) receipts.now self → IsMismatch start steps.now (items_of scripts.now) receipts.now mismatch.client mismatch.index) }
+        ensures exact { IfErr result (λ mismatch. (setup : SetupLists) (world : WorldState) → length scripts.now ≤ 8 → length steps.now < 2 ^ 63 → IsReplay (opening_world setup) [] (items_of scripts.now) receipts.now self → IsSoundWorld (opening_world setup) → IsReport setup (items_of scripts.now) steps.now receipts.now world → ⊥) }
         ensures report { IfOk result (λ world. (setup : SetupLists) → setup_fault setup ≡ None → length scripts.now ≡ setup.config.clients → IsReplay (opening_world setup) [] (items_of scripts.now) receipts.now self → IsSoundWorld (opening_world setup) → IsReport setup (items_of scripts.now) steps.now receipts.now world) }
         ensures one_at_a_time { IfOk result (λ world. (setup : SetupLists) → IsReplay (opening_world setup) [] (items_of scripts.now) receipts.now self → IsSoundWorld (opening_world setup) → IsOneAtATime setup steps.now (answers_of (opening_world setup) steps.now) (handed_in (opening_world setup) steps.now) (sent_in (opening_world setup) steps.now) (in_flight world) (byte_of world)) }
     {

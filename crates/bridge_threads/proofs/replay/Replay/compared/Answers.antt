@@ -7,7 +7,7 @@ use Rattle.world_run.specs.Runs.{answers_of, handed_in, sent_in}
 use Rattle.world_run.specs.World.{byte_of, in_flight, opening_world}
 use Rattle.bridge_threads.specs.Mismatches.{IsWrongClient}
 use Rattle.bridge_threads.specs.Replays.{items_of}
-use Rattle.bridge_threads.proofs.MismatchLemmas.{unsettled_of}
+use Rattle.bridge_threads.proofs.MismatchLemmas.{no_report, unsettled_of}
 use Rattle.bridge_threads.proofs.ReportLemmas.{carried_out, right_report}
 use Rattle.bridge_threads.proofs.replay.Replay.compared.Goals as goal
 
@@ -41,3 +41,17 @@ returns-then-not-is_settled-clause-mismatch c start few is =
     let ran = c.make_all.ensures.replays start is in
     let clients = c.first_wrong.ensures.none c.in_default.is start c.args.steps.now ran.clients in
     inr (inr (clients, unsettled_of c.make_all.new.self ran (c.is_settled.ensures.unsettled c.if-not-is_settled.true), refl, refl))
+
+pub returns-then-receipts-scripts-clause-exact : goal.returns-then-receipts-scripts-clause-exact
+returns-then-receipts-scripts-clause-exact c setup world few short is laws report =
+    c.if-receipts-scripts.true (report.as_many_receipts ∙ sym report.as_many_scripts ∙ length-map c.args.scripts.now (λ list. list.items))
+
+pub returns-in-Some-clause-exact : goal.returns-in-Some-clause-exact
+returns-in-Some-clause-exact c setup world few short is laws report =
+    no_report setup (items_of c.args.scripts.now) c.args.steps.now c.args.receipts.now world c.numbered.result c.place_of-index.result (c.make_all.ensures.laws (opening_world setup) is laws) short
+    (returns-in-Some-clause-mismatch c (opening_world setup) few is) report
+
+pub returns-then-not-is_settled-clause-exact : goal.returns-then-not-is_settled-clause-exact
+returns-then-not-is_settled-clause-exact c setup world few short is laws report =
+    no_report setup (items_of c.args.scripts.now) c.args.steps.now c.args.receipts.now world 0 0 (c.make_all.ensures.laws (opening_world setup) is laws) short
+    (returns-then-not-is_settled-clause-mismatch c (opening_world setup) few is) report
