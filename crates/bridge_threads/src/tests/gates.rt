@@ -74,9 +74,10 @@ impl Gate for Meeting {
             Who::Memory(memory) => 2 + u32::from(memory),
         };
         let flags = &self.seen[index as usize];
-        flags.fetch_or(1u64.wrapping_shl(worker), Ordering::SeqCst);
+        let mine = 1u64.wrapping_shl(worker);
+        // A look writes the flag again, which is slow enough for others to get on where processors are few.
         for _ in 0..100_000_000u32 {
-            if flags.load(Ordering::SeqCst) & self.all == self.all {
+            if (flags.fetch_or(mine, Ordering::SeqCst) | mine) & self.all == self.all {
                 return true;
             }
         }
@@ -90,13 +91,22 @@ impl Gate for Meeting {
 #[derive(Drop)]
 pub(crate) struct Holding {
     asked: AtomicBool,
+    /// How often memory thread 0 looked.
+    looks: AtomicU64,
 }
 
 impl Holding {
     pub(crate) fn new() -> Holding {
         Holding {
             asked: AtomicBool::new(false),
+            looks: AtomicU64::new(0),
         }
+    }
+
+    /// Whether client 0 has asked. The look is counted, which is slow enough for the client to get on.
+    fn look(&self) -> bool {
+        self.looks.fetch_add(1, Ordering::SeqCst);
+        self.asked.load(Ordering::SeqCst)
     }
 }
 
@@ -109,13 +119,13 @@ impl Gate for Holding {
             return true;
         }
         for _ in 0..1_000_000_000u32 {
-            if self.asked.load(Ordering::SeqCst) {
+            if self.look() {
                 break;
             }
         }
         let mut seen = true;
         for _ in 0..100_000_000u32 {
-            seen = self.asked.load(Ordering::SeqCst);
+            seen = self.look();
         }
         !seen
     }
