@@ -1,10 +1,11 @@
 """Tries the pages: each guarantee of README names a call and a clause that the source has, each page that it names is there,
-and each crate has a page.
+each crate has a page, and the pages that are written by docs/definitions.py are up to date.
 
     python3 .ci/page_cases.py
 """
 
 import re
+import subprocess
 import sys
 from pathlib import Path
 
@@ -46,6 +47,9 @@ def cases():
         own = crate / "README.md"
         lines = len(own.read_text().splitlines()) if own.exists() else 0
         yield f"the page of {crate.name}", None if 20 <= lines <= 60 else f"it has {lines} lines"
+    written = subprocess.run([sys.executable, TOP / "docs" / "definitions.py", "--check"], capture_output=True, text=True)
+    why = written.stdout.strip() or written.stderr.strip()[-200:]
+    yield "the pages that docs/definitions.py writes", None if written.returncode == 0 else why
 
 
 if __name__ == "__main__":

@@ -1,14 +1,20 @@
 #!/usr/bin/env python3
-"""Writes docs/DEFINITIONS.md, the index of all definitions in crates/*/specs.
+"""Writes docs/DEFINITIONS.md, the index of all definitions in crates/*/specs, and docs/TRUSTED.md, which lists what the
+statements rest on. With --check it writes nothing, and fails where a page is out of date.
 
 Run it at the top of the repository after a definition has changed:
 
-    python3 docs/definitions.py
+    python3 docs/definitions.py [--check]
 """
 import re
+import sys
+from dataclasses import dataclass, field
 from pathlib import Path
 
-HEAD = """# Definitions
+TOP = Path(__file__).resolve().parent.parent
+INDEX, TRUSTED = TOP / "docs" / "DEFINITIONS.md", TOP / "docs" / "TRUSTED.md"
+
+INDEX_HEAD = """# Definitions
 
 The contracts cite these definitions. Each stands in `crates/NAME/specs/FILE.antt`, below the comment, if it has one, that is
 shown here as its words. This page is written by `docs/definitions.py`.
@@ -18,54 +24,219 @@ Numbers are natural numbers without a bound, lists are lists, and `Option` is Ru
 ARCHITECTURE.md.
 """
 
+TRUSTED_HEAD = """# What the statements rest on
+
+Whoever trusts a statement trusts that its definitions mean what they are taken for. This page lists, for each of the statements
+that a user relies on, the definitions that it reaches: the statement first, then what it names, then what these name, each
+once. What a later statement shares with one before it isn't listed again. Nothing else of the repository has to be read: the
+code, its contracts and the proofs are held to these by the prover. This page is written by `docs/definitions.py`.
+
+Lines are counted without comments. Rust's own types that are reached stand at each statement's end; a plain struct or enum is its
+fields in a contract, and a type with private fields its model (ARCHITECTURE.md).
+"""
+
+# The statements: what each is of, its words, and the definitions that its clauses name, as crate, file and name.
+STATEMENTS = (
+    ("The main theorem", "`world_run::run`, clause `one_at_a_time`.", (("world_run", "Headline", "IsOneAtATime"),)),
+    ("What a run's record is", "`world_run::run`, clause `shows`.", (("world_run", "Runs", "IsRunOf"),)),
+    ("What `drain` does", "`world_run::World::drain`, clause `drains`.", (("world_run", "Laws", "IsDrained"),)),
+    (
+        "The text of `run` and `check`, and the status",
+        "`tlbridge::carried_out`, clauses `run` and `check`, and `tlbridge::status_of`.",
+        (
+            ("tlbridge", "Endings", "EndsAs"),
+            ("tlbridge", "Run", "run_reading"),
+            ("tlbridge", "Check", "check_reading"),
+            ("tlbridge", "Modes", "Flushes"),
+            ("tlbridge", "Results", "status_of"),
+        ),
+    ),
+    (
+        "A run in threads",
+        "`bridge_threads::run_threads`, clauses `report`, `one_at_a_time`, `refused`, `full` and `beat`.",
+        (
+            ("bridge_threads", "Reports", "IsReport"),
+            ("bridge_threads", "Refusals", "is_refused"),
+            ("bridge_threads", "Refusals", "IsFullHistory"),
+            ("bridge_threads", "Refusals", "IsRefusedBeat"),
+        ),
+    ),
+    ("The text of `threads`", "`tlbridge::carried_out_in_threads`, clause `ending`.", (("tlbridge", "Threads", "EndsAsRead"),)),
+)
+
+PUBLIC = re.compile(r"^(?:abbrev pub|unfoldable pub|pub record|pub data|pub) (.*)$")
+BEGINS = re.compile(r"^(?:(?:abbrev|unfoldable|opaque) )?(?:pub )?(?:(record|data) )?([\w◌≡-]+)(?= )")
+NAMES = re.compile(r"^use Rattle\.([\w.]+?)(?:\.\{(.*)\}| as (\w+))$")
+
+
+@dataclass
+class Definition:
+    crate: str
+    file: str
+    name: str
+    shape: str = ""
+    words: str = ""
+    lines: list = field(default_factory=list)
+
+
+@dataclass
+class File:
+    head: str
+    definitions: dict  # by name
+    named: dict  # what a name that is brought in stands for: a path and a name
+    modules: dict  # what a module's name that is brought in stands for: a path
+
 
 def crates():
-    for line in Path("crates.txt").read_text(encoding="utf-8").splitlines():
+    for line in (TOP / "crates.txt").read_text(encoding="utf-8").splitlines():
         line = line.split("#")[0].strip()
         if line:
             yield line.split(":")[0].split()[0]
 
 
-def rows(path):
-    words, found = [], []
-    for line in path.read_text(encoding="utf-8").splitlines():
+def head_of(lines):
+    told = []
+    for line in lines:
+        if not line.startswith("--"):
+            break
+        told.append(line[2:].strip())
+    return " ".join(told)
+
+
+def brought_in(line, named, modules):
+    path, names, alias = NAMES.match(line).groups()
+    if alias:
+        modules[alias] = path
+    for name in (names or "").split(","):
+        own, _, here = name.strip().partition(" as ")
+        named[(here or own).strip()] = path, own.strip()
+
+
+def read(crate, path):
+    lines = path.read_text(encoding="utf-8").splitlines()
+    definitions, named, modules, words, now = {}, {}, {}, [], None
+    for line in lines:
         if line.startswith("--"):
             words.append(line[2:].strip())
             continue
-        public = re.match(r"^(?:abbrev pub|unfoldable pub|pub record|pub data|pub) (.*)$", line)
-        if public and not line.startswith(" ") and not line.startswith("pub mod"):
-            kind = "record" if "record" in line.split()[:2] else "data" if "data" in line.split()[:2] else ""
-            name, _, rest = public.group(1).partition(" ")
-            shape = kind or rest.lstrip(": ").strip()
-            found.append((name, shape, " ".join(words)))
+        if line.startswith("use "):
+            brought_in(line, named, modules)
+        elif line and not line.startswith(" "):
+            kind, name = BEGINS.match(line).groups()
+            if name not in definitions:
+                public = PUBLIC.match(line)
+                shape = kind or (public.group(1).partition(" ")[2].lstrip(": ").strip() if public else "")
+                definitions[name] = Definition(crate, path.stem, name, shape, " ".join(words))
+            now = definitions[name]
+        if now and line.strip() and not line.startswith("use "):
+            now.lines.append(line)
         words = []
-    return found
+    return File(head_of(lines), definitions, named, modules)
 
 
-def head(path):
-    lines = []
-    for line in path.read_text(encoding="utf-8").splitlines():
-        if not line.startswith("--"):
-            break
-        lines.append(line[2:].strip())
-    return " ".join(lines)
+def all_files():
+    for crate in crates():
+        for path in sorted((TOP / "crates" / crate / "specs").glob("*.antt")):
+            if path.stem != "Lib":
+                yield (crate, path.stem), read(crate, path)
+
+
+def is_public(definition):
+    return bool(PUBLIC.match(definition.lines[0]))
+
+
+def index(files):
+    out, last = [INDEX_HEAD], None
+    for (crate, name), file in files.items():
+        if crate != last:
+            out.append(f"## {crate}\n")
+            last = crate
+        out.append(f"### {name}\n\n{file.head}\n")
+        out.append("| name | type | in words |\n|---|---|---|")
+        for it in file.definitions.values():
+            if is_public(it):
+                out.append(f"| `{it.name}` | `{it.shape}` | {it.words} |")
+        out.append("")
+    return "\n".join(out)
+
+
+def found_at(files, path, name):
+    """The definition of a name in a module, or the Rust type of that name or of that variant; none where it isn't ours."""
+    parts = path.split(".")
+    if len(parts) < 3 or not (TOP / "crates" / parts[0]).is_dir() or parts[1] != "specs":
+        return None
+    if parts[2] == "declared":
+        return f"{parts[0]}::{[it for it in parts if it != 'TheVariants'][-1]}"
+    file = files.get((parts[0], parts[2]))
+    if not file:
+        return None
+    if name in file.definitions:
+        return file.definitions[name]
+    # a constructor
+    holds = [it for it in file.definitions.values() if it.shape == "data" and re.search(rf"(?m)^  (?:pub )?{name} :", "\n".join(it.lines))]
+    return holds[0] if holds else None
+
+
+def named_by(files, it):
+    """What a definition names, in order: definitions, and Rust types as text."""
+    file, seen = files[it.crate, it.file], []
+    text = "\n".join(line.split(" -- ")[0] for line in it.lines)
+    for module, name in re.findall(r"(?:\b(\w+)\.)?([A-Za-z_◌][\w◌-]*)", text):
+        if module and module in file.modules:
+            found = found_at(files, file.modules[module], name)
+        elif name in file.definitions and name != it.name:
+            found = file.definitions[name]
+        elif name in file.named:
+            found = found_at(files, *file.named[name])
+        else:
+            found = None
+        if found is not None and found not in seen:
+            seen.append(found)
+    return seen
+
+
+def reached(files, roots, before):
+    """The definitions that some roots reach and that weren't reached before, nearest first, and the Rust types."""
+    left, here, types = [files[crate, file].definitions[name] for crate, file, name in roots], [], []
+    for it in left:
+        if id(it) in before:
+            continue
+        before.add(id(it))
+        here.append(it)
+        for found in named_by(files, it):
+            if isinstance(found, Definition):
+                left.append(found)
+            elif found not in types:
+                types.append(found)
+    return here, types
+
+
+def trusted(files):
+    out, before = [TRUSTED_HEAD], set()
+    for title, clauses, roots in STATEMENTS:
+        here, types = reached(files, roots, before)
+        lines = sum(len(it.lines) for it in here)
+        out.append(f"## {title}\n\n{clauses} {len(here)} definitions, {lines} lines.\n")
+        out.append("| definition | where | in words |\n|---|---|---|")
+        for it in here:
+            out.append(f"| `{it.name}` | `{it.crate}/specs/{it.file}.antt` | {it.words} |")
+        if types:
+            out.append(f"\nRust types: {', '.join(f'`{it}`' for it in sorted(types))}.")
+        out.append("")
+    return "\n".join(out)
 
 
 def main():
-    out = [HEAD]
-    for name in crates():
-        folder = Path("crates") / name / "specs"
-        files = [p for p in sorted(folder.glob("*.antt")) if p.name != "Lib.antt"]
-        if not files:
-            continue
-        out.append(f"## {name}\n")
-        for path in files:
-            out.append(f"### {path.stem}\n\n{head(path)}\n")
-            out.append("| name | type | in words |\n|---|---|---|")
-            for item, shape, words in rows(path):
-                out.append(f"| `{item}` | `{shape}` | {words} |")
-            out.append("")
-    Path("docs/DEFINITIONS.md").write_text("\n".join(out), encoding="utf-8")
+    files = dict(all_files())
+    pages = {INDEX: index(files), TRUSTED: trusted(files)}
+    if sys.argv[1:] == ["--check"]:
+        late = [it.name for it, text in pages.items() if not it.exists() or it.read_text(encoding="utf-8") != text]
+        print("\n".join(f"{it} is out of date" for it in late), end="\n" if late else "")
+        return 1 if late else 0
+    for it, text in pages.items():
+        it.write_text(text, encoding="utf-8")
+    return 0
 
 
-main()
+if __name__ == "__main__":
+    sys.exit(main())
