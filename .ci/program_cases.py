@@ -5,6 +5,7 @@ line is 'N passed, M failed'. What is wanted stands beside the examples, in docs
 """
 
 import os
+import re
 import subprocess
 import sys
 from pathlib import Path
@@ -23,6 +24,8 @@ SETUP = b"config 2 4 16 2 16 12 hh\nregion 0 4 10 gpah\npage 10 4 good\n"
 CONFIG = b"config 1 1 1 1 1 12 h\n"
 USAGE = b"usage: tlbridge run, check or threads\n"
 READ, WRITE = b"read fault\n", b"write fault\n"
+# A script on a page, by its word, and its trace, by its status.
+SHOWN = re.compile(r"(?ms)^```script (\w+)\n(.*?)^```\n\n```trace (\d)\n(.*?)^```$")
 
 # What is given and what is wanted: the words, standard input, the status, the text, and the line on standard error.
 TABLE = {
@@ -116,6 +119,14 @@ def of_examples(program):
         yield f"{name} with CR LF", lambda w=word, g=crlf, x=wanted: wrong(started([program, w], g), *x)
 
 
+def of_pages(program):
+    """Each script of a page, by its word, against the trace that stands after it, with its status."""
+    for page in sorted((TOP / "docs").glob("*.md")):
+        for number, (word, script, status, trace) in enumerate(SHOWN.findall(page.read_text())):
+            wanted, name = (int(status), trace.encode(), b""), f"script {number + 1} of {page.name}"
+            yield name, lambda w=word, g=script.encode(), x=wanted: wrong(started([program, w], g), *x)
+
+
 def reader_gone(program, given):
     """A pipe whose reader goes away before the first byte."""
     reads, writes = os.pipe()
@@ -165,7 +176,7 @@ def main(program):
         print("the program isn't built: ./tlbridge builds it, and so does ./test\n0 passed, 1 failed")
         return 1
     passed = failed = 0
-    for cases in (of_examples, of_table, of_pipes, launcher_cases.cases):
+    for cases in (of_examples, of_pages, of_table, of_pipes, launcher_cases.cases):
         for name, case in cases(program):
             try:
                 why = case()
