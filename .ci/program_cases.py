@@ -22,21 +22,52 @@ FIRST = (TOP / "examples/first.script").read_bytes()
 TRACE = (TOP / "examples/first.trace").read_bytes()
 SETUP = b"config 2 4 16 2 16 12 hh\nregion 0 4 10 gpah\npage 10 4 good\n"
 CONFIG = b"config 1 1 1 1 1 12 h\n"
+THREADS = (TOP / "examples/threads.script").read_bytes()
+THREADED = (TOP / "examples/threads.trace").read_bytes()
+GET = b"a 0 4 0 3 0 8 ff 0 0\n"
+UNALIGNED, ALIGN = CONFIG + b"a 0 4 0 3 0 4 ff 0 0\n", b"7 BeatRefused client 0 beat 0 rule 5 ALIGN"
+# A Get of 4,096 bytes makes 1,058 steps over bursts of 16 beats: its offer, 32 bursts, 512 beats performed and answered, and
+# its take. One of 8 bytes makes 5, an Intent 2.
+LARGE_GET, INTENT = b"a 0 4 0 12 0 0 ff 0 0\n", b"a 0 5 0 3 0 8 ff 0 0\n"
+ONE_LIVE = b"config 1 1 16 2 16 12 h\nregion 0 4 10 gpah\npage 10 4 good\n"
+HINTED = b"D 0 2 0 3 0 0 0000000000000000 0\n"
+MOST_STEPS = ONE_LIVE + LARGE_GET * 189 + GET * 6 + INTENT * 4
 USAGE = b"usage: tlbridge run, check or threads\n"
 READ, WRITE = b"read fault\n", b"write fault\n"
 # A script on a page, by its word, and its trace, by its status.
 SHOWN = re.compile(r"(?ms)^```script (\w+)\n(.*?)^```\n\n```trace (\d)\n(.*?)^```$")
 
+
+def zeros(first, count, reply):
+    """The text of so many replies to requests from a number on, whose beats these are."""
+    return b"".join(b"= reply %d\n%b" % (first + at, reply) for at in range(count))
+
+
+def read(size):
+    """The beats of zeros that answer a Get of client 0."""
+    return b"D 0 1 0 %d 0 0 0000000000000000 0\n" % size * (2**size // 8)
+
+
+def faulty(script, line, word):
+    """A script of `threads` with a fault: nothing is written."""
+    return ["threads"], script, 2, b"", b"script fault: line %d, word %d\n" % (line, word)
+
+
+def refused(script, fault):
+    """A script of `threads` whose run has a fault."""
+    return ["threads"], script, 5, b"", b"thread fault: %b\n" % fault
+
+
 # What is given and what is wanted: the words, standard input, the status, the text, and the line on standard error.
 TABLE = {
     "no word": ([], FIRST, 0, TRACE, b""),
     "run": (["run"], FIRST, 0, TRACE, b""),
-    "the word threads, which is still to come": (["threads"], FIRST, 6, b"", USAGE),
     "an unknown word": (["walk"], FIRST, 6, b"", USAGE),
     "an empty word": ([""], FIRST, 6, b"", USAGE),
     "a word in capitals": (["RUN"], FIRST, 6, b"", USAGE),
     "a file's name after run": (["run", "examples/first.script"], FIRST, 6, b"", USAGE),
     "a second word after check": (["check", "run"], FIRST, 6, b"", USAGE),
+    "a second word after threads": (["threads", "4"], THREADS, 6, b"", USAGE),
     "run twice": (["run", "run"], FIRST, 6, b"", USAGE),
     "help": (["help"], FIRST, 6, b"", USAGE),
     "-h": (["-h"], FIRST, 6, b"", USAGE),
@@ -63,19 +94,120 @@ TABLE = {
     "as many lines as may be": (["run"], CONFIG + b"\n" * 65_535, 0, b"", b""),
     "a line more": (["run"], CONFIG + b"\n" * 65_536, 2, b"", b"script fault: line 65537, word 0\n"),
     "65,533 answers": (["run"], SETUP + b"work\n" * 65_533, 0, b"= work 0\n" * 65_533, b""),
+    # ---- threads
+    "threads of one source": (["threads"], THREADS.replace(b"3 1 8", b"3 0 8"), 0, THREADED.replace(b"3 1 0", b"3 0 0"), b""),
+    "three memory threads": (["threads"], THREADS.replace(b"word 7", b"word 7 0\nword 3 2"), 0, THREADED, b""),
+    "four memory threads, one with a word": (
+        ["threads"], THREADS.replace(b"word 7", b"word 18446744073709551615 3"), 0, THREADED, b"",
+    ),
+    "no words": (["threads"], THREADS.replace(b"word 7\n", b""), 0, THREADED, b""),
+    "words before the beats and among them": (["threads"], THREADS.replace(b"\na", b"\nword 5 1\na"), 0, THREADED, b""),
+    "no beats and no words, in threads": (["threads"], SETUP, 0, b"= ok\nclient 0\nclient 1\n", b""),
+    "a config line alone, in threads": (["threads"], CONFIG, 0, b"= ok\nclient 0\n", b""),
+    "words alone": (["threads"], CONFIG + b"word 0 3\nword 1\n", 0, b"= ok\nclient 0\n", b""),
+    "bytes on pages that are there and not": (
+        ["threads"],
+        SETUP + b"bad 10010\npage 20 1 slverr\nmem 10007\nmem 10010\nmem 20000\nmem 8\nmem 13fff\nmem 14000\n",
+        0,
+        b"= ok\nclient 0\nclient 1\n= mem 00\n= mem 00\n= mem --\n= mem --\n= mem 00\n= mem --\n",
+        b"",
+    ),
+    "more requests than the quota and the sources": (
+        ["threads"], ONE_LIVE + GET * 4096, 0, b"= ok\nclient 0\n" + zeros(0, 4096, read(3)), b"",
+    ),
+    "a message that is never whole": (["threads"], ONE_LIVE + b"a 0 0 0 4 0 0 ff 1 0\n", 0, b"= ok\nclient 0\n", b""),
+    "an address in no region, in threads": (
+        ["threads"],
+        SETUP + b"a 1 4 0 3 255 4000 ff 0 0\n",
+        0,
+        b"= ok\nclient 0\nclient 1\n= reply 0\nD 1 1 0 3 255 1 0000000000000000 1\n",
+        b"",
+    ),
+    "as many steps as may be": (
+        ["threads"],
+        MOST_STEPS,
+        0,
+        b"= ok\nclient 0\n" + zeros(0, 189, read(12)) + zeros(189, 6, read(3)) + zeros(195, 4, HINTED),
+        b"",
+    ),
+    "more steps than may be": refused(MOST_STEPS + INTENT, b"6 HistoryFull"),
+    "as many lines as may be, in threads": (["threads"], CONFIG + b"word 1\n" * 65_535, 0, b"= ok\nclient 0\n", b""),
+    "as many addresses as may be": (
+        ["threads"], CONFIG + b"mem 0\n" * 65_535, 0, b"= ok\nclient 0\n" + b"= mem --\n" * 65_535, b"",
+    ),
+    "a line more, in threads": faulty(CONFIG + b"word 1\n" * 65_536, 65_537, 0),
+    "an unaligned beat, in threads": refused(UNALIGNED, ALIGN),
+    "a corrupt Get after words and beats of others": refused(
+        SETUP + GET * 3 + b"word 1\na 1 4 0 3 0 8 ff 0 0\na 1 4 0 3 0 8 ff 0 1\n",
+        b"7 BeatRefused client 1 beat 1 rule 8 CORRUPT",
+    ),
+    "another message within one": refused(
+        SETUP + b"a 0 0 0 4 0 0 ff 1 0\na 0 0 0 4 1 0 ff 2 0\n",
+        b"7 BeatRefused client 0 beat 1 rule 10 BURST_CONTROL",
+    ),
+    "a Get of 16 bytes at a TL-UL client": refused(
+        SETUP.replace(b"hh", b"hl") + b"a 1 4 0 4 0 0 ff 0 0\n",
+        b"7 BeatRefused client 1 beat 0 rule 2 LEVEL",
+    ),
+    "no input to threads": faulty(b"", 1, 1),
+    "lines that are skipped alone, in threads": faulty(b"\n# none\n", 3, 1),
+    "no config, in threads": faulty(b"a 0 4 0 3 0 8 ff 0 0\n", 1, 1),
+    "a client that isn't there, in threads": faulty(SETUP + b"a 2 4 0 3 0 8 ff 0 0\n", 4, 2),
+    "client 256": faulty(SETUP + b"a 256 4 0 3 0 8 ff 0 0\n", 4, 2),
+    "a client that isn't there, and too few words": faulty(SETUP + b"a 2\n", 4, 2),
+    "a beat without a corrupt word": faulty(SETUP + b"a 1 4 0 3 0 8 ff 0\n", 4, 10),
+    "a beat with a word too many": faulty(SETUP + b"a 1 4 0 3 0 8 ff 0 0 0\n", 4, 11),
+    "memory thread 4": faulty(SETUP + b"word 1 4\n", 4, 3),
+    "a memory thread in hexadecimal": faulty(SETUP + b"word 1 a\n", 4, 3),
+    "a word alone": faulty(SETUP + b"word\n", 4, 2),
+    "a word that is too large": faulty(SETUP + b"word 18446744073709551616\n", 4, 2),
+    "a word in hexadecimal": faulty(SETUP + b"word f\n", 4, 2),
+    "a word of two memory threads": faulty(SETUP + b"word 1 2 3\n", 4, 4),
+    "a word of two memory threads, the first of which isn't there": faulty(SETUP + b"word 1 4 3\n", 4, 3),
+    "an address alone": faulty(SETUP + b"mem\n", 4, 2),
+    "an address that is too large": faulty(SETUP + b"mem 100000000\n", 4, 2),
+    "an address with a word too many": faulty(SETUP + b"mem 10000 1\n", 4, 3),
+    "a beat after an address": faulty(SETUP + b"mem 10000\n" + GET, 5, 1),
+    "a word after an address": faulty(SETUP + b"mem 10000\nword 1\n", 5, 1),
+    "a page after a beat": faulty(SETUP + GET + b"page 20 1 good\n", 5, 1),
+    "a region after a word": faulty(SETUP + b"word 1\nregion 8 1 10 gpah\n", 5, 1),
+    "a bad word after an address": faulty(SETUP + b"mem 10000\nbad 10000\n", 5, 1),
+    "a second config, in threads": faulty(CONFIG + CONFIG, 2, 1),
+    "a 4,097th beat of a client": faulty(SETUP + GET * 4096 + b"a 1 4 0 3 0 8 ff 0 0\n" * 4096 + GET, 8196, 1),
+    "a 4,097th beat with a wrong word": faulty(SETUP + GET * 4096 + b"a 0 4 0 3 0 8 zz 0 0\n", 4100, 1),
+    "4,096 beats of each client": faulty(SETUP + GET * 4096 + b"a 1 4 0 3 0 8 ff 0 0\n" * 4096 + b"word\n", 8196, 2),
+    "a fault on the last line, of threads": faulty(THREADS + b"x\n", 8, 1),
+    "a fault on the last line, and one of the beats": faulty(UNALIGNED + b"mem x\n", 3, 2),
+    "a fault on the last line, and one of the set-up": faulty(b"config 1 1 1 1 3 12 h\nword 1\nmem\n", 3, 2),
+    "three transfers a burst, in threads": (["threads"], b"config 1 1 1 1 3 12 h\n", 2, b"", b"set-up fault: BadConfig 0\n"),
+    "a fault of the set-up, and one of the beats": (
+        ["threads"], SETUP + b"page 13 1 good\na 0 4 0 3 0 4 ff 0 0\n", 2, b"", b"set-up fault: PageTwice 4\n",
+    ),
+    "a CR that ends no line, in threads": faulty(THREADS + b"mem 8\r \n", 8, 0),
+    "a last line of threads without an end": (["threads"], THREADS[:-1], 0, THREADED, b""),
+    **{
+        f"{line.split()[0].decode()} to threads": faulty(SETUP + line + b"\n", 4, 1)
+        for line in (b"pump", b"do 0 0", b"b 0", b"r 0", b"take 0", b"drain", b"work", b"free 0 0", b"walk", b"Word 1")
+    },
 }
 
 # What the shell does with the program, its standard input, the status, the text, and the line on standard error.
 REDIRECTED = {
     "standard input closed": ('"$0" run <&-', b"", 3, b"", READ),
     "standard input closed, to check": ('"$0" check <&-', b"", 3, b"", READ),
+    "standard input closed, to threads": ('"$0" threads <&-', b"", 3, b"", READ),
     "a folder as standard input": ('"$0" run </', b"", 3, b"", READ),
     "standard output closed": ('"$0" run >&-', FIRST, 3, b"", WRITE),
     "standard output closed, to check": ('"$0" check >&-', CONFIG + b"free 0 0\n", 3, b"", WRITE),
+    "standard output closed, to threads": ('"$0" threads >&-', CONFIG, 3, b"", WRITE),
+    "standard output closed, and a fault of the beats": ('"$0" threads >&-', *refused(UNALIGNED, ALIGN)[1:]),
     "standard output closed, and no text": ('"$0" run >&-', CONFIG, 0, b"", b""),
     "a full device": ('"$0" run >/dev/full', FIRST, 3, b"", WRITE),
     "a full device, and much text": ('"$0" run >/dev/full', SETUP + b"work\n" * 65_000, 3, b"", WRITE),
     "a full device, and text before a fault": ('"$0" run >/dev/full', FIRST + b"x\n", 3, b"", WRITE),
+    "a full device, to threads": ('"$0" threads >/dev/full', THREADS, 3, b"", WRITE),
+    "a full device, and much text of threads": ('"$0" threads >/dev/full', MOST_STEPS, 3, b"", WRITE),
+    "a full device, and a fault of the script of threads": ('"$0" threads >/dev/full', *faulty(THREADS + b"x\n", 8, 1)[1:]),
     "standard error closed": ('"$0" run 2>&-', b"", 2, b"", b""),
     "a full device as standard error": ('"$0" walk 2>/dev/full', b"", 6, b"", b""),
     "all three closed": ('exec "$0" run <&- >&- 2>&-', b"", 3, b"", b""),
@@ -110,7 +242,7 @@ def of_examples(program):
     """Each example against its trace, as it is and with CR LF; each faulty one also against its line on standard error."""
     for script in sorted(TOP.glob("examples/**/*.script")):
         fault = script.with_suffix(".fault")
-        word = "check" if script.stem.startswith("check") else "run"
+        word = next((it for it in ("check", "threads") if script.stem.startswith(it)), "run")
         status = 2 if fault.exists() else 1 if word == "check" else 0
         wanted = status, script.with_suffix(".trace").read_bytes(), fault.read_bytes() if fault.exists() else b""
         given, name = script.read_bytes(), str(script.relative_to(TOP))
@@ -127,12 +259,12 @@ def of_pages(program):
             yield name, lambda w=word, g=script.encode(), x=wanted: wrong(started([program, w], g), *x)
 
 
-def reader_gone(program, given):
+def reader_gone(program, word, given):
     """A pipe whose reader goes away before the first byte."""
     reads, writes = os.pipe()
     os.close(reads)
     try:
-        ran = subprocess.run([program, "run"], input=given, stdout=writes, stderr=subprocess.PIPE, timeout=120)
+        ran = subprocess.run([program, word], input=given, stdout=writes, stderr=subprocess.PIPE, timeout=120)
     finally:
         os.close(writes)
     ran.stdout = b""
@@ -162,8 +294,9 @@ def bench(program, seed, steps):
 
 
 def of_pipes(program):
-    yield "a pipe whose reader is gone", lambda: reader_gone(program, FIRST)
-    yield "a pipe whose reader is gone, and much text", lambda: reader_gone(program, SETUP + b"work\n" * 65_000)
+    yield "a pipe whose reader is gone", lambda: reader_gone(program, "run", FIRST)
+    yield "a pipe whose reader is gone, and much text", lambda: reader_gone(program, "run", SETUP + b"work\n" * 65_000)
+    yield "a pipe whose reader is gone, and text of threads", lambda: reader_gone(program, "threads", MOST_STEPS)
     yield "interactive use", lambda: talks(program)
     yield "10,000 commands, each answered before the next", lambda: answers(program, 10_000)
     for seed in range(5):
