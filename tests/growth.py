@@ -1,7 +1,8 @@
 """Refuses each growth of memory of the program in turn, and all from each on. The words that can't be had come first
-(status 6), then want of memory (status 4), nothing being written in either case; then the program asks no more, however
-long the script is, and ends as it does with memory enough. Where one growth alone is refused a vector may ask once more,
-for just what it needs: then nothing is wanting, and the run asked once more than it does with memory enough.
+(status 6), then want of memory (status 4), then, in `threads`, a thread that can't be made (status 5), nothing being written in
+any case; then the program asks no more, however long a script of `run` or `check` is, and ends as it does with memory enough.
+Where one growth alone is refused a vector may ask once more, for just what it needs: then nothing is wanting, and the run
+asked once more than it does with memory enough. Then each thread of `threads` is refused in turn, and all from each on.
 
     python3 tests/growth.py PROGRAM
 """
@@ -11,19 +12,29 @@ import sys
 from scripts import SCRIPTS, SETUP, Script
 from shim import FOR_EVER, Shim, told
 
-USAGE = b"usage: tlbridge run, check or threads\n"
+# In this order.
+LINES = {6: b"usage: tlbridge run, check or threads\n", 4: b"out of memory\n", 5: b"thread fault: 3 Spawn\n"}
 # Where no command comes the world is made at the input's end.
 NO_COMMAND = (
     Script("a set-up alone", "run", tuple((line, "") for line in SETUP), 0),
     Script("a set-up alone, of check", "check", (("config 1 1 1 1 1 12 h", ""),), 0),
+)
+# Eight clients and four memory threads.
+TWELVE = Script(
+    "twelve threads",
+    "threads",
+    (("config 8 1 1 1 1 12 hhhhhhhh", ""), ("word 0 3", "")),
+    0,
+    "= ok\n" + "".join(f"client {client}\n" for client in range(8)),
 )
 
 
 def of_script(shim, script):
     """Yields each growth that is refused, and how the run isn't as it has to be."""
     free = shim.run([script.word], script.given)
+    stages = [6, 4, 5] if script.word == "threads" else [6, 4]
     asked, before = free.counts["growth"], 6
-    ended = {6: 0, 4: 0, script.status: 0}
+    ended = dict.fromkeys((*stages, script.status), 0)
     yield "no growth refused", wrong(free, script.status, script.text, b"")
     for at in range(1, asked + 2):
         for until in (at, FOR_EVER):
@@ -33,15 +44,29 @@ def of_script(shim, script):
             if at > asked or asked_again and ran.status == script.status:
                 ended[script.status] += asked_again
                 yield name, wrong(ran, script.status, script.text, b"")
-            elif ran.status not in (6, 4) or ran.status > before:
+            elif ran.status not in stages or stages.index(ran.status) < stages.index(before):
                 yield name, f"status {ran.status} with {ran.line!r}, after status {before}"
             else:
                 before = ran.status
                 ended[ran.status] += until == at
-                yield name, wrong(ran, ran.status, b"", USAGE if ran.status == 6 else b"out of memory\n")
+                yield name, wrong(ran, ran.status, b"", LINES[ran.status])
     again = ended[script.status]
-    print(f"{script.name}: refused {ended[6]} growths for the words, {ended[4]} for the script, and {again} that were asked again")
-    yield "growths refused", None if ended[6] and ended[4] else f"{ended}"
+    of_threads = f", {ended[5]} for threads" if 5 in ended else ""
+    refused = f"{ended[6]} growths for the words, {ended[4]} for the script{of_threads}"
+    print(f"{script.name}: refused {refused}, and {again} that were asked again")
+    yield "growths refused", None if all(ended[status] for status in stages) else f"{ended}"
+
+
+def threads_refused(shim, script, count):
+    """Yields each thread that is refused, of so many."""
+    made = shim.run([script.word], script.given).counts["thread"]
+    yield "its threads", None if made == count else f"{made}, not {count}"
+    for at in range(1, count + 2):
+        for until in (at, FOR_EVER):
+            ran = shim.run([script.word], script.given, "thread", at, until)
+            wanted = (5, b"", LINES[5]) if at <= count else (script.status, script.text, b"")
+            yield f"thread {at} refused{'' if until == at else ' and all after it'}", wrong(ran, *wanted)
+    print(f"{script.name}: {count} threads refused in turn")
 
 
 def wrong(ran, status, text, line):
@@ -52,12 +77,15 @@ def wrong(ran, status, text, line):
 
 def cases(program):
     shim = Shim(program)
-    for script in SCRIPTS + NO_COMMAND:
+    for script in (*SCRIPTS, *NO_COMMAND, TWELVE):
         for name, why in of_script(shim, script):
             yield f"{script.name}: {name}", why
     for long, alone in ((SCRIPTS[1], NO_COMMAND[0]), (SCRIPTS[3], NO_COMMAND[1])):
         counts = [shim.run([it.word], it.given).counts["growth"] for it in (long, alone)]
         yield f"{long.name} ask no more often than {alone.name}", None if len({*counts}) == 1 else f"{counts}"
+    for script, count in ((SCRIPTS[4], 2), (SCRIPTS[5], 4), (TWELVE, 12)):
+        for name, why in threads_refused(shim, script, count):
+            yield f"{script.name}: {name}", why
 
 
 if __name__ == "__main__":

@@ -66,8 +66,9 @@ def wrong_front(script, ran, lines, rest):
         return None if ran.text == text else f"{len(ran.text)} bytes of text, not {len(text)}"
     if ran.status not in (0, 1) or ran.line:
         return f"status {ran.status} with {ran.line!r}"
+    text = script.text_at_end(lines)
     if rest == script.steps[lines][0] if lines < len(script.steps) else not rest:
-        text = script.text_of(lines + 1)
+        text = script.text_at_end(lines + 1)
     if rest.startswith("mem ") and ran.text.startswith(text) and ran.text != text:
         # A shorter address is another address.
         return None if ran.text == text + b"= mem --\n" else f"{ran.text[len(text):]!r} for {rest!r}"

@@ -49,16 +49,22 @@ static size_t moved(size_t bytes) {
     return orders && orders->most && bytes > (size_t)orders->most ? (size_t)orders->most : bytes;
 }
 
+/* The C library relies on the errno of its own growths, as where it makes a thread. */
+static void *no_memory(void) {
+    errno = ENOMEM;
+    return NULL;
+}
+
 void *malloc(size_t bytes) {
-    return is_refused(GROWTH) ? NULL : __libc_malloc(bytes);
+    return is_refused(GROWTH) ? no_memory() : __libc_malloc(bytes);
 }
 
 void *calloc(size_t count, size_t bytes) {
-    return is_refused(GROWTH) ? NULL : __libc_calloc(count, bytes);
+    return is_refused(GROWTH) ? no_memory() : __libc_calloc(count, bytes);
 }
 
 void *realloc(void *old, size_t bytes) {
-    return is_refused(GROWTH) ? NULL : __libc_realloc(old, bytes);
+    return is_refused(GROWTH) ? no_memory() : __libc_realloc(old, bytes);
 }
 
 ssize_t read(int file, void *into, size_t bytes) {

@@ -15,10 +15,11 @@ from pathlib import Path
 from scripts import SCRIPTS
 from shim import told
 
-FIRST, LONG = SCRIPTS[0], SCRIPTS[1]
+FIRST, LONG, THREADS = SCRIPTS[0], SCRIPTS[1], SCRIPTS[4]
 SETUP = b"config 2 4 16 2 16 12 hh\nregion 0 4 10 gpah\npage 10 4 good\n"
 READ, WRITE = b"read fault\n", b"write fault\n"
 USAGE, MEMORY = b"usage: tlbridge run, check or threads\n", b"out of memory\n"
+SPAWN = b"thread fault: 3 Spawn\n"
 SECONDS, MEGA = 30, 1 << 20
 
 
@@ -56,7 +57,7 @@ def fault_of_noise(noise):
 
 
 def of_input(program):
-    for word in ("run", "check"):
+    for word, text in (("run", b""), ("check", b""), ("threads", b"= ok\nclient 0\nclient 1\n")):
         config = SETUP.splitlines(keepends=True)[0]
         for size in (129, 10 * MEGA):
             for end in (b"", b"\n", b"\r\n"):
@@ -69,41 +70,41 @@ def of_input(program):
             lines = random.Random(seed).randbytes(MEGA).translate(bytes(b"\n #a~"[i % 5] for i in range(256)))
             yield f"{word}: noise {seed} of plain bytes", lambda w=word, n=lines: given(program, w, n, 2, b"", fault_of_noise(n))
         largest = config + (b"#" * 128 + b"\n") * 65_535
-        yield f"{word}: the largest script", lambda w=word, g=largest: given(program, w, g, 0, b"", b"")
+        yield f"{word}: the largest script", lambda w=word, g=largest, t=text: given(program, w, g, 0, t, b"")
         many = "yes '#' | head -c 200000000"
         yield f"{word}: 200 MB of lines", lambda w=word, m=many: piped(program, m, w, 2, fault(65_537))
         yield f"{word}: 200 MB of one line", lambda w=word: piped(program, "head -c 200000000 /dev/zero | tr '\\0' ' '", w, 2, fault(1))
         yield f"{word}: zeros without end", lambda w=word: piped(program, "cat /dev/zero", w, 2, fault(1))
 
 
-def opened(program, text, into, out, status, line):
+def opened(program, word, text, into, out, status, line):
     """Standard input and output are the descriptors given."""
-    ran = subprocess.run([program, "run"], stdin=into, stdout=out, stderr=subprocess.PIPE, timeout=SECONDS)
+    ran = subprocess.run([program, word], stdin=into, stdout=out, stderr=subprocess.PIPE, timeout=SECONDS)
     ran.stdout = text
     return wrong(ran, status, text, line)
 
 
-def nothing_there_yet(program):
+def nothing_there_yet(program, word):
     """A standard input that doesn't wait: a read that finds nothing has failed."""
     reads, writes = os.pipe()
     os.set_blocking(reads, False)
     try:
-        return opened(program, b"", reads, subprocess.DEVNULL, 3, READ)
+        return opened(program, word, b"", reads, subprocess.DEVNULL, 3, READ)
     finally:
         os.close(reads)
         os.close(writes)
 
 
-def other_way(program, name):
+def other_way(program, script, name):
     """A standard input that can only be written, or a standard output that can only be read."""
     file = os.open("/dev/null", os.O_WRONLY if name == "input" else os.O_RDONLY)
     reads, writes = os.pipe()
-    os.write(writes, FIRST.given)
+    os.write(writes, script.given)
     os.close(writes)
     try:
         if name == "input":
-            return opened(program, b"", file, subprocess.DEVNULL, 3, READ)
-        return opened(program, b"", reads, file, 3, WRITE)
+            return opened(program, script.word, b"", file, subprocess.DEVNULL, 3, READ)
+        return opened(program, script.word, b"", reads, file, 3, WRITE)
     finally:
         os.close(file)
         os.close(reads)
@@ -127,6 +128,23 @@ def reader_leaves(program):
         finally:
             ran.kill()
     return None if (status, line) == (3, WRITE) else f"status {status} with {line!r}"
+
+
+def reader_leaves_at_end(program):
+    """A reader that leaves after the first bytes of a text that is printed at the input's end, and that no pipe holds."""
+    gets = b"a 0 4 0 3 0 8 ff 0 0\n" * 4096
+    pipe = subprocess.PIPE
+    with subprocess.Popen([program, "threads"], bufsize=0, stdin=pipe, stdout=pipe, stderr=pipe) as ran:
+        try:
+            ran.stdin.write(SETUP + gets)
+            ran.stdin.close()
+            text = ran.stdout.read(10)
+            ran.stdout.close()
+            line = ran.stderr.read()
+            status = ran.wait(SECONDS)
+        finally:
+            ran.kill()
+    return None if (status, line, text) == (3, WRITE, b"= ok\nclien") else f"status {status} with {line!r} after {text!r}"
 
 
 def most_memory(process):
@@ -161,28 +179,31 @@ def flat(program):
     return None if after <= before + MEGA // 4 else f"{after - before} bytes more"
 
 
-def narrow(limit, *words):
+def narrow(limit, text, *words):
     """Runs a program in an address space of so many bytes; its status, its text and its line on standard error."""
     line = 'ulimit -v "$0" && exec "$@"'
-    ran = subprocess.run(["sh", "-c", line, str(limit // 1024), *words], input=LONG.given, capture_output=True, timeout=SECONDS)
+    ran = subprocess.run(["sh", "-c", line, str(limit // 1024), *words], input=text, capture_output=True, timeout=SECONDS)
     return ran.returncode, ran.stdout, ran.stderr
 
 
-def address_spaces(program):
-    """From 2 MB up. Where the loader can't even begin it says so; then words, script, and all of it find room, in turn."""
-    stages = [(6, b"", USAGE), (4, b"", MEMORY), (0, LONG.text, b"")]
+def address_spaces(program, script, most):
+    """From 2 MB up. Where the loader can't even begin it says so; then words, script, threads, and all of it find room, in
+    turn."""
+    stages = [(6, b"", USAGE), (4, b"", MEMORY), (0, script.text, b"")]
+    if script.word == "threads":
+        stages.insert(2, (5, b"", SPAWN))
     seen = []
-    for limit in range(2 * MEGA, 40 * MEGA, MEGA // 4):
-        ran = narrow(limit, program, "run")
+    for limit in range(2 * MEGA, most, MEGA // 4):
+        ran = narrow(limit, script.given, program, script.word)
         # Where it has no room for the C library it can't begin, as no other program can.
-        if not seen and (b"error while loading shared libraries" in ran[2] or narrow(limit, "/bin/true")[0]):
+        if not seen and (b"error while loading shared libraries" in ran[2] or narrow(limit, b"", "/bin/true")[0]):
             continue
         if ran not in stages:
             return f"in {limit} bytes: status {ran[0]}, {len(ran[1])} bytes of text, {ran[2]!r}"
         if seen and stages.index(ran) < stages.index(seen[-1]):
             return f"in {limit} bytes: status {ran[0]} again"
         if ran not in seen:
-            print(f"from {limit // 1024} KiB of address space on: status {ran[0]}")
+            print(f"{script.word}: from {limit // 1024} KiB of address space on: status {ran[0]}")
             seen.append(ran)
     return None if seen and seen[-1] == stages[-1] else "it never found room"
 
@@ -206,12 +227,16 @@ def tried(case):
 def cases(program):
     program = str(Path(program).resolve())
     yield from ((name, tried(case)) for name, case in of_input(program))
-    yield "nothing to read yet", tried(lambda: nothing_there_yet(program))
-    yield "a standard input that can only be written", tried(lambda: other_way(program, "input"))
-    yield "a standard output that can only be read", tried(lambda: other_way(program, "output"))
+    for script in (FIRST, THREADS):
+        word = script.word
+        yield f"{word}: nothing to read yet", tried(lambda: nothing_there_yet(program, word))
+        yield f"{word}: a standard input that can only be written", tried(lambda: other_way(program, script, "input"))
+        yield f"{word}: a standard output that can only be read", tried(lambda: other_way(program, script, "output"))
     yield "a reader that leaves", tried(lambda: reader_leaves(program))
+    yield "a reader that leaves at the end of the input", tried(lambda: reader_leaves_at_end(program))
     yield "flat memory", tried(lambda: flat(program))
-    yield "small address spaces", tried(lambda: address_spaces(program))
+    yield "small address spaces", tried(lambda: address_spaces(program, LONG, 40 * MEGA))
+    yield "small address spaces for threads", tried(lambda: address_spaces(program, THREADS, 60 * MEGA))
 
 
 if __name__ == "__main__":

@@ -56,12 +56,15 @@ def wrong(ran, script, once):
 def cases(program):
     shim = Shim(program)
     for script in SCRIPTS:
-        pieces = ((0, errno.EIO), (256, errno.ENOSPC)) if len(script.steps) > 100 else ((0, errno.EIO), (1, errno.ENOSPC))
+        # (threads that wait for each other take their time)
+        most = 1 if len(script.steps) <= 100 else 1024 if script.word == "threads" else 256
+        pieces = (0, errno.EIO), (most, errno.ENOSPC)
         for piece, error in pieces:
             for name, why in failed_writes(shim, script, piece, error):
                 yield f"{script.name}: {name}", why
-    for name, why in interrupted_writes(shim, SCRIPTS[0]):
-        yield name, why
+    for script in (SCRIPTS[0], SCRIPTS[4]):
+        for name, why in interrupted_writes(shim, script):
+            yield f"{script.name}: {name}", why
     yield "few calls for a long script", few_calls(shim)
 
 
