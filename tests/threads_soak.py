@@ -3,9 +3,8 @@ the order of their numbers, on a plain memory (model.py) has to give just the re
 
     python3 tests/threads_soak.py PROGRAM [RUNS] [--seed WORD] [--steps N] [--rates]
 
-A seed makes the scripts and their words; the schedule is the machine's. A run makes some N steps, 50,000 if it isn't told
-otherwise and at most 200,000; so many take seconds, since clients that wait keep the lock busy. --rates tells how many
-requests and steps a second 1, 2, 4 and 8 clients make.
+A seed makes the scripts and their words; the schedule is the machine's. A run makes as many steps as it may with N at most,
+200,000 if it isn't told otherwise. --rates tells how many requests and steps a second 1, 2, 4 and 8 clients make.
 """
 
 import argparse
@@ -211,7 +210,7 @@ def main():
     words.add_argument("program")
     words.add_argument("runs", nargs="?", type=int, default=3)
     words.add_argument("--seed", default=secrets.token_hex(4))
-    words.add_argument("--steps", type=int, default=50_000)
+    words.add_argument("--steps", type=int, default=200_000)
     words.add_argument("--rates", action="store_true")
     given = words.parse_args()
     program = str(Path(given.program).resolve())

@@ -151,7 +151,9 @@ fn client<R: Wait, G: Gate>(
         };
         index = index.saturating_add(1);
         match paced(turn, &mut left, limit) {
-            Turn::Moved | Turn::Idle => {}
+            Turn::Moved => {}
+            // Others get the lock, which may have what this worker waits for.
+            Turn::Idle => thread::yield_now(),
             Turn::Ended => break,
             Turn::Failed(failed) => {
                 lock.lock(rt).stop();
@@ -187,7 +189,9 @@ fn memory<R: Wait, G: Gate>(
         };
         index = index.saturating_add(1);
         match paced(turn, &mut left, limit) {
-            Turn::Moved | Turn::Idle => {}
+            Turn::Moved => {}
+            // Others get the lock, which may have what this worker waits for.
+            Turn::Idle => thread::yield_now(),
             Turn::Ended => break,
             Turn::Failed(failed) => {
                 lock.lock(rt).stop();
