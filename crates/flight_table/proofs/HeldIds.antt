@@ -1,6 +1,6 @@
 -- The holders of the IDs, through each change of the live requests.
-use Rattle.std.proofs.Common.{◌≡◌, ◌≢◌, ℕ, zero, suc, ◌+◌, ◌==◌, ◌<◌, ◌≤◌, Bool, true, false, not, ◌||◌, is_none, is_some, List, [], ◌∷◌, ◌++◌, map, length, get_or, set, Option, Some, None, refl, ap, sym, ◌∙◌, arith}
-use Rattle.std.specs.Prelude.{IfSome, IsSome, IsSomeAnd, if◌then◌else◌, option_map}
+use Rattle.std.proofs.Common.{◌≡◌, ◌≢◌, ℕ, zero, suc, ◌+◌, ◌==◌, ◌<◌, ◌≤◌, Bool, true, false, not, ◌||◌, is_none, List, [], ◌∷◌, ◌++◌, map, length, get_or, set, Option, Some, None, refl, ap, sym, ◌∙◌, arith}
+use Rattle.std.specs.Prelude.{IfSome, if◌then◌else◌, option_map}
 use Rattle.std.specs.List.{filter, find, list_any, position, range_with_len}
 use Rattle.std.proofs.lemmas.Bool.{eqb-true}
 use Rattle.std.proofs.Common.{replicate}
@@ -93,7 +93,7 @@ range_same f g a zero same = refl
 range_same f g a (suc n) same = rw (same a (omega arith), range_same f g (a + 1) n (λ id above. same id (omega (arith, above)))) refl
 
 -- one of a range changes
-range_set : {X : Type 0} (f g : ℕ → X) (a n k : ℕ) (v : X) → k < n → g (a + k) ≡ v → ((id : ℕ) → id ≢ a + k → g id ≡ f id) → map g (range_with_len a n) ≡ set (map f (range_with_len a n)) k v
+pub range_set : {X : Type 0} (f g : ℕ → X) (a n k : ℕ) (v : X) → k < n → g (a + k) ≡ v → ((id : ℕ) → id ≢ a + k → g id ≡ f id) → map g (range_with_len a n) ≡ set (map f (range_with_len a n)) k v
 range_set f g a zero k v within is others = absurd (omega (arith, within))
 range_set f g a (suc n) zero v within is others =
     rw (rw (plus_zero a) at is, range_same f g (a + 1) n (λ id above. others id (λ same. omega (arith, above, same)))) refl
@@ -178,7 +178,7 @@ is_free_by_key (x ∷ entries) id = by_test (holds_id id x.request) (is_free_by_
     by_test true rest = refl
     by_test false rest = rest
 
-range_at : (a n k d : ℕ) → k < n → get_or (range_with_len a n) k d ≡ a + k
+pub range_at : (a n k d : ℕ) → k < n → get_or (range_with_len a n) k d ≡ a + k
 range_at a zero k d within = absurd (omega (arith, within))
 range_at a (suc n) zero d within = omega arith
 range_at a (suc n) (suc k) d within = range_at (a + 1) n k d (omega (arith, within)) ∙ omega arith

@@ -2,6 +2,7 @@ pub mod MarkLaws
 pub mod PlaceLaws
 pub mod SumLaws
 pub mod HeldIds
+pub mod ClientLaws
 pub mod Ready
 pub mod Kept
 pub mod Lowered

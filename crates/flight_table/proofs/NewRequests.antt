@@ -200,6 +200,14 @@ room_left old now client held plan same sound may =
     let table = new_table old client held plan sound (before old now client held.source same may) in
     omega (arith, at_most_64 (with_request request (table_of old)) sound.limits table, length-append (requests_of old.entries) (request ∷ []), length-requests old.entries)
 
+-- a client that has room is one of 8, and has fewer than 8 live requests
+pub known_client : (old now : KeyedTable) (client : ℕ) → old ≡ now → IsSound old → client < now.limits.clients → client < 8
+known_client old now client same sound below = omega (arith, ap (λ (t : KeyedTable). t.limits.clients) same, sound.limits.most_clients, below)
+
+pub quota_left : (old now : KeyedTable) (client source : ℕ) → old ≡ now → IsSound old → MayAccept now client source → length (filter (is_of client) (requests_of old.entries)) < 8
+quota_left old now client source same sound may =
+    omega (arith, ltb-true (length (filter (is_of client) (requests_of old.entries))) old.limits.quota (before old now client source same may).room, sound.limits.most_quota)
+
 -- the next number is above all
 pub is_latest : (keyed : KeyedTable) → IsSound keyed → AllByRecursion (λ (earlier : LiveRequest). earlier.number < keyed.accepted) (requests_of keyed.entries)
 is_latest keyed sound =

@@ -279,13 +279,13 @@ pub progresses : (key : ℕ) (entries : List KeyedRequest) (r new : LiveRequest)
 progresses key entries r new found progress = rw found progress
 
 pub sent_progress : (id : ℕ) (r new : LiveRequest) → new ≡ with_sent id r → IsProgress r new
-sent_progress id r new is = rw is (record { number = refl; operation = refl; plan = refl; done = refl })
+sent_progress id r new is = rw is (record { number = refl; client = refl; source = refl; operation = refl; plan = refl; done = refl })
 
 pub answered_progress : (r new : LiveRequest) → new ≡ with_answered r → IsProgress r new
-answered_progress r new is = rw is (record { number = refl; operation = refl; plan = refl; done = refl })
+answered_progress r new is = rw is (record { number = refl; client = refl; source = refl; operation = refl; plan = refl; done = refl })
 
 pub write_progress : (r new : LiveRequest) → new ≡ with_write r → IsProgress r new
-write_progress r new is = rw is (record { number = refl; operation = refl; plan = refl; done = refl })
+write_progress r new is = rw is (record { number = refl; client = refl; source = refl; operation = refl; plan = refl; done = refl })
 
 -- it keeps its ID
 same_name : (ids : ℕ) (live : List LiveRequest) (old now : Option ℕ) → now ≡ old → MayName ids live old now

@@ -67,9 +67,11 @@ pub record IsKept (depth : ℕ) (live : List LiveRequest) (open_marks named_mark
   pub holders : counts ≡ map (count_holders live) live
   pub free : free_marks ≡ map (λ count. count == 0) counts
 
--- what sending and answering make of a request that isn't done; nothing that tells whom it holds back
+-- what sending and answering make of a request that isn't done; nothing that tells whose it is, or whom it holds back
 pub record IsProgress (old new : LiveRequest) : Type 0 where
   pub number : new.number ≡ old.number
+  pub client : new.client ≡ old.client
+  pub source : new.source ≡ old.source
   pub operation : new.operation ≡ old.operation
   pub plan : new.plan ≡ old.plan
   pub done : new.done ≡ old.done

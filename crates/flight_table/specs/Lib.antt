@@ -6,3 +6,4 @@ pub mod Work
 pub mod Sums
 pub mod Laws
 pub mod Inside
+pub mod Clients

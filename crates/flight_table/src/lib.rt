@@ -5,6 +5,7 @@
 //! order of acceptance: none sends a burst before each earlier one is done.
 #![tactic(auto)]
 
+mod clients;
 mod flight;
 mod ids;
 mod live;

@@ -12,6 +12,7 @@ ghost use Rattle.flight_table.specs.Laws.{HaveOwnKeys};
 ghost use Rattle.flight_table.specs.Work.{unsent_work, work_of};
 
 use crate::TableLimits;
+use crate::clients::{Clients, OwnRequest};
 use crate::ids::Ids;
 use crate::marks::Marks;
 use crate::request::LiveRequest;
@@ -21,11 +22,13 @@ use std::alloc::{AllocError, Global};
 use std::marker::Model;
 
 /// The live requests by rising number. By its place in this order is kept of each: whether a burst of it is open, that is,
-/// planned, unsent and within the depth; whether it holds an ID besides; and how many others hold it back.
+/// planned, unsent and within the depth; whether it holds an ID besides; and how many others hold it back. By client is kept
+/// which live requests it has.
 #[derive(Drop)]
 pub(crate) struct Live {
     pub(crate) limits: TableLimits,
     slots: Slots,
+    clients: Clients,
     ids: Ids,
     sums: Sums,
     able: Marks,
@@ -37,6 +40,7 @@ pub(crate) struct Live {
 impl Model for Live {
     ghost use Rattle.std.specs.Prelude.{◌≡◌, ◌≤◌};
     ghost use Rattle.std.specs.Vec.{vec_capacity};
+    ghost use Rattle.flight_table.specs.Clients.{AreOwned};
     ghost use Rattle.flight_table.specs.Inside.{IsKept, LiveEntries, holders_of_ids};
     ghost use Rattle.flight_table.specs.Sums.{IsSummed};
     ghost use Rattle.flight_table.specs.Tables.{requests_of};
@@ -45,7 +49,7 @@ impl Model for Live {
 
     ghost view = { λ l. record { limits = l.limits; entries = l.slots } };
 
-    ghost invariant = { λ l. IsKept l.limits.depth (requests_of l.slots) l.able l.named l.holders.items l.unheld × (64 ≤ vec_capacity l.holders) × (l.ids ≡ holders_of_ids l.limits.ids l.slots) × IsSummed (requests_of l.slots) l.sums };
+    ghost invariant = { λ l. IsKept l.limits.depth (requests_of l.slots) l.able l.named l.holders.items l.unheld × (64 ≤ vec_capacity l.holders) × (l.ids ≡ holders_of_ids l.limits.ids l.slots) × IsSummed (requests_of l.slots) l.sums × AreOwned 8 l.slots l.clients };
 }
 
 /// Lowers the count of each request that this one holds back, and marks those that nobody holds back any more.
@@ -70,11 +74,13 @@ impl Live {
         ensures { IfOk result (λ live. live ≡ record { limits = limits; entries = [] }) }
     {
         let slots = Slots::new(alloc)?;
+        let clients = Clients::new(alloc)?;
         let ids = Ids::new(alloc, limits.ids)?;
         let holders = Vec::with_capacity(alloc, ROOM)?;
         Ok(Live {
             limits,
             slots,
+            clients,
             ids,
             sums: Sums::new(),
             able: Marks::new(),
@@ -87,6 +93,8 @@ impl Live {
     /// Adds the latest request, and answers its key.
     pub(crate) fn add(&mut self, request: LiveRequest) -> Key
         requires room { length self.old.entries < 64 }
+        requires client { request.client < 8 }
+        requires quota { length (filter (is_of request.client) (requests_of self.old.entries)) < 8 }
         requires no_id { request.id ≡ None }
         requires latest { AllByRecursion (λ earlier. earlier.number < request.number) (requests_of self.old.entries) }
         ensures table { self.new ≡ with_entries (self.old.entries ++ record { key = result; request = request } ∷ []) self.old }
@@ -100,7 +108,14 @@ impl Live {
         self.holders.push_reserved(holders as u8);
         self.unheld.push(holders == 0);
         self.sums = self.sums.with(&request);
-        self.slots.add(request)
+        let key = self.slots.add(request);
+        let own = OwnRequest {
+            key,
+            source: request.source,
+            done: request.done,
+        };
+        self.clients.add(request.client, own);
+        key
     }
 
     /// The request of a key.
@@ -143,6 +158,7 @@ impl Live {
         lower(&self.slots, &request, &mut self.holders, &mut self.unheld);
         self.ids.rename(key, request.id, None);
         self.sums = self.sums.without(&request).with(&done);
+        self.clients.finish(request.client, key);
         self.slots.set(key, done);
     }
 
@@ -154,19 +170,21 @@ impl Live {
         ensures keys { HaveOwnKeys self.new.entries }
     {
         let place = self.slots.place_of(key);
-        self.sums = self.sums.without(&self.slots.get(key));
+        let request = self.slots.get(key);
+        self.sums = self.sums.without(&request);
         self.able.remove(place);
         self.named.remove(place);
         self.holders.remove(place);
         self.unheld.remove(place);
         self.slots.remove(key);
+        self.clients.remove(request.client, key);
     }
 
     /// How many live requests a client has.
     pub(crate) fn count_of(&self, client: u8) -> usize
         ensures { result ≡ length (filter (is_of client) (requests_of self.now.entries)) }
     {
-        self.slots.count_of(client)
+        self.clients.count(client)
     }
 
     /// How many live requests aren't done.
@@ -189,7 +207,7 @@ impl Live {
     pub(crate) fn has_source(&self, client: u8, source: u8) -> bool
         ensures { result ≡ list_any (has_source client source) (requests_of self.now.entries) }
     {
-        self.slots.has_source(client, source)
+        self.clients.has_source(client, source)
     }
 
     /// The ID of a request's next burst: its own, or the smallest that nobody holds.
@@ -220,10 +238,9 @@ impl Live {
 
     /// The key of a client's first request that is done.
     pub(crate) fn oldest_done(&self, client: u8) -> Option<Key>
-        ensures key { result ≡ key_in (is_done_of client) self.now.entries }
-        ensures keys { HaveOwnKeys self.now.entries }
+        ensures { result ≡ key_in (is_done_of client) self.now.entries }
     {
-        self.slots.oldest_done(client)
+        self.clients.first_done(client)
     }
 
     /// The place of the first request that may send its next burst.

@@ -2,10 +2,9 @@
 ghost use Rattle.std.specs.Prelude.{◌≡◌, ◌↔◌, ◌&&◌, ◌+◌, ◌<◌, ◌≤◌, IsTrue, Some, drop, is_some, length, slice_get, sum_by};
 ghost use Rattle.flight_table.specs.LiveRequests.{awaits_write, finished, flight_for, is_atomic, is_settled, next_burst, pieces_planned, plan_for, planned, read_pieces, unanswered, whole_course, with_answered, with_sent, with_write, write_pieces};
 ghost use Rattle.flight_table.specs.Inside.{is_open};
-ghost use Rattle.flight_table.specs.Order.{HaveCommonAddress, conflict, holds_back, holds_id, share_bytes};
+ghost use Rattle.flight_table.specs.Order.{HaveCommonAddress, conflict, holds_back, share_bytes};
 ghost use Rattle.std.specs.List.{AllByRecursion};
 ghost use Rattle.burst_plan.specs.Pieces.{range_end};
-ghost use Rattle.flight_table.specs.Tables.{has_source, is_done_of, is_of};
 ghost use Rattle.flight_table.specs.Work.{answers_of_burst, beats_of_burst, unsent_work, work_of};
 
 use burst_plan::{Piece, Plan};
@@ -294,37 +293,6 @@ impl LiveRequest {
         ensures { result ≡ holds_back other.now self.now }
     {
         self.number < other.number && !self.done && self.conflicts(other)
-    }
-
-    /// Whether the request holds this ID.
-    pub(crate) fn holds_id(&self, id: u8) -> bool
-        ensures { result ≡ holds_id id self.now }
-    {
-        match self.id {
-            Some(held) => held == id,
-            None => false,
-        }
-    }
-
-    /// Whether the request is of this client.
-    pub(crate) fn is_of(&self, client: u8) -> bool
-        ensures { result ≡ is_of client self.now }
-    {
-        self.client == client
-    }
-
-    /// Whether the request is of this client and has this source.
-    pub(crate) fn has_source(&self, client: u8, source: u8) -> bool
-        ensures { result ≡ has_source client source self.now }
-    {
-        self.is_of(client) && self.source == source
-    }
-
-    /// Whether the request is of this client, and done.
-    pub(crate) fn is_done_of(&self, client: u8) -> bool
-        ensures { result ≡ is_done_of client self.now }
-    {
-        self.is_of(client) && self.done
     }
 
     /// How many transfers each piece has.

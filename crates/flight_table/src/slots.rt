@@ -1,19 +1,14 @@
 //! The live requests in a slab, and their keys by rising number.
-ghost use Rattle.std.specs.Prelude.{◌≡◌, ◌==◌, ◌<◌, ◌≤◌, ◌^◌, Bool, [], ◌∷◌, ◌++◌, Some, None, IfOk, IfSome, IsSome, length, filter, position, slice_index_or, sum_by};
+ghost use Rattle.std.specs.Prelude.{◌≡◌, ◌==◌, ◌<◌, ◌≤◌, Bool, [], ◌∷◌, ◌++◌, Some, None, IfOk, IfSome, IsSome, length, filter, position, slice_index_or};
 ghost use Rattle.flight_table.specs.LiveRequests.{LiveRequest};
-ghost use Rattle.std.specs.List.{list_any};
 ghost use Rattle.std.specs.Vec.{vec_len, vec_capacity};
 ghost use Rattle.bus_words.specs.Places.{change_first, without_first};
-ghost use Rattle.flight_table.specs.Order.{free_id, holds_back, holds_id};
-ghost use Rattle.flight_table.specs.Tables.{change_entry, has_key, has_number, has_source, is_done_of, is_of, is_undone, key_in, request_in, requests_of};
+ghost use Rattle.flight_table.specs.Order.{holds_back};
+ghost use Rattle.flight_table.specs.Tables.{change_entry, has_key, has_number, key_in, request_in, requests_of};
 ghost use Rattle.flight_table.specs.Laws.{HaveOwnKeys};
-ghost use Rattle.flight_table.specs.Work.{unsent_work, work_of};
 
 use crate::request::LiveRequest;
-use crate::scans::{
-    count_holders, count_of, count_undone, free_id, has_source, key_at, of_id, of_number,
-    oldest_done, stored, unsent_work, work,
-};
+use crate::scans::{count_holders, key_at, of_number, stored};
 use slab::Slab;
 use std::alloc::{AllocError, Global};
 use std::marker::Model;
@@ -169,21 +164,6 @@ impl Slots {
         self.requests.try_remove(key.slot);
     }
 
-    /// How many live requests a client has.
-    pub(crate) fn count_of(&self, client: u8) -> usize
-        ensures { result ≡ length (filter (is_of client) (requests_of self.now)) }
-    {
-        count_of(&self.requests, &self.order, client)
-    }
-
-    /// How many live requests aren't done.
-    pub(crate) fn count_undone(&self) -> usize
-        ensures count { result ≡ length (filter is_undone (requests_of self.now)) }
-        ensures bound { result ≤ 64 }
-    {
-        count_undone(&self.requests, &self.order)
-    }
-
     /// How many live requests hold back this one.
     pub(crate) fn count_holders(&self, request: &LiveRequest) -> usize
         ensures count { result ≡ length (filter (holds_back request.now) (requests_of self.now)) }
@@ -192,56 +172,11 @@ impl Slots {
         count_holders(&self.requests, &self.order, request)
     }
 
-    /// Whether a live request of a client has this source.
-    pub(crate) fn has_source(&self, client: u8, source: u8) -> bool
-        ensures { result ≡ list_any (has_source client source) (requests_of self.now) }
-    {
-        has_source(&self.requests, &self.order, client, source)
-    }
-
-    /// The smallest of so many IDs that nobody holds.
-    pub(crate) fn free_id(&self, ids: u8) -> Option<u8>
-        ensures { result ≡ free_id ids (requests_of self.now) }
-    {
-        free_id(&self.requests, &self.order, ids)
-    }
-
     /// The key of the request with this number.
     pub(crate) fn of_number(&self, number: u64) -> Option<Key>
         ensures key { result ≡ key_in (has_number number) self.now }
         ensures keys { HaveOwnKeys self.now }
     {
         of_number(&self.requests, &self.order, number)
-    }
-
-    /// The key of the request that holds this ID.
-    pub(crate) fn of_id(&self, id: u8) -> Option<Key>
-        ensures key { result ≡ key_in (holds_id id) self.now }
-        ensures keys { HaveOwnKeys self.now }
-    {
-        of_id(&self.requests, &self.order, id)
-    }
-
-    /// The key of a client's first request that is done.
-    pub(crate) fn oldest_done(&self, client: u8) -> Option<Key>
-        ensures key { result ≡ key_in (is_done_of client) self.now }
-        ensures keys { HaveOwnKeys self.now }
-    {
-        oldest_done(&self.requests, &self.order, client)
-    }
-
-    /// The work of all requests that aren't done.
-    pub(crate) fn work(&self) -> u64
-        ensures { result ≡ sum_by work_of (requests_of self.now) }
-    {
-        work(&self.requests, &self.order)
-    }
-
-    /// The work of the unsent bursts of all requests.
-    pub(crate) fn unsent_work(&self) -> u64
-        ensures work { result ≡ sum_by unsent_work (requests_of self.now) }
-        ensures most { result ≤ 2 ^ 33 }
-    {
-        unsent_work(&self.requests, &self.order)
     }
 }

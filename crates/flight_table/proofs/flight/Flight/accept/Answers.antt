@@ -3,13 +3,22 @@ use Rattle.flight_table.specs.Inside.{keyed_of}
 use Rattle.flight_table.specs.LiveRequests.{LiveRequest}
 use Rattle.flight_table.specs.Laws.{IsSound}
 use Rattle.flight_table.specs.Tables.{KeyedTable}
-use Rattle.flight_table.proofs.NewRequests.{accepted_laws, is_latest, room_left}
+use Rattle.flight_table.proofs.NewRequests.{accepted_laws, is_latest, known_client, quota_left, room_left}
 use Rattle.flight_table.proofs.flight.Flight.accept.Goals as goal
 
 pub add-requires-clause-room : goal.add-requires-clause-room
 add-requires-clause-room c =
     let old : KeyedTable = keyed_of c.self.inside.accepted c.self.inside.live in
     room_left old c.args.self.now c.args.client c.args.request.now c.args.plan c.self.view_is c.self.invariant (record { there = c.requires.client; room = c.requires.room; free = c.requires.source })
+
+pub add-requires-clause-client : goal.add-requires-clause-client
+add-requires-clause-client c = rw c.accepted.ensures (known_client (keyed_of c.self.inside.accepted c.self.inside.live) c.args.self.now c.args.client c.self.view_is c.self.invariant c.requires.client)
+
+pub add-requires-clause-quota : goal.add-requires-clause-quota
+add-requires-clause-quota c =
+    rw c.accepted.ensures
+    (quota_left (keyed_of c.self.inside.accepted c.self.inside.live) c.args.self.now c.args.client c.args.request.now.source c.self.view_is c.self.invariant
+    (record { there = c.requires.client; room = c.requires.room; free = c.requires.source }))
 
 pub add-requires-clause-latest : goal.add-requires-clause-latest
 add-requires-clause-latest c = rw c.accepted.ensures (is_latest (keyed_of c.self.inside.accepted c.self.inside.live) c.self.invariant)

@@ -1,7 +1,7 @@
-use Rattle.std.proofs.Common.{◌≡◌, ap, ◌∙◌}
+use Rattle.std.proofs.Common.{◌≡◌}
 use Rattle.flight_table.specs.Inside.{keyed_of}
 use Rattle.flight_table.specs.Order.{holds_id}
-use Rattle.flight_table.specs.Tables.{KeyedTable, key_in}
+use Rattle.flight_table.specs.Tables.{key_in}
 use Rattle.flight_table.proofs.KeyLaws.{answer_names, answer_passes}
 use Rattle.flight_table.proofs.Steps.{held_beyond}
 use Rattle.flight_table.proofs.flight.Flight.of_id.Goals as goal

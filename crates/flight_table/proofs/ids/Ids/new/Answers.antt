@@ -1,4 +1,4 @@
-use Rattle.std.proofs.Common.{◌≡◌, ◌≤◌, ◌∷◌, ℕ, zero, suc, Bool, Option, None, true, List, is_none, length, map, replicate, refl, ap}
+use Rattle.std.proofs.Common.{◌≡◌, ◌≤◌, ℕ, zero, suc, Option, None, true, List, is_none, length, map, replicate, refl}
 use Rattle.std.proofs.lemmas.List.{length-replicate}
 use Rattle.flight_table.proofs.ids.Ids.new.Goals as goal
 

@@ -1,4 +1,4 @@
-use Rattle.std.proofs.Common.{length-set, ◌≡◌, ◌≤◌, ap, arith, ◌∙◌, refl, sym}
+use Rattle.std.proofs.Common.{length-set, ◌≡◌, ◌<◌, ◌≤◌, ap, arith, ◌∙◌, refl, sym}
 use Rattle.std.specs.Prelude.{IfSome}
 use Rattle.std.specs.Vec.{vec_capacity}
 use Rattle.bus_words.specs.Places.{change_first}
@@ -6,6 +6,8 @@ use Rattle.flight_table.specs.Inside.{HasOneHolder}
 use Rattle.flight_table.specs.LiveRequests.{LiveRequest, finished}
 use Rattle.flight_table.specs.Tables.{change_entry, has_key, requests_of}
 use Rattle.flight_table.proofs.Index.{change-constant}
+use Rattle.flight_table.proofs.ClientLaws.{is_kept, is_listed, kept_finished}
+use Rattle.flight_table.proofs.KeyLaws.{request_listed}
 use Rattle.flight_table.proofs.HeldIds.{gives_back, ids_finish, length_holders}
 use Rattle.flight_table.specs.Sums.{IsSmall}
 use Rattle.flight_table.proofs.SumLaws.{all_set, are_part, are_small, less_small, sums_set}
@@ -33,6 +35,17 @@ with-self-inside-requires c =
     less_small c.get-request.result c.without.result c.self.inside.sums c.without.ensures
     (rw c.self.invariant.3.sums_are (are_small (requests_of c.self.inside.slots) c.self.invariant.3.few c.self.invariant.3.small))
 
+pub finish-requires-clause-client : goal.finish-requires-clause-client
+finish-requires-clause-client c =
+    let i = c.self.inside in
+    let r = c.get-request.result in
+    is_kept 8 _ r.client i.slots i.clients c.self.invariant.4 (ap (λ (q : LiveRequest). q.client) c.request.view_is) (request_listed (λ q. q.client < 8) c.args.key i.slots r c.self.invariant.4.few c.get-request.ensures.request)
+
+pub finish-requires-clause-there : goal.finish-requires-clause-there
+finish-requires-clause-there c =
+    let i = c.self.inside in
+    is_listed 8 _ c.args.key i.slots i.clients c.get-request.result c.self.invariant.4 c.get-request.ensures.request (ap (λ (q : LiveRequest). q.client) c.request.view_is)
+
 pub invariant_of-self : goal.invariant_of-self
 invariant_of-self c =
     let i = c.self.inside in
@@ -53,6 +66,9 @@ invariant_of-self c =
             small = all_set IsSmall (requests_of i.slots) place c.finished-done.result c.self.invariant.3.small c.with-self-inside.ensures.small;
             few = omega (arith, c.self.invariant.3.few, length-set (requests_of i.slots) place c.finished-done.result);
           }),
+      kept_finished 8 _ i.slots c.set.new.self i.clients c.finish.new.self c.args.key r c.finished-done.result c.self.invariant.4 c.get-request.ensures.request
+          (request_listed (λ q. q.client < 8) c.args.key i.slots r c.self.invariant.4.few c.get-request.ensures.request) (ap (λ (q : LiveRequest). q.client) c.request.view_is) c.finished-done.ensures c.set.ensures.entries
+          c.finish.ensures,
     )
 
 pub returns-clause-table : goal.returns-clause-table

@@ -1,9 +1,6 @@
-use Rattle.std.proofs.Common.{None, Option, ℕ, is_none, sym, ◌∙◌, ap}
+use Rattle.std.proofs.Common.{is_none, sym, ◌∙◌, ap}
 use Rattle.std.specs.List.{position}
-use Rattle.std.specs.Option.{option_or}
 use Rattle.flight_table.specs.LiveRequests.{LiveRequest}
-use Rattle.flight_table.specs.Order.{free_id}
-use Rattle.flight_table.specs.Tables.{requests_of}
 use Rattle.flight_table.proofs.HeldIds.{first_free}
 use Rattle.flight_table.proofs.live.Live.id_for.Goals as goal
 

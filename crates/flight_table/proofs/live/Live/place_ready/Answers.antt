@@ -1,6 +1,5 @@
-use Rattle.std.proofs.Common.{◌≡◌, Bool, ap, is_none, is_some, sym, ◌∙◌}
+use Rattle.std.proofs.Common.{ap, is_none, is_some, sym, ◌∙◌}
 use Rattle.std.specs.List.{position}
-use Rattle.flight_table.specs.Order.{free_id}
 use Rattle.flight_table.specs.Tables.{requests_of}
 use Rattle.flight_table.proofs.HeldIds.{first_free}
 use Rattle.flight_table.proofs.Ready.{first_with, first_without}

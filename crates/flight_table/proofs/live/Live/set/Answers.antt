@@ -1,10 +1,12 @@
-use Rattle.std.proofs.Common.{arith, length-set, ◌≡◌, ap, ◌∙◌, refl, set, sym}
-use Rattle.flight_table.specs.Inside.{CanRename, IsProgress, MayName, holders_of_ids}
+use Rattle.std.proofs.Common.{arith, length-set, ◌<◌, ap, ◌∙◌, refl, sym}
+use Rattle.flight_table.specs.Inside.{IsProgress, MayName}
 use Rattle.flight_table.specs.LiveRequests.{LiveRequest}
 use Rattle.flight_table.specs.Tables.{requests_of}
+use Rattle.flight_table.proofs.ClientLaws.{kept_same}
 use Rattle.flight_table.proofs.HeldIds.{ids_set, length_holders, may_rename}
 use Rattle.flight_table.specs.Sums.{IsSmall}
 use Rattle.flight_table.proofs.SumLaws.{all_set, are_part, are_small, less_small, sums_set}
+use Rattle.flight_table.proofs.KeyLaws.{request_listed}
 use Rattle.flight_table.proofs.Kept.{kept_set, named_with, placed, requests_changed}
 use Rattle.flight_table.proofs.live.Live.set.Goals as goal
 
@@ -46,4 +48,6 @@ invariant_of-self c =
             small = all_set IsSmall (requests_of i.slots) place c.args.request c.self.invariant.3.small c.with-self-inside.ensures.small;
             few = omega (arith, c.self.invariant.3.few, length-set (requests_of i.slots) place c.args.request);
           }),
+      kept_same 8 i.slots c.set.new.self i.clients c.args.key r c.args.request c.self.invariant.4 found progress.client progress.source progress.done
+          (request_listed (λ q. q.client < 8) c.args.key i.slots r c.self.invariant.4.few found) c.set.ensures.entries,
     )

@@ -1,8 +1,0 @@
-use Rattle.std.proofs.Common.{◌≡◌, ◌*◌, ◌≤◌, take}
-use Rattle.std.specs.List.{sum_by}
-use Rattle.flight_table.specs.Inside.{stored}
-use Rattle.flight_table.specs.Work.{work_of}
-use Rattle.flight_table.proofs.scans.work.Given as goal
-
-abbrev pub invariant-loop-key : goal.invariant-loop-key
-invariant-loop-key l = (l.work ≡ sum_by (λ k. work_of (stored l.requests k)) (take l.key-index l.order)) × (l.work ≤ l.key-index * 100000000)
