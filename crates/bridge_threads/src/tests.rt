@@ -1,5 +1,6 @@
 mod gates;
 mod given;
+mod growths;
 mod refusals;
 mod runs;
 mod shared;

@@ -1,12 +1,15 @@
 mod answers;
 mod atomics;
+mod beats;
 mod bench;
 mod choices;
+mod constructors;
 mod errors;
 mod limits;
 mod narrow;
 mod offers;
 mod order;
+mod pages;
 mod replayer;
 mod requests;
 mod runs;

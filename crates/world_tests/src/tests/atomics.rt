@@ -154,7 +154,7 @@ fn old_values_leave_and_new_ones_are_written(rt: HostRuntime) {
     }
 }
 
-const SCRIPTS: &[Script] = &[
+pub(crate) const SCRIPTS: &[Script] = &[
     // ADD of 5, and SWAP with 9.
     Script {
         name: "atomics by two ways to the same bytes keep their order",

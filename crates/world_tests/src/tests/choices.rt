@@ -9,7 +9,7 @@ const ONE_EACH: Lists = Lists {
     ..PLAIN
 };
 
-const SCRIPTS: &[Script] = &[
+pub(crate) const SCRIPTS: &[Script] = &[
     Script {
         name: "the work of a Put",
         lists: PLAIN,

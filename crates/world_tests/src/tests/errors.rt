@@ -20,7 +20,7 @@ const WITH_A_BAD_WORD: Lists = Lists {
     ..PLAIN
 };
 
-const SCRIPTS: &[Script] = &[
+pub(crate) const SCRIPTS: &[Script] = &[
     Script {
         name: "a page that gives slave errors",
         lists: WITH_ERRORS,

@@ -17,7 +17,7 @@ const WITH_A_BAD_WORD: Lists = Lists {
     ..NARROW
 };
 
-const SCRIPTS: &[Script] = &[
+pub(crate) const SCRIPTS: &[Script] = &[
     Script {
         name: "eight bytes go in two transfers",
         lists: NARROW,

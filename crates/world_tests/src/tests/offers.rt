@@ -8,7 +8,7 @@ const ONE_EACH: Lists = Lists {
     ..PLAIN
 };
 
-const SCRIPTS: &[Script] = &[
+pub(crate) const SCRIPTS: &[Script] = &[
     Script {
         name: "a later beat with another address is refused",
         lists: PLAIN,

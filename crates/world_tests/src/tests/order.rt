@@ -10,7 +10,7 @@ const SHORT: Lists = Lists {
     ..PLAIN
 };
 
-const SCRIPTS: &[Script] = &[
+pub(crate) const SCRIPTS: &[Script] = &[
     Script {
         name: "a held Get sees the Put",
         lists: PLAIN,

@@ -27,7 +27,7 @@ const ONE_BOX: Lists = Lists {
     ..PLAIN
 };
 
-const SCRIPTS: &[Script] = &[
+pub(crate) const SCRIPTS: &[Script] = &[
     Script {
         name: "a Put of eight bytes and a Get of them",
         lists: PLAIN,

@@ -1,0 +1,159 @@
+//! What takes memory. Each test makes one thing: it is there, or the memory for it was refused, and then the fault that says so
+//! is the test's error. `tests/growth.py` refuses each growth of these tests in turn.
+use super::bench::*;
+use super::{atomics, choices, errors, narrow, offers, order, requests};
+use axi_beats::BurstBox;
+use axi_checker::Monitor;
+use bridge_core::Bridge;
+use burst_plan::PageMap;
+use flight_table::Flight;
+use responses::Gather;
+use std::alloc::Global;
+use std::test::Fail;
+use subordinate::{Device, PageKind};
+use tl_checker::{Level, Port};
+use tl_messages::{ABeat, ReplyBox, Request};
+use world_run::{Setup, SetupFault, Step, World, run};
+
+#[test]
+fn request(rt: HostRuntime) -> Result<(), Fail> {
+    Request::new(rt.alloc())?;
+    Ok(())
+}
+
+#[test]
+fn reply_box(rt: HostRuntime) -> Result<(), Fail> {
+    ReplyBox::new(rt.alloc())?;
+    Ok(())
+}
+
+#[test]
+fn burst_box(rt: HostRuntime) -> Result<(), Fail> {
+    BurstBox::new(rt.alloc())?;
+    Ok(())
+}
+
+#[test]
+fn port(rt: HostRuntime) -> Result<(), Fail> {
+    Port::new(rt.alloc(), 0, Level::Uh, 12)?;
+    Ok(())
+}
+
+#[test]
+fn monitor(rt: HostRuntime) -> Result<(), Fail> {
+    Monitor::new(rt.alloc(), 16, 4, 8)?;
+    Ok(())
+}
+
+#[test]
+fn page_map(rt: HostRuntime) -> Result<(), Fail> {
+    PageMap::new(rt.alloc(), &[FOUR_PAGES, ALIAS])?;
+    Ok(())
+}
+
+#[test]
+fn flight(rt: HostRuntime) -> Result<(), Fail> {
+    Flight::new(rt.alloc(), 8, 8, 16, 4)?;
+    Ok(())
+}
+
+#[test]
+fn gather(rt: HostRuntime) -> Result<(), Fail> {
+    Gather::new(rt.alloc(), 8)?;
+    Ok(())
+}
+
+/// Its map takes memory too, and answers so by the same name.
+#[test]
+fn bridge(rt: HostRuntime) -> Result<(), Fail> {
+    let map = PageMap::new(rt.alloc(), &[FOUR_PAGES])?;
+    Bridge::new(rt.alloc(), config_of(USUAL), map)?;
+    Ok(())
+}
+
+#[test]
+fn device(rt: HostRuntime) -> Result<(), Fail> {
+    let pages = [(0x10, PageKind::Good), (0x11, PageKind::SlaveError)];
+    Device::new(rt.alloc(), 8, &pages, &[0x10018])?;
+    Ok(())
+}
+
+/// The set-up of some lists, which are short enough for it.
+fn given(lists: Lists) -> Result<Setup, SetupFault> {
+    set_up(lists).ok_or(SetupFault::BadConfig)
+}
+
+#[test]
+fn world(rt: HostRuntime) -> Result<(), Fail> {
+    World::new(rt.alloc(), &given(PLAIN)?)?;
+    Ok(())
+}
+
+/// A Put of a word, performed and answered, and its reply.
+const STEPS: &[Step] = &[
+    Step::Offer(
+        0,
+        ABeat {
+            opcode: 0,
+            param: 0,
+            size: 3,
+            source: 0,
+            address: 8,
+            mask: 0xff,
+            payload: 7,
+            corrupt: false,
+        },
+    ),
+    Step::Pump,
+    Step::Perform(0, 0),
+    Step::AnswerB(0),
+    Step::Take(0),
+];
+
+/// A run takes memory for what it records too.
+#[test]
+fn a_run(rt: HostRuntime) -> Result<(), Fail> {
+    let ran = run(rt.alloc(), &given(PLAIN)?, STEPS)?;
+    assert_eq!(rt; ran.answers.last(), Some(&Reply(0)));
+    Ok(())
+}
+
+/// The scripts that drive a world.
+const SCRIPTS: [&[Script]; 7] = [
+    offers::SCRIPTS,
+    requests::SCRIPTS,
+    order::SCRIPTS,
+    choices::SCRIPTS,
+    atomics::SCRIPTS,
+    errors::SCRIPTS,
+    narrow::SCRIPTS,
+];
+
+/// The world of a script, with a box for its replies.
+fn made(alloc: Global, script: &Script) -> Result<WorldBench, SetupFault> {
+    let world = World::new(alloc, &given(script.lists)?)?;
+    match ReplyBox::new(alloc) {
+        Ok(reply) => Ok(WorldBench { world, reply }),
+        Err(_) => Err(SetupFault::NoMemory),
+    }
+}
+
+/// Each script's world, of which nothing is asked.
+#[test]
+fn worlds_alone(rt: HostRuntime) -> Result<(), Fail> {
+    for script in SCRIPTS.iter().flat_map(|scripts| scripts.iter()) {
+        made(rt.alloc(), script)?;
+    }
+    Ok(())
+}
+
+/// Each script's world, driven by it. It asks for no more memory than its world did.
+#[test]
+fn worlds_driven(rt: HostRuntime) -> Result<(), Fail> {
+    for script in SCRIPTS.iter().flat_map(|scripts| scripts.iter()) {
+        let mut bench = made(rt.alloc(), script)?;
+        let carried = carried_by(&mut bench, script.events);
+        assert_eq!(rt; carried, script.events.len(), "{}", script.name);
+    }
+    Ok(())
+}
