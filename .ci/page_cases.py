@@ -1,5 +1,6 @@
 """Tries the pages: each guarantee of README names a call and a clause that the source has, each page that it names is there,
-each crate has a page, and the pages that are written by docs/definitions.py are up to date.
+each crate has a page, each example of the library stands in a test as it stands on its page, and the pages that are written by
+docs/definitions.py are up to date.
 
     python3 .ci/page_cases.py
 """
@@ -17,6 +18,9 @@ from shim import told  # noqa: E402
 
 NAMED = re.compile(r"`(\w+)::(\w+)`,\s+`(\w+)`")
 PAGE = re.compile(r"`((?:docs|examples|crates)/[\w./-]+)`")
+# An example of the library, and the tests that have each as it stands.
+EXAMPLE = re.compile(r"(?ms)^```rust\n(.*?)^```$")
+TESTED = TOP / "crates/world_tests/src/tests/pages.rt"
 # A guarantee of the list, from its dash to its end.
 GUARANTEE = re.compile(r"(?m)^- .*(?:\n  .*)*")
 
@@ -28,6 +32,19 @@ def has_clause(crate, call, clause):
             if re.search(rf"(?m)^ *ensures {clause} {{", head):
                 return True
     return False
+
+
+def without_space(text):
+    return "".join(text.split())
+
+
+def examples():
+    """Each example of README and of a crate's page, which is tested, and so proved and run, where the tests have its text."""
+    tested = without_space(TESTED.read_text())
+    for page in [TOP / "README.md", *sorted(TOP.glob("crates/*/README.md"))]:
+        for number, example in enumerate(EXAMPLE.findall(page.read_text())):
+            name = f"example {number + 1} of {page.relative_to(TOP)}"
+            yield name, None if without_space(example) in tested else f"{TESTED.relative_to(TOP)} doesn't have it"
 
 
 def cases():
@@ -47,6 +64,7 @@ def cases():
         own = crate / "README.md"
         lines = len(own.read_text().splitlines()) if own.exists() else 0
         yield f"the page of {crate.name}", None if 20 <= lines <= 60 else f"it has {lines} lines"
+    yield from examples()
     written = subprocess.run([sys.executable, TOP / "docs" / "definitions.py", "--check"], capture_output=True, text=True)
     why = written.stdout.strip() or written.stderr.strip()[-200:]
     yield "the pages that docs/definitions.py writes", None if written.returncode == 0 else why

@@ -34,8 +34,8 @@ HINTED = b"D 0 2 0 3 0 0 0000000000000000 0\n"
 MOST_STEPS = ONE_LIVE + LARGE_GET * 189 + GET * 6 + INTENT * 4
 USAGE = b"usage: tlbridge run, check or threads\n"
 READ, WRITE = b"read fault\n", b"write fault\n"
-# A script on a page, by its word, and its trace, by its status.
-SHOWN = re.compile(r"(?ms)^```script (\w+)\n(.*?)^```\n\n```trace (\d)\n(.*?)^```$")
+# A script on a page, by its word, and, by its status, its trace, or its line on standard error where it has no trace.
+SHOWN = re.compile(r"(?m)^```script (\w+)\n((?:(?!```).*\n)*)```\n\n```(trace|fault) (\d)\n((?:(?!```).*\n)*)```$")
 
 
 def zeros(first, count, reply):
@@ -252,10 +252,14 @@ def of_examples(program):
 
 
 def of_pages(program):
-    """Each script of a page, by its word, against the trace that stands after it, with its status."""
+    """Each script of a page, by its word, against the trace or the fault that stands after it, with its status."""
     for page in sorted((TOP / "docs").glob("*.md")):
-        for number, (word, script, status, trace) in enumerate(SHOWN.findall(page.read_text())):
-            wanted, name = (int(status), trace.encode(), b""), f"script {number + 1} of {page.name}"
+        scripts = SHOWN.findall(page.read_text())
+        alone = page.read_text().count("\n```script ") - len(scripts)
+        yield f"each script of {page.name} is shown with what it prints", lambda n=alone: f"{n} aren't" if n else None
+        for number, (word, script, kind, status, shown) in enumerate(scripts):
+            name, shown = f"script {number + 1} of {page.name}", shown.encode()
+            wanted = (int(status), b"", shown) if kind == "fault" else (int(status), shown, b"")
             yield name, lambda w=word, g=script.encode(), x=wanted: wrong(started([program, w], g), *x)
 
 

@@ -20,8 +20,24 @@ The contracts cite these definitions. Each stands in `crates/NAME/specs/FILE.ant
 shown here as its words. This page is written by `docs/definitions.py`.
 
 Numbers are natural numbers without a bound, lists are lists, and `Option` is Rust's. A definition whose type ends in
-`Bool` is a test, one whose type ends in `Type 0` is a fact. What a Rust type is in a contract is told in
-ARCHITECTURE.md.
+`Bool` is a test, one whose type ends in `Type 0` is a fact. ARCHITECTURE.md says what a Rust type is in a contract.
+
+## Words of our own
+
+| word | what it means here |
+|---|---|
+| accepted, number | a request is accepted with its last beat, under the next number, from 0: that is its place in the order |
+| live, done, in flight | a request is live from its acceptance until its reply is taken; it is done when it has nothing more to send or to wait for, and in flight until then |
+| spell | beats spell a request where they are its message, from the first to the last, and break no rule |
+| front | the first items of a list that goes on: the beats of a message whose last is still to come, the bytes of a script that were read |
+| stands | of a request on a port: all its beats have come, and nobody has taken it from there |
+| standing | what a page is: good, one that answers with an error, or absent, which is a page that isn't listed |
+| perform | what the memory does with a single beat: it stores the bytes of a write, or captures those of a read; the answer is a step of its own, later |
+| capture | keep a read beat's bytes and response, as they are when it is performed, until its R |
+| gather | collect what the memory's answers say of one reply |
+| carried out | of a request: all of its effect at once, reply and bytes, atomically, as `meaning` of world_run has it; of a script's line: what it asks for is done, and its text is written |
+| box, stock | a box has the room for one burst, or one reply, and is made once; those that the bridge holds are its stock |
+| serial | the number of a burst among all that were sent, reads and writes together, from 0 |
 """
 
 TRUSTED_HEAD = """# What the statements rest on
