@@ -9,7 +9,7 @@ use Rattle.flight_table.specs.Inside.{IsKept, IsProgress, count_holders, is_name
 use Rattle.flight_table.specs.LiveRequests.{LiveRequest, finished}
 use Rattle.flight_table.specs.Order.{holds_back}
 use Rattle.flight_table.specs.Tables.{KeyedRequest, change_entry, has_key, request_in, requests_of}
-use Rattle.flight_table.proofs.Lowered.{less_if}
+use Rattle.flight_table.proofs.Lowered.{count_cons, less_if}
 use Rattle.flight_table.proofs.PlaceLaws.{length_map, map-remove, map_same}
 
 -- ---- the requests at their places, after a change by key
@@ -53,13 +53,6 @@ requests_without key entries place r at =
     ap requests_of (without_first-first (has_key key) entries place at.first) ∙ map-remove (λ (entry : KeyedRequest). entry.request) entries place
 
 -- ---- how many pass a test, after a change at a place
-
-count_cons : {X : Type 0} (q : X → Bool) (x : X) (xs : List X) → length (filter q (x ∷ xs)) ≡ (if q x then 1 else 0) + length (filter q xs)
-count_cons q x xs = by_test (q x)
-  where
-    by_test : (b : Bool) → length (if b then x ∷ filter q xs else filter q xs) ≡ (if b then 1 else 0) + length (filter q xs)
-    by_test true = omega arith
-    by_test false = omega arith
 
 pub count_pushed : {X : Type 0} (q : X → Bool) (xs : List X) (x : X) → length (filter q (xs ++ x ∷ [])) ≡ length (filter q xs) + (if q x then 1 else 0)
 count_pushed q [] x = rw (count_cons q x []) (omega arith)
@@ -111,7 +104,7 @@ map_each : {X Y : Type 0} (f g : X → Y) (xs : List X) → AllByRecursion (λ x
 map_each f g [] all = refl
 map_each f g (x ∷ xs) all = rw (all.0, map_each f g xs all.1) refl
 
-each : {X : Type 0} (P Q : X → Type 0) (xs : List X) → ((x : X) → P x → Q x) → AllByRecursion P xs → AllByRecursion Q xs
+pub each : {X : Type 0} (P Q : X → Type 0) (xs : List X) → ((x : X) → P x → Q x) → AllByRecursion P xs → AllByRecursion Q xs
 each P Q [] so all = tt
 each P Q (x ∷ xs) so all = (so x all.0, each P Q xs so all.1)
 
@@ -203,6 +196,10 @@ kept_remove depth live place r able named counts unheld kept within there done =
   where
     as_many : (x : LiveRequest) → count_holders (remove live place) x ≡ count_holders live x
     as_many x = omega (arith, rw (done_holds x r done) at (count_removed (holds_back x) live place r within there))
+
+-- as many counts as requests
+pub length_kept : (depth : ℕ) (live : List LiveRequest) (able named : List Bool) (counts : List ℕ) (unheld : List Bool) → IsKept depth live able named counts unheld → length counts ≡ length live
+length_kept depth live able named counts unheld kept = ap length kept.holders ∙ length_map (count_holders live) live
 
 -- ---- what a condition says of the request of a key
 pub record IsNamed (key : ℕ) (entries : List KeyedRequest) (P : LiveRequest → Type 0) : Type 0 where

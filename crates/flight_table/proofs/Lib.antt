@@ -5,6 +5,7 @@ pub mod HeldIds
 pub mod ClientLaws
 pub mod Ready
 pub mod Kept
+pub mod RowLaws
 pub mod Lowered
 pub mod SlabScans
 pub mod Index

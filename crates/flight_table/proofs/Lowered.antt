@@ -1,54 +1,124 @@
--- The counts of those that hold back a request, lowered one after another.
-use Rattle.std.proofs.lemmas.List.{map-set, get_or-set_same}
-use Rattle.std.proofs.Common.{◌≡◌, ℕ, zero, suc, ◌+◌, ◌-◌, ◌==◌, add-one, map, ◌<◌, ◌≤◌, Bool, true, false, List, [], ◌∷◌, length, get_or, set, refl, ap, sym, ◌∙◌, arith}
+-- Walks over the marked places of a row: how many there hold back a request, and the counts of those that one holds back.
+use Rattle.std.proofs.Common.{◌≡◌, ℕ, zero, suc, ◌+◌, ◌-◌, ◌==◌, map, ◌<◌, ◌≤◌, Bool, true, false, ◌&&◌, List, [], ◌∷◌, length, get_or, set, Option, None, Some, refl, ap, ap₂, sym, ◌∙◌, arith}
 use Rattle.std.specs.Prelude.{if◌then◌else◌}
+use Rattle.std.specs.List.{AllByRecursion, filter, find, position}
+use Rattle.std.proofs.lemmas.List.{map-set, get_or-set_same}
+use Rattle.std.proofs.lemmas.Nat.{pow_pos}
 use mir.Val.{bool_byte}
-use Rattle.flight_table.specs.Inside.{lowered}
+use Rattle.bus_words.proofs.FirstPlaces.{find-none, first-passes, position_is_first}
+use Rattle.flight_table.specs.Inside.{count_holders, counted_in, lowered, lowered_in}
 use Rattle.flight_table.specs.LiveRequests.{LiveRequest}
+use Rattle.flight_table.specs.Marks.{number_of}
 use Rattle.flight_table.specs.Order.{holds_back}
+use Rattle.flight_table.specs.Rows.{is_on}
+use Rattle.flight_table.proofs.MarkLaws.{is_set, put_is}
+
+pub count_cons : {X : Type 0} (q : X → Bool) (x : X) (xs : List X) → length (filter q (x ∷ xs)) ≡ (if q x then 1 else 0) + length (filter q xs)
+count_cons q x xs = by_test (q x)
+  where
+    by_test : (b : Bool) → length (if b then x ∷ filter q xs else filter q xs) ≡ (if b then 1 else 0) + length (filter q xs)
+    by_test true = omega arith
+    by_test false = omega arith
 
 abbrev pub less_if : Bool → ℕ → ℕ
 less_if held count = count - (if held then 1 else 0)
 
--- so many counts, the first ones, lowered
-abbrev pub lowered_to : ℕ → LiveRequest → List LiveRequest → List ℕ → List ℕ
-lowered_to zero r live counts = counts
-lowered_to (suc n) r [] counts = counts
-lowered_to (suc n) r (x ∷ live) [] = []
-lowered_to (suc n) r (x ∷ live) (count ∷ counts) = less_if (holds_back x r) count ∷ lowered_to n r live counts
+less_by_byte : (held : Bool) (count : ℕ) → count - bool_byte held - 0 ≡ less_if held count
+less_by_byte true count = omega arith
+less_by_byte false count = omega arith
 
-pub length-lowered_to : (n : ℕ) (r : LiveRequest) (live : List LiveRequest) (counts : List ℕ) → length (lowered_to n r live counts) ≡ length counts
-length-lowered_to zero r live counts = refl
-length-lowered_to (suc n) r [] counts = refl
-length-lowered_to (suc n) r (x ∷ live) [] = refl
-length-lowered_to (suc n) r (x ∷ live) (count ∷ counts) = ap suc (length-lowered_to n r live counts)
+-- ---- the next marked place
 
-less_by_byte : (held : Bool) (count : ℕ) → count - bool_byte held ≡ less_if held count
-less_by_byte true count = refl
-less_by_byte false count = refl
+pub record IsMarked (row : List Bool) (place : ℕ) : Type 0 where
+  pub within : place < length row
+  pub marked : get_or row place false ≡ true
 
--- the next one
-lower_one : (n : ℕ) (r : LiveRequest) (live : List LiveRequest) (counts : List ℕ) (d : LiveRequest) (e byte : ℕ) → length counts ≡ length live → n < length counts → byte ≡ bool_byte (holds_back (get_or live n d) r)
-    → set (lowered_to n r live counts) n (get_or (lowered_to n r live counts) n e - byte) ≡ lowered_to (suc n) r live counts
-lower_one n r [] counts d e byte same within is = absurd (omega (arith, same, within))
-lower_one n r (x ∷ live) [] d e byte same within is = absurd (omega (arith, within))
-lower_one zero r (x ∷ live) (count ∷ counts) d e byte same within is = ap (λ m. m ∷ counts) (rw is (less_by_byte (holds_back x r) count))
-lower_one (suc n) r (x ∷ live) (count ∷ counts) d e byte same within is =
-    ap (λ ms. less_if (holds_back x r) count ∷ ms) (lower_one n r live counts d e byte (omega (arith, same)) (omega (arith, within)) is)
+pub next_marked : (row : List Bool) (place : ℕ) → position is_set row ≡ Some place → IsMarked row place
+next_marked row place at =
+    let first = position_is_first is_set row place at in
+    record { within = first.within; marked = first-passes is_set row place false first }
 
-pub lower_next : (n : ℕ) (r : LiveRequest) (live : List LiveRequest) (counts now : List ℕ) (d : LiveRequest) (e byte : ℕ) → now ≡ lowered_to n r live counts → length counts ≡ length live → n < length counts
-    → byte ≡ bool_byte (holds_back (get_or live n d) r) → set now n (get_or now n e - byte) ≡ lowered_to (n + 1) r live counts
-lower_next n r live counts now d e byte so_far same within is = rw (so_far, add-one n) (lower_one n r live counts d e byte same within is)
+-- the row without it is a smaller number
+pub fewer_marks : (row : List Bool) (place : ℕ) → IsMarked row place → number_of (set row place false) < number_of row
+fewer_marks row place at = omega (arith, rw at.marked at (put_is row place false at.within), pow_pos place)
 
-pub lower_all : (n : ℕ) (r : LiveRequest) (live : List LiveRequest) (counts : List ℕ) → length counts ≡ length live → length counts ≤ n → lowered_to n r live counts ≡ lowered r live counts
-lower_all zero r [] [] same all = refl
-lower_all zero r [] (count ∷ counts) same all = absurd (omega (arith, same))
-lower_all zero r (x ∷ live) [] same all = refl
-lower_all zero r (x ∷ live) (count ∷ counts) same all = absurd (omega (arith, all))
-lower_all (suc n) r [] [] same all = refl
-lower_all (suc n) r [] (count ∷ counts) same all = absurd (omega (arith, same))
-lower_all (suc n) r (x ∷ live) [] same all = refl
-lower_all (suc n) r (x ∷ live) (count ∷ counts) same all = ap (λ ms. less_if (holds_back x r) count ∷ ms) (lower_all n r live counts (omega (arith, same)) (omega (arith, all)))
+abbrev pub AreUnmarked : List Bool → Type 0
+AreUnmarked row = AllByRecursion (λ mark. mark ≡ false) row
+
+unmarked : (row : List Bool) → find is_set row ≡ None → AreUnmarked row
+unmarked [] none = tt
+unmarked (true ∷ row) none = absurd (cc (none))
+unmarked (false ∷ row) none = (refl, unmarked row none)
+
+pub none_marked : (row : List Bool) → position is_set row ≡ None → AreUnmarked row
+none_marked row none = unmarked row (find-none is_set row none)
+
+-- ---- how many hold back a request
+
+pub counted_next : (row : List Bool) (place : ℕ) (r : LiveRequest) (live : List LiveRequest) (d : LiveRequest) → place < length row → get_or row place false ≡ true → length row ≡ length live
+    → counted_in row r live ≡ bool_byte (holds_back r (get_or live place d)) + counted_in (set row place false) r live
+counted_next [] place r live d within is same = absurd (omega (arith, within))
+counted_next (mark ∷ row) place r [] d within is same = absurd (omega (arith, same))
+counted_next (mark ∷ row) zero r (x ∷ live) d within is same = rw is (by_test (holds_back r x))
+  where
+    by_test : (b : Bool) → (if b then 1 else 0) + counted_in row r live ≡ bool_byte b + (0 + counted_in row r live)
+    by_test true = omega arith
+    by_test false = omega arith
+counted_next (mark ∷ row) (suc place) r (x ∷ live) d within is same = omega (arith, counted_next row place r live d (omega (arith, within)) is (omega (arith, same)))
+
+pub counted_none : (row : List Bool) (r : LiveRequest) (live : List LiveRequest) → AreUnmarked row → counted_in row r live ≡ 0
+counted_none [] r live none = refl
+counted_none (mark ∷ row) r [] none = refl
+counted_none (mark ∷ row) r (x ∷ live) none = rw none.0 (omega (arith, counted_none row r live none.1))
+
+pub counted_most : (row : List Bool) (r : LiveRequest) (live : List LiveRequest) → counted_in row r live ≤ length live
+counted_most [] r live = omega arith
+counted_most (mark ∷ row) r [] = omega arith
+counted_most (mark ∷ row) r (x ∷ live) = by_test (mark && holds_back r x) (counted_most row r live)
+  where
+    by_test : (b : Bool) → counted_in row r live ≤ length live → (if b then 1 else 0) + counted_in row r live ≤ length (x ∷ live)
+    by_test true most = omega (arith, most)
+    by_test false most = omega (arith, most)
+
+-- where each that holds it back is in the row, these are all that hold it back
+implied : (a b : Bool) → (b ≡ true → a ≡ true) → (a && b) ≡ b
+implied true b so = refl
+implied false true so = so refl
+implied false false so = refl
+
+pub counted_all : (page : Option ℕ) (r : LiveRequest) (live : List LiveRequest) → AllByRecursion (λ x. holds_back r x ≡ true → is_on page x ≡ true) live
+    → counted_in (map (is_on page) live) r live ≡ count_holders live r
+counted_all page r [] all = refl
+counted_all page r (x ∷ live) all = rw (count_cons (holds_back r) x live, implied (is_on page x) (holds_back r x) all.0, counted_all page r live all.1) refl
+
+-- ---- the counts of those that one holds back
+
+pub lowered_next : (row : List Bool) (place : ℕ) (r : LiveRequest) (live : List LiveRequest) (counts : List ℕ) (d : LiveRequest) (e byte : ℕ) → place < length row → get_or row place false ≡ true
+    → length row ≡ length live → length counts ≡ length live → byte ≡ bool_byte (holds_back (get_or live place d) r)
+    → lowered_in (set row place false) r live (set counts place (get_or counts place e - byte)) ≡ lowered_in row r live counts
+lowered_next [] place r live counts d e byte within marked same many is = absurd (omega (arith, within))
+lowered_next (mark ∷ row) place r [] counts d e byte within marked same many is = absurd (omega (arith, same))
+lowered_next (mark ∷ row) place r (x ∷ live) [] d e byte within marked same many is = absurd (omega (arith, many))
+lowered_next (mark ∷ row) zero r (x ∷ live) (count ∷ counts) d e byte within marked same many is =
+    rw marked (ap (λ m. m ∷ lowered_in row r live counts) (rw is (less_by_byte (holds_back x r) count)))
+lowered_next (mark ∷ row) (suc place) r (x ∷ live) (count ∷ counts) d e byte within marked same many is =
+    ap (λ ms. less_if (mark && holds_back x r) count ∷ ms) (lowered_next row place r live counts d e byte (omega (arith, within)) marked (omega (arith, same)) (omega (arith, many)) is)
+
+pub lowered_none : (row : List Bool) (r : LiveRequest) (live : List LiveRequest) (counts : List ℕ) → AreUnmarked row → lowered_in row r live counts ≡ counts
+lowered_none [] r live counts none = refl
+lowered_none (mark ∷ row) r [] counts none = refl
+lowered_none (mark ∷ row) r (x ∷ live) [] none = refl
+lowered_none (mark ∷ row) r (x ∷ live) (count ∷ counts) none =
+    let same : count - 0 ≡ count = omega arith in
+    rw none.0 (ap₂ (λ c cs. c ∷ cs) same (lowered_none row r live counts none.1))
+
+pub lowered_all : (page : Option ℕ) (r : LiveRequest) (live : List LiveRequest) (counts : List ℕ) → length counts ≡ length live → AllByRecursion (λ x. holds_back x r ≡ true → is_on page x ≡ true) live
+    → lowered_in (map (is_on page) live) r live counts ≡ lowered r live counts
+lowered_all page r [] [] many all = refl
+lowered_all page r [] (count ∷ counts) many all = absurd (omega (arith, many))
+lowered_all page r (x ∷ live) [] many all = refl
+lowered_all page r (x ∷ live) (count ∷ counts) many all =
+    rw (implied (is_on page x) (holds_back x r) all.0) (ap (λ ms. less_if (holds_back x r) count ∷ ms) (lowered_all page r live counts (omega (arith, many)) all.1))
 
 -- and the marks of those that nobody holds back
 pub zero_next : (counts : List ℕ) (n count read : ℕ) → n < length counts → read ≡ get_or (set counts n count) n read → set (map (λ (c : ℕ). c == 0) counts) n (read == 0) ≡ map (λ c. c == 0) (set counts n count)

@@ -7,13 +7,12 @@ use Rattle.std.proofs.lemmas.Bool.{lt-ltb}
 use Rattle.std.proofs.lemmas.Simd.{trailing_mask_l}
 use lib.Lanes.{mask_l}
 use lib.Count.{count_trailing_zeros}
-use native.Mathlib.Nat.{two-pow-succ, zero-div, div-one, div-div-eq-div-mul, div-add-mod', mod-eq_of_lt, mul_assoc, mul_comm, one-mul, pow-suc}
-use lib.Pow.{pow_mono, pow_pos}
+use native.Mathlib.Nat.{two-pow-succ, zero-div, div-one, div-div-eq-div-mul, div-add-mod', mul_assoc, mul_comm, one-mul, pow-suc}
+use lib.Pow.{pow_mono}
 use mir.Val.{bool_byte}
 use Rattle.std.proofs.lemmas.Nat.{shl_whole}
-use Rattle.std.proofs.lemmas.List.Edits.{length-remove}
 use lib.Bits.{bit_and, and_step, and_zero_l, and_zero_r}
-use Rattle.flight_table.specs.Marks.{both, marks_of, number_of}
+use Rattle.flight_table.specs.Marks.{both, marks_of, number_of, without_bit}
 
 abbrev bit : Bool → ℕ
 bit mark = if mark then 1 else 0
@@ -150,14 +149,14 @@ put_bits marks place mark value within few is =
 
 -- the number after a mark was taken out
 pub removed_is : (marks : List Bool) (place : ℕ) → place < length marks
-    → number_of (remove marks place) ≡ number_of marks % 2 ^ place + number_of marks / 2 ^ place / 2 * 2 ^ place
+    → number_of (remove marks place) ≡ without_bit place (number_of marks)
 removed_is [] place within = absurd (omega (arith, within))
 removed_is (m ∷ marks) zero within =
     let half = (lowest m (number_of marks)).1 in
     rw (div-one (number_of (m ∷ marks)), half) (omega arith)
 removed_is (m ∷ marks) (suc place) within =
     let n = number_of marks in
-    let rest : number_of (remove marks place) ≡ n % 2 ^ place + n / 2 ^ place / 2 * 2 ^ place = removed_is marks place (omega (arith, within)) in
+    let rest : number_of (remove marks place) ≡ without_bit place n = removed_is marks place (omega (arith, within)) in
     rw (next_half m n place)
     (parted (bit m) n (n / 2 ^ place * 2 ^ place) (n % 2 ^ place) (n / 2 ^ place / 2 * 2 ^ place) (number_of (remove marks place)) ((bit m + 2 * n) % 2 ^ suc place) ((bit m + 2 * n) / 2 ^ suc place * 2 ^ suc place)
     (n / 2 ^ place / 2 * 2 ^ suc place) rest (div-add-mod' n (2 ^ place)) (div-add-mod' (bit m + 2 * n) (2 ^ suc place)) (rw (next_half m n place) (doubled (n / 2 ^ place) place)) (doubled (n / 2 ^ place / 2) place))
@@ -168,15 +167,6 @@ removed_is (m ∷ marks) (suc place) within =
     parted : (b n low_part low high r whole_rest whole_part high_part : ℕ) → r ≡ low + high → low_part + low ≡ n → whole_part + whole_rest ≡ b + 2 * n → whole_part ≡ 2 * low_part → high_part ≡ 2 * high
         → b + 2 * r ≡ whole_rest + high_part
     parted b n low_part low high r whole_rest whole_part high_part is one two three four = omega (arith, is, one, two, three, four)
-
-pub removed_bits : (marks : List Bool) (place : ℕ) → place < length marks → length marks ≤ 64
-    → number_of marks % (1 * 2 ^ place % 18446744073709551616) + number_of marks / 2 ^ place / 2 * 2 ^ place % 18446744073709551616 ≡ number_of (remove marks place)
-removed_bits marks place within few =
-    let unit : 1 * 2 ^ place % 18446744073709551616 ≡ 2 ^ place = shl_whole 1 1 place 64 (omega arith) (omega (arith, within, few)) ∙ one-mul (2 ^ place) in
-    let is = removed_is marks place within in
-    let high : number_of marks / 2 ^ place / 2 * 2 ^ place % 18446744073709551616 ≡ number_of marks / 2 ^ place / 2 * 2 ^ place =
-    mod-eq_of_lt (omega (arith, is, bits_fit (remove marks place) (omega (arith, length-remove marks place within, few)))) in
-    rw (unit, high) (sym is)
 
 -- ---- the first that is marked
 
@@ -210,8 +200,12 @@ first_some marks some few =
     ap (count_trailing_zeros 64) (sym (mask marks)) ∙ trailing_mask_l is_set 64 marks few (rw (mask marks) some) in
     rw (place, lt-ltb (position_or_len is_set marks) (length marks) (some_set marks some)) refl
 
-pub unit_bit : (place : ℕ) → place < 64 → 0 < 1 * 2 ^ place % 18446744073709551616
-unit_bit place small = rw (shl_whole 1 1 place 64 (omega arith) (omega (arith, small)), one-mul (2 ^ place)) (pow_pos place)
+-- a bit above all others
+pub unit_is : (place : ℕ) → place < 64 → 1 * 2 ^ place % 18446744073709551616 ≡ 2 ^ place
+unit_is place small = shl_whole 1 1 place 64 (omega arith) (omega (arith, small)) ∙ one-mul (2 ^ place)
+
+pub bit_fits : (bits place : ℕ) → bits < 2 ^ place → place < 64 → bits + 2 ^ place < 18446744073709551616
+bit_fits bits place fits small = omega (arith, fits, two-pow-succ place, pow_mono {i = suc place} {j = 64} (omega (arith, small)))
 
 pub length-both : (marks others : List Bool) → length (both marks others) ≤ length marks
 length-both [] others = omega arith

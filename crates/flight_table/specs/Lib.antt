@@ -4,6 +4,7 @@ pub mod Tables
 pub mod Order
 pub mod Work
 pub mod Sums
+pub mod Rows
 pub mod Laws
 pub mod Inside
 pub mod Clients

@@ -1,5 +1,5 @@
 -- Marks at places, as the bits of a number.
-use Rattle.std.specs.Prelude.{ℕ, zero, suc, ◌+◌, ◌*◌, ◌/◌, ◌%◌, ◌==◌, Bool, ◌&&◌, List, [], ◌∷◌, if◌then◌else◌}
+use Rattle.std.specs.Prelude.{ℕ, zero, suc, ◌+◌, ◌*◌, ◌/◌, ◌%◌, ◌^◌, ◌==◌, Bool, ◌&&◌, List, [], ◌∷◌, if◌then◌else◌}
 
 -- the number of which bit k is the mark at place k
 abbrev pub number_of : List Bool → ℕ
@@ -16,3 +16,7 @@ abbrev pub both : List Bool → List Bool → List Bool
 both [] others = []
 both (mark ∷ marks) [] = []
 both (mark ∷ marks) (other ∷ others) = (mark && other) ∷ both marks others
+
+-- a number without the bit at a place; the higher ones move down
+abbrev pub without_bit : ℕ → ℕ → ℕ
+without_bit place bits = bits % 2 ^ place + bits / 2 ^ place / 2 * 2 ^ place

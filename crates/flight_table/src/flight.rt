@@ -17,7 +17,6 @@ use std::marker::Model;
 use tl_messages::Request;
 
 /// The table of live requests. All room is taken by `new`; no other call takes memory.
-#[derive(Drop)]
 pub struct Flight {
     pub(crate) accepted: u64,
     pub(crate) live: Live,
@@ -33,6 +32,16 @@ impl Model for Flight {
     ghost view = { λ f. keyed_of f.accepted f.live };
 
     ghost invariant = { λ f. IsSound (keyed_of f.accepted f.live) };
+}
+
+// Written out, so that what lets go of one calls this, and proves nothing of its parts.
+impl Drop for Flight {
+    fn drop(self) {
+        let Flight {
+            accepted: _,
+            live: _,
+        } = self;
+    }
 }
 
 impl Flight {

@@ -11,6 +11,7 @@ mod ids;
 mod live;
 mod marks;
 mod request;
+mod rows;
 mod scans;
 mod slots;
 mod sums;

@@ -4,7 +4,7 @@ ghost use Rattle.std.specs.List.{AllByRecursion, list_any};
 ghost use Rattle.std.specs.Option.{option_or};
 ghost use Rattle.std.specs.Vec.{vec_len, vec_capacity};
 ghost use Rattle.bus_words.specs.Places.{change_first, without_first};
-ghost use Rattle.flight_table.specs.Inside.{HasOneHolder, IsProgress, MayName, lowered, with_entries};
+ghost use Rattle.flight_table.specs.Inside.{HasOneHolder, IsProgress, MayName, counted_in, lowered_in, with_entries};
 ghost use Rattle.flight_table.specs.LiveRequests.{finished};
 ghost use Rattle.flight_table.specs.Order.{free_id, holds_back, holds_id, may_send};
 ghost use Rattle.flight_table.specs.Tables.{change_entry, has_key, has_number, has_source, is_done_of, is_of, is_undone, key_in, request_in, requests_of};
@@ -16,6 +16,7 @@ use crate::clients::{Clients, OwnRequest};
 use crate::ids::Ids;
 use crate::marks::Marks;
 use crate::request::LiveRequest;
+use crate::rows::Rows;
 use crate::slots::{Key, ROOM, Slots};
 use crate::sums::Sums;
 use std::alloc::{AllocError, Global};
@@ -23,7 +24,7 @@ use std::marker::Model;
 
 /// The live requests by rising number. By its place in this order is kept of each: whether a burst of it is open, that is,
 /// planned, unsent and within the depth; whether it holds an ID besides; and how many others hold it back. By client is kept
-/// which live requests it has.
+/// which live requests it has, and by AXI page which lie in it.
 #[derive(Drop)]
 pub(crate) struct Live {
     pub(crate) limits: TableLimits,
@@ -35,6 +36,7 @@ pub(crate) struct Live {
     named: Marks,
     holders: Vec<u8>,
     unheld: Marks,
+    rows: Rows,
 }
 
 impl Model for Live {
@@ -42,6 +44,7 @@ impl Model for Live {
     ghost use Rattle.std.specs.Vec.{vec_capacity};
     ghost use Rattle.flight_table.specs.Clients.{AreOwned};
     ghost use Rattle.flight_table.specs.Inside.{IsKept, LiveEntries, holders_of_ids};
+    ghost use Rattle.flight_table.specs.Rows.{AreInRows};
     ghost use Rattle.flight_table.specs.Sums.{IsSummed};
     ghost use Rattle.flight_table.specs.Tables.{requests_of};
 
@@ -49,18 +52,39 @@ impl Model for Live {
 
     ghost view = { λ l. record { limits = l.limits; entries = l.slots } };
 
-    ghost invariant = { λ l. IsKept l.limits.depth (requests_of l.slots) l.able l.named l.holders.items l.unheld × (64 ≤ vec_capacity l.holders) × (l.ids ≡ holders_of_ids l.limits.ids l.slots) × IsSummed (requests_of l.slots) l.sums × AreOwned 8 l.slots l.clients };
+    ghost invariant = { λ l. IsKept l.limits.depth (requests_of l.slots) l.able l.named l.holders.items l.unheld × (64 ≤ vec_capacity l.holders) × (l.ids ≡ holders_of_ids l.limits.ids l.slots) × IsSummed (requests_of l.slots) l.sums × AreOwned 8 l.slots l.clients × AreInRows (requests_of l.slots) l.rows };
 }
 
-/// Lowers the count of each request that this one holds back, and marks those that nobody holds back any more.
-fn lower(slots: &Slots, request: &LiveRequest, holders: &mut Vec<u8>, unheld: &mut Marks)
+/// How many of the requests at the marked places hold back this one.
+fn count_in(slots: &Slots, request: &LiveRequest, mut row: Marks) -> u8
+    requires places { length row ≡ length (requests_of slots.now) }
+    requires few { length (requests_of slots.now) ≤ 64 }
+    ensures { result ≡ counted_in row request.now (requests_of slots.now) }
+{
+    let mut count = 0u8;
+    while let Some(place) = row.take_first() {
+        count += u8::from(slots.at(place).holds_back(request));
+    }
+    count
+}
+
+/// Lowers the count of each request at a marked place that this one holds back, and marks those that nobody holds back any
+/// more.
+fn lower(
+    slots: &Slots,
+    request: &LiveRequest,
+    mut row: Marks,
+    holders: &mut Vec<u8>,
+    unheld: &mut Marks,
+)
+    requires places { length row ≡ length (requests_of slots.now) }
     requires holders { vec_len holders.old ≡ length (requests_of slots.now) }
     requires unheld { unheld.old ≡ map (λ count. count == 0) holders.old.items }
-    ensures holders { holders.new.items ≡ lowered request.now (requests_of slots.now) holders.old.items }
+    ensures holders { holders.new.items ≡ lowered_in row request.now (requests_of slots.now) holders.old.items }
     ensures unheld { unheld.new ≡ map (λ count. count == 0) holders.new.items }
     ensures capacity { vec_capacity holders.new ≡ vec_capacity holders.old }
 {
-    for place in 0..holders.len() {
+    while let Some(place) = row.take_first() {
         let held = request.holds_back(&slots.at(place));
         holders[place] = holders[place].saturating_sub(u8::from(held));
         unheld.put(place, holders[place] == 0);
@@ -77,6 +101,7 @@ impl Live {
         let clients = Clients::new(alloc)?;
         let ids = Ids::new(alloc, limits.ids)?;
         let holders = Vec::with_capacity(alloc, ROOM)?;
+        let rows = Rows::new(alloc)?;
         Ok(Live {
             limits,
             slots,
@@ -87,6 +112,7 @@ impl Live {
             named: Marks::new(),
             holders,
             unheld: Marks::new(),
+            rows,
         })
     }
 
@@ -102,10 +128,14 @@ impl Live {
         ensures keys { HaveOwnKeys self.new.entries }
     {
         let able = request.is_open(self.limits.depth);
-        let holders = self.slots.count_holders(&request);
+        let page = request.page();
+        let place = self.slots.count();
+        let row = self.rows.row(page, place);
+        let holders = count_in(&self.slots, &request, row);
+        self.rows.add(page, place);
         self.able.push(able);
         self.named.push(request.is_named(able));
-        self.holders.push_reserved(holders as u8);
+        self.holders.push_reserved(holders);
         self.unheld.push(holders == 0);
         self.sums = self.sums.with(&request);
         let key = self.slots.add(request);
@@ -155,7 +185,14 @@ impl Live {
         let done = request.finished();
         self.able.put(place, false);
         self.named.put(place, false);
-        lower(&self.slots, &request, &mut self.holders, &mut self.unheld);
+        let row = self.rows.row(request.page(), self.slots.count());
+        lower(
+            &self.slots,
+            &request,
+            row,
+            &mut self.holders,
+            &mut self.unheld,
+        );
         self.ids.rename(key, request.id, None);
         self.sums = self.sums.without(&request).with(&done);
         self.clients.finish(request.client, key);
@@ -176,6 +213,7 @@ impl Live {
         self.named.remove(place);
         self.holders.remove(place);
         self.unheld.remove(place);
+        self.rows.remove(place);
         self.slots.remove(key);
         self.clients.remove(request.client, key);
     }

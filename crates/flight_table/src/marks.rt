@@ -1,7 +1,7 @@
 //! Marks at places, as the bits of a word.
-ghost use Rattle.std.specs.Prelude.{◌≡◌, ◌<◌, ◌≤◌, Bool, ◌&&◌, true, false, List, [], ◌∷◌, ◌++◌, length, None, IfSome, position, replicate, slice_set};
+ghost use Rattle.std.specs.Prelude.{◌≡◌, ◌<◌, ◌≤◌, ◌^◌, Bool, ◌&&◌, true, false, List, [], ◌∷◌, ◌++◌, length, None, IfSome, position, replicate, slice_set};
 ghost use Rattle.std.specs.List.{remove};
-ghost use Rattle.flight_table.specs.Marks.{both, number_of};
+ghost use Rattle.flight_table.specs.Marks.{both, marks_of, number_of, without_bit};
 
 use std::marker::Model;
 
@@ -31,6 +31,18 @@ impl Marks {
         Marks { count: 0, bits: 0 }
     }
 
+    /// The marks that the lowest bits of a word are.
+    pub(crate) fn of(bits: u64, count: usize) -> Self
+        requires few { count ≤ 64 }
+        requires fits { bits < 2 ^ count }
+        ensures { result ≡ marks_of count bits }
+    {
+        Marks {
+            count: count as u32,
+            bits,
+        }
+    }
+
     /// One more mark, at the next place.
     pub(crate) fn push(&mut self, mark: bool)
         requires { length self.old < 64 }
@@ -54,9 +66,7 @@ impl Marks {
         requires { place < length self.old }
         ensures { self.new ≡ remove self.old place }
     {
-        let low = self.bits % (1u64 << place);
-        let high = (self.bits >> place) / 2;
-        self.bits = low + (high << place);
+        self.bits = without_bit(self.bits, place);
         self.count -= 1;
     }
 
@@ -67,6 +77,18 @@ impl Marks {
         first_bit(self.bits)
     }
 
+    /// The first place that is marked, which is unmarked from here on.
+    pub(crate) fn take_first(&mut self) -> Option<usize>
+        ensures first { result ≡ position (λ mark. mark) self.old }
+        ensures rest { IfSome result (λ place. self.new ≡ slice_set self.old place false) }
+    {
+        let Some(place) = first_bit(self.bits) else {
+            return None;
+        };
+        self.bits -= 1u64 << place;
+        Some(place)
+    }
+
     /// The first place that is marked here and there.
     pub(crate) fn first_common(&self, other: &Marks) -> Option<usize>
         requires { length self.now ≡ length other.now }
@@ -74,6 +96,16 @@ impl Marks {
     {
         first_bit(self.bits & other.bits)
     }
+}
+
+/// A word without the bit at a place; the higher ones move down.
+pub(crate) fn without_bit(bits: u64, place: usize) -> u64
+    requires { place < 64 }
+    ensures { result ≡ without_bit place bits }
+{
+    let low = bits % (1u64 << place);
+    let high = (bits >> place) / 2;
+    low + (high << place)
 }
 
 /// The place of the first bit that is set.

@@ -1,10 +1,11 @@
 //! One live request.
-ghost use Rattle.std.specs.Prelude.{◌≡◌, ◌↔◌, ◌&&◌, ◌+◌, ◌<◌, ◌≤◌, IsTrue, Some, drop, is_some, length, slice_get, sum_by};
+ghost use Rattle.std.specs.Prelude.{◌≡◌, ◌↔◌, ◌&&◌, ◌+◌, ◌<◌, ◌≤◌, IfSome, IsTrue, Some, drop, is_some, length, slice_get, sum_by};
 ghost use Rattle.flight_table.specs.LiveRequests.{awaits_write, finished, flight_for, is_atomic, is_settled, next_burst, pieces_planned, plan_for, planned, read_pieces, unanswered, whole_course, with_answered, with_sent, with_write, write_pieces};
 ghost use Rattle.flight_table.specs.Inside.{is_open};
 ghost use Rattle.flight_table.specs.Order.{HaveCommonAddress, conflict, holds_back, share_bytes};
 ghost use Rattle.std.specs.List.{AllByRecursion};
-ghost use Rattle.burst_plan.specs.Pieces.{range_end};
+ghost use Rattle.burst_plan.specs.Pieces.{IsPlannable, range_end};
+ghost use Rattle.flight_table.specs.Rows.{page_of};
 ghost use Rattle.flight_table.specs.Work.{answers_of_burst, beats_of_burst, unsent_work, work_of};
 
 use burst_plan::{Piece, Plan};
@@ -106,6 +107,20 @@ impl LiveRequest {
             answered: 0,
             writing: false,
             done: plan.is_none(),
+        }
+    }
+
+    /// The AXI page in which its range lies; none where it sends nothing.
+    pub(crate) fn page(&self) -> Option<u32>
+        ensures page { result ≡ page_of self.now.plan }
+        ensures range { IfSome self.now.plan IsPlannable }
+    {
+        match &self.plan {
+            Some(plan) => {
+                prove!(plan.bus_bytes() <= 8);
+                Some(plan.address() / 4096)
+            }
+            None => None,
         }
     }
 

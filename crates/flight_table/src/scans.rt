@@ -1,7 +1,6 @@
 //! Scans of the live requests in the order of their keys.
-ghost use Rattle.std.specs.Prelude.{◌≡◌, ℕ, ◌<◌, Bool, IfSome, position, filter, find, length};
+ghost use Rattle.std.specs.Prelude.{◌≡◌, ℕ, ◌<◌, Bool, IfSome, position, find, length};
 ghost use Rattle.flight_table.specs.Inside.{stored};
-ghost use Rattle.flight_table.specs.Order.{holds_back};
 ghost use Rattle.flight_table.specs.Tables.{has_number};
 
 use crate::request::LiveRequest;
@@ -28,20 +27,6 @@ pub(crate) fn stored(requests: &Slab<LiveRequest>, key: Key) -> LiveRequest
             done: false,
         },
     }
-}
-
-/// How many requests hold back this one.
-pub(crate) fn count_holders(
-    requests: &Slab<LiveRequest>,
-    order: &[Key],
-    request: &LiveRequest,
-) -> usize
-    ensures { result ≡ length (filter (λ k. holds_back request.now (stored requests.now k)) order.now) }
-{
-    order
-        .iter()
-        .filter(|key| stored(requests, **key).holds_back(request))
-        .count()
 }
 
 /// The key at a place, where there is one.

@@ -1,14 +1,13 @@
 //! The live requests in a slab, and their keys by rising number.
-ghost use Rattle.std.specs.Prelude.{◌≡◌, ◌==◌, ◌<◌, ◌≤◌, Bool, [], ◌∷◌, ◌++◌, Some, None, IfOk, IfSome, IsSome, length, filter, position, slice_index_or};
+ghost use Rattle.std.specs.Prelude.{◌≡◌, ◌==◌, ◌<◌, ◌≤◌, Bool, [], ◌∷◌, ◌++◌, Some, None, IfOk, IfSome, IsSome, length, position, slice_index_or};
 ghost use Rattle.flight_table.specs.LiveRequests.{LiveRequest};
 ghost use Rattle.std.specs.Vec.{vec_len, vec_capacity};
 ghost use Rattle.bus_words.specs.Places.{change_first, without_first};
-ghost use Rattle.flight_table.specs.Order.{holds_back};
 ghost use Rattle.flight_table.specs.Tables.{change_entry, has_key, has_number, key_in, request_in, requests_of};
 ghost use Rattle.flight_table.specs.Laws.{HaveOwnKeys};
 
 use crate::request::LiveRequest;
-use crate::scans::{count_holders, key_at, of_number, stored};
+use crate::scans::{key_at, of_number, stored};
 use slab::Slab;
 use std::alloc::{AllocError, Global};
 use std::marker::Model;
@@ -110,6 +109,14 @@ impl Slots {
         key
     }
 
+    /// How many requests are live.
+    pub(crate) fn count(&self) -> usize
+        ensures count { result ≡ length (requests_of self.now) }
+        ensures few { result ≤ 64 }
+    {
+        self.order.len()
+    }
+
     /// The request of a key.
     pub(crate) fn get(&self, key: Key) -> LiveRequest
         requires { IsSome (request_in key self.now) }
@@ -162,14 +169,6 @@ impl Slots {
     {
         take_out(&mut self.order, key);
         self.requests.try_remove(key.slot);
-    }
-
-    /// How many live requests hold back this one.
-    pub(crate) fn count_holders(&self, request: &LiveRequest) -> usize
-        ensures count { result ≡ length (filter (holds_back request.now) (requests_of self.now)) }
-        ensures bound { result ≤ 64 }
-    {
-        count_holders(&self.requests, &self.order, request)
     }
 
     /// The key of the request with this number.

@@ -39,7 +39,8 @@ fn draw_byte(word: &mut u64, count: u8) -> u8 {
     u8::try_from(draw(word, u64::from(count))).unwrap_or(0)
 }
 
-/// A request of a client within two pages, of which half the small ones lie in the same 64 bytes; one in eight has no plan.
+/// A request of a client, of which a third lie in two pages, a third of the small ones in the same 64 bytes, and the others
+/// anywhere in 80 pages; one in eight has no plan.
 fn draw_request(word: &mut u64, clients: u8, max_len: u16, bus_bytes: u8) -> Asked {
     let opcode = draw_byte(word, 6);
     let is_small = matches!(opcode, 2 | 3) || draw(word, 2) == 0;
@@ -48,10 +49,10 @@ fn draw_request(word: &mut u64, clients: u8, max_len: u16, bus_bytes: u8) -> Ask
     } else {
         draw_byte(word, 13)
     };
-    let room = if is_small && draw(word, 2) == 0 {
-        64
-    } else {
-        8192
+    let room = match draw(word, 3) {
+        0 if is_small => 64,
+        1 => 8192,
+        _ => 327_680,
     };
     let place = draw(word, room);
     let start = place.saturating_sub(place % (1u64 << (size % 64)));

@@ -1,12 +1,18 @@
-use Rattle.std.proofs.Common.{◌≡◌, ◌==◌, map}
+use Rattle.std.proofs.Common.{◌≡◌, ◌==◌, length, map}
 use Rattle.std.specs.Vec.{vec_capacity}
+use Rattle.flight_table.specs.Inside.{lowered_in}
+use Rattle.flight_table.specs.Marks.{number_of}
 use Rattle.flight_table.specs.Tables.{requests_of}
-use Rattle.flight_table.proofs.Lowered.{lowered_to}
 use Rattle.flight_table.proofs.live.lower.Given as goal
 
 abbrev pub invariant-loop-place : goal.invariant-loop-place
 invariant-loop-place l = record {
-  counts : l.holders.items ≡ lowered_to l.place l.request (requests_of l.slots) l.initial.holders.items;
+  places : length l.row ≡ length (requests_of l.slots);
+  counts : lowered_in l.row l.request (requests_of l.slots) l.holders.items ≡ lowered_in l.initial.row l.request (requests_of l.slots) l.initial.holders.items;
+  many : length l.holders.items ≡ length (requests_of l.slots);
   marks : l.unheld ≡ map (λ count. count == 0) l.holders.items;
   capacity : vec_capacity l.holders ≡ vec_capacity l.initial.holders;
 }
+
+abbrev pub decreases-loop-place : goal.decreases-loop-place
+decreases-loop-place l = number_of l.row

@@ -11,8 +11,15 @@ use Rattle.flight_table.proofs.KeyLaws.{request_listed}
 use Rattle.flight_table.proofs.HeldIds.{gives_back, ids_finish, length_holders}
 use Rattle.flight_table.specs.Sums.{IsSmall}
 use Rattle.flight_table.proofs.SumLaws.{all_set, are_part, are_small, less_small, sums_set}
-use Rattle.flight_table.proofs.Kept.{kept_finish, named_with, placed, requests_changed}
+use Rattle.flight_table.proofs.Kept.{kept_finish, length_kept, named_with, placed, requests_changed}
+use Rattle.flight_table.proofs.RowLaws.{length_row, row_fits, row_lowered, rows_set}
 use Rattle.flight_table.proofs.live.Live.finish.Goals as goal
+
+pub row-row-requires-clause-fits : goal.row-row-requires-clause-fits
+row-row-requires-clause-fits c = row_fits c.page.result c.count.result (requests_of c.self.inside.slots) c.self.inside.rows c.self.invariant.5 c.count.ensures.count
+
+pub lower-requires-clause-places : goal.lower-requires-clause-places
+lower-requires-clause-places c = length_row (requests_of c.self.inside.slots) c.self.inside.rows c.row-row.result c.page.result c.count.result c.self.invariant.5 c.count.ensures.count c.row-row.ensures.row
 
 entries : (c : goal.After-set) → c.set.new.self ≡ change_first (has_key c.args.key) (change_entry finished) c.self.inside.slots
 entries c = c.set.ensures.entries ∙ change-constant finished c.args.key c.self.inside.slots c.get-request.result c.finished-done.result c.get-request.ensures.request c.finished-done.ensures
@@ -54,9 +61,11 @@ invariant_of-self c =
     let place = c.place_of-place.result in
     let at = placed c.args.key i.slots place r c.place_of-place.ensures.place c.get-request.ensures.request in
     let after = ap requests_of c.set.ensures.entries ∙ requests_changed (λ o. c.finished-done.result) c.args.key i.slots place r at in
+    let as_many = length_kept i.limits.depth (requests_of i.slots) i.able i.named i.holders.items i.unheld c.self.invariant.0 in
+    let less = row_lowered r (requests_of i.slots) i.rows c.row-row.result i.holders.items c.page.result c.count.result c.self.invariant.5 c.page.ensures.range c.count.ensures.count as_many c.page.ensures.page c.row-row.ensures.row in
     let room : 64 ≤ vec_capacity c.lower.new.holders = omega (arith, c.self.invariant.1, c.lower.ensures.capacity) in (
       rw (after, c.finished-done.ensures, c.put.ensures, c.put-2.ensures, c.lower.ensures.unheld)
-          (kept_finish i.limits.depth (requests_of i.slots) place r i.able i.named i.holders.items i.unheld c.self.invariant.0 at.within (at.there r) c.lower.new.holders.items c.lower.ensures.holders),
+          (kept_finish i.limits.depth (requests_of i.slots) place r i.able i.named i.holders.items i.unheld c.self.invariant.0 at.within (at.there r) c.lower.new.holders.items (c.lower.ensures.holders ∙ less)),
       room,
       rw (c.rename.ensures, c.self.invariant.2, c.set.ensures.entries, ap (λ (q : LiveRequest). q.id) c.request.view_is)
           (sym (ids_finish i.limits.ids c.args.key place i.slots r c.finished-done.result r.id c.get-request.ensures.request at refl (ap (λ (q : LiveRequest). q.id) c.finished-done.ensures) one)),
@@ -69,6 +78,7 @@ invariant_of-self c =
       kept_finished 8 _ i.slots c.set.new.self i.clients c.finish.new.self c.args.key r c.finished-done.result c.self.invariant.4 c.get-request.ensures.request
           (request_listed (λ q. q.client < 8) c.args.key i.slots r c.self.invariant.4.few c.get-request.ensures.request) (ap (λ (q : LiveRequest). q.client) c.request.view_is) c.finished-done.ensures c.set.ensures.entries
           c.finish.ensures,
+      rw after (rows_set (requests_of i.slots) place r c.finished-done.result i.rows c.self.invariant.5 (at.there r) (ap (λ (q : LiveRequest). q.plan) c.finished-done.ensures) c.page.ensures.range),
     )
 
 pub returns-clause-table : goal.returns-clause-table

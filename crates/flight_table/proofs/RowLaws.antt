@@ -1,0 +1,352 @@
+-- The rows of the pages, through each change of the live requests.
+use Rattle.std.proofs.Common.{◌≡◌, ◌≢◌, ℕ, zero, suc, ◌+◌, ◌*◌, ◌/◌, ◌^◌, ◌==◌, ◌<◌, ◌≤◌, Bool, true, false, ◌&&◌, ◌||◌, not, nat_lt, add-one, List, [], ◌∷◌, ◌++◌, map, length, get_or, set, Option, Some, None, refl, ap, sym, ◌∙◌, arith}
+use Rattle.std.specs.Prelude.{IfSome, if◌then◌else◌}
+use Rattle.std.specs.List.{AllByRecursion, filter, find, list_any, position, remove}
+use Rattle.std.proofs.lemmas.Bool.{and_parts, eq-eqb, eqb-true, ltb-true}
+use Rattle.std.proofs.lemmas.List.{map-set, map_push, set-get_or}
+use native.Mathlib.Nat.{zero-div}
+use Rattle.bus_words.proofs.FirstPlaces.{find-first, find-none, position_is_first}
+use Rattle.bus_words.proofs.PlaceChanges.{all-append}
+use Rattle.burst_plan.specs.Pieces.{IsPlannable, PlannedRange, range_end}
+use Rattle.burst_plan.proofs.PieceLaws.{range_in_page}
+use Rattle.flight_table.specs.Laws.{AreDistinct}
+use Rattle.flight_table.specs.LiveRequests.{LiveRequest}
+use Rattle.flight_table.specs.Marks.{marks_of, number_of, without_bit}
+use Rattle.flight_table.specs.Order.{conflict, holds_back, is_get, ranges_meet, share_bytes}
+use Rattle.flight_table.specs.Rows.{AreInRows, bits_in, bits_of, bits_on, cut, has_page, is_on, is_vacant, lies_in, page_of}
+use Rattle.flight_table.specs.declared.rows.Row.{Row}
+use Rattle.flight_table.specs.Inside.{count_holders, counted_in, lowered, lowered_in}
+use Rattle.flight_table.proofs.Kept.{each}
+use Rattle.flight_table.proofs.Lowered.{counted_all, lowered_all}
+use Rattle.flight_table.proofs.MarkLaws.{as_marks, below, pushed, removed_is}
+use Rattle.flight_table.proofs.PlaceLaws.{length_map, map-remove}
+use Rattle.flight_table.proofs.SlabScans.{few_pass}
+use Rattle.flight_table.proofs.SumLaws.{all_remove, all_set}
+
+abbrev pub pages_of : List Row → List ℕ
+pages_of rows = map (λ row. row.page) rows
+
+abbrev pub AreOthers : ℕ → List ℕ → Type 0
+AreOthers page pages = AllByRecursion (λ other. other ≢ page) pages
+
+abbrev pub HasPlan : LiveRequest → Type 0
+HasPlan request = IfSome request.plan IsPlannable
+
+-- ---- requests that conflict lie in one page
+
+same_page : (a b : PlannedRange) → IsPlannable a → IsPlannable b → ranges_meet a b ≡ true → a.address / 4096 ≡ b.address / 4096
+same_page a b in_a in_b meet =
+    let parts = and_parts (nat_lt a.address (range_end b)) (nat_lt b.address (range_end a)) meet in
+    let page_a = range_in_page a in_a in
+    let page_b = range_in_page b in_b in
+    omega (arith, ltb-true a.address (range_end b) parts.0, ltb-true b.address (range_end a) parts.1, page_a.0, page_a.1, page_b.0, page_b.1)
+
+page_met : (a b : Option PlannedRange) → IfSome a IsPlannable → IfSome b IsPlannable → share_bytes a b ≡ true → (lies_in (page_of a) (page_of b) ≡ true) × (lies_in (page_of b) (page_of a) ≡ true)
+page_met None b in_a in_b meet = absurd (cc (meet))
+page_met (Some a) None in_a in_b meet = absurd (cc (meet))
+page_met (Some a) (Some b) in_a in_b meet =
+    let same = same_page a b in_a in_b meet in
+    (eq-eqb (b.address / 4096) (a.address / 4096) (sym same), eq-eqb (a.address / 4096) (b.address / 4096) same)
+
+shared : (later earlier : LiveRequest) → holds_back later earlier ≡ true → share_bytes earlier.plan later.plan ≡ true
+shared later earlier holds =
+    let both = and_parts (nat_lt earlier.number later.number && not earlier.done) (conflict earlier later) holds in
+    (and_parts (share_bytes earlier.plan later.plan) (not (is_get earlier.operation && is_get later.operation)) both.1).0
+
+-- those that hold back a request lie in its page
+pub holders_on : (r : LiveRequest) (live : List LiveRequest) → HasPlan r → AllByRecursion HasPlan live → AllByRecursion (λ x. holds_back r x ≡ true → is_on (page_of r.plan) x ≡ true) live
+holders_on r live own plans = each HasPlan (λ x. holds_back r x ≡ true → is_on (page_of r.plan) x ≡ true) live (λ x plan holds. (page_met x.plan r.plan plan own (shared r x holds)).1) plans
+
+-- and so do those that it holds back
+pub held_on : (r : LiveRequest) (live : List LiveRequest) → HasPlan r → AllByRecursion HasPlan live → AllByRecursion (λ x. holds_back x r ≡ true → is_on (page_of r.plan) x ≡ true) live
+held_on r live own plans = each HasPlan (λ x. holds_back x r ≡ true → is_on (page_of r.plan) x ≡ true) live (λ x plan holds. (page_met r.plan x.plan own plan (shared x r holds)).0) plans
+
+-- ---- the row of a page
+
+none_on : (live : List LiveRequest) → bits_on None live ≡ 0
+none_on [] = refl
+none_on (x ∷ live) = rw (none_on live) refl
+
+row_bits : (page : Option ℕ) (live : List LiveRequest) (rows : List Row) → AreInRows live rows → bits_in page rows ≡ bits_on page live
+row_bits None live rows kept = sym (none_on live)
+row_bits (Some page) live rows kept = kept.pages page
+
+pub row_marks : (page : Option ℕ) (count : ℕ) (live : List LiveRequest) (rows : List Row) → AreInRows live rows → count ≡ length live → marks_of count (bits_in page rows) ≡ map (is_on page) live
+row_marks page count live rows kept many = as_marks count (bits_in page rows) (map (is_on page) live) (many ∙ sym (length_map (is_on page) live)) (row_bits page live rows kept)
+
+pub row_fits : (page : Option ℕ) (count : ℕ) (live : List LiveRequest) (rows : List Row) → AreInRows live rows → count ≡ length live → bits_in page rows < 2 ^ count
+row_fits page count live rows kept many = rw (row_bits page live rows kept, many, ← length_map (is_on page) live) (below (map (is_on page) live))
+
+pub found_bits : (page : ℕ) (rows : List Row) (row : Row) → find (has_page page) rows ≡ Some row → row.places ≡ bits_of page rows
+found_bits page [] row found = absurd (cc (found))
+found_bits page (x ∷ rows) row found = by_test (x.page == page) found (found_bits page rows row)
+  where
+    by_test : (b : Bool) → (if b then Some x else find (has_page page) rows) ≡ Some row → (find (has_page page) rows ≡ Some row → row.places ≡ bits_of page rows) → row.places ≡ (if b then x.places else bits_of page rows)
+    by_test true here rest = let same : x ≡ row = cc in ap (λ (o : Row). o.places) (sym same)
+    by_test false later rest = rest later
+
+pub no_bits : (page : ℕ) (rows : List Row) → find (has_page page) rows ≡ None → bits_of page rows ≡ 0
+no_bits page [] none = refl
+no_bits page (x ∷ rows) none = by_test (x.page == page) none (no_bits page rows)
+  where
+    by_test : (b : Bool) → (if b then Some x else find (has_page page) rows) ≡ None → (find (has_page page) rows ≡ None → bits_of page rows ≡ 0) → (if b then x.places else bits_of page rows) ≡ 0
+    by_test true none rest = absurd (cc (none))
+    by_test false none rest = rest none
+
+pub bits_at : (page : ℕ) (rows : List Row) (k : ℕ) (row : Row) → position (has_page page) rows ≡ Some k → row ≡ get_or rows k row → row.places ≡ bits_of page rows
+bits_at page rows k row at is = found_bits page rows row (find-first (has_page page) rows k row (position_is_first (has_page page) rows k at) ∙ ap (λ (o : Row). Some o) (sym is))
+
+pub bits_absent : (page : ℕ) (rows : List Row) → position (has_page page) rows ≡ None → 0 ≡ bits_of page rows
+bits_absent page rows none = sym (no_bits page rows (find-none (has_page page) rows none))
+
+-- ---- the walks over the row of a request
+
+pub row_counted : (r : LiveRequest) (live : List LiveRequest) (rows : List Row) (row : List Bool) (page : Option ℕ) (count : ℕ) → AreInRows live rows → HasPlan r → count ≡ length live → page ≡ page_of r.plan
+    → row ≡ marks_of count (bits_in page rows) → counted_in row r live ≡ count_holders live r
+row_counted r live rows row page count kept plan many own is =
+    rw (is, row_marks page count live rows kept many, own) (counted_all (page_of r.plan) r live (holders_on r live plan kept.ranges))
+
+pub row_lowered : (r : LiveRequest) (live : List LiveRequest) (rows : List Row) (row : List Bool) (counts : List ℕ) (page : Option ℕ) (count : ℕ) → AreInRows live rows → HasPlan r → count ≡ length live
+    → length counts ≡ length live → page ≡ page_of r.plan → row ≡ marks_of count (bits_in page rows) → lowered_in row r live counts ≡ lowered r live counts
+row_lowered r live rows row counts page count kept plan many as_many own is =
+    rw (is, row_marks page count live rows kept many, own) (lowered_all (page_of r.plan) r live counts as_many (held_on r live plan kept.ranges))
+
+pub length_row : (live : List LiveRequest) (rows : List Row) (row : List Bool) (page : Option ℕ) (count : ℕ) → AreInRows live rows → count ≡ length live → row ≡ marks_of count (bits_in page rows) → length row ≡ length live
+length_row live rows row page count kept many is = rw (is, row_marks page count live rows kept many) (length_map (is_on page) live)
+
+-- ---- one more
+
+pub rows_add : (live : List LiveRequest) (r : LiveRequest) (rows after : List Row) → AreInRows live rows → HasPlan r
+    → ((other : ℕ) → bits_of other after ≡ bits_of other rows + (if lies_in (Some other) (page_of r.plan) then 2 ^ length live else 0)) → AreInRows (live ++ r ∷ []) after
+rows_add live r rows after kept plan more =
+    record {
+      pages = λ page. more page ∙ ap (λ n. n + (if is_on (Some page) r then 2 ^ length live else 0)) (kept.pages page) ∙ sym (ap number_of (map_push (is_on (Some page)) live r) ∙ pushed (map (is_on (Some page)) live) (is_on (Some page) r) ∙ by_test page (is_on (Some page) r));
+      ranges = all-append HasPlan live r kept.ranges plan;
+    }
+  where
+    by_test : (page : ℕ) (b : Bool) → bits_on (Some page) live + (if b then 1 else 0) * 2 ^ length (map (is_on (Some page)) live) ≡ bits_on (Some page) live + (if b then 2 ^ length live else 0)
+    by_test page true = rw (length_map (is_on (Some page)) live) (omega arith)
+    by_test page false = omega arith
+
+-- ---- another with the same plan in its place
+
+pub rows_set : (live : List LiveRequest) (place : ℕ) (old new : LiveRequest) (rows : List Row) → AreInRows live rows → get_or live place old ≡ old → new.plan ≡ old.plan → HasPlan old → AreInRows (set live place new) rows
+rows_set live place old new rows kept there same plan =
+    record {
+      pages = λ page. kept.pages page ∙ sym (ap number_of (stays (is_on (Some page)) (ap (λ p. lies_in (Some page) (page_of p)) same)));
+      ranges = all_set HasPlan live place new kept.ranges (rw same plan);
+    }
+  where
+    stays : (q : LiveRequest → Bool) → q new ≡ q old → map q (set live place new) ≡ map q live
+    stays q is = map-set q live place new ∙ ap (set (map q live) place) is ∙ sym (map-set q live place old) ∙ ap (map q) (ap (set live place) (sym there) ∙ set-get_or live place old)
+
+-- ---- one less
+
+no_bit : (place : ℕ) → without_bit place 0 ≡ 0
+no_bit place = rw (zero-div (2 ^ place)) (omega arith)
+
+bits_cut : (place page : ℕ) (rows : List Row) → bits_of page (map (cut place) rows) ≡ without_bit place (bits_of page rows)
+bits_cut place page [] = sym (no_bit place)
+bits_cut place page (row ∷ rows) = by_test (row.page == page) (bits_cut place page rows)
+  where
+    by_test : (b : Bool) → bits_of page (map (cut place) rows) ≡ without_bit place (bits_of page rows)
+        → (if b then without_bit place row.places else bits_of page (map (cut place) rows)) ≡ without_bit place (if b then row.places else bits_of page rows)
+    by_test true rest = refl
+    by_test false rest = rest
+
+-- so many rows, the first ones, cut
+abbrev pub cut_to : ℕ → ℕ → List Row → List Row
+cut_to zero place rows = rows
+cut_to (suc n) place [] = []
+cut_to (suc n) place (row ∷ rows) = cut place row ∷ cut_to n place rows
+
+cut_one : (n place : ℕ) (rows : List Row) (row : Row) → n < length rows → row ≡ get_or (cut_to n place rows) n row → set (cut_to n place rows) n (cut place row) ≡ cut_to (suc n) place rows
+cut_one n place [] row within is = absurd (omega (arith, within))
+cut_one zero place (x ∷ rows) row within is = ap (λ (o : Row). cut place o ∷ rows) is
+cut_one (suc n) place (x ∷ rows) row within is = ap (λ (os : List Row). cut place x ∷ os) (cut_one n place rows row (omega (arith, within)) is)
+
+pub cut_next : (n place : ℕ) (rows now : List Row) (row : Row) → now ≡ cut_to n place rows → n < length rows → row ≡ get_or now n row → set now n (cut place row) ≡ cut_to (n + 1) place rows
+cut_next n place rows now row so_far within is =
+    rw (so_far, add-one n) (cut_one n place rows row within (rw so_far at is))
+
+pub cut_all : (n place : ℕ) (rows : List Row) → length rows ≤ n → cut_to n place rows ≡ map (cut place) rows
+cut_all zero place [] all = refl
+cut_all zero place (row ∷ rows) all = absurd (omega (arith, all))
+cut_all (suc n) place [] all = refl
+cut_all (suc n) place (row ∷ rows) all = ap (λ (os : List Row). cut place row ∷ os) (cut_all n place rows (omega (arith, all)))
+
+pub rows_remove : (live : List LiveRequest) (place : ℕ) (rows : List Row) → AreInRows live rows → place < length live → AreInRows (remove live place) (map (cut place) rows)
+rows_remove live place rows kept within =
+    record {
+      pages = λ page. bits_cut place page rows ∙ ap (without_bit place) (kept.pages page) ∙ sym (ap number_of (map-remove (is_on (Some page)) live place) ∙ removed_is (map (is_on (Some page)) live) place (rw (length_map (is_on (Some page)) live) within));
+      ranges = all_remove HasPlan live place kept.ranges;
+    }
+
+pub pages_cut : (place : ℕ) (rows : List Row) → pages_of (map (cut place) rows) ≡ pages_of rows
+pages_cut place [] = refl
+pages_cut place (row ∷ rows) = ap (λ pages. row.page ∷ pages) (pages_cut place rows)
+
+-- ---- another row in its place
+
+pub at_page : (P : ℕ → Type 0) (rows : List Row) (k : ℕ) (d : Row) → AllByRecursion P (pages_of rows) → k < length rows → P (get_or rows k d).page
+at_page P [] k d all within = absurd (omega (arith, within))
+at_page P (row ∷ rows) zero d all within = all.0
+at_page P (row ∷ rows) (suc k) d all within = at_page P rows k d all.1 (omega (arith, within))
+
+-- more places of the page whose row it is
+pub bits_more : (rows : List Row) (k page more other : ℕ) (row : Row) → AreDistinct (pages_of rows) → k < length rows → row ≡ get_or rows k row → row.page ≡ page
+    → bits_of other (set rows k (record { page = row.page; places = row.places + more })) ≡ bits_of other rows + (if page == other then more else 0)
+bits_more [] k page more other row distinct within is own = absurd (omega (arith, within))
+bits_more (x ∷ rows) zero page more other row distinct within is own = rw (← own, is) (by_test (x.page == other))
+  where
+    by_test : (b : Bool) → (if b then x.places + more else bits_of other rows) ≡ (if b then x.places else bits_of other rows) + (if b then more else 0)
+    by_test true = refl
+    by_test false = omega arith
+bits_more (x ∷ rows) (suc k) page more other row distinct within is own = by_test (x.page == other) refl (bits_more rows k page more other row distinct.1 (omega (arith, within)) is own)
+  where
+    differ : page ≢ x.page
+    differ same = at_page (λ m. m ≢ x.page) rows k row distinct.0 (omega (arith, within)) (ap (λ (o : Row). o.page) (sym is) ∙ own ∙ same)
+
+    apart : x.page ≡ other → (page == other) ≡ false
+    apart same = grind (arith, differ, same)
+
+    by_test : (b : Bool) → (x.page == other) ≡ b → bits_of other (set rows k (record { page = row.page; places = row.places + more })) ≡ bits_of other rows + (if page == other then more else 0)
+        → (if b then x.places else bits_of other (set rows k (record { page = row.page; places = row.places + more }))) ≡ (if b then x.places else bits_of other rows) + (if page == other then more else 0)
+    by_test true this rest = rw (apart (eqb-true x.page other this)) (omega arith)
+    by_test false this rest = rest
+
+pub bits_here : (rows : List Row) (k page : ℕ) (row : Row) → AreDistinct (pages_of rows) → k < length rows → row ≡ get_or rows k row → row.page ≡ page → row.places ≡ bits_of page rows
+bits_here [] k page row distinct within is own = absurd (omega (arith, within))
+bits_here (x ∷ rows) zero page row distinct within is own = rw (← own, is, eq-eqb x.page x.page refl) refl
+bits_here (x ∷ rows) (suc k) page row distinct within is own =
+    let differ : row.page ≢ x.page = rw (← is) at (at_page (λ m. m ≢ x.page) rows k row distinct.0 (omega (arith, within))) in
+    rw (skip differ) (bits_here rows k page row distinct.1 (omega (arith, within)) is own)
+  where
+    skip : row.page ≢ x.page → (x.page == page) ≡ false
+    skip differ = grind (arith, differ, own)
+
+pub same_pages : (rows : List Row) (k places : ℕ) (row : Row) → row ≡ get_or rows k row → pages_of (set rows k (record { page = row.page; places = places })) ≡ pages_of rows
+same_pages [] k places row is = refl
+same_pages (x ∷ rows) zero places row is = ap (λ (o : Row). o.page ∷ pages_of rows) is
+same_pages (x ∷ rows) (suc k) places row is = ap (λ pages. x.page ∷ pages) (same_pages rows k places row is)
+
+no_row : (page : ℕ) (rows : List Row) → AreOthers page (pages_of rows) → bits_of page rows ≡ 0
+no_row page [] others = refl
+no_row page (row ∷ rows) others = rw (not_it row.page others.0) (no_row page rows others.1)
+  where
+    not_it : (a : ℕ) → a ≢ page → (a == page) ≡ false
+    not_it a differ = grind (arith, differ)
+
+-- a vacant row for a page that has none
+pub bits_claimed : (rows : List Row) (k page other : ℕ) (d : Row) → AreDistinct (pages_of rows) → AreOthers page (pages_of rows) → k < length rows → is_vacant (get_or rows k d) ≡ true
+    → bits_of other (set rows k (record { page = page; places = 0 })) ≡ bits_of other rows
+bits_claimed [] k page other d distinct others within vacant = absurd (omega (arith, within))
+bits_claimed (row ∷ rows) zero page other d distinct others within vacant = by_tests (page == other) refl (row.page == other) refl
+  where
+    by_tests : (a : Bool) → (page == other) ≡ a → (b : Bool) → (row.page == other) ≡ b → (if a then 0 else bits_of other rows) ≡ (if b then row.places else bits_of other rows)
+    by_tests true new true old = sym (eqb-true row.places 0 vacant)
+    by_tests true new false old = rw (← eqb-true page other new) (sym (no_row page rows others.1))
+    by_tests false new true old = rw (← eqb-true row.page other old) (no_row row.page rows distinct.0 ∙ sym (eqb-true row.places 0 vacant))
+    by_tests false new false old = refl
+bits_claimed (row ∷ rows) (suc k) page other d distinct others within vacant = by_test (row.page == other) (bits_claimed rows k page other d distinct.1 others.1 (omega (arith, within)) vacant)
+  where
+    by_test : (b : Bool) → bits_of other (set rows k (record { page = page; places = 0 })) ≡ bits_of other rows
+        → (if b then row.places else bits_of other (set rows k (record { page = page; places = 0 }))) ≡ (if b then row.places else bits_of other rows)
+    by_test true rest = refl
+    by_test false rest = rest
+
+-- a new row
+pub bits_pushed : (rows : List Row) (page other : ℕ) → bits_of other (rows ++ record { page = page; places = 0 } ∷ []) ≡ bits_of other rows
+bits_pushed [] page other = by_test (page == other)
+  where
+    by_test : (b : Bool) → ◌≡◌ {A = ℕ} (if b then 0 else 0) 0
+    by_test true = refl
+    by_test false = refl
+bits_pushed (row ∷ rows) page other = by_test (row.page == other) (bits_pushed rows page other)
+  where
+    by_test : (b : Bool) → bits_of other (rows ++ record { page = page; places = 0 } ∷ []) ≡ bits_of other rows
+        → (if b then row.places else bits_of other (rows ++ record { page = page; places = 0 } ∷ [])) ≡ (if b then row.places else bits_of other rows)
+    by_test true rest = refl
+    by_test false rest = rest
+
+pub none_has : (page : ℕ) (rows : List Row) → position (has_page page) rows ≡ None → AreOthers page (pages_of rows)
+none_has page rows none = others rows (find-none (has_page page) rows none)
+  where
+    others : (rows : List Row) → find (has_page page) rows ≡ None → AreOthers page (pages_of rows)
+    others [] none = tt
+    others (row ∷ rows) none = by_test (row.page == page) refl none (others rows)
+      where
+        by_test : (b : Bool) → (row.page == page) ≡ b → (if b then Some row else find (has_page page) rows) ≡ None
+            → (find (has_page page) rows ≡ None → AreOthers page (pages_of rows)) → AreOthers page (pages_of (row ∷ rows))
+        by_test true this none rest = absurd (cc (none))
+        by_test false this none rest = (λ e. grind (arith, this, e), rest none)
+
+pub distinct_set : (pages : List ℕ) (k page : ℕ) → AreDistinct pages → AreOthers page pages → AreDistinct (set pages k page)
+distinct_set [] k page distinct others = tt
+distinct_set (p ∷ pages) zero page distinct others = (others.1, distinct.1)
+distinct_set (p ∷ pages) (suc k) page distinct others = (all_set (λ m. m ≢ p) pages k page distinct.0 (λ e. others.0 (sym e)), distinct_set pages k page distinct.1 others.1)
+
+-- ---- there are no more rows in use than live requests
+
+-- the requests that lie in another page
+abbrev elsewhere : ℕ → List LiveRequest → List LiveRequest
+elsewhere page live = filter (λ x. not (is_on (Some page) x)) live
+
+fewer : (page : ℕ) (live : List LiveRequest) → list_any (is_on (Some page)) live ≡ true → length (elsewhere page live) < length live
+fewer page [] some = absurd (cc (some))
+fewer page (x ∷ live) some = by_test (is_on (Some page) x) some (fewer page live)
+  where
+    by_test : (b : Bool) → (b || list_any (is_on (Some page)) live) ≡ true → (list_any (is_on (Some page)) live ≡ true → length (elsewhere page live) < length live)
+        → length (if not b then x ∷ elsewhere page live else elsewhere page live) < length (x ∷ live)
+    by_test true some rest = omega (arith, few_pass (λ o. not (is_on (Some page) o)) live)
+    by_test false some rest = omega (arith, rest some)
+
+one_page : (page other : ℕ) (own : Option ℕ) → page ≢ other → lies_in (Some page) own ≡ true → lies_in (Some other) own ≡ false
+one_page page other None differ own = absurd (cc (own))
+one_page page other (Some q) differ own = let same : q ≡ page = eqb-true q page own in grind (arith, same, differ)
+
+any_elsewhere : (page other : ℕ) (live : List LiveRequest) → page ≢ other → list_any (is_on (Some other)) (elsewhere page live) ≡ list_any (is_on (Some other)) live
+any_elsewhere page other [] differ = refl
+any_elsewhere page other (x ∷ live) differ = by_test (is_on (Some page) x) refl (any_elsewhere page other live differ)
+  where
+    by_test : (b : Bool) → is_on (Some page) x ≡ b → list_any (is_on (Some other)) (elsewhere page live) ≡ list_any (is_on (Some other)) live
+        → list_any (is_on (Some other)) (if not b then x ∷ elsewhere page live else elsewhere page live) ≡ (is_on (Some other) x || list_any (is_on (Some other)) live)
+    by_test true own rest = rw (one_page page other (page_of x.plan) differ own) rest
+    by_test false own rest = rw rest refl
+
+none_vacant : (rows : List Row) → find is_vacant rows ≡ None → AllByRecursion (λ row. 0 < row.places) rows
+none_vacant [] none = tt
+none_vacant (row ∷ rows) none = by_test (is_vacant row) refl none (none_vacant rows)
+  where
+    by_test : (b : Bool) → (row.places == 0) ≡ b → (if b then Some row else find is_vacant rows) ≡ None → (find is_vacant rows ≡ None → AllByRecursion (λ row. 0 < row.places) rows) → AllByRecursion (λ row. 0 < row.places) (row ∷ rows)
+    by_test true this none rest = absurd (cc (none))
+    by_test false this none rest = (grind (arith, this), rest none)
+
+some_on : (page : Option ℕ) (live : List LiveRequest) → 0 < bits_on page live → list_any (is_on page) live ≡ true
+some_on page [] some = absurd (omega (arith, some))
+some_on page (x ∷ live) some = by_test (is_on page x) some (some_on page live)
+  where
+    by_test : (b : Bool) → 0 < (if b then 1 else 0) + 2 * bits_on page live → (0 < bits_on page live → list_any (is_on page) live ≡ true) → (b || list_any (is_on page) live) ≡ true
+    by_test true some rest = refl
+    by_test false some rest = rest (omega (arith, some))
+
+used_rows : (rows : List Row) (live : List LiveRequest) → AreDistinct (pages_of rows) → AllByRecursion (λ row. 0 < row.places) rows → ((page : ℕ) → 0 < bits_of page rows → list_any (is_on (Some page)) live ≡ true)
+    → length rows ≤ length live
+used_rows [] live distinct used some = omega arith
+used_rows (row ∷ rows) live distinct used some = omega (arith, fewer row.page live (some row.page (here used.0)), used_rows rows (elsewhere row.page live) distinct.1 used.1 later)
+  where
+    here : 0 < row.places → 0 < bits_of row.page (row ∷ rows)
+    here more = rw (eq-eqb row.page row.page refl) more
+
+    differ : (page : ℕ) → 0 < bits_of page rows → row.page ≢ page
+    differ page more same = omega (arith, more, rw same at (no_row row.page rows distinct.0))
+
+    skip : (page : ℕ) → row.page ≢ page → (row.page == page) ≡ false
+    skip page other = grind (arith, other)
+
+    later : (page : ℕ) → 0 < bits_of page rows → list_any (is_on (Some page)) (elsewhere row.page live) ≡ true
+    later page more = any_elsewhere row.page page live (differ page more) ∙ some page (rw (skip page (differ page more)) more)
+
+pub few_rows : (rows : List Row) (live : List LiveRequest) → AreInRows live rows → AreDistinct (pages_of rows) → position is_vacant rows ≡ None → length rows ≤ length live
+few_rows rows live kept distinct full =
+    used_rows rows live distinct (none_vacant rows (find-none is_vacant rows full)) (λ page more. some_on (Some page) live (rw (← kept.pages page) more))

@@ -1,0 +1,14 @@
+use Rattle.std.proofs.Common.{◌≡◌, ◌+◌, length}
+use Rattle.flight_table.specs.Inside.{counted_in}
+use Rattle.flight_table.specs.Marks.{number_of}
+use Rattle.flight_table.specs.Tables.{requests_of}
+use Rattle.flight_table.proofs.live.count_in.Given as goal
+
+abbrev pub invariant-loop-place : goal.invariant-loop-place
+invariant-loop-place l = record {
+  places : length l.row ≡ length (requests_of l.slots);
+  counted : l.count + counted_in l.row l.request (requests_of l.slots) ≡ counted_in l.initial.row l.request (requests_of l.slots);
+}
+
+abbrev pub decreases-loop-place : goal.decreases-loop-place
+decreases-loop-place l = number_of l.row
