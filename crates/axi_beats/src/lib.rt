@@ -6,8 +6,6 @@
 
 mod burst_box;
 mod lines;
-#[cfg(test)]
-mod tests;
 mod transfers;
 
 pub use burst_box::{BurstBox, MAX_TRANSFERS};

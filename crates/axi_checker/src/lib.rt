@@ -10,8 +10,6 @@ ghost use Rattle.axi_checker.specs.Names.{rule_name, rule_number};
 mod limits;
 mod monitor;
 mod outstanding;
-#[cfg(test)]
-mod tests;
 
 pub use limits::PortLimits;
 pub use monitor::Monitor;

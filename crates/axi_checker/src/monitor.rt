@@ -21,7 +21,6 @@ use std::marker::Model;
 /// A monitor of an AXI4 port. It takes the beats of all five channels in the order in which they come, and keeps which
 /// bursts are outstanding. A beat that breaks a rule is refused with the first rule that it breaks, and changes nothing.
 /// All room is taken by `new`; no other call takes memory.
-#[derive(Drop)]
 pub struct Monitor {
     limits: PortLimits,
     writes: Vec<OpenWrite>,
@@ -37,6 +36,17 @@ impl Model for Monitor {
     ghost view = { λ m. monitor_state m.limits m.writes.items m.reads.items };
 
     ghost invariant = { λ m. IsSoundMonitor (monitor_state m.limits m.writes.items m.reads.items) (vec_capacity m.writes) (vec_capacity m.reads) };
+}
+
+// Written out, so that what lets go of one calls this, and proves nothing of its parts.
+impl Drop for Monitor {
+    fn drop(self) {
+        let Monitor {
+            limits: _,
+            writes: _,
+            reads: _,
+        } = self;
+    }
 }
 
 impl Monitor {

@@ -22,7 +22,6 @@ use tl_messages::{ABeat, ReplyBox};
 /// A bridge from TileLink clients to one AXI4 memory port (TileLink 1.8; AXI4; this project's profile). Its clients'
 /// beats come in by `offer`, bursts for the memory go out by `pump_box`, the memory's answers come in by `on_b` and
 /// `on_r`, and replies go out by `take`. All room is taken by `new`; no other call takes memory.
-#[derive(Drop)]
 pub struct Bridge {
     ports: Vec<Port>,
     requests: RequestTable,
@@ -47,6 +46,18 @@ impl Model for Bridge {
         × (b.monitor.port ≡ axi_port_of b.requests.config)
         × (vec_len b.stock ≤ boxes_of b.requests.config)
         × (boxes_of b.requests.config ≤ vec_capacity b.stock) };
+}
+
+// Written out, so that what lets go of one calls this, and proves nothing of its parts.
+impl Drop for Bridge {
+    fn drop(self) {
+        let Bridge {
+            ports: _,
+            requests: _,
+            monitor: _,
+            stock: _,
+        } = self;
+    }
 }
 
 impl Bridge {

@@ -114,7 +114,7 @@ pub(crate) fn set_number(burst: &mut BurstBox, id: u8, plan: &Plan, piece: Piece
 
 /// What an atomic leaves of the old value (TileLink 1.8, ArithmeticData and LogicalData). Its operand is the number that the
 /// request's bytes make, where those that aren't given count as zero.
-pub(crate) fn atomic_number(op: AtomicOp, request: &Request, old: u64) -> u64
+pub fn atomic_number(op: AtomicOp, request: &Request, old: u64) -> u64
     requires data { IsTrue (has_data request.now.operation) }
     requires beats { length request.now.beats ≡ 1 }
     requires size { request.now.size ≤ 3 }

@@ -14,6 +14,7 @@ mod ports;
 mod requests;
 
 pub use bridge::Bridge;
+pub use bursts::atomic_number;
 use tl_checker::{Level, TlRule};
 
 /// The limits of a bridge (this project's profile).

@@ -7,8 +7,6 @@
 mod faults;
 mod page_map;
 mod plan;
-#[cfg(test)]
-mod tests;
 mod write_beats;
 
 pub use faults::region_fault;

@@ -9,9 +9,6 @@ ghost use Rattle.std.specs.Prelude.{◌≡◌, ℕ, ◌<◌, ◌≤◌, false, s
 ghost use Rattle.bus_words.specs.Lanes.{lane_byte, has_lane, is_between, mask_of, word_of_lanes, payload_of};
 ghost use Rattle.bus_words.specs.Text.{flag as flag_of};
 
-#[cfg(test)]
-mod tests;
-
 /// The byte that a word holds in a lane, from 0 to 7.
 pub fn lane_byte(word: u64, lane: u8) -> u8
     requires { lane < 8 }

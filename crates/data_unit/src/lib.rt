@@ -3,8 +3,6 @@
 #![tactic(auto)]
 
 mod atomics;
-#[cfg(test)]
-mod tests;
 mod words;
 
 pub use atomics::apply;

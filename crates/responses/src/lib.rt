@@ -3,7 +3,5 @@
 #![tactic(auto)]
 
 mod gather;
-#[cfg(test)]
-mod tests;
 
 pub use gather::Gather;

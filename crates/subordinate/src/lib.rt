@@ -6,13 +6,12 @@ mod device;
 mod faults;
 mod open_burst;
 mod pages;
-#[cfg(test)]
-mod tests;
 
 use axi_beats::{BurstBox, Resp};
 use axi_checker::AxiRule;
 pub use device::Device;
 pub use faults::device_fault;
+pub use pages::Pages;
 use thiserror::Error;
 
 /// What a listed page is.

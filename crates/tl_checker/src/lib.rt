@@ -6,8 +6,6 @@ mod names;
 mod port;
 mod replies;
 mod requests;
-#[cfg(test)]
-mod tests;
 
 pub use port::Port;
 pub use replies::check_reply;

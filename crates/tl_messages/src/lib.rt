@@ -8,8 +8,6 @@ mod lines;
 mod operations;
 mod reply_box;
 mod request;
-#[cfg(test)]
-mod tests;
 
 pub use lines::{a_line, d_line};
 pub use operations::beats_of;

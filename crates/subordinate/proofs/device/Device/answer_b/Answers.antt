@@ -31,4 +31,4 @@ pub returns-clause-takes : goal.returns-clause-takes
 returns-clause-takes c =
     let place = sym c.oldest_write.ensures.place ∙ c.in_ok-place.was in
     takes_b c.args.self.now.memory c.args.id c.write_response-resp.result c.open_at.result.now c.oldest_write.ensures.laws (c.open_at.ensures.found (is_write_of c.args.id) place)
-    (ap is_exokay c.write_response-resp.ensures ∙ write_plain (standing_at c.self.inside.pages.faults c.start.result))
+    (ap is_exokay c.write_response-resp.ensures.value ∙ write_plain (standing_at c.self.inside.pages.faults c.start.result))

@@ -7,8 +7,8 @@ use Rattle.subordinate.specs.declared.PageKind.TheVariants.{Good, SlaveError}
 use Rattle.subordinate.proofs.FaultLaws.{standing-found, standing-missing}
 use Rattle.subordinate.proofs.pages.Pages.write_response.Goals as goal
 
-pub returns-in-Good : goal.returns-in-Good
-returns-in-Good c =
+pub returns-in-Good-clause-value : goal.returns-in-Good-clause-value
+returns-in-Good-clause-value c =
     ap write_response (sym (standing-found c.self.inside.listed.items (c.args.address / 4096) c.in-Some.place c.index.result.now Good found is))
     ∙ ap (λ (pages : PagesState). write_response (standing_at pages.faults c.args.address)) c.self.view_is
   where
@@ -18,8 +18,8 @@ returns-in-Good c =
     is : (get_or c.self.inside.listed.items c.in-Some.place c.index.result.now).1 ≡ Good
     is = ap (λ (page : ℕ × PageKind). page.1) (sym c.index.ensures) ∙ c.in-Good.is
 
-pub returns-in-SlaveError : goal.returns-in-SlaveError
-returns-in-SlaveError c =
+pub returns-in-SlaveError-clause-value : goal.returns-in-SlaveError-clause-value
+returns-in-SlaveError-clause-value c =
     ap write_response (sym (standing-found c.self.inside.listed.items (c.args.address / 4096) c.in-Some.place c.index.result.now SlaveError found is))
     ∙ ap (λ (pages : PagesState). write_response (standing_at pages.faults c.args.address)) c.self.view_is
   where
@@ -29,8 +29,8 @@ returns-in-SlaveError c =
     is : (get_or c.self.inside.listed.items c.in-Some.place c.index.result.now).1 ≡ SlaveError
     is = ap (λ (page : ℕ × PageKind). page.1) (sym c.index.ensures) ∙ c.in-SlaveError.is
 
-pub returns-in-None : goal.returns-in-None
-returns-in-None c =
+pub returns-in-None-clause-value : goal.returns-in-None-clause-value
+returns-in-None-clause-value c =
     ap write_response (sym (standing-missing c.self.inside.listed.items (c.args.address / 4096) missing))
     ∙ ap (λ (pages : PagesState). write_response (standing_at pages.faults c.args.address)) c.self.view_is
   where

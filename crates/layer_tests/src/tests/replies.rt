@@ -1,5 +1,5 @@
-use super::*;
 use axi_beats::{RBeat, Resp};
+use responses::Gather;
 use std::alloc::{AllocError, Global};
 use std::test::Fail;
 use tl_messages::{ABeat, DBeat, Operation, ReplyBox, Request};

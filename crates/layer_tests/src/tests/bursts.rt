@@ -1,4 +1,7 @@
-use super::*;
+use axi_beats::{
+    ArBeat, AwBeat, BBeat, BurstBox, MAX_TRANSFERS, RBeat, Resp, WBeat, ar_line, aw_line, b_line,
+    lanes_of, last_byte, r_line, transfer_address, w_line,
+};
 use std::io;
 use std::io::{ErrorKind, Write};
 use std::test::Fail;

@@ -1,4 +1,6 @@
-use super::*;
+use bus_words::{
+    flag_text, has_lane, lane_byte, lanes_between, mask_of, payload_of, word_of_lanes,
+};
 
 #[test]
 fn lanes_of_words(rt: HostRuntime) {

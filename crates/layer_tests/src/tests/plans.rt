@@ -1,7 +1,7 @@
 ghost use Rattle.std.specs.Prelude.{◌≡◌};
 
-use super::*;
 use axi_beats::WBeat;
+use burst_plan::{MapFault, PageMap, Piece, Plan, Region, region_fault, w_beat};
 use std::test::Fail;
 use tl_messages::{AtomicOp, MaskedWord, Operation};
 

@@ -1,7 +1,7 @@
-use super::*;
 use std::io;
 use std::io::{ErrorKind, Write};
 use std::test::Fail;
+use tl_messages::{ABeat, AtomicOp, DBeat, Operation, ReplyBox, Request, a_line, beats_of, d_line};
 
 /// A writer to memory whose call number `fails`, from 0, fails.
 #[derive(Drop)]

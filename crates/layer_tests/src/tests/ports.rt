@@ -1,7 +1,7 @@
 ghost use Rattle.std.specs.Prelude.{◌≡◌, None};
 
-use super::*;
 use std::test::Fail;
+use tl_checker::{Level, Port, Progress, TlRule, check_reply};
 use tl_messages::{ABeat, DBeat, Request};
 
 /// Opcode, param, size, address, mask, corrupt, busy, and the answer on a port on which no message has begun.

@@ -1,7 +1,8 @@
 //! Scripts of events on a memory alone, and the lists that it refuses.
-use super::*;
-use axi_beats::{ArBeat, AwBeat, BBeat, RBeat, Resp, WBeat};
+use axi_beats::{ArBeat, AwBeat, BBeat, BurstBox, RBeat, Resp, WBeat};
+use axi_checker::AxiRule;
 use std::alloc::Global;
+use subordinate::{Device, DeviceFault, PageKind, Performed, device_fault};
 
 /// A data beat of a write: its payload, its strobes, and whether it is the last.
 type Data = (u64, u8, bool);

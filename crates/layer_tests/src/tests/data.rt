@@ -1,4 +1,4 @@
-use super::*;
+use data_unit::{apply, cut, full_mask, merge, place};
 use tl_messages::AtomicOp;
 
 #[test]

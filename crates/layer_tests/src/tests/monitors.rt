@@ -1,8 +1,8 @@
 ghost use Rattle.std.specs.Prelude.{◌≡◌, None, IsSome};
 ghost use Rattle.axi_checker.specs.OpenBursts.{write_to_fill};
 
-use super::*;
 use axi_beats::{ArBeat, AwBeat, BBeat, BurstBox, RBeat, Resp, WBeat};
+use axi_checker::{AxiRule, Monitor};
 use std::test::Fail;
 
 /// A beat on one of the five channels.
