@@ -13,7 +13,7 @@ use Rattle.tl_checker.specs.Requests.{TlPortLimits, first_beat_rules, first_faul
 use Rattle.tl_checker.specs.declared.Progress.{Progress}
 use Rattle.tl_checker.specs.declared.TlRule.{TlRule}
 use Rattle.tl_checker.specs.declared.TlRule.TheVariants.{SourceBusy}
-use Rattle.bridge_threads.specs.Refusals.{BreaksRule, front_after, front_with}
+use Rattle.bridge_threads.specs.RefusedBeats.{BreaksRule, front_after, front_with}
 
 -- ---- one beat on
 

@@ -1,10 +1,4 @@
-pub mod FoundLemmas
 pub mod FrontLemmas
-pub mod HistoryLemmas
-pub mod MismatchLemmas
 pub mod PortLemmas
 pub mod RefusalLemmas
-pub mod ReplayLemmas
-pub mod ReplaySteps
-pub mod ReportLemmas
 pub mod TurnLemmas

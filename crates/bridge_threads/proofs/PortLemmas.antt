@@ -7,7 +7,7 @@ use Rattle.tl_checker.specs.Ports.{PortState}
 use Rattle.tl_checker.specs.Requests.{TlPortLimits}
 use Rattle.bridge_core.specs.Configs.{port_of}
 use Rattle.bridge_core.specs.declared.Config.{Config}
-use Rattle.bridge_threads.specs.Refusals.{client_limits, limits_of_ports}
+use Rattle.bridge_threads.specs.RefusedBeats.{client_limits, limits_of_ports}
 
 -- a port in whose place stands one of the same limits
 pub limits_kept : (ports : List PortState) (place : ℕ) (old new : PortState) → slice_get ports place ≡ Some old → new.limits ≡ old.limits

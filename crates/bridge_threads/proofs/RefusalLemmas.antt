@@ -12,7 +12,7 @@ use Rattle.bridge_core.specs.Configs.{is_valid}
 use Rattle.world_run.specs.Setups.{SetupLists, setup_fault}
 use Rattle.world_run.specs.declared.SetupFault.{SetupFault}
 use Rattle.world_run.specs.declared.SetupFault.TheVariants.{BadConfig}
-use Rattle.bridge_threads.specs.Refusals.{is_refused}
+use Rattle.thread_reports.specs.Refusals.{is_refused}
 
 -- where none of some tests holds, the first two don't
 first_two : (a b c d e f g : Bool) → (a || b || c || d || e || f || g) ≡ false → (a ≡ false) × (b ≡ false)

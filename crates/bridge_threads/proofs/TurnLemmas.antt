@@ -2,7 +2,7 @@
 use Rattle.std.proofs.Common.{◌≡◌, ℕ, List, [], ◌∷◌, ◌++◌, length, refl, sym, ap, ◌∙◌, subst}
 use Rattle.world_run.specs.World.{WorldState, after, next}
 use Rattle.world_run.specs.declared.Step.{Step}
-use Rattle.bridge_threads.specs.Histories.{SharedState, turned}
+use Rattle.bridge_threads.specs.SharedStates.{SharedState, turned}
 use Rattle.bridge_threads.specs.Turns.{AreChosen, IsChosen, after_turns, place_after, word_at}
 
 pub after_turns-append : (shared : SharedState) (steps : List Step) (step : Step) → after_turns shared (steps ++ step ∷ []) ≡ turned (after_turns shared steps) step

@@ -1,7 +1,4 @@
 pub mod Faults
-pub mod Histories
-pub mod Mismatches
-pub mod Refusals
-pub mod Replays
-pub mod Reports
+pub mod RefusedBeats
+pub mod SharedStates
 pub mod Turns

@@ -10,13 +10,13 @@ use Rattle.world_run.specs.declared.Answer.{Answer}
 use Rattle.world_run.specs.declared.Answer.TheVariants.{More, Accepted, Refused, Reply}
 use Rattle.world_run.specs.declared.Step.{Step}
 use Rattle.world_run.specs.declared.Step.TheVariants.{Offer, Take}
-use Rattle.bridge_threads.specs.Histories.{SharedState, turned}
+use Rattle.bridge_threads.specs.SharedStates.{SharedState, turned}
 use Rattle.bridge_threads.specs.declared.turns.Move.{Move}
 use Rattle.bridge_threads.specs.declared.turns.Move.TheVariants.{Ends, Takes, Offers, CountsOut, Waits}
 use Rattle.bridge_threads.specs.declared.turns.Turn.{Turn}
 use Rattle.bridge_threads.specs.declared.turns.Turn.TheVariants.{Moved, Idle, Ended, Failed}
 use Rattle.bridge_threads.specs.declared.turns.WorkerFault.TheVariants.{BeatRefused, HistoryFull, IdleLimit}
-use Rattle.bridge_threads.specs.declared.receipts.Receipts.{Receipts}
+use Rattle.thread_reports.specs.declared.receipts.Receipts.{Receipts}
 
 -- ---- a client
 

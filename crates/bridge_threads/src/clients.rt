@@ -1,12 +1,12 @@
 //! A client's turn, on the value under the lock.
 ghost use Rattle.std.specs.Prelude.{◌≡◌, ◌+◌, ◌<◌, ◌≤◌, ◌^◌, ◌==◌, ℕ, ◌++◌, ◌∷◌, [], length, vec_len, slice_get, Some, if◌then◌else◌};
-ghost use Rattle.bridge_threads.specs.Reports.{takes_beat};
+ghost use Rattle.thread_reports.specs.Reports.{takes_beat};
 ghost use Rattle.bridge_threads.specs.Turns.{MakesStep, OnMove, ReceivesBy, accepted_after, client_move, offer_turn};
 ghost use Rattle.world_run.specs.declared.Step.TheVariants.{Offer, Take};
 
-use crate::receipts::Receipts;
 use crate::turns::{Move, Turn, WorkerFault, client_move};
 use crate::{HistoryFull, Shared};
+use thread_reports::{Receipts, named_place};
 use tl_checker::TlRule;
 use tl_messages::{ABeat, ReplyBox};
 use world_run::{Answer, Step};
@@ -21,13 +21,6 @@ pub(crate) struct ClientWork {
     pub accepted: usize,
     pub receipts: Receipts,
     pub ghost accepted_of_offered: { accepted ≤ offered },
-}
-
-/// A count as a place that a fault can name.
-pub(crate) fn place(count: usize) -> u32
-    ensures { count < 2 ^ 32 → result ≡ count }
-{
-    u32::try_from(count).unwrap_or(u32::MAX)
 }
 
 impl ClientWork {
@@ -65,7 +58,7 @@ impl ClientWork {
             }
             Answer::Refused(TlRule::SourceBusy) => Turn::Idle,
             Answer::Refused(rule) => {
-                Turn::Failed(WorkerFault::BeatRefused(place(self.offered), rule))
+                Turn::Failed(WorkerFault::BeatRefused(named_place(self.offered), rule))
             }
             _ => Turn::Idle,
         }
@@ -82,7 +75,7 @@ impl ClientWork {
         if self.receipts.keep(number, reply) {
             Turn::Moved
         } else {
-            Turn::Failed(WorkerFault::NoRoom(place(self.receipts.heads.len())))
+            Turn::Failed(WorkerFault::NoRoom(named_place(self.receipts.heads.len())))
         }
     }
 }

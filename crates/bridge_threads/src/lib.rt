@@ -4,14 +4,11 @@
 mod clients;
 mod limits;
 mod ports;
-mod receipts;
-mod replay;
 mod shared;
 #[cfg(test)]
 mod tests;
 mod threads;
 mod turns;
 
-pub use receipts::Receipts;
 pub use shared::{HistoryFull, Shared};
-pub use threads::{Fault, Gate, Limits, Report, Who, run_threads};
+pub use threads::{Fault, Gate, Limits, Who, run_threads};

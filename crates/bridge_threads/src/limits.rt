@@ -2,8 +2,8 @@
 ghost use Rattle.std.specs.Prelude.{◌≡◌, length, nat_lt};
 ghost use Rattle.std.specs.List.{list_any};
 ghost use Rattle.world_run.specs.Setups.{lists_of};
-ghost use Rattle.bridge_threads.specs.Refusals.{is_refused};
-ghost use Rattle.bridge_threads.specs.Replays.{items_of};
+ghost use Rattle.thread_reports.specs.Refusals.{is_refused};
+ghost use Rattle.thread_reports.specs.Reports.{items_of};
 
 use crate::Limits;
 use tl_messages::ABeat;

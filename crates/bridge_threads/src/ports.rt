@@ -2,7 +2,7 @@
 ghost use Rattle.std.specs.Prelude.{◌≡◌, None, true, false, IfSome};
 ghost use Rattle.tl_checker.specs.Ports.{opening_port};
 ghost use Rattle.tl_checker.specs.Requests.{first_fault};
-ghost use Rattle.bridge_threads.specs.Refusals.{BreaksRule, front_with};
+ghost use Rattle.bridge_threads.specs.RefusedBeats.{BreaksRule, front_with};
 
 use std::alloc::{AllocError, Global};
 use tl_checker::{Port, Progress, TlRule};

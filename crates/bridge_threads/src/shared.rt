@@ -1,12 +1,14 @@
 //! What lies under the lock.
 ghost use Rattle.std.specs.Prelude.{◌≡◌, ◌⊎◌, ◌↔◌, ◌≤◌, ◌-◌, true, length, Some, IfErr, IfOk, IfSome, IsErr, IsTrue, if◌then◌else◌};
-ghost use Rattle.bridge_threads.specs.Histories.{IsHistory, opening_shared, turned};
+ghost use Rattle.bridge_threads.specs.SharedStates.{opening_shared, turned};
+ghost use Rattle.thread_reports.specs.Histories.{IsHistory};
 ghost use Rattle.world_run.specs.Setups.{lists_of, setup_fault};
 ghost use Rattle.world_run.specs.World.{is_reply, leaves_all, next, opening_world};
 ghost use Rattle.world_run.specs.declared.SetupFault.TheVariants.{NoMemory};
 
 use std::alloc::Global;
 use std::marker::Model;
+use thread_reports::leaves_all;
 use tl_messages::ReplyBox;
 use world_run::{Answer, Setup, SetupFault, Step, World};
 
@@ -32,7 +34,8 @@ pub struct Shared {
 impl Model for Shared {
     ghost use Rattle.std.specs.Prelude.{◌≤◌};
     ghost use Rattle.std.specs.Vec.{vec_capacity, vec_len};
-    ghost use Rattle.bridge_threads.specs.Histories.{IsHistory, SharedState};
+    ghost use Rattle.bridge_threads.specs.SharedStates.{SharedState};
+    ghost use Rattle.thread_reports.specs.Histories.{IsHistory};
     ghost use Rattle.world_run.specs.Setups.{lists_of};
     ghost use Rattle.world_run.specs.World.{opening_world};
 
@@ -58,29 +61,6 @@ fn copied(setup: &Setup) -> Setup
         .try_extend_from_slice(setup.bad_words.as_slice())
         .unwrap();
     copy
-}
-
-/// Whether an answer tells that nothing changed.
-pub(crate) fn leaves_all(answer: Answer) -> bool
-    ensures { result ≡ leaves_all answer }
-{
-    match answer {
-        Answer::NotReady
-        | Answer::Exhausted
-        | Answer::Refused(_)
-        | Answer::NoClient
-        | Answer::Idle
-        | Answer::NoSuch
-        | Answer::Already
-        | Answer::Nothing => true,
-        Answer::More
-        | Answer::Accepted(_)
-        | Answer::Sent(_)
-        | Answer::Done
-        | Answer::B(_)
-        | Answer::R(_)
-        | Answer::Reply(_) => false,
-    }
 }
 
 impl Shared {

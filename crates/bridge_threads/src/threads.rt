@@ -1,38 +1,35 @@
 //! The threads, which ask the gate, lock, make a turn and let go.
 ghost use Rattle.std.specs.Prelude.{◌≡◌, ◌≢◌, ◌<◌, ◌≤◌, ◌↔◌, ℕ, List, [], length, None, Some, Ok, Err, true, false, IfOk, IfSome, IsTrue};
-ghost use Rattle.tl_messages.specs.declared.ABeat.{ABeat};
 ghost use Rattle.tl_checker.specs.Ports.{opening_port};
 ghost use Rattle.tl_checker.specs.declared.TlRule.{TlRule};
 ghost use Rattle.tl_checker.specs.declared.TlRule.TheVariants.{SourceBusy};
 ghost use Rattle.bridge_core.specs.Configs.{is_valid, port_of};
 ghost use Rattle.world_run.specs.Headline.{IsOneAtATime};
-ghost use Rattle.world_run.specs.Laws.{IsSoundWorld};
 ghost use Rattle.world_run.specs.Runs.{answers_of, handed_in, sent_in};
 ghost use Rattle.world_run.specs.Setups.{SetupLists, lists_of, setup_fault};
 ghost use Rattle.world_run.specs.World.{byte_of, in_flight, opening_world};
 ghost use Rattle.world_run.specs.declared.Step.{Step};
 ghost use Rattle.bridge_threads.specs.Faults.{is_mismatch, is_of_worker};
-ghost use Rattle.bridge_threads.specs.Refusals.{IsFullHistory, IsRefusedBeat, client_limits, is_refused, limits_of_ports};
-ghost use Rattle.bridge_threads.specs.Replays.{IsReplay, items_of};
-ghost use Rattle.bridge_threads.specs.Reports.{IsReport};
-ghost use Rattle.bridge_threads.specs.declared.receipts.Receipts.{Receipts};
+ghost use Rattle.bridge_threads.specs.RefusedBeats.{IsRefusedBeat, client_limits, limits_of_ports};
+ghost use Rattle.thread_reports.specs.FullHistories.{IsFullHistory};
+ghost use Rattle.thread_reports.specs.Refusals.{is_refused};
+ghost use Rattle.thread_reports.specs.Reports.{items_of, IsReport};
 ghost use Rattle.bridge_threads.specs.declared.threads.Fault.TheVariants.{BadConfig, BeatRefused, HistoryFull, NoMemory};
 
 use crate::Shared;
 use crate::clients::{ClientWork, client_turn};
 use crate::limits::is_refused;
 use crate::ports::{refused_at, room_for};
-use crate::receipts::Receipts;
-use crate::replay::{Mismatch, Replay};
 use crate::turns::{Turn, WorkerFault, memory_turn, paced};
 use std::alloc::{AllocError, Global};
 use std::sync::{Mutex, Wait};
 use std::thread;
 use std::thread::{JoinHandle, Threads};
 use thiserror::Error;
+use thread_reports::{Mismatch, Receipts, Report, SecondWorld};
 use tl_checker::{Port, TlRule};
 use tl_messages::{ABeat, ReplyBox};
-use world_run::{Setup, Step, World};
+use world_run::Setup;
 
 /// A worker.
 #[derive(Clone, Copy, Debug, PartialEq, Eq)]
@@ -98,17 +95,6 @@ pub enum Fault {
         /// The first of its receipts that differs, or the place after its last.
         index: u32,
     },
-}
-
-/// What a threaded run gave.
-#[derive(Drop)]
-pub struct Report {
-    /// The steps that changed the world, in order.
-    pub steps: Vec<Step>,
-    /// What each client received.
-    pub receipts: Vec<Receipts>,
-    /// The world after the steps.
-    pub world: World,
 }
 
 /// What a client hands back.
@@ -206,7 +192,7 @@ fn memory<R: Wait, G: Gate>(
 #[derive(Drop)]
 struct Prepared {
     shared: Shared,
-    replay: Replay,
+    second: SecondWorld,
     ports: Vec<Port>,
     crew: Crew,
 }
@@ -228,18 +214,6 @@ fn seat_of(
     let reply = ReplyBox::new(alloc)?;
     let work = ClientWork::new(number, receipts);
     Ok((Seat { work, reply }, port))
-}
-
-/// A second world, in which nothing was replayed yet.
-fn second_world(alloc: Global, setup: &Setup) -> Result<Replay, AllocError>
-    requires { setup_fault (lists_of setup.now) ≡ None }
-    ensures fresh { IfOk result (λ replay. (given : List (List ABeat)) (receipts : List Receipts) → IsReplay (opening_world (lists_of setup.now)) [] given receipts replay) }
-    ensures sound { IfOk result (λ replay. IsSoundWorld (opening_world (lists_of setup.now))) }
-{
-    let Ok(world) = World::new(alloc, setup) else {
-        return Err(AllocError);
-    };
-    Replay::new(alloc, world)
 }
 
 /// Each client's place, and its port.
@@ -294,11 +268,10 @@ fn prepare(
     limits: Limits,
 ) -> Result<Prepared, AllocError>
     requires { setup_fault (lists_of setup.now) ≡ None }
-    ensures fresh { IfOk result (λ room. (given : List (List ABeat)) (receipts : List Receipts) → IsReplay (opening_world (lists_of setup.now)) [] given receipts room.replay) }
-    ensures sound { IfOk result (λ room. IsSoundWorld (opening_world (lists_of setup.now))) }
+    ensures fresh { IfOk result (λ room. room.second ≡ opening_world (lists_of setup.now)) }
     ensures ports { IfOk result (λ room. length scripts.now ≤ 256 → limits_of_ports room.ports.items ≡ client_limits setup.now.config (length scripts.now)) }
 {
-    let Ok(replay) = second_world(alloc, setup) else {
+    let Ok(second) = SecondWorld::new(alloc, setup) else {
         return Err(AllocError);
     };
     let Ok(shared) = Shared::new(alloc, setup, limits.steps) else {
@@ -308,7 +281,7 @@ fn prepare(
     let crew = crew_of(alloc, seats, memories)?;
     Ok(Prepared {
         shared,
-        replay,
+        second,
         ports,
         crew,
     })
@@ -556,7 +529,7 @@ pub fn run_threads<R: Threads + Wait + Sync, G: Gate + Sync>(
     };
     let Prepared {
         shared,
-        mut replay,
+        second,
         mut ports,
         crew,
     } = room;
@@ -572,13 +545,13 @@ pub fn run_threads<R: Threads + Wait + Sync, G: Gate + Sync>(
     let steps = lock.into_inner().into_steps();
     let faults = faults.as_slice();
     if met_full_history(faults) {
-        let full = replay.fills(scripts, steps.as_slice(), receipts.as_slice(), limits.steps);
+        let full = second.fills(scripts, steps.as_slice(), receipts.as_slice(), limits.steps);
         return Err(told_at_full(faults, &mut ports, scripts, full));
     }
     if let Some(fault) = told(faults, &mut ports, scripts, false) {
         return Err(fault);
     }
-    match replay.compared(scripts, steps.as_slice(), receipts.as_slice()) {
+    match second.compared(scripts, steps.as_slice(), receipts.as_slice()) {
         Ok(world) => Ok(Report {
             steps,
             receipts,

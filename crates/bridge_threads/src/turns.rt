@@ -3,7 +3,7 @@ ghost use Rattle.std.specs.Prelude.{◌≡◌, ◌+◌, ◌≤◌, List, [], len
 ghost use Rattle.world_run.specs.World.{enabled};
 ghost use Rattle.world_run.specs.declared.Step.{Step};
 ghost use Rattle.bridge_threads.specs.Turns.{IsChosen, IsHold, StoppedBy, client_move, idle_left, place_after, within_limit, word_at};
-ghost use Rattle.bridge_threads.specs.Histories.{turned};
+ghost use Rattle.bridge_threads.specs.SharedStates.{turned};
 ghost use Rattle.bridge_threads.specs.declared.turns.Turn.TheVariants.{Ended};
 
 use crate::{HistoryFull, Shared};

@@ -11,5 +11,6 @@ mod offers;
 mod order;
 mod pages;
 mod replayer;
+mod reports;
 mod requests;
 mod runs;

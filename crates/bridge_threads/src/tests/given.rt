@@ -1,11 +1,12 @@
 //! Set-ups, scripts and lists of words.
-use crate::{Fault, Gate, Limits, Report, run_threads};
+use crate::{Fault, Gate, Limits, run_threads};
 use bridge_core::Config;
 use burst_plan::Region;
 use std::alloc::{AllocError, Global};
 use std::sync::Wait;
 use std::thread::Threads;
 use subordinate::PageKind;
+use thread_reports::Report;
 use tl_checker::Level;
 use tl_messages::{ABeat, DBeat};
 use world_run::Setup;

@@ -1,10 +1,11 @@
 //! Whole runs in threads.
 use super::gates::{Holding, Meeting, Open, Shut};
 use super::given::*;
-use crate::{Fault, Limits, Receipts, Report, Who};
+use crate::{Fault, Limits, Who};
 use bridge_core::Config;
 use std::alloc::Global;
 use std::test::Fail;
+use thread_reports::{Receipts, Report};
 use tl_checker::TlRule;
 use tl_messages::{ABeat, DBeat, ReplyBox};
 use world_run::{Answer, Step, World};

@@ -3,7 +3,7 @@ use Rattle.std.proofs.Common.{◌≡◌, drop, length, List}
 use Rattle.std.specs.Prelude.{nat_lt}
 use Rattle.std.specs.List.{list_any}
 use Rattle.tl_messages.specs.declared.ABeat.{ABeat}
-use Rattle.bridge_threads.specs.Replays.{items_of}
+use Rattle.thread_reports.specs.Reports.{items_of}
 use Rattle.bridge_threads.proofs.limits.has_long.Given as goal
 
 abbrev pub invariant-loop-script : goal.invariant-loop-script

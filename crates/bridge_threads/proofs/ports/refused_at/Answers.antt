@@ -3,7 +3,7 @@ use Rattle.std.proofs.Common.{◌≡◌, ◌∙◌, None, Some, ap, refl, sym, s
 use Rattle.std.specs.Prelude.{IfSome}
 use Rattle.std.specs.Result.{result_err}
 use Rattle.std.proofs.lemmas.List.{take_all}
-use Rattle.bridge_threads.specs.Refusals.{BreaksRule, front_after}
+use Rattle.bridge_threads.specs.RefusedBeats.{BreaksRule, front_after}
 use Rattle.bridge_threads.proofs.FrontLemmas.{breaks_by, err_is, front_taken}
 use Rattle.bridge_threads.proofs.ports.refused_at.Goals as goal
 

@@ -1,6 +1,6 @@
 -- The port took the beats so far, and no whole request stands.
 use Rattle.std.proofs.Common.{◌≡◌, None, Some, take}
-use Rattle.bridge_threads.specs.Refusals.{front_after}
+use Rattle.bridge_threads.specs.RefusedBeats.{front_after}
 use Rattle.bridge_threads.proofs.ports.refused_at.Given as goal
 
 abbrev pub invariant-loop-beat : goal.invariant-loop-beat

@@ -3,8 +3,8 @@ use Rattle.std.proofs.Common.{◌≡◌, ◌∙◌, Some, ap, arith, length, ref
 use Rattle.std.specs.Prelude.{slice_get}
 use Rattle.std.proofs.lemmas.Option.{slice_get-map, slice_get_read}
 use Rattle.std.specs.Prelude.{option_map}
-use Rattle.bridge_threads.specs.Refusals.{BreaksRule}
-use Rattle.bridge_threads.specs.Replays.{items_of}
+use Rattle.bridge_threads.specs.RefusedBeats.{BreaksRule}
+use Rattle.thread_reports.specs.Reports.{items_of}
 use Rattle.bridge_threads.proofs.PortLemmas.{client_at, limits_kept}
 use Rattle.bridge_threads.proofs.threads.is_refused_beat.Goals as goal
 

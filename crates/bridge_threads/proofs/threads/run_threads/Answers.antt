@@ -3,7 +3,7 @@ use Rattle.std.proofs.Common.{◌≡◌, ◌≤◌, ◌∙◌, Some, ap, arith, 
 use Rattle.std.proofs.lemmas.List.{length-map}
 use Rattle.bridge_core.specs.Configs.{port_of}
 use Rattle.world_run.specs.Setups.{lists_of}
-use Rattle.bridge_threads.specs.Replays.{items_of}
+use Rattle.thread_reports.specs.Reports.{items_of}
 use Rattle.bridge_threads.specs.declared.threads.Fault.TheVariants.{BeatRefused, HistoryFull}
 use Rattle.bridge_threads.proofs.FrontLemmas.{never_busy}
 use Rattle.bridge_threads.proofs.RefusalLemmas.{few_clients, not_refused}
@@ -16,7 +16,7 @@ prepare-requires g c =
 pub returns-then-met_full_history-clause-full : goal.returns-then-met_full_history-clause-full
 returns-then-met_full_history-clause-full g c is =
     let same : c.told_at_full.result ≡ HistoryFull = cc in
-    (c.as_slice.result.now, c.fills-full.ensures (c.told_at_full.ensures.full same) (lists_of c.args.setup.now) (c.in-Ok.ensures.fresh (items_of c.args.scripts.now) _))
+    (c.as_slice.result.now, c.fills-full.ensures (c.told_at_full.ensures.full same) (lists_of c.args.setup.now) c.in-Ok.ensures.fresh)
 
 pub returns-in-Ok-compared-clause-report : goal.returns-in-Ok-compared-clause-report
 returns-in-Ok-compared-clause-report g c =
@@ -24,11 +24,11 @@ returns-in-Ok-compared-clause-report g c =
     let sound = not_refused setup (items_of c.args.scripts.now) (items_of c.args.words.now) c.args.limits.steps c.args.limits.idle (sym c.is_refused.ensures ∙ c.if-is_refused.false) in
     let lists : length (items_of c.args.scripts.now) ≡ length c.args.scripts.now = length-map c.args.scripts.now (λ list. list.items) in
     rw (← c.as_slice-2.ensures.value, ← c.as_slice-3.ensures.value)
-    (c.in-Ok-compared.ensures.report setup sound.0 (sym lists ∙ sound.1) (c.in-Ok.ensures.fresh (items_of c.args.scripts.now) _) c.in-Ok.ensures.sound)
+    (c.in-Ok-compared.ensures.report setup c.in-Ok.ensures.fresh sound.0 (sym lists ∙ sound.1))
 
 pub returns-in-Ok-compared-clause-one_at_a_time : goal.returns-in-Ok-compared-clause-one_at_a_time
 returns-in-Ok-compared-clause-one_at_a_time g c =
-    rw (← c.as_slice-2.ensures.value) (c.in-Ok-compared.ensures.one_at_a_time (lists_of c.args.setup.now) (c.in-Ok.ensures.fresh (items_of c.args.scripts.now) _) c.in-Ok.ensures.sound)
+    rw (← c.as_slice-2.ensures.value) (c.in-Ok-compared.ensures.one_at_a_time (lists_of c.args.setup.now) c.in-Ok.ensures.fresh)
 
 pub returns-then-met_full_history-clause-beat : goal.returns-then-met_full_history-clause-beat
 returns-then-met_full_history-clause-beat g c client index rule is =

@@ -6,7 +6,7 @@ use Rattle.std.proofs.lemmas.List.FromFn.{map-range_with_len_more}
 use Rattle.tl_checker.specs.Ports.{PortState}
 use Rattle.tl_checker.specs.Requests.{TlPortLimits}
 use Rattle.bridge_core.specs.Configs.{port_of}
-use Rattle.bridge_threads.specs.Refusals.{limits_of_ports}
+use Rattle.bridge_threads.specs.RefusedBeats.{limits_of_ports}
 use Rattle.bridge_threads.proofs.threads.seats_of.Goals as goal
 
 pub loop-script-preserved : goal.loop-script-preserved

@@ -1,6 +1,6 @@
 -- The ports so far are those of the first clients, by number.
 use Rattle.std.proofs.Common.{◌≡◌, ◌≤◌, length}
-use Rattle.bridge_threads.specs.Refusals.{client_limits, limits_of_ports}
+use Rattle.bridge_threads.specs.RefusedBeats.{client_limits, limits_of_ports}
 use Rattle.bridge_threads.proofs.threads.seats_of.Given as goal
 
 abbrev pub invariant-loop-script : goal.invariant-loop-script

@@ -2,7 +2,7 @@
 use Rattle.std.proofs.Common.{◌≡◌, true}
 use Rattle.std.specs.Prelude.{IfSome}
 use Rattle.bridge_threads.specs.Faults.{is_mismatch}
-use Rattle.bridge_threads.specs.Refusals.{limits_of_ports}
+use Rattle.bridge_threads.specs.RefusedBeats.{limits_of_ports}
 use Rattle.bridge_threads.proofs.threads.told.Given as goal
 
 abbrev pub invariant-loop-worker : goal.invariant-loop-worker

@@ -3,7 +3,7 @@ use Rattle.std.proofs.Common.{◌≡◌, ◌+◌, ◌∙◌, ◌++◌, ◌∷◌
 use Rattle.std.proofs.lemmas.List.{length_push, nil_from_length}
 use Rattle.world_run.specs.World.{after, enabled}
 use Rattle.bridge_threads.specs.Turns.{AreChosen, IsChosen, word_at}
-use Rattle.bridge_threads.specs.Histories.{turned}
+use Rattle.bridge_threads.specs.SharedStates.{turned}
 use Rattle.bridge_threads.proofs.TurnLemmas.{AreChosen-append, after_turns-append, world_after_turns}
 use Rattle.bridge_threads.proofs.turns.hold.Goals as goal
 

@@ -3,7 +3,7 @@ use Rattle.std.proofs.Common.{◌≡◌, false, arith}
 use Rattle.std.proofs.lemmas.Grind.{common_steps}
 use Rattle.world_run.specs.Setups.{lists_of}
 use Rattle.world_run.specs.World.{leaves_all, next, opening_world}
-use Rattle.bridge_threads.proofs.HistoryLemmas.{history_goes_on}
+use Rattle.thread_reports.proofs.HistoryLemmas.{history_goes_on}
 use Rattle.bridge_threads.proofs.shared.Shared.turn.Goals as goal
 
 pub invariant_of-self : goal.invariant_of-self

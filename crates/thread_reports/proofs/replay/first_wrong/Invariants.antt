@@ -1,0 +1,15 @@
+-- Each client so far has its part of a report.
+use Rattle.std.proofs.Common.{◌≡◌, ℕ, ◌<◌, List, Some}
+use Rattle.std.specs.Prelude.{slice_get}
+use Rattle.tl_messages.specs.declared.ABeat.{ABeat}
+use Rattle.world_run.specs.World.{WorldState}
+use Rattle.world_run.specs.declared.Step.{Step}
+use Rattle.thread_reports.specs.Replays.{AreFound}
+use Rattle.thread_reports.specs.Reports.{items_of, IsClientReport}
+use Rattle.thread_reports.specs.declared.receipts.Receipts.{Receipts}
+use Rattle.thread_reports.proofs.replay.first_wrong.Given as goal
+
+abbrev pub invariant-loop-client : goal.invariant-loop-client
+invariant-loop-client l =
+    (start : WorldState) (steps : List Step) → AreFound start steps (items_of l.scripts) l.receipts l.found → (k : ℕ) (script : List ABeat) (received : Receipts) → k < l.client
+    → slice_get (items_of l.scripts) k ≡ Some script → slice_get l.receipts k ≡ Some received → IsClientReport start steps k script received
