@@ -6,6 +6,6 @@ mod Parts
 mod PlainLines
 mod Progress
 mod ScriptLines
-mod StageSteps
-mod TraceTexts
+pub mod StageSteps
+pub mod TraceTexts
 mod WordParts

@@ -191,6 +191,10 @@ room {W} Opening f words line test is = opening_room W f words line test is
 room (SettingUp setup) f words line test is = set_up_room setup f words line test is
 room (Running world) f words line test is = running_room f words line test is
 
+-- a set-up line that was read may stand where one of its form may
+pub setup_line-stands : {W : Type 0} (stage : Stage W) (f : Form) (words : List (List ℕ)) (line : SetupLine) → is_misplaced stage f words ≡ false → setup_line f words ≡ Ok line → MayStand stage line
+setup_line-stands stage f words line test same = room stage f words line test (says f words line same)
+
 line_as-room : {W C : Type 0} (kind : Kind W C) (stage : Stage W) (words : List (List ℕ)) (f : Option Form) (line : SetupLine) → line_as kind stage words f ≡ Ok (Setup line) → MayStand stage line
 line_as-room kind stage words None line same = absurd (apart (ap is_setup same))
 line_as-room kind stage words (Some f) line same =

@@ -21,11 +21,17 @@ pub trait Script {
     /// What a script that ends answers.
     type Answer: Drop;
 
+    /// What its lines are said of. It may have functions, which no model's value has.
+    ghost State: { Type 0 };
+
+    /// What a script is as such a state.
+    ghost state: { Self → State };
+
     /// What its lines do.
-    ghost reading: { Reading Self Self.Answer };
+    ghost reading: { Reading State Self.Answer };
 
     /// Whether nothing was written so far, so that memory may still be asked for.
-    ghost is_silent: { Self → Bool };
+    ghost is_silent: { State → Bool };
 
     /// How many lines it may have.
     fn most_lines() -> u32
@@ -40,7 +46,7 @@ pub trait Script {
         words: &Words<'_>,
         writer: &mut W,
     ) -> Result<bool, ScriptFault>
-        ensures { TakesStep reading (reading.step self.old number words.now) is_silent self.old self.new (W.contents writer.old) (W.contents writer.new) result };
+        ensures { TakesStep reading (reading.step (state self.old) number words.now) is_silent (state self.old) (state self.new) (W.contents writer.old) (W.contents writer.new) result };
 
     /// Ends the script, by the number of the line after the last.
     fn end<W: Write>(
@@ -49,7 +55,7 @@ pub trait Script {
         number: u32,
         writer: &mut W,
     ) -> Result<Self::Answer, ScriptFault>
-        ensures { TakesRest (reading.ending self number) (is_silent self) (W.contents writer.old) (W.contents writer.new) result };
+        ensures { TakesRest (reading.ending (state self) number) (is_silent (state self)) (W.contents writer.old) (W.contents writer.new) result };
 }
 
 fn are_plain(bytes: &[u8]) -> bool
@@ -88,7 +94,7 @@ fn take_line<S: Script, W: Write>(
     writer: &mut W,
 ) -> Result<bool, ScriptFault>
     requires { number ≤ S.reading.most_lines }
-    ensures { TakesStep S.reading (line_step S.reading script.old number (strip_carriage_return line.now)) S.is_silent script.old script.new (W.contents writer.old) (W.contents writer.new) result }
+    ensures { TakesStep S.reading (line_step S.reading (S.state script.old) number (strip_carriage_return line.now)) S.is_silent (S.state script.old) (S.state script.new) (W.contents writer.old) (W.contents writer.new) result }
 {
     let Some(text) = plain(without_return(line)) else {
         return Err(ScriptFault::Script {
@@ -114,7 +120,7 @@ fn take_rest<S: Script + Drop, W: Write>(
     requires number { number ≤ S.reading.most_lines }
     requires small { number < 4294967295 }
     requires line { IsOneLine line.now }
-    ensures { TakesRest (text_from S.reading script number line.now) (S.is_silent script) (W.contents writer.old) (W.contents writer.new) result }
+    ensures { TakesRest (text_from S.reading (S.state script) number line.now) (S.is_silent (S.state script)) (W.contents writer.old) (W.contents writer.new) result }
 {
     if line.is_empty() {
         return script.end(alloc, number, writer);
@@ -134,8 +140,8 @@ pub fn read_script<S: Script + Drop, R: Read, W: Write>(
     reader: &mut R,
     writer: &mut W,
 ) -> Result<S::Answer, ScriptFault>
-    requires { S.is_silent script ≡ true }
-    ensures { EndsAs S.reading.most_lines (text_of S.reading script) (text_before_failure S.reading script) (R.remaining reader.old) (R.remaining reader.new) (W.contents writer.old) (W.contents writer.new) result }
+    requires { S.is_silent (S.state script) ≡ true }
+    ensures { EndsAs S.reading.most_lines (text_of S.reading (S.state script)) (text_before_failure S.reading (S.state script)) (R.remaining reader.old) (R.remaining reader.new) (W.contents writer.old) (W.contents writer.new) result }
 {
     let Ok(mut block) = Block::new(alloc) else {
         return Err(ScriptFault::NoMemory);

@@ -9,8 +9,6 @@ mod reader;
 mod setup_lines;
 mod setup_parser;
 mod stages;
-#[cfg(test)]
-mod tests;
 mod trace_writer;
 mod words;
 

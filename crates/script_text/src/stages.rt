@@ -219,10 +219,14 @@ impl<K: Kind> StagedScript<K> {
 }
 
 impl<K: Kind + Drop> Script for StagedScript<K> {
-    ghost use Rattle.script_text.specs.Stages.{reading_of, nothing_written};
+    ghost use Rattle.script_text.specs.Stages.{Stage, reading_of, nothing_written};
 
     /// Whether something was refused.
     type Answer = bool;
+
+    ghost State = { Stage K.World };
+
+    ghost state = { λ script. script };
 
     ghost reading = { reading_of K.rules };
 

@@ -12,9 +12,9 @@ use Rattle.world_run.specs.Runs.{HandedReply}
 use Rattle.world_run.specs.Setups.{SetupLists}
 use Rattle.world_run.specs.World.{WorldState, opening_world}
 use Rattle.world_run.specs.declared.Step.{Step}
-use Rattle.bridge_threads.specs.Reports.{IsReport, beats_of_all, head_of}
-use Rattle.bridge_threads.specs.declared.receipts.Receipts.{Receipts}
-use Rattle.bridge_threads.proofs.ReplaySteps.{there_is}
+use Rattle.thread_reports.specs.Reports.{IsReport, beats_of_all, head_of}
+use Rattle.thread_reports.specs.declared.receipts.Receipts.{Receipts}
+use Rattle.thread_reports.proofs.ReplaySteps.{there_is}
 use Rattle.threads_script.specs.ReportTexts.{AreReceived}
 
 drop_next : {A : Type 0} (xs : List A) (i : ℕ) (x : A) → slice_get xs i ≡ Some x → drop i xs ≡ x ∷ drop (i + 1) xs

@@ -7,8 +7,8 @@ use Rattle.world_run.specs.Runs.{HandedReply, answers_of, handed_in, sent_in}
 use Rattle.world_run.specs.Setups.{SetupLists}
 use Rattle.world_run.specs.World.{WorldState, byte_of, in_flight, opening_world}
 use Rattle.world_run.specs.declared.Step.{Step}
-use Rattle.bridge_threads.specs.Reports.{AreReceiptsOf, IsReport, handed_to}
-use Rattle.bridge_threads.specs.declared.receipts.Receipts.{Receipts}
+use Rattle.thread_reports.specs.Reports.{AreReceiptsOf, IsReport, handed_to}
+use Rattle.thread_reports.specs.declared.receipts.Receipts.{Receipts}
 use Rattle.threads_script.specs.Asked.{AskedLists}
 
 -- a reply that a client received: its number, and its beats

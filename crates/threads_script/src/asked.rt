@@ -1,7 +1,7 @@
 //! What a script asks for, line by line.
 ghost use Rattle.std.specs.Prelude.{◌≡◌, ◌≤◌, false, true, IfOk, option_map, length, take};
 ghost use Rattle.world_run.specs.Setups.{lists_of};
-ghost use Rattle.bridge_threads.specs.Replays.{items_of};
+ghost use Rattle.thread_reports.specs.Reports.{items_of};
 ghost use Rattle.script_text.specs.Stages.{is_setup_form};
 ghost use Rattle.script_text.specs.declared.keywords.Form.TheVariants as form;
 ghost use Rattle.threads_script.specs.Asked.{IsFit, TakesLine, asked_by, asked_with, is_full, is_misplaced, is_of_nobody, may_follow, nothing_asked};
@@ -42,7 +42,6 @@ pub enum Part {
 
 /// What a script of `tlbridge threads` asks for: a set-up, each client's beats, the words of one to four memory threads, and
 /// the addresses whose bytes are shown at the end. All room is taken by `new`; no other call takes memory.
-#[derive(Drop)]
 pub struct Asked {
     part: Part,
     setup: Option<Setup>,
@@ -55,7 +54,7 @@ pub struct Asked {
 impl Model for Asked {
     ghost use Rattle.std.specs.Prelude.{◌≡◌, ◌≤◌, length, option_map};
     ghost use Rattle.std.specs.Vec.{vec_capacity};
-    ghost use Rattle.bridge_threads.specs.Replays.{items_of};
+    ghost use Rattle.thread_reports.specs.Reports.{items_of};
     ghost use Rattle.threads_script.specs.Asked.{AskedLists};
     ghost use Rattle.threads_script.specs.Lists.{AreShort, HaveRoom};
     ghost use Rattle.world_run.specs.Setups.{lists_of};
@@ -65,6 +64,20 @@ impl Model for Asked {
     ghost view = { λ a. record { part = a.part; setup = option_map lists_of a.setup; scripts = items_of a.scripts.items; words = items_of a.words.items; threads = a.threads; addresses = a.addresses.items } };
 
     ghost invariant = { λ a. (length (items_of a.scripts.items) ≡ 8) × AreShort 4096 (items_of a.scripts.items) × HaveRoom 4096 a.scripts.items × (length (items_of a.words.items) ≡ 4) × HaveRoom 65536 a.words.items × (1 ≤ a.threads) × (a.threads ≤ 4) × (65536 ≤ vec_capacity a.addresses) };
+}
+
+// Written out, so that what lets go of one calls this, and proves nothing of its parts.
+impl Drop for Asked {
+    fn drop(self) {
+        let Asked {
+            part: _,
+            setup: _,
+            scripts: _,
+            words: _,
+            threads: _,
+            addresses: _,
+        } = self;
+    }
 }
 
 /// Whether a line of a form may come in a part.

@@ -6,8 +6,6 @@ mod line_parser;
 mod lists;
 mod report_writer;
 mod script;
-#[cfg(test)]
-mod tests;
 
 pub use asked::{Asked, Part};
 pub use report_writer::report_lines;

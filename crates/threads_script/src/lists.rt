@@ -2,7 +2,7 @@
 ghost use Rattle.std.specs.Prelude.{◌≡◌, ◌<◌, ◌≤◌, [], length, nat_le, replicate, slice_get, vec_capacity, Some, IfOk};
 ghost use Rattle.std.specs.declared.vec.Vec.{Vec as VecOf};
 ghost use Rattle.std.specs.declared.alloc.Global.{Global as GlobalAlloc};
-ghost use Rattle.bridge_threads.specs.Replays.{items_of};
+ghost use Rattle.thread_reports.specs.Reports.{items_of};
 ghost use Rattle.threads_script.specs.Lists.{HaveRoom, list_at, pushed_at};
 
 use std::alloc::{AllocError, Global};

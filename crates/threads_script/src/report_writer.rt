@@ -8,13 +8,13 @@ ghost use Rattle.world_run.specs.Runs.{HandedReply};
 ghost use Rattle.world_run.specs.Setups.{SetupLists};
 ghost use Rattle.world_run.specs.World.{WorldState, byte_of, opening_world};
 ghost use Rattle.world_run.specs.declared.Step.{Step};
-ghost use Rattle.bridge_threads.specs.Reports.{AreReceiptsOf, IsReport};
+ghost use Rattle.thread_reports.specs.Reports.{AreReceiptsOf, IsReport};
 ghost use Rattle.threads_script.specs.ReportTexts.{AreReceived, receipt_text, received_text, report_text};
 
-use bridge_threads::{Receipts, Report};
 use script_text::{client_line, mem_line, ok_line, reply_line, reply_lines};
 use std::io;
 use std::io::Write;
+use thread_reports::{Receipts, Report};
 use world_run::World;
 
 /// Writes the replies that a client received.

@@ -8,9 +8,13 @@ use world_run::setup_fault;
 
 impl Script for Asked {
     ghost use Rattle.std.specs.Prelude.{true};
-    ghost use Rattle.threads_script.specs.Asked.{threads_reading};
+    ghost use Rattle.threads_script.specs.Asked.{AskedLists, threads_reading};
 
     type Answer = Asked;
+
+    ghost State = { AskedLists };
+
+    ghost state = { λ asked. asked };
 
     ghost reading = { threads_reading };
 

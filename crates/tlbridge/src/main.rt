@@ -1,22 +1,11 @@
 //! The program: it reads a script and prints its trace.
 #![tactic(auto)]
 
-mod check;
-mod check_lines;
-#[cfg(test)]
-mod check_tests;
-mod client_ports;
 mod faults;
-#[cfg(test)]
-mod mode_tests;
 mod modes;
-mod run;
-mod run_lines;
 #[cfg(test)]
 mod tests;
 mod threads;
-#[cfg(test)]
-mod threads_tests;
 
 use clap::Command;
 use faults::{TextFault, status_of};

@@ -1,17 +1,15 @@
 //! What the program is asked to do, and the calls that do it.
 ghost use Rattle.std.specs.Prelude.{◌≡◌, ◌⊎◌, [], Err};
 ghost use Rattle.std.specs.Io.Buffered.{writer_buffer, writer_contents};
-ghost use Rattle.tlbridge.specs.Check as check;
+ghost use Rattle.check_script.specs.Check as check;
+ghost use Rattle.run_script.specs.Run as run;
 ghost use Rattle.tlbridge.specs.Modes.{Flushes};
-ghost use Rattle.tlbridge.specs.Run as run;
 ghost use Rattle.tlbridge.specs.Threads.{EndsAsRead};
 ghost use Rattle.script_text.specs.Scripts.{text_of, text_before_failure};
 ghost use Rattle.script_text.specs.Stages.{Opening};
 ghost use Rattle.tlbridge.specs.Endings.{EndsAs};
 
-use crate::check::check_text;
 use crate::faults::TextFault;
-use crate::run::run_text;
 use crate::threads::threads_text;
 use std::alloc::Global;
 use std::io::{BufWriter, Read, Write};
@@ -34,6 +32,28 @@ pub enum Task {
     Script(Mode),
     /// Run what a script asks for in threads.
     Threads,
+}
+
+/// Carries out a script of `run`.
+fn run_text<R: Read, W: Write>(
+    alloc: Global,
+    reader: &mut R,
+    writer: &mut W,
+) -> Result<bool, TextFault>
+    ensures { EndsAs (text_of run.run_reading Opening) (text_before_failure run.run_reading Opening) (R.remaining reader.old) (R.remaining reader.new) (W.contents writer.old) (W.contents writer.new) result }
+{
+    Ok(run_script::run_text(alloc, reader, writer)?)
+}
+
+/// Judges a script of `check`.
+fn check_text<R: Read, W: Write>(
+    alloc: Global,
+    reader: &mut R,
+    writer: &mut W,
+) -> Result<bool, TextFault>
+    ensures { EndsAs (text_of check.check_reading Opening) (text_before_failure check.check_reading Opening) (R.remaining reader.old) (R.remaining reader.new) (W.contents writer.old) (W.contents writer.new) result }
+{
+    Ok(check_script::check_text(alloc, reader, writer)?)
 }
 
 /// Carries out a script in a mode.

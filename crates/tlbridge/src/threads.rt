@@ -1,6 +1,6 @@
 //! `tlbridge threads`: a script that asks for a run in threads.
 ghost use Rattle.std.specs.Prelude.{◌≡◌, ◌≢◌, Some, take, IfErr, IfOk};
-ghost use Rattle.bridge_threads.specs.Reports.{IsReport};
+ghost use Rattle.thread_reports.specs.Reports.{IsReport};
 ghost use Rattle.threads_script.specs.Asked.{IsSoundAsked};
 ghost use Rattle.tlbridge.specs.Threads.{EndsAsRead, FailsToRun, run_fault};
 ghost use Rattle.world_run.specs.Headline.{IsOneAtATime};
@@ -9,12 +9,13 @@ ghost use Rattle.world_run.specs.Setups.{SetupLists};
 ghost use Rattle.world_run.specs.World.{byte_of, in_flight, opening_world};
 
 use crate::faults::TextFault;
-use bridge_threads::{Fault, Gate, Limits, Report, Who, run_threads};
+use bridge_threads::{Fault, Gate, Limits, Who, run_threads};
 use script_text::read_script;
 use std::alloc::Global;
 use std::io::{Read, Write};
 use std::sync::Wait;
 use std::thread::Threads;
+use thread_reports::Report;
 use threads_script::{Asked, report_lines};
 
 /// How many steps and idle turns the program's run may have.

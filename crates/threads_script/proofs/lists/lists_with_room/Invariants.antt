@@ -1,6 +1,6 @@
 -- So many empty lists stand, each with its room.
 use Rattle.std.proofs.Common.{◌≡◌, [], replicate}
-use Rattle.bridge_threads.specs.Replays.{items_of}
+use Rattle.thread_reports.specs.Reports.{items_of}
 use Rattle.threads_script.specs.Lists.{HaveRoom}
 use Rattle.threads_script.proofs.lists.lists_with_room.Given as goal
 

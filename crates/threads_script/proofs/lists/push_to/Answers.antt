@@ -3,7 +3,7 @@ use Rattle.std.proofs.Common.{◌≡◌, ◌<◌, ◌≤◌, ◌∙◌, ◌++◌
 use Rattle.std.specs.Prelude.{option_map, slice_get, slice_set, vec_capacity}
 use Rattle.std.proofs.lemmas.List.{map-set}
 use Rattle.std.proofs.lemmas.Option.{slice_get-map, slice_get_read}
-use Rattle.bridge_threads.specs.Replays.{items_of}
+use Rattle.thread_reports.specs.Reports.{items_of}
 use Rattle.threads_script.specs.Lists.{with_item}
 use Rattle.threads_script.proofs.ListLemmas.{each_set}
 use Rattle.threads_script.proofs.lists.push_to.Goals as goal

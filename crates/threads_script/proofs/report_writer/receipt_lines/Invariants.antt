@@ -2,7 +2,7 @@
 use Rattle.std.proofs.Common.{◌≡◌, List, drop, flat_map, take}
 use Rattle.std.specs.Io.KnownBytes.{Appends}
 use Rattle.world_run.specs.Runs.{HandedReply}
-use Rattle.bridge_threads.specs.Reports.{AreReceiptsOf, beats_of_all}
+use Rattle.thread_reports.specs.Reports.{AreReceiptsOf, beats_of_all}
 use Rattle.threads_script.specs.ReportTexts.{receipt_text}
 use Rattle.threads_script.proofs.report_writer.receipt_lines.Given as goal
 

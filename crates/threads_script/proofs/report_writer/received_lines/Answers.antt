@@ -4,7 +4,7 @@ use Rattle.std.specs.Prelude.{slice_get}
 use Rattle.std.specs.List.{range_with_len}
 use Rattle.std.proofs.KnownBytes.{Appends-trans}
 use Rattle.std.proofs.lemmas.Option.{slice_get_read}
-use Rattle.bridge_threads.specs.Reports.{handed_to}
+use Rattle.thread_reports.specs.Reports.{handed_to}
 use Rattle.threads_script.specs.ReportTexts.{received_text}
 use Rattle.threads_script.proofs.ReceiptLemmas.{one_more}
 use Rattle.threads_script.proofs.report_writer.received_lines.Goals as goal

@@ -4,16 +4,15 @@ use Rattle.std.proofs.KnownBytes.{Consumes-nil, Keeps-refl}
 use Rattle.script_text.specs.Scripts.{text_before_failure, text_of}
 use Rattle.script_text.specs.Scripts as script
 use Rattle.script_text.specs.Words.{lines_of}
-use Rattle.script_text.specs.declared.faults.ScriptFault.{ScriptFault}
 use Rattle.script_text.specs.declared.faults.ScriptFault.TheVariants.{NoMemory}
 use Rattle.world_run.specs.Headline.{IsOneAtATime}
 use Rattle.world_run.specs.Runs.{answers_of, handed_in, sent_in}
 use Rattle.world_run.specs.World.{WorldState, byte_of, in_flight, opening_world}
 use Rattle.world_run.specs.declared.Step.{Step}
-use Rattle.bridge_threads.specs.Reports.{IsReport}
-use Rattle.bridge_threads.specs.declared.receipts.Receipts.{Receipts}
+use Rattle.thread_reports.specs.Reports.{IsReport}
+use Rattle.thread_reports.specs.declared.receipts.Receipts.{Receipts}
 use Rattle.threads_script.specs.ReportTexts.{IsReportText, report_text}
-use Rattle.threads_script.specs.Asked.{AskedLists, IsSoundAsked, nothing_asked, threads_reading}
+use Rattle.threads_script.specs.Asked.{AskedLists, IsSoundAsked, threads_reading}
 use Rattle.threads_script.proofs.AskedScripts.{sound_asked}
 use Rattle.tlbridge.proofs.threads.threads_text.Goals as goal
 

@@ -1,7 +1,7 @@
 -- A beat that may stand has room, and its list has an item more.
 use Rattle.std.proofs.Common.{◌≡◌, ◌<◌, ◌∙◌, Ok, ap, length, sym}
 use Rattle.script_text.specs.OfferLines.{offer_line}
-use Rattle.bridge_threads.specs.Replays.{items_of}
+use Rattle.thread_reports.specs.Reports.{items_of}
 use Rattle.threads_script.specs.Lists.{list_at}
 use Rattle.threads_script.proofs.AskedLines.{beat_room}
 use Rattle.threads_script.proofs.ListLemmas.{pushed_length, short_pushed}

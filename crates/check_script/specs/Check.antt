@@ -1,0 +1,51 @@
+-- `tlbridge check`: what each line of its script does (this project's profile).
+use Rattle.std.specs.Prelude.{ℕ, Bool, true, false, List, [], ◌∷◌, Result, Ok, Err}
+use Rattle.bridge_core.specs.Configs.{is_valid}
+use Rattle.bridge_core.specs.declared.Config.{Config as Limits}
+use Rattle.world_run.specs.declared.SetupFault.{SetupFault}
+use Rattle.world_run.specs.declared.SetupFault.TheVariants.{BadConfig}
+use Rattle.script_text.specs.Forms.{read_as, told_as, byte_field}
+use Rattle.script_text.specs.OfferLines.{offer_line}
+use Rattle.script_text.specs.Scripts.{Reading}
+use Rattle.script_text.specs.Stages.{Kind, Stage, is_config_form, reading_of}
+use Rattle.script_text.specs.Words.{dec_at}
+use Rattle.script_text.specs.declared.keywords.Form.{Form}
+use Rattle.script_text.specs.declared.keywords.Form.TheVariants as form
+use Rattle.check_script.specs.ClientPorts.{PortTable, opening_table, table_after, check_text}
+use Rattle.check_script.specs.declared.lines.CheckCommand.{CheckCommand}
+use Rattle.check_script.specs.declared.lines.CheckCommand.TheVariants.{Offer, Free}
+
+-- ---- reading a line
+
+-- free CLIENT SOURCE
+abbrev pub free_line : List (List ℕ) → Result CheckCommand ℕ
+free_line words = read_as (byte_field ∷ byte_field ∷ []) words (Free (dec_at words 2) (dec_at words 3))
+
+-- what a command's line of each form says, or its first wrong word; there are no other commands
+abbrev pub check_command : Form → List (List ℕ) → Result CheckCommand ℕ
+check_command form.Offer words = told_as (λ offer. Offer offer.0 offer.1) (offer_line words)
+check_command form.Free words = free_line words
+check_command _ words = Err 1
+
+-- ---- `tlbridge check`
+
+-- the ports of a `config` line whose limits are in their ranges
+abbrev pub opened : Limits → Bool → Result PortTable SetupFault
+opened config true = Ok (opening_table config)
+opened config false = Err BadConfig
+
+-- of the set-up lines it has `config` alone; at the input's end it tells whether something was refused, and writes nothing
+abbrev pub check_kind : Kind PortTable CheckCommand
+check_kind =
+    record {
+      most_lines = 65536;
+      takes = is_config_form;
+      command_of = check_command;
+      opened = λ setup. opened setup.config (is_valid setup.config);
+      asks = true;
+      commanded = λ table command. (check_text table command, table_after table command);
+      ending = λ table. ([], table.refused);
+    }
+
+abbrev pub check_reading : Reading (Stage PortTable) Bool
+check_reading = reading_of check_kind

@@ -1,0 +1,112 @@
+//! A script of `tlbridge check`: what is said of its beats.
+ghost use Rattle.std.specs.Prelude.{◌≡◌, OnOk};
+ghost use Rattle.std.specs.Io.KnownBytes.{Appends};
+ghost use Rattle.script_text.specs.Scripts.{EndsAs, text_of, text_before_failure};
+ghost use Rattle.script_text.specs.Stages.{Opening};
+ghost use Rattle.check_script.specs.Check.{check_reading};
+ghost use Rattle.check_script.specs.ClientPorts.{check_text, table_after, verdict_text};
+
+use crate::client_ports::{ClientPorts, Verdict};
+use crate::lines::{CheckCommand, check_command};
+use script_text::{Form, Kind, ScriptFault, StagedScript, Words, read_script, refused_line};
+use std::alloc::Global;
+use std::io;
+use std::io::{Read, Write};
+use tl_messages::a_line;
+use world_run::{Setup, SetupFault};
+
+/// A script of `tlbridge check`.
+#[derive(Drop)]
+struct CheckScript;
+
+/// Writes the line of a verdict.
+fn verdict_line<W: Write>(verdict: Verdict, writer: &mut W) -> io::Result<()>
+    ensures { OnOk result (Appends (W.contents writer.old) (W.contents writer.new) (verdict_text verdict)) }
+{
+    match verdict {
+        Verdict::More => writeln!(writer, "= more"),
+        Verdict::Whole => writeln!(writer, "= whole"),
+        Verdict::Refused(rule) => refused_line(rule, writer),
+        Verdict::NoClient => writeln!(writer, "= noclient"),
+        Verdict::Freed => writeln!(writer, "= freed"),
+        Verdict::NotBusy => writeln!(writer, "= notbusy"),
+    }
+}
+
+/// Carries out a command and writes what it gave: the beat that was offered, and the verdict.
+fn judge<W: Write>(
+    ports: &mut ClientPorts,
+    command: &CheckCommand,
+    writer: &mut W,
+) -> io::Result<()>
+    ensures text { OnOk result (Appends (W.contents writer.old) (W.contents writer.new) (check_text ports.old command.now)) }
+    ensures state { OnOk result (ports.new ≡ table_after ports.old command.now) }
+{
+    if let CheckCommand::Offer(client, beat) = command {
+        a_line(*client, beat, writer)?;
+    }
+    let verdict = ports.carry_out(command);
+    verdict_line(verdict, writer)
+}
+
+impl Kind for CheckScript {
+    ghost use Rattle.check_script.specs.Check.{check_kind};
+    ghost use Rattle.check_script.specs.CommandTexts.{check_gives};
+
+    type World = ClientPorts;
+
+    type Command = CheckCommand;
+
+    ghost rules = { check_kind };
+
+    fn most_lines() -> u32 {
+        65_536
+    }
+
+    fn takes(form: Form) -> bool {
+        matches!(form, Form::Config)
+    }
+
+    fn command_of(form: Form, words: &Words<'_>) -> Result<CheckCommand, u32> {
+        check_command(form, words)
+    }
+
+    fn open(&mut self, alloc: Global, setup: &Setup) -> Result<ClientPorts, SetupFault> {
+        if !setup.config.is_valid() {
+            return Err(SetupFault::BadConfig);
+        }
+        match ClientPorts::new(alloc, &setup.config) {
+            Ok(ports) => Ok(ports),
+            Err(_) => Err(SetupFault::NoMemory),
+        }
+    }
+
+    fn carry_out<W: Write>(
+        &mut self,
+        ports: &mut ClientPorts,
+        command: &CheckCommand,
+        writer: &mut W,
+    ) -> io::Result<bool> {
+        judge(ports, command, writer)?;
+        Ok(true)
+    }
+
+    fn end<W: Write>(&mut self, ports: &ClientPorts, _writer: &mut W) -> io::Result<bool> {
+        Ok(ports.refused())
+    }
+
+    ghost gives_text = { check_gives };
+}
+
+/// Judges the beats of a script and writes its trace, each command's text before the next line is read. The answer is true
+/// where a beat was refused or a client that isn't there was named.
+pub fn check_text<R: Read, W: Write>(
+    alloc: Global,
+    reader: &mut R,
+    writer: &mut W,
+) -> Result<bool, ScriptFault>
+    ensures { EndsAs 65536 (text_of check_reading Opening) (text_before_failure check_reading Opening) (R.remaining reader.old) (R.remaining reader.new) (W.contents writer.old) (W.contents writer.new) result }
+{
+    let script = StagedScript::new(CheckScript);
+    read_script(script, alloc, reader, writer)
+}

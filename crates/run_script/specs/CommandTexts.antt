@@ -1,0 +1,49 @@
+-- Each command of `tlbridge run` has text.
+use Rattle.std.proofs.Common.{◌≡◌, ◌≢◌, ℕ, true, List, [], ◌∷◌, ◌++◌, Option, Some, None, refl, rules}
+use Rattle.world_run.specs.World.{WorldState, next}
+use Rattle.world_run.specs.declared.Answer.{Answer}
+use Rattle.world_run.specs.declared.Answer.TheVariants as answer
+use Rattle.script_text.specs.Names.{answer_text, mem_text}
+use Rattle.run_script.specs.Run.{after_answer, before_answer, commanded, run_kind}
+use Rattle.run_script.specs.declared.lines.Command.{Command}
+use Rattle.run_script.specs.declared.lines.Command.TheVariants.{Event, Drain, Mem, Work}
+
+some_before : (xs ys : List ℕ) → xs ≢ [] → xs ++ ys ≢ []
+some_before [] ys some none = some refl
+some_before (x ∷ xs) ys some none = search rules
+
+some_after : (xs ys : List ℕ) → ys ≢ [] → xs ++ ys ≢ []
+some_after [] ys some none = some none
+some_after (x ∷ xs) ys some none = search rules
+
+answer_text-some : (a : Answer) → answer_text a ≢ []
+answer_text-some answer.More none = search rules
+answer_text-some (answer.Accepted number) none = search rules
+answer_text-some answer.NotReady none = search rules
+answer_text-some answer.Exhausted none = search rules
+answer_text-some (answer.Refused rule) none = search rules
+answer_text-some answer.NoClient none = search rules
+answer_text-some (answer.Sent serial) none = search rules
+answer_text-some answer.Idle none = search rules
+answer_text-some answer.Done none = search rules
+answer_text-some answer.NoSuch none = search rules
+answer_text-some answer.Already none = search rules
+answer_text-some (answer.B b) none = search rules
+answer_text-some (answer.R r) none = search rules
+answer_text-some answer.Nothing none = search rules
+answer_text-some (answer.Reply number) none = search rules
+
+pub commanded-some : (world : WorldState) (command : Command) → (commanded world command).0 ≢ []
+commanded-some world (Event s) =
+    some_after (before_answer s) (answer_text (next world s).answer ++ after_answer s (next world s))
+    (some_before (answer_text (next world s).answer) (after_answer s (next world s)) (answer_text-some (next world s).answer))
+commanded-some world Drain = λ none. search rules
+commanded-some world (Mem address) = by_byte _
+  where
+    by_byte : (byte : Option ℕ) → mem_text byte ≢ []
+    by_byte None none = search rules
+    by_byte (Some byte) none = search rules
+commanded-some world Work = λ none. search rules
+
+pub run_gives : run_kind.asks ≡ true → (world : WorldState) (command : Command) → (run_kind.commanded world command).0 ++ (run_kind.ending (run_kind.commanded world command).1).0 ≢ []
+run_gives asks world command = some_before _ _ (commanded-some world command)

@@ -1,0 +1,92 @@
+-- `tlbridge run`: what each line of its script does (this project's profile).
+use Rattle.std.specs.Prelude.{ℕ, Bool, true, false, List, [], ◌∷◌, ◌++◌, Option, Some, None, Result, Ok, Err}
+use Rattle.tl_messages.specs.Lines.{a_text}
+use Rattle.world_run.specs.Setups.{SetupLists, setup_fault}
+use Rattle.world_run.specs.World.{WorldState, Outcome, opening_world, next, byte_of, drained, work_left}
+use Rattle.world_run.specs.declared.SetupFault.{SetupFault}
+use Rattle.world_run.specs.declared.Step.{Step}
+use Rattle.world_run.specs.declared.Step.TheVariants as step
+use Rattle.script_text.specs.Forms.{read_as, told_as, byte_field, short_field, address_field}
+use Rattle.script_text.specs.OfferLines.{offer_line}
+use Rattle.script_text.specs.Names.{answer_text, held_text, reply_text, drained_text, mem_text, work_text}
+use Rattle.script_text.specs.Scripts.{Reading}
+use Rattle.script_text.specs.Stages.{Kind, Stage, reading_of}
+use Rattle.script_text.specs.Words.{is_dec_to, dec_at, hex_at}
+use Rattle.script_text.specs.declared.keywords.Form.{Form}
+use Rattle.script_text.specs.declared.keywords.Form.TheVariants as form
+use Rattle.run_script.specs.declared.lines.Command.{Command}
+use Rattle.run_script.specs.declared.lines.Command.TheVariants.{Event, Drain, Mem, Work}
+
+-- ---- reading a line
+
+-- do SERIAL BEAT
+abbrev pub perform_line : List (List ℕ) → Result Step ℕ
+perform_line words = read_as (is_dec_to 18446744073709551615 ∷ short_field ∷ []) words (step.Perform (dec_at words 2) (dec_at words 3))
+
+-- one field, a number to 255: b ID, r ID, take CLIENT
+abbrev pub byte_line : List (List ℕ) → Result ℕ ℕ
+byte_line words = read_as (byte_field ∷ []) words (dec_at words 2)
+
+-- mem ADDRESS
+abbrev pub mem_line : List (List ℕ) → Result ℕ ℕ
+mem_line words = read_as (address_field ∷ []) words (hex_at words 2)
+
+-- what a command's line of each form says, or its first wrong word; there are no other commands
+abbrev pub command_of : Form → List (List ℕ) → Result Command ℕ
+command_of form.Offer words = told_as (λ offer. Event (step.Offer offer.0 offer.1)) (offer_line words)
+command_of form.Pump words = read_as [] words (Event step.Pump)
+command_of form.Perform words = told_as Event (perform_line words)
+command_of form.AnswerB words = told_as (λ id. Event (step.AnswerB id)) (byte_line words)
+command_of form.AnswerR words = told_as (λ id. Event (step.AnswerR id)) (byte_line words)
+command_of form.Take words = told_as (λ client. Event (step.Take client)) (byte_line words)
+command_of form.Drain words = read_as [] words Drain
+command_of form.Mem words = told_as Mem (mem_line words)
+command_of form.Work words = read_as [] words Work
+command_of _ words = Err 1
+
+-- ---- carrying a line out
+
+-- the world of a set-up, or its fault
+abbrev pub opened : SetupLists → Option SetupFault → Result WorldState SetupFault
+opened setup None = Ok (opening_world setup)
+opened setup (Some fault) = Err fault
+
+-- what stands before an answer's line: the beat that was offered
+abbrev pub before_answer : Step → List ℕ
+before_answer (step.Offer client beat) = a_text client beat
+before_answer _ = []
+
+-- what stands after it: the burst that was sent, or the beats of the reply that was taken
+abbrev pub after_answer : Step → Outcome → List ℕ
+after_answer step.Pump outcome = held_text outcome.burst
+after_answer (step.Take client) outcome = reply_text client outcome.reply
+after_answer _ outcome = []
+
+-- the text of an event
+abbrev pub event_text : Step → Outcome → List ℕ
+event_text s outcome = before_answer s ++ (answer_text outcome.answer ++ after_answer s outcome)
+
+-- what a command writes, and the world after it
+abbrev pub commanded : WorldState → Command → List ℕ × WorldState
+commanded world (Event s) = (event_text s (next world s), (next world s).state)
+commanded world Drain = (drained_text (drained world).0, (drained world).1)
+commanded world (Mem address) = (mem_text (byte_of world address), world)
+commanded world Work = (work_text (work_left world), world)
+
+-- ---- `tlbridge run`
+
+-- it has every set-up line, and writes nothing at the input's end
+abbrev pub run_kind : Kind WorldState Command
+run_kind =
+    record {
+      most_lines = 65536;
+      takes = λ form. true;
+      command_of = command_of;
+      opened = λ setup. opened setup (setup_fault setup);
+      asks = true;
+      commanded = commanded;
+      ending = λ world. ([], false);
+    }
+
+abbrev pub run_reading : Reading (Stage WorldState) Bool
+run_reading = reading_of run_kind

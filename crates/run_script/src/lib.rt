@@ -1,0 +1,7 @@
+//! `tlbridge run`: a script of set-up lines and commands, carried out in one world.
+#![tactic(auto)]
+
+mod lines;
+mod script;
+
+pub use script::run_text;

@@ -1,0 +1,132 @@
+//! A script of `tlbridge run`: what its commands do to a world, and what they write.
+ghost use Rattle.std.specs.Prelude.{◌≡◌, OnOk};
+ghost use Rattle.std.specs.Io.KnownBytes.{Appends};
+ghost use Rattle.world_run.specs.World.{next};
+ghost use Rattle.script_text.specs.Scripts.{EndsAs, text_of, text_before_failure};
+ghost use Rattle.script_text.specs.Stages.{Opening};
+ghost use Rattle.run_script.specs.Run.{before_answer, commanded, event_text, run_reading};
+
+use crate::lines::{Command, command_of};
+use script_text::{
+    Form, Kind, ScriptFault, StagedScript, Words, answer_line, burst_lines, drained_line, mem_line,
+    read_script, reply_lines, work_line,
+};
+use std::alloc::Global;
+use std::io;
+use std::io::{Read, Write};
+use tl_messages::{ReplyBox, a_line};
+use world_run::{Answer, Setup, SetupFault, Step, World};
+
+/// A script of `tlbridge run`.
+#[derive(Drop)]
+struct RunScript {
+    reply: ReplyBox,
+}
+
+/// Writes what stands before an event's answer: the beat that was offered.
+fn offered_beat<W: Write>(step: &Step, writer: &mut W) -> io::Result<()>
+    ensures { OnOk result (Appends (W.contents writer.old) (W.contents writer.new) (before_answer step.now)) }
+{
+    match step {
+        Step::Offer(client, beat) => a_line(*client, beat, writer),
+        _ => Ok(()),
+    }
+}
+
+/// Carries out an event and writes what it gave: the beat that was offered, the answer, and the burst that was sent or
+/// the reply.
+fn event<W: Write>(
+    world: &mut World,
+    reply: &mut ReplyBox,
+    step: &Step,
+    writer: &mut W,
+) -> io::Result<()>
+    ensures text { OnOk result (Appends (W.contents writer.old) (W.contents writer.new) (event_text step.now (next world.old step.now))) }
+    ensures state { OnOk result (world.new ≡ (next world.old step.now).state) }
+{
+    offered_beat(step, writer)?;
+    let answer = world.step(step, reply);
+    answer_line(&answer, writer)?;
+    match (step, answer) {
+        (Step::Pump, Answer::Sent(_)) => burst_lines(world.last_burst(), writer),
+        (Step::Take(client), Answer::Reply(_)) => reply_lines(*client, reply.as_slice(), writer),
+        _ => Ok(()),
+    }
+}
+
+/// Carries out a command and writes its text.
+fn command<W: Write>(
+    world: &mut World,
+    reply: &mut ReplyBox,
+    command: &Command,
+    writer: &mut W,
+) -> io::Result<()>
+    ensures text { OnOk result (Appends (W.contents writer.old) (W.contents writer.new) (commanded world.old command.now).0) }
+    ensures state { OnOk result (world.new ≡ (commanded world.old command.now).1) }
+{
+    match command {
+        Command::Event(step) => event(world, reply, step, writer),
+        Command::Drain => drained_line(world.drain(), writer),
+        Command::Mem(address) => mem_line(world.byte(*address), writer),
+        Command::Work => work_line(world.work_left(), writer),
+    }
+}
+
+impl Kind for RunScript {
+    ghost use Rattle.run_script.specs.CommandTexts.{run_gives};
+    ghost use Rattle.run_script.specs.Run.{run_kind};
+
+    type World = World;
+
+    type Command = Command;
+
+    ghost rules = { run_kind };
+
+    fn most_lines() -> u32 {
+        65_536
+    }
+
+    fn takes(_form: Form) -> bool {
+        true
+    }
+
+    fn command_of(form: Form, words: &Words<'_>) -> Result<Command, u32> {
+        command_of(form, words)
+    }
+
+    fn open(&mut self, alloc: Global, setup: &Setup) -> Result<World, SetupFault> {
+        World::new(alloc, setup)
+    }
+
+    fn carry_out<W: Write>(
+        &mut self,
+        world: &mut World,
+        asked: &Command,
+        writer: &mut W,
+    ) -> io::Result<bool> {
+        command(world, &mut self.reply, asked, writer)?;
+        Ok(true)
+    }
+
+    fn end<W: Write>(&mut self, _world: &World, _writer: &mut W) -> io::Result<bool> {
+        Ok(false)
+    }
+
+    ghost gives_text = { run_gives };
+}
+
+/// Carries out a script and writes its trace, each command's text before the next line is read.
+/// Memory is asked for before the first read, and at the first command, or at the input's end where there is none.
+pub fn run_text<R: Read, W: Write>(
+    alloc: Global,
+    reader: &mut R,
+    writer: &mut W,
+) -> Result<bool, ScriptFault>
+    ensures { EndsAs 65536 (text_of run_reading Opening) (text_before_failure run_reading Opening) (R.remaining reader.old) (R.remaining reader.new) (W.contents writer.old) (W.contents writer.new) result }
+{
+    let Ok(reply) = ReplyBox::new(alloc) else {
+        return Err(ScriptFault::NoMemory);
+    };
+    let script = StagedScript::new(RunScript { reply });
+    read_script(script, alloc, reader, writer)
+}

@@ -1,0 +1,4 @@
+mod asked;
+mod checks;
+mod lines;
+mod runs;

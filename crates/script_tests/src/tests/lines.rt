@@ -1,0 +1,145 @@
+use script_text::{
+    Script, ScriptFault, Words, answer_line, client_line, drained_line, mem_line, offer_line,
+    ok_line, read_script, refused_line, reply_line, work_line,
+};
+use std::alloc::Global;
+use std::io::Write;
+use std::test::Fail;
+use tl_checker::TlRule;
+use world_run::Answer;
+
+/// Words, and what each field reads of them: a number to 255, one to 65,535, an address and a flag.
+const FIELDS: [(&str, Option<u8>, Option<u16>, Option<u32>, Option<bool>); 12] = [
+    ("0", Some(0), Some(0), Some(0), Some(false)),
+    ("1", Some(1), Some(1), Some(1), Some(true)),
+    ("01", Some(1), Some(1), Some(1), None),
+    ("255", Some(255), Some(255), Some(0x255), None),
+    ("256", None, Some(256), Some(0x256), None),
+    ("65535", None, Some(65_535), Some(0x6_5535), None),
+    ("65536", None, None, Some(0x6_5536), None),
+    ("fF", None, None, Some(255), None),
+    ("100000000", None, None, None, None),
+    ("+1", None, None, None, None),
+    ("0x1", None, None, None, None),
+    ("", None, None, None, None),
+];
+
+#[test]
+fn fields(rt: HostRuntime) -> Result<(), Fail> {
+    for (word, byte, short, address, flag) in FIELDS {
+        let words = Words::of(word);
+        assert_eq!(rt; words.byte(1).ok(), byte, "{word:?}");
+        assert_eq!(rt; words.short(1).ok(), short, "{word:?}");
+        assert_eq!(rt; words.address(1).ok(), address, "{word:?}");
+        assert_eq!(rt; words.flag(1).ok(), flag, "{word:?}");
+    }
+    Ok(())
+}
+
+#[test]
+fn words_of_lines(rt: HostRuntime) -> Result<(), Fail> {
+    let words = Words::of("  take   7 ");
+    assert_eq!(rt; (words.at(1), words.at(2), words.at(3)), ("take", "7", ""));
+    assert_eq!(rt; (words.end(1), words.end(2)), (Err(2), Ok(())));
+    assert!(rt; !words.are_skipped());
+    for skipped in ["", "   ", "#", " # take 7", "#take"] {
+        assert!(rt; Words::of(skipped).are_skipped(), "{skipped:?}");
+    }
+    // The mask has a digit that is none.
+    let offered = offer_line(&Words::of("a 0 0 0 3 5 8 fg 0 0"));
+    assert_eq!(rt; offered, Err(8));
+    Ok(())
+}
+
+#[test]
+fn trace_lines(rt: HostRuntime) -> Result<(), Fail> {
+    let mut text = Vec::new(rt.alloc());
+    answer_line(&Answer::Accepted(7), &mut text)?;
+    answer_line(&Answer::Refused(TlRule::Align), &mut text)?;
+    refused_line(TlRule::BurstControl, &mut text)?;
+    answer_line(&Answer::Reply(0), &mut text)?;
+    mem_line(Some(8), &mut text)?;
+    mem_line(None, &mut text)?;
+    drained_line(12, &mut text)?;
+    work_line(0, &mut text)?;
+    reply_line(u64::MAX, &mut text)?;
+    client_line(7, &mut text)?;
+    ok_line(&mut text)?;
+    let wanted =
+        "= accepted 7\n= refused 5 ALIGN\n= refused 10 BURST_CONTROL\n= reply 0\n= mem 08\n= mem --\n= drained 12\n= work 0\n= reply 18446744073709551615\nclient 7\n= ok\n";
+    assert_eq!(rt; text.as_slice(), wanted.as_bytes());
+    Ok(())
+}
+
+#[test]
+fn faults_as_text(rt: HostRuntime) -> Result<(), Fail> {
+    let fault = ScriptFault::Script { line: 5, word: 8 };
+    assert_eq!(rt;
+        fault.to_string(rt.alloc())?.as_str(),
+        "script fault: line 5, word 8"
+    );
+    Ok(())
+}
+
+/// A script of at most three lines, which answers the number of its last line that has words.
+#[derive(Drop)]
+struct LastLine {
+    number: u32,
+}
+
+impl Script for LastLine {
+    ghost use Rattle.std.specs.Prelude.{Ok, [], true, ℕ};
+
+    type Answer = u32;
+
+    ghost State = { ℕ };
+
+    ghost state = { λ script. script.number };
+
+    ghost reading = { record { most_lines = 3; step = λ state number words. Ok ([], number); ending = λ state number. record { output = []; result = Ok state } } };
+
+    ghost is_silent = { λ state. true };
+
+    fn most_lines() -> u32 {
+        3
+    }
+
+    fn take_words<W: Write>(
+        &mut self,
+        _alloc: Global,
+        number: u32,
+        _words: &Words<'_>,
+        _writer: &mut W,
+    ) -> Result<bool, ScriptFault> {
+        self.number = number;
+        Ok(false)
+    }
+
+    fn end<W: Write>(
+        self,
+        _alloc: Global,
+        _number: u32,
+        _writer: &mut W,
+    ) -> Result<u32, ScriptFault> {
+        let LastLine { number } = self;
+        Ok(number)
+    }
+}
+
+#[test]
+fn a_script_answers_what_it_says(rt: HostRuntime) -> Result<(), Fail> {
+    let late = ScriptFault::Script { line: 4, word: 0 };
+    for (text, answer) in [
+        ("", Ok(0)),
+        ("a\n#b\nc\n", Ok(3)),
+        ("a\nb\n\n", Ok(2)),
+        ("a\nb\n\nc", Err(late)),
+    ] {
+        let script = LastLine { number: 0 };
+        let mut output = Vec::new(rt.alloc());
+        let ended = read_script(script, rt.alloc(), &mut text.as_bytes(), &mut output);
+        assert_eq!(rt; ended, answer, "{text:?}");
+        assert!(rt; output.is_empty());
+    }
+    Ok(())
+}

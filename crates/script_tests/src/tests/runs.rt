@@ -1,0 +1,164 @@
+use burst_plan::MapFault;
+use run_script::run_text;
+use script_text::ScriptFault;
+use std::io;
+use std::io::{ErrorKind, Read, Write};
+use std::test::Fail;
+use subordinate::DeviceFault;
+use world_run::SetupFault;
+
+/// The first script, line by line, and each line's trace.
+const FIRST: [(&str, &str); 9] = [
+    ("config 2 4 16 2 16 12 hh\n", ""),
+    ("region 0 4 10 gpah\n", ""),
+    ("page 10 4 good\n", ""),
+    (
+        "a 0 0 0 3 5 8 ff 1122334455667788 0\n",
+        "A 0 0 0 3 5 00000008 ff 1122334455667788 0\n= accepted 0\n",
+    ),
+    (
+        "pump\n",
+        "= sent 0\nAW 0 00010008 0 3 1\nW 1122334455667788 ff 1\n",
+    ),
+    ("do 0 0\n", "= done\n"),
+    ("b 0\n", "B 0 OKAY\n"),
+    ("take 0\n", "= reply 0\nD 0 0 0 3 5 0 0000000000000000 0\n"),
+    ("mem 10008\n", "= mem 88\n"),
+];
+
+/// Whole scripts: how each ends, and its trace.
+const SCRIPTS: [(&str, Result<bool, ScriptFault>, &str); 6] = [
+    (
+        "config 2 4 16 2 16 12 hh\nr 0\ndrain\nwork\n",
+        Ok(false),
+        "= nothing\n= drained 0\n= work 0\n",
+    ),
+    (
+        "config 1 1 1 1 1 12 h\nmem 0\nmem G\n",
+        Err(ScriptFault::Script { line: 3, word: 2 }),
+        "= mem --\n",
+    ),
+    (
+        "config 1 1 1 1 3 12 h\nmem 0\n",
+        Err(ScriptFault::Setup(SetupFault::BadConfig)),
+        "",
+    ),
+    (
+        "config 1 1 1 1 1 12 h\nregion 0 4 10 gpah\nregion 3 1 20 gpah",
+        Err(ScriptFault::Setup(SetupFault::Map(MapFault::RegionOverlap(1)))),
+        "",
+    ),
+    (
+        "config 1 1 1 1 1 12 h\npage 0 3 good\npage 2 1 good",
+        Err(ScriptFault::Setup(SetupFault::Device(DeviceFault::PageTwice(3)))),
+        "",
+    ),
+    ("", Err(ScriptFault::Script { line: 1, word: 1 }), ""),
+];
+
+#[test]
+fn scripts(rt: HostRuntime) -> Result<(), Fail> {
+    let alloc = rt.alloc();
+    for (script, wanted, trace) in SCRIPTS {
+        let mut output = Vec::new(alloc);
+        let ending = run_text(alloc, &mut script.as_bytes(), &mut output);
+        assert!(rt; ending == wanted, "{script}");
+        assert!(rt; output.as_slice() == trace.as_bytes(), "{script}");
+    }
+    Ok(())
+}
+
+/// A reader that gives a line at a time. After the last the input ends, or the read is interrupted.
+#[derive(Drop)]
+struct Lines<'a> {
+    left: &'a [(&'a str, &'a str)],
+    ends: bool,
+}
+
+impl Read for Lines<'_> {
+    fn read(&mut self, buf: &mut [u8]) -> io::Result<usize> {
+        match self.left {
+            [] if self.ends => Ok(0),
+            [] => Err(io::Error::from(ErrorKind::Interrupted)),
+            [(line, _), left @ ..] => {
+                self.left = left;
+                line.as_bytes().read(buf)
+            }
+        }
+    }
+}
+
+/// A writer to memory whose call number `fails` fails, be it a write or a flush.
+#[derive(Drop)]
+struct Writer {
+    text: Vec<u8>,
+    calls: u32,
+    fails: u32,
+    flushes: u32,
+}
+
+impl Writer {
+    fn called(&mut self) -> io::Result<()> {
+        let call = self.calls;
+        self.calls = call.saturating_add(1);
+        if call == self.fails {
+            return Err(io::Error::from(ErrorKind::Other));
+        }
+        Ok(())
+    }
+}
+
+impl Write for Writer {
+    fn write(&mut self, buf: &[u8]) -> io::Result<usize> {
+        self.called()?;
+        self.text.write(buf)
+    }
+
+    fn flush(&mut self) -> io::Result<()> {
+        self.called()?;
+        self.flushes = self.flushes.saturating_add(1);
+        Ok(())
+    }
+}
+
+#[test]
+fn reads_and_writes_that_fail(rt: HostRuntime) -> Result<(), Fail> {
+    let alloc = rt.alloc();
+    let mut trace = Vec::new(alloc);
+    for count in 0..FIRST.len() {
+        let mut reader = Lines {
+            left: &FIRST[..count],
+            ends: false,
+        };
+        let mut output = Vec::new(alloc);
+        let ending = run_text(alloc, &mut reader, &mut output);
+        assert!(rt; matches!(ending, Err(ScriptFault::Read)), "{count} lines");
+        assert!(rt; output == trace, "{count} lines");
+        trace.extend_from_slice(FIRST[count].1.as_bytes())?;
+    }
+    let mut writes = 0u32;
+    for fails in 0..1_000u32 {
+        let mut reader = Lines {
+            left: &FIRST,
+            ends: true,
+        };
+        let mut writer = Writer {
+            text: Vec::new(alloc),
+            calls: 0,
+            fails,
+            flushes: 0,
+        };
+        let ending = run_text(alloc, &mut reader, &mut writer);
+        if writer.calls <= fails {
+            assert!(rt; matches!(ending, Ok(false)));
+            assert!(rt; writer.text == trace);
+            // One for each of the six commands, before the next line is read, and none for the set-up's lines.
+            assert!(rt; writer.flushes == 6);
+            break;
+        }
+        assert!(rt; matches!(ending, Err(ScriptFault::Write)), "write {fails}");
+        writes = writes.saturating_add(1);
+    }
+    assert!(rt; 16 <= writes && writes < 1_000, "{writes} writes");
+    Ok(())
+}

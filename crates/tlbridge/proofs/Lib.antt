@@ -1,3 +1,0 @@
-mod ClientTables
-mod Examples
-mod Openings

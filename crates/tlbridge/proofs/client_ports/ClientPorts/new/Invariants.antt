@@ -1,6 +1,0 @@
-use Rattle.std.proofs.Common.{◌≡◌}
-use Rattle.tlbridge.specs.ClientPorts.{opening_clients}
-use Rattle.tlbridge.proofs.client_ports.ClientPorts.new.Given as goal
-
-abbrev pub invariant-loop-client : goal.invariant-loop-client
-invariant-loop-client l = l.clients.items ≡ opening_clients l.config l.client

@@ -1,6 +1,0 @@
-use Rattle.world_run.specs.Setups.{lists_of}
-use Rattle.tlbridge.proofs.Openings.{opens_as}
-use Rattle.tlbridge.proofs.run.RunScriptKind.open.Goals as goal
-
-pub returns : goal.returns
-returns c = opens_as (lists_of c.args.setup.now) c.new.result c.new.ensures.refused c.new.ensures.want c.new.ensures.opens
