@@ -1,0 +1,4 @@
+mod BoardsSaid
+mod FindingLines
+mod Openings
+mod ScoreSteps

@@ -1,0 +1,54 @@
+-- The lines of what is wrong, and of what was found at the end (this project's profile).
+use Rattle.std.specs.Prelude.{ℕ, ◌≡◌, ◌≢◌, Bool, true, false, Result, Ok, Err, List, [], ◌∷◌, ◌++◌, Option, Some, None, codes, decimal}
+use Rattle.std.specs.Io.KnownBytes.{Appends}
+use Rattle.axi_checker.specs.Names.{rule_name, rule_number}
+use Rattle.score_script.specs.declared.findings.Finding.{Finding}
+use Rattle.score_script.specs.declared.findings.Finding.TheVariants.{Beat, Byte}
+use Rattle.scoreboard.specs.Names.{reply_rule_name, reply_rule_number}
+use Rattle.scoreboard.specs.declared.ReplyRule.{ReplyRule}
+use Rattle.scoreboard.specs.declared.Wrong.{Wrong}
+use Rattle.scoreboard.specs.declared.Wrong.TheVariants.{NoClient, Request, Reply, Axi}
+use Rattle.script_text.specs.Names.{answer_line, mem_text}
+use Rattle.tl_checker.specs.Names.{name_of, number_of}
+use Rattle.tl_messages.specs.Lines.{d_text}
+
+-- `wrong`, the number of the input's line, and what is wrong: whose rule, its number and its name
+abbrev pub wrong_line : ℕ → List ℕ → ℕ → List ℕ → List ℕ
+wrong_line number whose rule name =
+    answer_line (codes "wrong" ∷ decimal number ∷ whose ∷ decimal rule ∷ name ∷ [])
+
+-- the same of a reply, up to the beat that was due
+abbrev pub expected_text : ℕ → ReplyRule → List ℕ
+expected_text number rule =
+    codes "= wrong "
+    ++ (decimal number ++ (codes " reply " ++ (decimal (reply_rule_number rule) ++ (codes " " ++ (reply_rule_name rule ++ codes " expected ")))))
+
+-- the line of a wrong beat, by the number of its line and its client
+abbrev pub wrong_text : ℕ → ℕ → Wrong → List ℕ
+wrong_text number client NoClient = wrong_line number (codes "client") 1 (codes "NO_CLIENT")
+wrong_text number client (Request rule) = wrong_line number (codes "request") (number_of rule) (name_of rule)
+wrong_text number client (Reply rule None) = wrong_line number (codes "reply") (reply_rule_number rule) (reply_rule_name rule)
+wrong_text number client (Reply rule (Some due)) = expected_text number rule ++ d_text client due
+wrong_text number client (Axi rule) = wrong_line number (codes "axi") (rule_number rule) (rule_name rule)
+
+-- the line of a finding: a wrong beat, or the byte that was asked for
+abbrev pub finding_text : Finding → List ℕ
+finding_text (Beat number client wrong) = wrong_text number client wrong
+finding_text (Byte byte) = mem_text byte
+
+-- the line of a finding, if there is one
+abbrev pub optional_text : Option Finding → List ℕ
+optional_text None = []
+optional_text (Some finding) = finding_text finding
+
+-- a text was written, and `wrote` tells whether there is any; where the writer failed there was
+abbrev pub WritesText : {E : Type 0} → List ℕ → Option (List ℕ) → Option (List ℕ) → Result Bool E → Type 0
+WritesText text before after (Ok wrote) = Appends before after text × (wrote ≡ false → text ≡ []) × (wrote ≡ true → text ≢ [])
+WritesText text before after (Err fault) = text ≢ []
+
+-- the last line: how many beats were judged, how many of them are wrong, how many replies weren't seen whole, and how many bursts are open
+abbrev pub last_text : ℕ → ℕ → ℕ → ℕ → List ℕ
+last_text judged wrong outstanding left_open =
+    answer_line
+    (codes "judged" ∷ decimal judged ∷ codes "wrong" ∷ decimal wrong ∷ codes "outstanding" ∷ decimal outstanding ∷ codes "open"
+    ∷ decimal left_open ∷ [])

@@ -1,0 +1,5 @@
+pub mod FindingTexts
+pub mod ObservedLines
+pub mod ScoreStates
+pub mod Scores
+pub mod SeenBoards

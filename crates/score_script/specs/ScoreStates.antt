@@ -1,0 +1,31 @@
+-- What the state of an observation that is read is, as it is said in a clause.
+use Rattle.std.specs.Prelude.{Result, Ok, Err}
+use Rattle.score_script.specs.Scores.{Score}
+use Rattle.score_script.specs.SeenBoards.{seen_board}
+use Rattle.score_script.specs.declared.score.Score.{Score as HeldScore}
+use Rattle.score_script.specs.declared.script.ScoreScript.{ScoreScript}
+use Rattle.score_script.specs.declared.script.Stage.{Stage as HeldStage}
+use Rattle.score_script.specs.declared.script.Stage.TheVariants as held
+use Rattle.script_text.specs.Stages.{Opening, Running, SettingUp, Stage}
+use Rattle.world_run.specs.Setups.{lists_of}
+use Rattle.world_run.specs.declared.SetupFault.{SetupFault}
+
+-- a score, with its board said by its bytes
+abbrev pub score_of : HeldScore → Score
+score_of score =
+    record { board = seen_board score.board; held = score.held; is_blind = score.is_blind; judged = score.judged; wrong = score.wrong }
+
+-- how far an observation has come
+abbrev pub stage_of : HeldStage → Stage Score
+stage_of held.Opening = Opening
+stage_of (held.SettingUp setup) = SettingUp (lists_of setup)
+stage_of (held.Running score) = Running (score_of score)
+
+-- the same of what reads it
+abbrev pub state_of : ScoreScript → Stage Score
+state_of script = stage_of script.stage
+
+-- what making a score answers
+abbrev pub made_score : Result HeldScore SetupFault → Result Score SetupFault
+made_score (Ok score) = Ok (score_of score)
+made_score (Err fault) = Err fault

@@ -1,0 +1,225 @@
+-- What each line of an observation does (this project's profile).
+use Rattle.std.specs.Prelude.{ℕ, ◌+◌, ◌^◌, ◌-◌, Bool, true, false, ◌&&◌, List, [], ◌++◌, min, Option, Some, None, Result, Ok, Err, if◌then◌else◌, is_some, nat_lt, codes}
+use Rattle.std.specs.Str.{bytes_eq}
+use Rattle.score_script.specs.FindingTexts.{last_text, optional_text}
+use Rattle.score_script.specs.ObservedLines.{address_line, channel_of, is_withdrawal, seen_line}
+use Rattle.score_script.specs.SeenBoards.{SeenBoard, after_seen, bursts_open, byte_in, opening_seen, replies_open, wrong_in}
+use Rattle.score_script.specs.declared.findings.Finding.{Finding}
+use Rattle.score_script.specs.declared.findings.Finding.TheVariants as finding
+use Rattle.score_script.specs.declared.lines.Channel.{Channel}
+use Rattle.score_script.specs.declared.score.Command.{Command}
+use Rattle.score_script.specs.declared.score.Command.TheVariants as command
+use Rattle.score_script.specs.declared.score.HeldBeat.{HeldBeat}
+use Rattle.scoreboard.specs.declared.Seen.{Seen}
+use Rattle.scoreboard.specs.declared.Seen.TheVariants.{A, D, Aw, W, B, Ar, R}
+use Rattle.scoreboard.specs.declared.Wrong.{Wrong}
+use Rattle.script_text.specs.Forms.{form_of}
+use Rattle.script_text.specs.Scripts.{LineStep, Reading, TextResult, ended}
+use Rattle.script_text.specs.Stages.{Opening, Running, SettingUp, Stage, is_misplaced, set_up_as, setup_line, with_setup_line}
+use Rattle.script_text.specs.Words.{word_at}
+use Rattle.script_text.specs.declared.faults.ScriptFault.{ScriptFault}
+use Rattle.script_text.specs.declared.faults.ScriptFault.TheVariants.{Script}
+use Rattle.script_text.specs.declared.keywords.Form.{Form}
+use Rattle.script_text.specs.declared.keywords.Form.TheVariants as form
+use Rattle.script_text.specs.declared.setup_parser.SetupLine.{SetupLine}
+use Rattle.world_run.specs.Setups.{SetupLists, setup_fault}
+use Rattle.world_run.specs.declared.SetupFault.{SetupFault}
+
+-- the scoreboard; the beat that is held; whether AXI beats went unseen; and how many beats were judged, and how many of them are wrong
+pub record Score : Type 0 where
+  pub board : SeenBoard
+  pub held : Option HeldBeat
+  pub is_blind : Bool
+  pub judged : ℕ
+  pub wrong : ℕ
+
+-- a score of which nothing was observed
+abbrev pub opening_score : SetupLists → Score
+opening_score setup = record { board = opening_seen setup; held = None; is_blind = false; judged = 0; wrong = 0 }
+
+-- ---- judging
+
+-- a count and one more; it stays at 2^64 - 1
+abbrev pub counted : ℕ → ℕ
+counted count = min (count + 1) (2 ^ 64 - 1)
+
+-- whether a beat is one of the AXI4 port
+abbrev pub is_axi : Seen → Bool
+is_axi (A client beat) = false
+is_axi (D client beat) = false
+is_axi (Aw beat) = true
+is_axi (W beat) = true
+is_axi (B beat) = true
+is_axi (Ar beat) = true
+is_axi (R beat) = true
+
+-- the client of a beat; 0 for one of the AXI4 port
+abbrev pub client_of : Seen → ℕ
+client_of (A client beat) = client
+client_of (D client beat) = client
+client_of (Aw beat) = 0
+client_of (W beat) = 0
+client_of (B beat) = 0
+client_of (Ar beat) = 0
+client_of (R beat) = 0
+
+-- a wrong beat, by the number of its line
+abbrev pub found : ℕ → Seen → Option Wrong → Option Finding
+found number seen None = None
+found number seen (Some wrong) = Some (finding.Beat number (client_of seen) wrong)
+
+-- the score after a beat that was judged so
+abbrev pub score_after : Score → Seen → Option Wrong → Score
+score_after score seen verdict =
+    record score {
+      board = after_seen score.board seen;
+      judged = counted score.judged;
+      wrong = if is_some verdict then counted score.wrong else score.wrong;
+    }
+
+-- whether a beat isn't judged: AXI beats aren't from the first on that went unseen
+abbrev pub is_passed_over : Score → Seen → Bool
+is_passed_over score seen = score.is_blind && is_axi seen
+
+-- a beat is judged: what is found, and the score after it
+abbrev pub judging : Score → ℕ → Seen → Option Finding × Score
+judging score number seen =
+    if is_passed_over score seen
+    then (None, score)
+    else (found number seen (wrong_in score.board seen), score_after score seen (wrong_in score.board seen))
+
+-- the held beat is judged, if there is one
+abbrev pub settling_held : Score → Option HeldBeat → Option Finding × Score
+settling_held score None = (None, score)
+settling_held score (Some line) = judging (record score { held = None }) line.number (A line.client line.beat)
+
+-- what is found of the held beat, and the score after it
+abbrev pub settling : Score → Option Finding × Score
+settling score = settling_held score score.held
+
+-- ---- commands
+
+-- what a line finds: of the beat that was held, and of its own
+pub record Finds : Type 0 where
+  pub held : Option Finding
+  pub own : Option Finding
+  pub after : Score
+
+-- a beat on channel A is held, any other is judged
+abbrev pub observing : Option Finding × Score → ℕ → Seen → Finds
+observing settled number (A client beat) =
+    record { held = settled.0; own = None; after = record settled.1 { held = Some (record { number = number; client = client; beat = beat }) } }
+observing settled number seen = record { held = settled.0; own = (judging settled.1 number seen).0; after = (judging settled.1 number seen).1 }
+
+-- what a line of this number finds. The held beat is judged first, but where the line withdraws it
+abbrev pub finds : Score → ℕ → Command → Finds
+finds score number (command.Beat seen) = observing (settling score) number seen
+finds score number (command.Byte address) =
+    record { held = (settling score).0; own = Some (finding.Byte (byte_in (settling score).1.board address)); after = (settling score).1 }
+finds score number command.Withdrawal = record { held = None; own = None; after = record score { held = None } }
+finds score number command.Drained = record { held = (settling score).0; own = None; after = record (settling score).1 { is_blind = true } }
+
+-- the lines of what a line finds
+abbrev pub finds_text : Finds → List ℕ
+finds_text given = optional_text given.held ++ optional_text given.own
+
+-- ---- lines
+
+-- a score of a set-up, or why that is refused
+abbrev pub opened : SetupLists → Option SetupFault → Result Score SetupFault
+opened setup None = Ok (opening_score setup)
+opened setup (Some fault) = Err fault
+
+-- what a command finds: a score, which is made for the first; without a `config` line word 1 of this line is at fault
+abbrev pub score_at : Stage Score → ℕ → Result Score ScriptFault
+score_at Opening number = Err (Script number 1)
+score_at (SettingUp setup) number = set_up_as (opened setup (setup_fault setup))
+score_at (Running score) number = Ok score
+
+-- what a command writes, and the stage after it
+abbrev pub command_step : Result Score ScriptFault → ℕ → Command → LineStep (Stage Score)
+command_step (Err fault) number command = Err fault
+command_step (Ok score) number command = Ok (finds_text (finds score number command), Running (finds score number command).after)
+
+-- a line that says a command, or its first wrong word
+abbrev pub told_step : Stage Score → ℕ → Result Command ℕ → LineStep (Stage Score)
+told_step stage number (Err word) = Err (Script number word)
+told_step stage number (Ok command) = command_step (score_at stage number) number command
+
+-- an answer, by the word after `=`: it withdraws the beat before it, says that AXI beats went unseen, or is skipped
+abbrev pub answer_step : Stage Score → ℕ → List ℕ → LineStep (Stage Score)
+answer_step stage number word =
+    if is_withdrawal word
+    then command_step (score_at stage number) number command.Withdrawal
+    else (if bytes_eq word (codes "drained") then command_step (score_at stage number) number command.Drained else Ok ([], stage))
+
+-- whether `config` is still to come
+abbrev pub is_opening : Stage Score → Bool
+is_opening Opening = true
+is_opening (SettingUp setup) = false
+is_opening (Running score) = false
+
+-- a beat as a command
+abbrev pub beat_of : Result Seen ℕ → Result Command ℕ
+beat_of (Ok seen) = Ok (command.Beat seen)
+beat_of (Err word) = Err word
+
+-- a line of a channel, which comes behind `config`
+abbrev pub beat_step : Stage Score → ℕ → List (List ℕ) → Channel → LineStep (Stage Score)
+beat_step stage number words channel =
+    if is_opening stage then Err (Script number 1) else told_step stage number (beat_of (seen_line channel words))
+
+-- a question as a command
+abbrev pub question_of : Result ℕ ℕ → Result Command ℕ
+question_of (Ok address) = Ok (command.Byte address)
+question_of (Err word) = Err word
+
+-- a set-up line adds to the set-up, and writes nothing
+abbrev pub setup_step : Stage Score → ℕ → Result SetupLine ℕ → LineStep (Stage Score)
+setup_step stage number (Ok line) = Ok ([], with_setup_line stage line)
+setup_step stage number (Err word) = Err (Script number word)
+
+-- a line of a form that may stand here: a question, or a set-up line; there are no other forms
+abbrev pub placed_step : Stage Score → ℕ → List (List ℕ) → Form → LineStep (Stage Score)
+placed_step stage number words form.Mem = told_step stage number (question_of (address_line words))
+placed_step stage number words form = setup_step stage number (setup_line form words)
+
+-- a line whose first word names no channel: there has to be such a form, and it has to be able to stand here
+abbrev pub form_step : Stage Score → ℕ → List (List ℕ) → Option Form → LineStep (Stage Score)
+form_step stage number words None = Err (Script number 1)
+form_step stage number words (Some form) =
+    if is_misplaced stage form words then Err (Script number 1) else placed_step stage number words form
+
+-- a line whose first word isn't `=`
+abbrev pub channel_step : Stage Score → ℕ → List (List ℕ) → Option Channel → LineStep (Stage Score)
+channel_step stage number words None = form_step stage number words (form_of (word_at words 1))
+channel_step stage number words (Some channel) = beat_step stage number words channel
+
+-- a line, by its words
+abbrev pub score_step : Stage Score → ℕ → List (List ℕ) → LineStep (Stage Score)
+score_step stage number words =
+    if bytes_eq (word_at words 1) (codes "=")
+    then answer_step stage number (word_at words 2)
+    else channel_step stage number words (channel_of (word_at words 1))
+
+-- ---- a whole observation
+
+-- the held beat is judged, and the last line tells how many beats were; the answer is whether one is wrong
+abbrev pub closing : Option Finding × Score → TextResult Bool
+closing settled =
+    record {
+      output =
+          optional_text settled.0
+          ++ last_text settled.1.judged settled.1.wrong (replies_open settled.1.board) (if settled.1.is_blind then 0 else bursts_open settled.1.board);
+      result = Ok (nat_lt 0 settled.1.wrong);
+    }
+
+-- the end of an observation whose scoreboard was made
+abbrev pub ending_of : Result Score ScriptFault → TextResult Bool
+ending_of (Ok score) = closing (settling score)
+ending_of (Err fault) = ended (Err fault)
+
+-- an observation as it is read: a scoreboard is made at the end where none was
+abbrev pub score_reading : Reading (Stage Score) Bool
+score_reading =
+    record { most_lines = 4294967294; step = score_step; ending = λ stage number. ending_of (score_at stage number) }

@@ -1,0 +1,116 @@
+//! The lines of what is wrong, and of what was found at the end. A fault of the writer is answered as it is.
+ghost use Rattle.std.specs.Prelude.{◌++◌, OnOk};
+ghost use Rattle.std.specs.Io.KnownBytes.{Appends};
+ghost use Rattle.score_script.specs.FindingTexts.{WritesText, expected_text, finding_text, last_text, optional_text, wrong_text};
+
+use scoreboard::{ReplyRule, Wrong};
+use script_text::mem_line;
+use std::io;
+use std::io::Write;
+use tl_messages::d_line;
+
+/// What a line finds.
+#[derive(Clone, Copy, Debug, PartialEq, Eq)]
+pub enum Finding {
+    /// A wrong beat: the number of its line, its client, and what is wrong with it.
+    Beat(u32, u8, Wrong),
+    /// The byte at an address; none outside good pages.
+    Byte(Option<u8>),
+}
+
+/// What a line finds: of the beat that was held, and of its own.
+#[derive(Clone, Copy, Debug, PartialEq, Eq)]
+pub(crate) struct Findings {
+    pub(crate) held: Option<Finding>,
+    pub(crate) own: Option<Finding>,
+}
+
+/// Writes the beginning of a wrong reply's line, behind which the beat that was due stands.
+fn expected<W: Write>(line: u32, rule: ReplyRule, writer: &mut W) -> io::Result<()>
+    ensures { OnOk result (Appends (W.contents writer.old) (W.contents writer.new) (expected_text line rule)) }
+{
+    let number = rule.number();
+    let name = rule.name();
+    write!(writer, "= wrong {line} reply {number} {name} expected ")
+}
+
+/// Writes the line of a wrong beat.
+fn wrong_line<W: Write>(line: u32, client: u8, wrong: &Wrong, writer: &mut W) -> io::Result<()>
+    ensures { OnOk result (Appends (W.contents writer.old) (W.contents writer.new) (wrong_text line client wrong.now)) }
+{
+    match wrong {
+        Wrong::NoClient => {
+            let number = 1u8;
+            let name = "NO_CLIENT";
+            writeln!(writer, "= wrong {line} client {number} {name}")
+        }
+        Wrong::Request(rule) => {
+            let number = rule.number();
+            let name = rule.name();
+            writeln!(writer, "= wrong {line} request {number} {name}")
+        }
+        Wrong::Reply(rule, None) => {
+            let number = rule.number();
+            let name = rule.name();
+            writeln!(writer, "= wrong {line} reply {number} {name}")
+        }
+        Wrong::Reply(rule, Some(due)) => {
+            expected(line, *rule, writer)?;
+            d_line(client, due, writer)
+        }
+        Wrong::Axi(rule) => {
+            let number = rule.number();
+            let name = rule.name();
+            writeln!(writer, "= wrong {line} axi {number} {name}")
+        }
+    }
+}
+
+/// Writes the line of a finding.
+pub fn finding_line<W: Write>(finding: &Finding, writer: &mut W) -> io::Result<()>
+    ensures { OnOk result (Appends (W.contents writer.old) (W.contents writer.new) (finding_text finding.now)) }
+{
+    match finding {
+        Finding::Beat(line, client, wrong) => wrong_line(*line, *client, wrong, writer),
+        Finding::Byte(byte) => mem_line(*byte, writer),
+    }
+}
+
+/// Writes the line of a finding, if there is one.
+pub(crate) fn optional_line<W: Write>(finding: &Option<Finding>, writer: &mut W) -> io::Result<()>
+    ensures { OnOk result (Appends (W.contents writer.old) (W.contents writer.new) (optional_text finding.now)) }
+{
+    match finding {
+        None => Ok(()),
+        Some(finding) => finding_line(finding, writer),
+    }
+}
+
+/// Writes the lines of what a line finds. The answer is whether there was any.
+pub(crate) fn findings_lines<W: Write>(findings: &Findings, writer: &mut W) -> io::Result<bool>
+    ensures { WritesText (optional_text findings.now.held ++ optional_text findings.now.own) (W.contents writer.old) (W.contents writer.new) result }
+{
+    if findings.held.is_none() && findings.own.is_none() {
+        return Ok(false);
+    }
+    optional_line(&findings.held, writer)?;
+    optional_line(&findings.own, writer)?;
+    Ok(true)
+}
+
+/// Writes the last line: how many beats were judged, how many of them are wrong, how many accepted requests have a reply
+/// that wasn't seen whole, and how many AXI bursts are open.
+pub fn last_line<W: Write>(
+    judged: u64,
+    wrong: u64,
+    outstanding: u16,
+    open_bursts: u8,
+    writer: &mut W,
+) -> io::Result<()>
+    ensures { OnOk result (Appends (W.contents writer.old) (W.contents writer.new) (last_text judged wrong outstanding open_bursts)) }
+{
+    writeln!(
+        writer,
+        "= judged {judged} wrong {wrong} outstanding {outstanding} open {open_bursts}"
+    )
+}

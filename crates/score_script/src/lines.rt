@@ -1,0 +1,194 @@
+//! The lines of observed beats, and of the answers between them.
+ghost use Rattle.std.specs.Prelude.{◌≡◌, ◌<◌};
+ghost use Rattle.script_text.specs.Forms.{Reads};
+ghost use Rattle.script_text.specs.Words.{word_at};
+ghost use Rattle.score_script.specs.ObservedLines.{address_line, ar_line, aw_line, b_line, channel_of, d_line, is_withdrawal, r_line, resp_field, resp_in, seen_line, w_line};
+
+use axi_beats::{ArBeat, AwBeat, BBeat, RBeat, Resp, WBeat};
+use scoreboard::Seen;
+use script_text::{Words, offer_line};
+use tl_messages::DBeat;
+
+/// A channel on which beats are observed.
+#[derive(Clone, Copy, Debug, PartialEq, Eq)]
+pub enum Channel {
+    /// TileLink requests.
+    A,
+    /// TileLink replies.
+    D,
+    /// Write addresses.
+    Aw,
+    /// Write data.
+    W,
+    /// Write responses.
+    B,
+    /// Read addresses.
+    Ar,
+    /// Read data.
+    R,
+}
+
+impl Channel {
+    /// The channel whose lines begin with this word.
+    pub fn named(word: &str) -> Option<Channel>
+        ensures { result ≡ channel_of word.now }
+    {
+        match word {
+            "A" => Some(Channel::A),
+            "D" => Some(Channel::D),
+            "AW" => Some(Channel::Aw),
+            "W" => Some(Channel::W),
+            "B" => Some(Channel::B),
+            "AR" => Some(Channel::Ar),
+            "R" => Some(Channel::R),
+            _ => None,
+        }
+    }
+}
+
+/// A response, by its name.
+fn resp(words: &Words<'_>, n: u32) -> Result<Resp, u32>
+    requires { 0 < n }
+    ensures { Reads (resp_field (word_at words.now n)) (resp_in (word_at words.now n)) n result }
+{
+    match words.at(n) {
+        "OKAY" => Ok(Resp::Okay),
+        "EXOKAY" => Ok(Resp::ExOkay),
+        "SLVERR" => Ok(Resp::SlvErr),
+        "DECERR" => Ok(Resp::DecErr),
+        _ => Err(n),
+    }
+}
+
+fn d_line(words: &Words<'_>) -> Result<Seen, u32>
+    ensures { result ≡ d_line words.now }
+{
+    let client = words.byte(2)?;
+    let opcode = words.byte(3)?;
+    let param = words.byte(4)?;
+    let size = words.byte(5)?;
+    let source = words.byte(6)?;
+    let denied = words.flag(7)?;
+    let payload = words.hex(8, u64::MAX)?;
+    let corrupt = words.flag(9)?;
+    words.end(9)?;
+    let beat = DBeat {
+        opcode,
+        param,
+        size,
+        source,
+        denied,
+        payload,
+        corrupt,
+    };
+    Ok(Seen::D(client, beat))
+}
+
+fn aw_line(words: &Words<'_>) -> Result<Seen, u32>
+    ensures { result ≡ aw_line words.now }
+{
+    let id = words.byte(2)?;
+    let address = words.address(3)?;
+    let len = words.byte(4)?;
+    let size = words.byte(5)?;
+    let burst = words.byte(6)?;
+    words.end(6)?;
+    Ok(Seen::Aw(AwBeat {
+        id,
+        address,
+        len,
+        size,
+        burst,
+    }))
+}
+
+fn ar_line(words: &Words<'_>) -> Result<Seen, u32>
+    ensures { result ≡ ar_line words.now }
+{
+    let id = words.byte(2)?;
+    let address = words.address(3)?;
+    let len = words.byte(4)?;
+    let size = words.byte(5)?;
+    let burst = words.byte(6)?;
+    words.end(6)?;
+    Ok(Seen::Ar(ArBeat {
+        id,
+        address,
+        len,
+        size,
+        burst,
+    }))
+}
+
+fn w_line(words: &Words<'_>) -> Result<Seen, u32>
+    ensures { result ≡ w_line words.now }
+{
+    let payload = words.hex(2, u64::MAX)?;
+    let strobes = words.mask(3)?;
+    let last = words.flag(4)?;
+    words.end(4)?;
+    Ok(Seen::W(WBeat {
+        payload,
+        strobes,
+        last,
+    }))
+}
+
+fn b_line(words: &Words<'_>) -> Result<Seen, u32>
+    ensures { result ≡ b_line words.now }
+{
+    let id = words.byte(2)?;
+    let resp = resp(words, 3)?;
+    words.end(3)?;
+    Ok(Seen::B(BBeat { id, resp }))
+}
+
+fn r_line(words: &Words<'_>) -> Result<Seen, u32>
+    ensures { result ≡ r_line words.now }
+{
+    let id = words.byte(2)?;
+    let payload = words.hex(3, u64::MAX)?;
+    let resp = resp(words, 4)?;
+    let last = words.flag(5)?;
+    words.end(5)?;
+    Ok(Seen::R(RBeat {
+        id,
+        payload,
+        resp,
+        last,
+    }))
+}
+
+/// The beat that a channel's line says, or its first wrong word.
+pub fn seen_line(channel: Channel, words: &Words<'_>) -> Result<Seen, u32>
+    ensures { result ≡ seen_line channel words.now }
+{
+    match channel {
+        Channel::A => {
+            let (client, beat) = offer_line(words)?;
+            Ok(Seen::A(client, beat))
+        }
+        Channel::D => d_line(words),
+        Channel::Aw => aw_line(words),
+        Channel::W => w_line(words),
+        Channel::B => b_line(words),
+        Channel::Ar => ar_line(words),
+        Channel::R => r_line(words),
+    }
+}
+
+/// `mem ADDRESS`.
+pub(crate) fn address_line(words: &Words<'_>) -> Result<u32, u32>
+    ensures { result ≡ address_line words.now }
+{
+    let address = words.address(2)?;
+    words.end(2)?;
+    Ok(address)
+}
+
+/// Whether an answer, by the word after `=`, says that the beat before it wasn't taken.
+pub fn is_withdrawal(word: &str) -> bool
+    ensures { result ≡ is_withdrawal word.now }
+{
+    matches!(word, "noclient" | "refused" | "notready" | "exhausted")
+}

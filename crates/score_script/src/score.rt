@@ -1,0 +1,245 @@
+//! What was found of the beats that were read so far, and what each line finds.
+ghost use Rattle.std.specs.Prelude.{◌≡◌, ◌++◌, None, false, true, if◌then◌else◌, is_some, nat_lt};
+ghost use Rattle.script_text.specs.Stages.{WritesEnd};
+ghost use Rattle.score_script.specs.Scores.{client_of, closing, counted, finds, found, is_axi, judging, observing, settling};
+ghost use Rattle.score_script.specs.ScoreStates.{score_of};
+ghost use Rattle.score_script.specs.SeenBoards.{after_seen, byte_in, bursts_open, replies_open, seen_board, wrong_in};
+
+use crate::findings::{Finding, Findings, last_line, optional_line};
+use scoreboard::{Scoreboard, Seen, Wrong};
+use std::io;
+use std::io::Write;
+use tl_messages::ABeat;
+
+/// What a line says that isn't one of the set-up.
+#[derive(Clone, Copy, Debug, PartialEq, Eq)]
+pub(crate) enum Command {
+    /// A beat was observed.
+    Beat(Seen),
+    /// The byte at an address is asked for.
+    Byte(u32),
+    /// The beat before it wasn't taken.
+    Withdrawal,
+    /// AXI beats went unseen.
+    Drained,
+}
+
+/// A beat on channel A that may still be withdrawn.
+#[derive(Clone, Copy, Debug, PartialEq, Eq)]
+pub(crate) struct HeldBeat {
+    /// The number of its line.
+    pub(crate) number: u32,
+    /// Its client.
+    pub(crate) client: u8,
+    /// The beat.
+    pub(crate) beat: ABeat,
+}
+
+/// A scoreboard, the beat that is held, whether AXI beats went unseen, and how many beats were judged and are wrong.
+pub(crate) struct Score {
+    board: Scoreboard,
+    held: Option<HeldBeat>,
+    is_blind: bool,
+    judged: u64,
+    wrong: u64,
+}
+
+// Written out, so that what lets go of one calls this, and proves nothing of its parts.
+impl Drop for Score {
+    fn drop(self) {
+        let Score {
+            board: _,
+            held: _,
+            is_blind: _,
+            judged: _,
+            wrong: _,
+        } = self;
+    }
+}
+
+/// Whether a beat is one of the AXI4 port.
+fn is_axi(seen: &Seen) -> bool
+    ensures { result ≡ is_axi seen.now }
+{
+    !matches!(seen, Seen::A(_, _) | Seen::D(_, _))
+}
+
+/// The client of a beat; 0 for one of the AXI4 port.
+fn client_of(seen: &Seen) -> u8
+    ensures { result ≡ client_of seen.now }
+{
+    match seen {
+        Seen::A(client, _) | Seen::D(client, _) => *client,
+        _ => 0,
+    }
+}
+
+/// A wrong beat, by the number of its line.
+fn found(number: u32, seen: &Seen, verdict: Option<Wrong>) -> Option<Finding>
+    ensures { result ≡ found number seen.now verdict }
+{
+    match verdict {
+        None => None,
+        Some(wrong) => Some(Finding::Beat(number, client_of(seen), wrong)),
+    }
+}
+
+/// A count and one more; it stays at `2^64 - 1`.
+fn counted(count: u64) -> u64
+    ensures { result ≡ counted count }
+{
+    count.saturating_add(1)
+}
+
+/// A count of wrong beats after a verdict.
+fn counted_wrong(count: u64, verdict: Option<Wrong>) -> u64
+    ensures { result ≡ (if is_some verdict then counted count else count) }
+{
+    match verdict {
+        None => count,
+        Some(_) => counted(count),
+    }
+}
+
+/// Judges a beat: the board is said by its bytes.
+fn judged_by(board: &mut Scoreboard, seen: &Seen) -> Option<Wrong>
+    ensures verdict { result ≡ wrong_in (seen_board board.old) seen.now }
+    ensures state { seen_board board.new ≡ after_seen (seen_board board.old) seen.now }
+{
+    board.judge(seen)
+}
+
+impl Score {
+    /// Nothing was observed.
+    pub(crate) fn opening(board: Scoreboard) -> Score
+        ensures { result ≡ record { board = board; held = None; is_blind = false; judged = 0; wrong = 0 } }
+    {
+        Score {
+            board,
+            held: None,
+            is_blind: false,
+            judged: 0,
+            wrong: 0,
+        }
+    }
+
+    /// Judges a beat, by the number of its line.
+    fn judge(&mut self, number: u32, seen: &Seen) -> Option<Finding>
+        ensures found { result ≡ (judging (score_of self.old) number seen.now).0 }
+        ensures state { score_of self.new ≡ (judging (score_of self.old) number seen.now).1 }
+    {
+        if self.is_blind && is_axi(seen) {
+            return None;
+        }
+        let verdict = judged_by(&mut self.board, seen);
+        self.judged = counted(self.judged);
+        self.wrong = counted_wrong(self.wrong, verdict);
+        found(number, seen, verdict)
+    }
+
+    /// Judges the beat that is held, if there is one.
+    fn settle(&mut self) -> Option<Finding>
+        ensures found { result ≡ (settling (score_of self.old)).0 }
+        ensures state { score_of self.new ≡ (settling (score_of self.old)).1 }
+    {
+        let Some(line) = self.held else {
+            return None;
+        };
+        self.held = None;
+        self.judge(line.number, &Seen::A(line.client, line.beat))
+    }
+
+    /// Holds a beat on channel A, and judges any other.
+    fn observe(&mut self, number: u32, seen: &Seen) -> Findings
+        ensures held { result.held ≡ (observing (settling (score_of self.old)) number seen.now).held }
+        ensures own { result.own ≡ (observing (settling (score_of self.old)) number seen.now).own }
+        ensures state { score_of self.new ≡ (observing (settling (score_of self.old)) number seen.now).after }
+    {
+        let held = self.settle();
+        if let Seen::A(client, beat) = *seen {
+            self.held = Some(HeldBeat {
+                number,
+                client,
+                beat,
+            });
+            return Findings { held, own: None };
+        }
+        let own = self.judge(number, seen);
+        Findings { held, own }
+    }
+
+    /// The byte at an address, as the requests accepted so far leave it; none outside good pages.
+    fn byte(&self, address: u32) -> Option<u8>
+        ensures { result ≡ byte_in (seen_board self.now.board) address }
+    {
+        self.board.byte(address)
+    }
+
+    /// AXI beats went unseen.
+    fn pass_over(&mut self)
+        ensures { score_of self.new ≡ record (score_of self.old) { is_blind = true } }
+    {
+        self.is_blind = true;
+    }
+
+    /// Withdraws the beat that is held.
+    fn withdraw(&mut self)
+        ensures { score_of self.new ≡ record (score_of self.old) { held = None } }
+    {
+        self.held = None;
+    }
+
+    /// What a line of this number finds.
+    pub(crate) fn take(&mut self, number: u32, command: &Command) -> Findings
+        ensures held { result.held ≡ (finds (score_of self.old) number command.now).held }
+        ensures own { result.own ≡ (finds (score_of self.old) number command.now).own }
+        ensures state { score_of self.new ≡ (finds (score_of self.old) number command.now).after }
+    {
+        match command {
+            Command::Beat(seen) => self.observe(number, seen),
+            Command::Byte(address) => {
+                let held = self.settle();
+                let own = Some(Finding::Byte(self.byte(*address)));
+                Findings { held, own }
+            }
+            Command::Withdrawal => {
+                self.withdraw();
+                Findings {
+                    held: None,
+                    own: None,
+                }
+            }
+            Command::Drained => {
+                let held = self.settle();
+                self.pass_over();
+                Findings { held, own: None }
+            }
+        }
+    }
+
+    /// How many AXI bursts are open, where none went unseen.
+    fn open_bursts(&self) -> u8
+        ensures { result ≡ (if self.now.is_blind then 0 else bursts_open (seen_board self.now.board)) }
+    {
+        if self.is_blind {
+            return 0;
+        }
+        self.board.open_bursts()
+    }
+
+    /// Judges the beat that is held, and writes the last line. The answer is whether a beat is wrong.
+    pub(crate) fn close<W: Write>(&mut self, writer: &mut W) -> io::Result<bool>
+        ensures { WritesEnd ((closing (settling (score_of self.old))).output, nat_lt 0 (settling (score_of self.old)).1.wrong) (W.contents writer.old) (W.contents writer.new) result }
+    {
+        let held = self.settle();
+        optional_line(&held, writer)?;
+        last_line(
+            self.judged,
+            self.wrong,
+            self.board.outstanding(),
+            self.open_bursts(),
+            writer,
+        )?;
+        Ok(self.wrong > 0)
+    }
+}

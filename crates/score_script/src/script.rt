@@ -1,0 +1,323 @@
+//! An observation, as it is read.
+ghost use Rattle.std.specs.Prelude.{◌≡◌, ◌≢◌, false, true};
+ghost use Rattle.world_run.specs.Setups.{lists_of, setup_fault};
+ghost use Rattle.script_text.specs.Scripts.{EndsAs, text_before_failure, text_of};
+ghost use Rattle.script_text.specs.Stages.{MayStand, Opening, OpensAs, OpensStage, is_misplaced, nothing_written, with_setup_line};
+ghost use Rattle.script_text.specs.Steps.{TakesRest, TakesStep};
+ghost use Rattle.script_text.specs.declared.keywords.Form.TheVariants as forms;
+ghost use Rattle.score_script.specs.Scores.{answer_step, beat_step, command_step, ending_of, form_step, is_opening, opened, placed_step, score_at, score_reading, setup_step, told_step};
+ghost use Rattle.score_script.specs.ScoreStates.{made_score, state_of};
+
+use crate::findings::findings_lines;
+use crate::lines::{Channel, address_line, is_withdrawal, seen_line};
+use crate::score::{Command, Score};
+use scoreboard::Scoreboard;
+use script_text::{
+    Form, Script, ScriptFault, SetupLine, Words, add_setup_line, has_no_room, is_setup_form,
+    read_script, setup_line,
+};
+use std::alloc::Global;
+use std::io::{Read, Write};
+use world_run::{Setup, SetupFault};
+
+/// The most lines of an observation, so that the line after the last has a number.
+const MOST_LINES: u32 = 4_294_967_294;
+
+/// How far an observation has come.
+#[derive(Drop)]
+enum Stage {
+    /// No line yet.
+    Opening,
+    /// Set-up lines.
+    SettingUp(Setup),
+    /// What was observed.
+    Running(Score),
+}
+
+/// An observation, and how far it has come.
+pub(crate) struct ScoreScript {
+    stage: Stage,
+}
+
+// Written out, so that what lets go of one calls this, and proves nothing of its parts.
+impl Drop for ScoreScript {
+    fn drop(self) {
+        let ScoreScript { stage: _ } = self;
+    }
+}
+
+/// A scoreboard of a set-up, of which nothing was observed.
+fn opening_score(alloc: Global, setup: &Setup) -> Result<Score, SetupFault>
+    ensures { OpensAs true (opened (lists_of setup.now) (setup_fault (lists_of setup.now))) (made_score result) }
+{
+    match Scoreboard::new(alloc, setup) {
+        Ok(board) => Ok(Score::opening(board)),
+        Err(fault) => Err(fault),
+    }
+}
+
+impl ScoreScript {
+    fn is_opening(&self) -> bool
+        ensures { result ≡ is_opening (state_of self.now) }
+    {
+        matches!(self.stage, Stage::Opening)
+    }
+
+    /// Whether a line of this form may not stand here.
+    fn is_misplaced(&self, form: Form, words: &Words<'_>) -> bool
+        ensures { result ≡ is_misplaced (state_of self.now) form words.now }
+    {
+        match &self.stage {
+            Stage::Opening => !matches!(form, Form::Config),
+            Stage::SettingUp(setup) => has_no_room(setup, form, words),
+            Stage::Running(_) => is_setup_form(form),
+        }
+    }
+
+    fn set_up(&mut self, line: SetupLine)
+        requires { MayStand (state_of self.old) line }
+        ensures { state_of self.new ≡ with_setup_line (state_of self.old) line }
+    {
+        if let SetupLine::Config(config) = line {
+            self.stage = Stage::SettingUp(Setup::new(config));
+            return;
+        }
+        let Stage::SettingUp(setup) = &mut self.stage else {
+            return;
+        };
+        add_setup_line(setup, line);
+    }
+
+    /// Makes the scoreboard where there is none yet.
+    fn open(&mut self, alloc: Global, number: u32) -> Result<(), ScriptFault>
+        ensures { OpensStage true (score_at (state_of self.old) number) (nothing_written (state_of self.old)) (state_of self.new) result }
+    {
+        let setup = match &self.stage {
+            Stage::Opening => {
+                return Err(ScriptFault::Script {
+                    line: number,
+                    word: 1,
+                });
+            }
+            Stage::Running(_) => return Ok(()),
+            Stage::SettingUp(setup) => setup,
+        };
+        match opening_score(alloc, setup) {
+            Ok(score) => {
+                self.stage = Stage::Running(score);
+                Ok(())
+            }
+            Err(SetupFault::NoMemory) => Err(ScriptFault::NoMemory),
+            Err(fault) => Err(ScriptFault::Setup(fault)),
+        }
+    }
+
+    fn carry_out<W: Write>(
+        &mut self,
+        alloc: Global,
+        number: u32,
+        command: &Command,
+        writer: &mut W,
+    ) -> Result<bool, ScriptFault>
+        ensures { TakesStep score_reading (command_step (score_at (state_of self.old) number) number command.now) nothing_written (state_of self.old) (state_of self.new) (W.contents writer.old) (W.contents writer.new) result }
+    {
+        self.open(alloc, number)?;
+        let Stage::Running(score) = &mut self.stage else {
+            unreachable!();
+        };
+        let findings = score.take(number, command);
+        let Ok(wrote) = findings_lines(&findings, writer) else {
+            return Err(ScriptFault::Write);
+        };
+        Ok(wrote)
+    }
+
+    /// Takes an answer, by the word after `=`.
+    fn take_answer<W: Write>(
+        &mut self,
+        alloc: Global,
+        number: u32,
+        word: &str,
+        writer: &mut W,
+    ) -> Result<bool, ScriptFault>
+        ensures { TakesStep score_reading (answer_step (state_of self.old) number word.now) nothing_written (state_of self.old) (state_of self.new) (W.contents writer.old) (W.contents writer.new) result }
+    {
+        if is_withdrawal(word) {
+            return self.carry_out(alloc, number, &Command::Withdrawal, writer);
+        }
+        if word == "drained" {
+            return self.carry_out(alloc, number, &Command::Drained, writer);
+        }
+        Ok(false)
+    }
+
+    /// Takes a line of a channel.
+    fn take_beat<W: Write>(
+        &mut self,
+        alloc: Global,
+        number: u32,
+        words: &Words<'_>,
+        channel: Channel,
+        writer: &mut W,
+    ) -> Result<bool, ScriptFault>
+        ensures { TakesStep score_reading (beat_step (state_of self.old) number words.now channel) nothing_written (state_of self.old) (state_of self.new) (W.contents writer.old) (W.contents writer.new) result }
+    {
+        if self.is_opening() {
+            return Err(ScriptFault::Script {
+                line: number,
+                word: 1,
+            });
+        }
+        match seen_line(channel, words) {
+            Err(word) => Err(ScriptFault::Script { line: number, word }),
+            Ok(seen) => self.carry_out(alloc, number, &Command::Beat(seen), writer),
+        }
+    }
+
+    /// Takes a question.
+    fn take_question<W: Write>(
+        &mut self,
+        alloc: Global,
+        number: u32,
+        words: &Words<'_>,
+        writer: &mut W,
+    ) -> Result<bool, ScriptFault>
+        ensures { TakesStep score_reading (placed_step (state_of self.old) number words.now forms.Mem) nothing_written (state_of self.old) (state_of self.new) (W.contents writer.old) (W.contents writer.new) result }
+    {
+        match address_line(words) {
+            Err(word) => Err(ScriptFault::Script { line: number, word }),
+            Ok(address) => self.carry_out(alloc, number, &Command::Byte(address), writer),
+        }
+    }
+
+    /// Takes a line of the set-up; there are no other forms.
+    fn take_setup_line<W: Write>(
+        &mut self,
+        number: u32,
+        words: &Words<'_>,
+        form: Form,
+        _writer: &mut W,
+    ) -> Result<bool, ScriptFault>
+        requires place { is_misplaced (state_of self.old) form words.now ≡ false }
+        requires other { form ≢ forms.Mem }
+        ensures { TakesStep score_reading (placed_step (state_of self.old) number words.now form) nothing_written (state_of self.old) (state_of self.new) (W.contents _writer.old) (W.contents _writer.new) result }
+    {
+        match setup_line(form, words) {
+            Err(word) => Err(ScriptFault::Script { line: number, word }),
+            Ok(line) => {
+                self.set_up(line);
+                Ok(false)
+            }
+        }
+    }
+
+    /// Takes a line of a form.
+    fn take_form<W: Write>(
+        &mut self,
+        alloc: Global,
+        number: u32,
+        words: &Words<'_>,
+        form: Option<Form>,
+        writer: &mut W,
+    ) -> Result<bool, ScriptFault>
+        ensures { TakesStep score_reading (form_step (state_of self.old) number words.now form) nothing_written (state_of self.old) (state_of self.new) (W.contents writer.old) (W.contents writer.new) result }
+    {
+        let wrong = ScriptFault::Script {
+            line: number,
+            word: 1,
+        };
+        let Some(form) = form else {
+            return Err(wrong);
+        };
+        if self.is_misplaced(form, words) {
+            return Err(wrong);
+        }
+        if matches!(form, Form::Mem) {
+            return self.take_question(alloc, number, words, writer);
+        }
+        self.take_setup_line(number, words, form, writer)
+    }
+
+    /// Judges the beat that is held, and writes the last line; the scoreboard is made where there is none yet.
+    fn end_stage<W: Write>(
+        &mut self,
+        alloc: Global,
+        number: u32,
+        writer: &mut W,
+    ) -> Result<bool, ScriptFault>
+        ensures { TakesRest (ending_of (score_at (state_of self.old) number)) (nothing_written (state_of self.old)) (W.contents writer.old) (W.contents writer.new) result }
+    {
+        self.open(alloc, number)?;
+        let Stage::Running(score) = &mut self.stage else {
+            unreachable!();
+        };
+        let Ok(is_wrong) = score.close(writer) else {
+            return Err(ScriptFault::Write);
+        };
+        Ok(is_wrong)
+    }
+}
+
+impl Script for ScoreScript {
+    ghost use Rattle.script_text.specs.Stages.{Stage as StageOf, nothing_written};
+    ghost use Rattle.score_script.specs.ScoreStates.{state_of};
+    ghost use Rattle.score_script.specs.Scores.{Score as ScoreSaid, score_reading};
+
+    /// Whether a beat is wrong.
+    type Answer = bool;
+
+    ghost State = { StageOf ScoreSaid };
+
+    ghost state = { state_of };
+
+    ghost reading = { score_reading };
+
+    ghost is_silent = { nothing_written };
+
+    fn most_lines() -> u32 {
+        MOST_LINES
+    }
+
+    fn take_words<W: Write>(
+        &mut self,
+        alloc: Global,
+        number: u32,
+        words: &Words<'_>,
+        writer: &mut W,
+    ) -> Result<bool, ScriptFault> {
+        let first = words.at(1);
+        if first == "=" {
+            return self.take_answer(alloc, number, words.at(2), writer);
+        }
+        match Channel::named(first) {
+            Some(channel) => self.take_beat(alloc, number, words, channel, writer),
+            None => self.take_form(alloc, number, words, Form::named(first), writer),
+        }
+    }
+
+    fn end<W: Write>(
+        self,
+        alloc: Global,
+        number: u32,
+        writer: &mut W,
+    ) -> Result<bool, ScriptFault> {
+        let mut script = self;
+        script.end_stage(alloc, number, writer)
+    }
+}
+
+/// Judges what was observed at the ports of a bridge, and writes a line for each beat that can't be right, for each question,
+/// and at the end. The answer is whether a beat is wrong. A beat is judged once the next line that isn't skipped was read
+/// without fault, or at the input's end; each line's text stands before more is read.
+pub fn score_text<R: Read, W: Write>(
+    alloc: Global,
+    reader: &mut R,
+    writer: &mut W,
+) -> Result<bool, ScriptFault>
+    ensures { EndsAs 4294967294 (text_of score_reading Opening) (text_before_failure score_reading Opening) (R.remaining reader.old) (R.remaining reader.new) (W.contents writer.old) (W.contents writer.new) result }
+{
+    let script = ScoreScript {
+        stage: Stage::Opening,
+    };
+    read_script(script, alloc, reader, writer)
+}

@@ -1,0 +1,11 @@
+pub mod Answered
+pub mod AxiCounts
+pub mod BoardClients
+pub mod Changes
+pub mod DueLists
+pub mod Meanings
+pub mod PutWords
+pub mod RequestWords
+pub mod WordRanges
+pub mod WordReads
+pub mod WordWrites

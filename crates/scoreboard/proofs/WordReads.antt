@@ -1,0 +1,135 @@
+-- What is gathered word by word: the answers of a memory to the reads of a range.
+use Rattle.std.proofs.Common.{◌≡◌, ℕ, suc, ◌+◌, ◌-◌, ◌*◌, ◌/◌, ◌%◌, ◌^◌, ◌<◌, ◌≤◌, min, max, true, false, [], Some, Option, refl, sym, ◌∙◌, ap, arith, inl, inr}
+use Rattle.std.specs.Prelude.{slice_get, unwrap_or}
+use Rattle.std.specs.List.{enumerate_from}
+use Rattle.std.proofs.lemmas.Bool.{and_from, le-leb, cases_lt}
+use Rattle.std.proofs.lemmas.List.Elements.{All-nil}
+use Rattle.std.proofs.lemmas.List.FromFn.{get_or-map-range_with_len, length-map-range_with_len}
+use Rattle.std.proofs.lemmas.Nat.{div-add-mod'}
+use Rattle.std.proofs.Math.Pow.{pow_mono}
+use Rattle.std.proofs.lemmas.Option.{get_or_from_slice_get, slice_get_within}
+use Rattle.bus_words.specs.Lanes.{lane_byte}
+use Rattle.tl_messages.specs.Operations.{reply_has_data}
+use Rattle.tl_messages.specs.Requests.{WholeRequest}
+use Rattle.tl_messages.specs.declared.AtomicOp.{AtomicOp}
+use Rattle.tl_messages.specs.declared.Operation.{Operation}
+use Rattle.tl_messages.specs.declared.Operation.TheVariants.{Atomic}
+use Rattle.axi_beats.specs.Responses.{is_okay}
+use Rattle.axi_beats.specs.Transfers.{transfer_end, transfer_has}
+use Rattle.axi_beats.specs.declared.RBeat.{RBeat}
+use Rattle.axi_beats.specs.declared.Resp.{Resp}
+use Rattle.responses.specs.Answers.{after_reads}
+use Rattle.responses.specs.Gathered.{Gathering, after_r, gathered, gathering_of, reads_of}
+use Rattle.responses.specs.declared.gather.Outline.{Outline}
+use Rattle.subordinate.specs.Effects.{IsCaptured}
+use Rattle.subordinate.specs.Faults.{is_bad, read_response, standing_at, write_response}
+use Rattle.subordinate.specs.FreeMemory.{FreeMemory}
+use Rattle.subordinate.specs.InsidePages.{KeepsGoodPages, PagesState}
+use Rattle.subordinate.proofs.EffectLaws.{is_captured}
+use Rattle.world_run.specs.Meaning.{effect}
+use Rattle.world_run.proofs.SerialReplies.{IsAnsweredAs, is_put, outline_as, reply_at}
+use Rattle.scoreboard.specs.InsideSerial.{IsMemoryRange, IsWordAt, bytes_in, read_of_word, word_read, words_read}
+use Rattle.scoreboard.proofs.WordRanges.{one_transfer, word_aligned}
+
+-- a word is gathered, and those that are still to come lead to the same end
+pub one_more : (outline : Outline) (state : PagesState) (address size place count : ℕ) (old new : Gathering) → place < count → new ≡ after_r 8 outline (word_read state address size place) place old
+    → after_reads 8 outline (enumerate_from (place + 1) (words_read state address size (place + 1) (count - (place + 1)))) new
+    ≡ after_reads 8 outline (enumerate_from place (words_read state address size place (count - place))) old
+one_more outline state address size place count old new below is =
+    let left : count - place ≡ suc (count - (place + 1)) = omega (arith, below) in
+    rw (left, is) refl
+
+-- ---- the answer to one word
+
+-- an answer is that of the word at its place
+word_there : (state : PagesState) (address size n k : ℕ) (r : RBeat) → slice_get (words_read state address size 0 n) k ≡ Some r → (k < n) × (word_read state address size k ≡ r)
+word_there state address size n k r there =
+    let within : k < n = omega (arith, slice_get_within (words_read state address size 0 n) k r there, length-map-range_with_len (word_read state address size) 0 n) in
+    (within, sym (get_or-map-range_with_len (word_read state address size) 0 n k k r within (omega arith)) ∙ get_or_from_slice_get (words_read state address size 0 n) k r r there)
+
+abbrev as_memory : PagesState → FreeMemory
+as_memory s = record { bus_bytes = 8; faults = s.faults; memory = s.memory; pending = []; sent = 0 }
+
+word_captured : (state : PagesState) (address size k : ℕ) → KeepsGoodPages state → IsWordAt address size k
+    → IsCaptured (as_memory state) (read_of_word address size k) 1 (word_read state address size k).payload (word_read state address size k).resp
+word_captured state address size k pages at =
+    is_captured (as_memory state) (read_of_word address size k) 1 _ _ (inr refl) (one_transfer (address + k * 8) (min size 3) (omega arith) (word_aligned address size k at)).fits (omega arith)
+    (record { exactly = pages.exactly; whole = pages.whole }) refl
+
+-- a byte of word k is in its transfer
+few_bounds : (address size k x : ℕ) → size < 3 → k < max 1 (2 ^ size / 8) → address ≤ x → x < address + 2 ^ size → (address + k * 8 ≤ x) × (x < address + k * 8 + 2 ^ min size 3)
+few_bounds address size k x few inside low high =
+    let none : k ≡ 0 = omega (arith, inside, pow_mono {i = size} {j = 2} (omega (arith, few))) in
+    let least : min size 3 ≡ size = omega (arith, few) in
+    let width : 2 ^ min size 3 ≡ 2 ^ size = ap (λ e. 2 ^ e) least in
+    (omega (arith, none, low), omega (arith, none, high, width))
+
+many_bounds : (address size k x : ℕ) → 3 ≤ size → address ≤ x → (x - address) / min (2 ^ size) 8 ≡ k → (address + k * 8 ≤ x) × (x < address + k * 8 + 2 ^ min size 3)
+many_bounds address size k x many low counted =
+    let eight : min (2 ^ size) 8 ≡ 8 = omega (arith, pow_mono {i = 3} {j = size} many) in
+    let least : min size 3 ≡ 3 = omega (arith, many) in
+    let width : 2 ^ min size 3 ≡ 8 = ap (λ e. 2 ^ e) least in
+    let word : (x - address) / 8 ≡ k = ap (λ d. (x - address) / d) (sym eight) ∙ counted in
+    (omega (arith, word, low), omega (arith, word, low, width))
+
+in_transfer : (address size k x : ℕ) → IsWordAt address size k → address ≤ x → x < address + 2 ^ size → (x - address) / min (2 ^ size) 8 ≡ k → transfer_has (address + k * 8) (min size 3) 1 x ≡ true
+in_transfer address size k x at low high counted = by_bounds (elim (cases_lt size 3) [ inl few ↦ few_bounds address size k x few at.inside low high | inr many ↦ many_bounds address size k x many low counted ])
+  where
+    by_bounds : (address + k * 8 ≤ x) × (x < address + k * 8 + 2 ^ min size 3) → transfer_has (address + k * 8) (min size 3) 1 x ≡ true
+    by_bounds (first, last) =
+        let rows = div-add-mod' (address + k * 8) (2 ^ min size 3) in
+        let aligned = word_aligned address size k at in
+        let end : x ≤ transfer_end (address + k * 8) (min size 3) 1 = omega (arith, rows, aligned, last) in
+        and_from _ _ (le-leb _ _ first) (le-leb _ _ end)
+
+-- ---- all of them
+
+place_of_word : (size k : ℕ) → k < max 1 (2 ^ size / 8) → k * 8 ≡ k * min (2 ^ size) 8
+place_of_word size k inside = elim (cases_lt size 3) [
+  | inl few ↦ let none : k ≡ 0 = omega (arith, inside, pow_mono {i = size} {j = 2} (omega (arith, few))) in rw none (omega arith)
+  | inr many ↦ let eight : min (2 ^ size) 8 ≡ 8 = omega (arith, pow_mono {i = 3} {j = size} many) in rw eight refl
+]
+
+reads_there : (size : ℕ) (operation : Operation) (q : WholeRequest) → q.size ≡ size → reply_has_data operation ≡ true → reads_of 8 (outline_as q operation) ≡ max 1 (2 ^ q.size / 8)
+reads_there size operation q is has = rw has refl
+
+-- the answers to the words of a range are those of a memory with its bytes
+pub answered_words : (state : PagesState) (q : WholeRequest) (operation : Operation) (address : ℕ) → reply_has_data operation ≡ true → KeepsGoodPages state → IsMemoryRange address q.size
+    → q.address % 2 ^ q.size ≡ 0 → address % 4096 ≡ q.address % 4096
+    → IsAnsweredAs state.faults 8 (outline_as q operation) address (bytes_in state) (words_read state address q.size 0 (reads_of 8 (outline_as q operation))) []
+answered_words state q operation address has pages range aligned same =
+    record {
+      width = inr refl;
+      small = range.small;
+      aligned = aligned;
+      same_byte = same;
+      few = omega (arith, length-map-range_with_len (word_read state address q.size) 0 (reads_of 8 (outline_as q operation)));
+      response = λ k r there.
+          let (within, is) = word_there state address q.size (reads_of 8 (outline_as q operation)) k r there in
+          ap (λ (beat : RBeat). beat.resp) (sym is) ∙ ap (λ d. read_response state.faults (address + d)) (place_of_word q.size k (inside k within));
+      bytes = λ k r there x okay read.
+          let (within, is) = word_there state address q.size (reads_of 8 (outline_as q operation)) k r there in
+          let at : IsWordAt address q.size k = record { range = range; inside = inside k within } in
+          let has_byte = (word_captured state address q.size k pages at).bytes x (ap (λ (beat : RBeat). is_okay beat.resp) is ∙ okay) (in_transfer address q.size k x at read.first read.last read.counted) in
+          ap (λ (beat : RBeat). lane_byte beat.payload (x % 8)) (sym is) ∙ ap (λ (o : Option ℕ). unwrap_or o 0) (sym has_byte);
+      responded = All-nil (λ (resp : Resp). resp ≡ write_response (standing_at state.faults address));
+    }
+  where
+    inside : (k : ℕ) → k < reads_of 8 (outline_as q operation) → k < max 1 (2 ^ q.size / 8)
+    inside k within = omega (arith, within, reads_there q.size operation q refl has)
+
+-- the reply to a Get or an atomic whose words were gathered
+pub reply_of_words : (state : PagesState) (q : WholeRequest) (operation : Operation) (address : ℕ) → reply_has_data operation ≡ true → is_put operation ≡ false → ((op : AtomicOp) → operation ≡ Atomic op → q.size ≤ 3)
+    → KeepsGoodPages state → IsMemoryRange address q.size → q.address % 2 ^ q.size ≡ 0 → address % 4096 ≡ q.address % 4096
+    → gathered (outline_as q operation)
+    (after_reads 8 (outline_as q operation) (enumerate_from 0 (words_read state address q.size 0 (reads_of 8 (outline_as q operation)))) (gathering_of (outline_as q operation) false))
+    ≡ (effect state.faults q (bytes_in state) address operation (standing_at state.faults address) (is_bad state.faults address)).reply
+reply_of_words state q operation address has isnt number pages range aligned same =
+    reply_at state.faults 8 q operation address (bytes_in state) (words_read state address q.size 0 (reads_of 8 (outline_as q operation))) []
+    (answered_words state q operation address has pages range aligned same)
+    (record {
+      all_reads = λ any. length-map-range_with_len (word_read state address q.size) 0 (reads_of 8 (outline_as q operation));
+      one_response = λ put. absurd (cc (put, isnt));
+      others = λ other bad. refl;
+    })
+    number

@@ -1,0 +1,69 @@
+//! A scoreboard: which of the beats that were observed at the ports of a bridge can't be right.
+#![tactic(auto)]
+
+mod axi_port;
+mod board;
+mod clients;
+mod names;
+mod replies;
+mod serial;
+#[cfg(test)]
+mod tests;
+
+use axi_beats::{ArBeat, AwBeat, BBeat, RBeat, WBeat};
+use axi_checker::AxiRule;
+pub use board::Scoreboard;
+pub use serial::SerialMemory;
+use tl_checker::TlRule;
+use tl_messages::{ABeat, DBeat};
+
+/// What was observed: a beat that was taken at a port, where the two sides agreed on it.
+#[derive(Clone, Copy, Debug, PartialEq, Eq)]
+pub enum Seen {
+    /// On channel A of a client.
+    A(u8, ABeat),
+    /// On channel D of a client.
+    D(u8, DBeat),
+    /// On the write address channel.
+    Aw(AwBeat),
+    /// On the write data channel.
+    W(WBeat),
+    /// On the write response channel.
+    B(BBeat),
+    /// On the read address channel.
+    Ar(ArBeat),
+    /// On the read data channel.
+    R(RBeat),
+}
+
+/// How a beat on channel D isn't the next one of a reply that is due (TileLink 1.8, channel D; this project's profile).
+#[derive(Clone, Copy, Debug, PartialEq, Eq)]
+pub enum ReplyRule {
+    /// No reply has begun on its client's channel, and none of its source is due there.
+    Unasked = 1,
+    /// The reply that has begun on its channel isn't whole, and has another source.
+    Interleaved,
+    /// Its opcode isn't the reply's, or its param isn't 0.
+    Opcode,
+    /// Its size isn't the request's.
+    Size,
+    /// It is denied and shouldn't be, or the other way round.
+    Denied,
+    /// It is corrupt and shouldn't be, or the other way round.
+    Corrupt,
+    /// Its payload isn't the reply's.
+    Payload,
+}
+
+/// What is wrong with a beat.
+#[derive(Clone, Copy, Debug, PartialEq, Eq)]
+pub enum Wrong {
+    /// There is no such client.
+    NoClient,
+    /// A beat on channel A breaks this rule.
+    Request(TlRule),
+    /// A beat on channel D isn't the one that is due, which is told where there is one.
+    Reply(ReplyRule, Option<DBeat>),
+    /// A beat of the AXI4 port breaks this rule.
+    Axi(AxiRule),
+}

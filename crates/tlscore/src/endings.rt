@@ -1,0 +1,55 @@
+//! How the program ends.
+ghost use Rattle.std.specs.Prelude.{◌≡◌, ◌⊎◌, [], Err};
+ghost use Rattle.std.specs.Io.Buffered.{writer_buffer, writer_contents};
+ghost use Rattle.script_text.specs.Scripts.{EndsAs, text_before_failure, text_of};
+ghost use Rattle.script_text.specs.Stages.{Opening};
+ghost use Rattle.score_script.specs.Scores.{score_reading};
+ghost use Rattle.tlscore.specs.Endings.{Flushes, status_of};
+
+use burst_plan::MapFault;
+use score_script::score_text;
+use script_text::ScriptFault;
+use std::alloc::Global;
+use std::io::{BufWriter, Read, Write};
+use subordinate::DeviceFault;
+use world_run::SetupFault;
+
+/// Judges an observation, and flushes the output. Output that can't be flushed is a write fault, whatever the input ended
+/// with.
+pub(crate) fn scored<R: Read, W: Write + Drop>(
+    alloc: Global,
+    reader: &mut R,
+    writer: &mut BufWriter<W>,
+) -> Result<bool, ScriptFault>
+    ensures ends { Flushes (EndsAs 4294967294 (text_of score_reading Opening) (text_before_failure score_reading Opening) (R.remaining reader.old) (R.remaining reader.new) (writer_contents W.contents writer.old) (writer_contents W.contents writer.new)) result }
+
+    // Nothing is left in the buffer, but where a write failed.
+    ensures flushed { (result ≡ Err ScriptFault.Write) ⊎ (writer_buffer writer.new ≡ []) }
+{
+    let ending = score_text(alloc, reader, writer);
+    match writer.flush() {
+        Ok(()) => ending,
+        Err(_) => Err(ScriptFault::Write),
+    }
+}
+
+/// The exit status of a result: 0 where nothing is wrong, 1 where something is, 2 for a fault of the input or its set-up, 3
+/// for one of the reader or writer, 4 for want of memory.
+pub(crate) fn status_of(ending: &Result<bool, ScriptFault>) -> u8
+    ensures { result ≡ status_of ending.now }
+{
+    match ending {
+        Ok(is_wrong) => u8::from(*is_wrong),
+        Err(ScriptFault::Script { .. }) => 2,
+        Err(
+            ScriptFault::Setup(
+                SetupFault::NoMemory
+                | SetupFault::Map(MapFault::NoMemory)
+                | SetupFault::Device(DeviceFault::NoMemory),
+            ),
+        ) => 4,
+        Err(ScriptFault::Setup(_)) => 2,
+        Err(ScriptFault::Read | ScriptFault::Write) => 3,
+        Err(ScriptFault::NoMemory) => 4,
+    }
+}

@@ -1,0 +1,204 @@
+"""Whether what was observed at the ports of a bridge can be right, said of whole lists and found by search: what docs/RULES.md
+says of each port, and that replies are those of the accepted requests, carried out whole, one at a time, in order of acceptance.
+It keeps every reading of what each client was told that is still possible; where none is left, the beat can't be right."""
+
+from dataclasses import dataclass, field, replace
+
+from model import GET, INTENT, LOGICAL, PUT_PARTIAL, Memory
+
+from client import beats_of  # model.py says where it stands
+from random_bench import full_mask
+
+PARAMS = (1, 1, 5, 4, 1, 2)  # how many params each opcode has
+WITHDRAWN = ("noclient", "refused", "notready", "exhausted")
+RESPONSES = ("OKAY", "SLVERR", "DECERR")
+
+
+@dataclass(frozen=True)
+class Told:
+    """A reading: which of its requests a client was not told the whole reply of, and of which of these so many beats came."""
+
+    due: frozenset
+    begun: int = None
+    came: int = 0
+
+    def open(self):
+        """The requests whose reply may go on or begin."""
+        return self.due if self.begun is None else {self.begun}
+
+    def step(self, number, replies):
+        """One beat more came of the reply to a request."""
+        ended = self.came + 1 == len(replies[number])
+        return Told(self.due - {number}) if ended else Told(self.due, number, self.came + 1)
+
+    def after(self, beat, replies):
+        """The readings that a beat on channel D leaves."""
+        return (self.step(it, replies) for it in self.open() if replies[it][self.came] == beat)
+
+
+@dataclass
+class Client:
+    level: str
+    message: tuple = ()  # what came of the message that has begun
+    readings: frozenset = frozenset({Told(frozenset())})
+
+    def sources(self, reading, replies):
+        """The sources of what isn't replied."""
+        return {replies[number][0].source for number in reading.due}
+
+
+@dataclass
+class Burst:
+    id: int
+    address: int
+    len: int
+    size: int
+    came: int = 0
+
+    def transfer(self, bus):
+        """The first and last byte of the next transfer, as AXI4 counts them, and its lanes."""
+        number = 2**self.size
+        aligned = self.address // number * number
+        begin = self.address if self.came == 0 else aligned + self.came * number
+        end = aligned + (self.came + 1) * number - 1
+        return begin, end, sum(1 << at % bus for at in range(begin, end + 1))
+
+    def is_last(self):
+        return self.came == self.len
+
+
+@dataclass
+class Side:
+    bursts: list = field(default_factory=list)
+
+    def of_id(self, number):
+        return [it for it in self.bursts if it.id == number]
+
+
+class Observation:
+    """Beats are taken in the order observed. One that can't be right is left out, but that of a due reply counts as come."""
+
+    def __init__(self, setup, levels):
+        self.setup, self.memory = setup, Memory(setup)
+        self.clients = [Client(it) for it in levels]
+        self.replies = []  # of each accepted request
+        self.writes, self.reads = Side(), Side()
+        self.is_blind = False
+        self.taken = 0
+
+    def drained(self):
+        """AXI4 beats went unseen: from here on none is judged."""
+        self.is_blind = True
+
+    def is_right(self, channel, beat, client=None):
+        """Takes a beat, and answers whether it can be right."""
+        if self.is_blind and channel not in "AD":
+            return True
+        self.taken += 1
+        if channel in "AD":
+            if client >= len(self.clients):
+                return False
+            return (self.asks if channel == "A" else self.tells)(self.clients[client], client, beat)
+        return {"AW": self.aw, "AR": self.ar, "W": self.w, "B": self.b, "R": self.r}[channel](*beat)
+
+    def outstanding(self):
+        return sum(len(next(iter(it.readings)).due) for it in self.clients)
+
+    def open(self):
+        return 0 if self.is_blind else len(self.writes.bursts) + len(self.reads.bursts)
+
+    # ---- channels A and D
+
+    def asks(self, it, client, beat):
+        message = (*it.message, beat)
+        if not is_spelled(message, it.level, self.setup.largest):
+            return False
+        if not it.message:
+            free = frozenset(told for told in it.readings if beat.source not in it.sources(told, self.replies))
+            if not free:
+                return False
+            it.readings = free
+        it.message = message
+        if len(message) == beats_of(beat.size, beat.opcode < GET):
+            it.message = ()
+            number = len(self.replies)
+            self.replies.append(self.memory.carry_out(client, message))
+            it.readings = frozenset(replace(told, due=told.due | {number}) for told in it.readings)
+        return True
+
+    def tells(self, it, client, beat):
+        readings = frozenset(after for told in it.readings for after in told.after(beat, self.replies))
+        if readings:
+            it.readings = readings
+            return True
+        # It counts as the beat of its source that was due, if one was.
+        counted = (
+            told.step(number, self.replies)
+            for told in it.readings
+            for number in told.open()
+            if self.replies[number][told.came].source == beat.source
+        )
+        it.readings = frozenset(counted) or it.readings
+        return False
+
+    # ---- the AXI4 port
+
+    def address(self, side, id, address, len, size, burst):
+        last = address // 2**size * 2**size + (len + 1) * 2**size - 1
+        legal = 2**size <= self.setup.width and burst == 1 and address // 4096 == last // 4096
+        if not legal or id >= self.setup.ids or sum(it.id == id for it in side.bursts) >= self.setup.depth:
+            return False
+        side.bursts.append(Burst(id, address, len, size))
+        return True
+
+    def aw(self, *beat):
+        return self.address(self.writes, *beat)
+
+    def ar(self, *beat):
+        return self.address(self.reads, *beat)
+
+    def w(self, strobes, last):
+        burst = next((it for it in self.writes.bursts if it.came <= it.len), None)
+        if burst is None:
+            return False
+        _, _, lanes = burst.transfer(self.setup.width)
+        if strobes & ~lanes or bool(last) != burst.is_last():
+            return False
+        burst.came += 1
+        return True
+
+    def b(self, id, resp):
+        mine = self.writes.of_id(id)
+        if id >= self.setup.ids or not mine or mine[0].came <= mine[0].len or resp not in RESPONSES:
+            return False
+        self.writes.bursts.remove(mine[0])
+        return True
+
+    def r(self, id, resp, last):
+        mine = self.reads.of_id(id)
+        if id >= self.setup.ids or not mine or bool(last) != mine[0].is_last() or resp not in RESPONSES:
+            return False
+        mine[0].came += 1
+        if mine[0].came > mine[0].len:
+            self.reads.bursts.remove(mine[0])
+        return True
+
+
+def is_spelled(message, level, largest):
+    """Whether beats spell a message of a level, or begin one."""
+    first, last = message[0], message[-1]
+    if len(message) > 1:
+        same = ("opcode", "param", "size", "source", "address")
+        return all(getattr(first, it) == getattr(last, it) for it in same) and is_masked(last, True)
+    if first.opcode > INTENT or first.param >= PARAMS[first.opcode] or first.size > largest or first.address % 2**first.size:
+        return False
+    if level == "l" and (first.opcode not in (0, 1, GET) or first.size > 3):
+        return False
+    if first.opcode in (LOGICAL - 1, LOGICAL) and first.size > 3:
+        return False
+    return is_masked(first, False) and not (first.opcode >= GET and first.corrupt)
+
+
+def is_masked(beat, later):
+    full = 0xFF if later else full_mask(beat.size, beat.address)
+    return not beat.mask & ~full if beat.opcode == PUT_PARTIAL else beat.mask == full

@@ -1,0 +1,281 @@
+"""Observations of bridges, right and wrong, beside the program that judges them. Which lines are wrong, and of which kind, is
+what a search over whole lists says (observed.py): of the traces of this project's bridge, of these with lines changed, and of
+beats by lot.
+
+    python3 tests/scoreboard.py TLSCORE TLBRIDGE [MUTATED] [BEATS] [--seed WORD]
+"""
+
+import argparse
+import random
+import re
+import secrets
+import subprocess
+import sys
+import time
+from pathlib import Path
+
+from model import GET, LOGICAL, PUT_PARTIAL, Setup
+from observed import WITHDRAWN, Observation
+
+from client import ABeat, DBeat, beats_of  # model.py says where it stands
+from random_bench import full_mask
+
+TOP = Path(__file__).resolve().parent.parent
+KINDS = {"A": "request", "D": "reply", "AW": "axi", "W": "axi", "B": "axi", "AR": "axi", "R": "axi"}
+FIELDS = {"A": 9, "D": 8, "AW": 5, "AR": 5, "W": 3, "B": 2, "R": 4}
+HEX = {"A": (6, 7, 8), "D": (7,), "AW": (2,), "AR": (2,), "W": (1, 2), "B": (), "R": (2,)}
+RESPONSES = ("OKAY", "EXOKAY", "SLVERR", "DECERR")
+
+
+def setup_of(lines):
+    """The set-up that lines say, and how many of them there are."""
+    regions, pages, bad, limits, count = [], {}, [], None, 0
+    for line in lines:
+        words = [] if line.lstrip().startswith("#") else line.split()
+        if words and words[0] not in ("config", "region", "page", "bad"):
+            break
+        count += 1
+        if not words:
+            continue
+        if words[0] == "config":
+            limits = words[1:]
+        elif words[0] == "region":
+            regions.append((int(words[1], 16), int(words[2]), int(words[3], 16), words[4]))
+        elif words[0] == "page":
+            pages.update({int(words[1], 16) + at: words[3] for at in range(int(words[2]))})
+        else:
+            bad.append(int(words[1], 16) & ~7)
+    clients, quota, ids, depth, longest, largest = map(int, limits[:6])
+    width = int(limits[7]) if len(limits) > 7 else 8
+    setup = Setup(clients, quota, ids, depth, longest, largest, width, tuple(regions), pages, tuple(bad))
+    return setup, limits[6], count
+
+
+def beat_of(words):
+    """Channel, client and beat of a line."""
+    channel, rest = words[0], words[1:]
+    values = [int(it, 16) if at + 1 in HEX[channel] else it if it in RESPONSES else int(it) for at, it in enumerate(rest)]
+    if channel == "A":
+        return channel, ABeat(*values[1:]), values[0]
+    if channel == "D":
+        return channel, DBeat(*values), values[0]
+    if channel == "W":
+        return channel, values[1:], None
+    if channel == "R":
+        return channel, (values[0], values[2], values[3]), None
+    return channel, values, None
+
+
+def judged(lines):
+    """Which lines are wrong and of which kind, and the counts of the last line."""
+    setup, levels, first = setup_of(lines)
+    board, wrong, held = Observation(setup, levels), [], None
+
+    def take(number, words):
+        channel, beat, client = beat_of(words)
+        if not board.is_right(channel, beat, client):
+            wrong.append((number, "client" if client is not None and client >= setup.clients else KINDS[channel]))
+
+    for number, line in enumerate(lines[first:], first + 1):
+        words = line.split()
+        if not words or words[0].startswith("#") or words[0] == "=" and words[1] not in (*WITHDRAWN, "drained"):
+            continue
+        if held and not (words[0] == "=" and words[1] in WITHDRAWN):
+            take(*held)
+        held = None
+        if words[0] == "=":
+            if words[1] == "drained":
+                board.drained()
+        elif words[0] == "A":
+            held = number, words
+        elif words[0] in KINDS:
+            take(number, words)
+    if held:
+        take(*held)
+    return wrong, (board.taken, len(wrong), board.outstanding(), board.open())
+
+
+WRONG = re.compile(r"= wrong (\d+) (request|reply|axi|client) ")
+ENDED = re.compile(r"= judged (\d+) wrong (\d+) outstanding (\d+) open (\d+)")
+
+
+def answered(program, lines):
+    """The same, as the program says it."""
+    ran = subprocess.run([program], input="\n".join(lines).encode(), capture_output=True, timeout=600, check=False)
+    text = ran.stdout.decode()
+    wrong = [(int(it[1]), it[2]) for it in WRONG.finditer(text)]
+    ended = ENDED.search(text)
+    return wrong, tuple(map(int, ended.groups())) if ended else ran.stderr.decode()
+
+
+# ---- changed traces
+
+
+def changed(rng, lines, first):
+    """Lines with one of their beats changed, left out, written twice or moved."""
+    lines = list(lines)
+    places = [at for at in range(first, len(lines)) if lines[at].split()[:1] and lines[at].split()[0] in KINDS]
+    at = rng.choice(places)
+    kind = rng.randrange(5)
+    if kind == 0:
+        del lines[at]
+    elif kind == 1:
+        lines.insert(at, lines[at])
+    elif kind == 2:
+        line = lines.pop(at)
+        lines.insert(min(len(lines), at + rng.randrange(1, 6)), line)
+    else:
+        words = lines[at].split()
+        place = rng.randrange(1, len(words))
+        words[place] = altered(rng, words[0], place, words[place])
+        lines[at] = " ".join(words)
+    return lines
+
+
+def altered(rng, channel, place, word):
+    """Another value of a field."""
+    if word in RESPONSES:
+        return rng.choice([it for it in RESPONSES if it != word])
+    if place in HEX[channel]:
+        return f"{int(word, 16) ^ 1 << rng.randrange(4 * len(word)):x}"
+    if (channel, place) in (("A", 9), ("D", 6), ("D", 8), ("W", 3), ("R", 4)):
+        return str(1 - int(word))
+    return str(rng.choice([it for it in (*range(8), int(word) ^ 1 << rng.randrange(8)) if it != int(word) and it < 256]))
+
+
+# ---- beats by lot
+
+
+class Lot:
+    """Draws beats, most of them right, beside an observation of its own that takes them as they come."""
+
+    def __init__(self, rng):
+        self.rng = rng
+        self.lines = ["config 3 4 4 2 16 6 hlh", "region 0 2 10 gpah", "region 8 1 10 g---", "page 10 1 good", "page 11 1 slverr", "bad 10018"]
+        setup, levels, _ = setup_of(self.lines)
+        self.board = Observation(setup, levels)
+        self.begun = {}
+        self.data = []
+
+    def draw(self):
+        rng = self.rng
+        kind = rng.randrange(100)
+        line = self.a() if kind < 35 else self.d() if kind < 65 else self.axi()
+        if rng.random() < 0.03:
+            words = line.split()
+            place = rng.randrange(1, len(words))
+            words[place] = altered(rng, words[0], place, words[place])
+            line = " ".join(words)
+        channel, beat, client = beat_of(line.split())
+        self.board.is_right(channel, beat, client)
+        return line
+
+    def a(self):
+        rng = self.rng
+        client = rng.randrange(3)
+        message = self.board.clients[client].message
+        if message:
+            first = message[0]
+            opcode, param, size, source, address = first.opcode, first.param, first.size, first.source, first.address
+        else:
+            opcode = rng.choice((0, 1, GET)) if client == 1 else rng.randrange(6)
+            size = rng.randrange(4) if opcode in (LOGICAL - 1, LOGICAL) or client == 1 else rng.choice((0, 1, 2, 3, 3, 3, 4, 5, 6))
+            param = rng.randrange((1, 1, 5, 4, 1, 2)[opcode])
+            source = rng.randrange(6)
+            address = rng.choice((0, 0, 0, 0x1000, 0x8000, 0x9000)) + rng.randrange(128 >> size) * 2**size
+        full = full_mask(size, address)
+        mask = full & rng.getrandbits(8) if opcode == PUT_PARTIAL else full
+        corrupt = int(opcode < GET and rng.random() < 0.02)
+        return f"A {client} {opcode} {param} {size} {source} {address:x} {mask:x} {rng.getrandbits(64):x} {corrupt}"
+
+    def d(self):
+        rng = self.rng
+        clients = [at for at, it in enumerate(self.board.clients) if next(iter(it.readings)).due]
+        if not clients:
+            return f"D {rng.randrange(3)} {rng.randrange(3)} 0 3 {rng.randrange(6)} 0 0 0"
+        client = rng.choice(clients)
+        told = next(iter(self.board.clients[client].readings))
+        number = rng.choice(sorted(told.open()))
+        it = self.board.replies[number][told.came]
+        return f"D {client} {it.opcode} {it.param} {it.size} {it.source} {it.denied} {it.payload:x} {it.corrupt}"
+
+    def axi(self):
+        rng, board = self.rng, self.board
+        lacks = next((it for it in board.writes.bursts if it.came <= it.len), None)
+        whole = [it for it in board.writes.bursts if it.came > it.len]
+        kind = rng.randrange(5)
+        if kind == 0 or kind == 1 and lacks is None:
+            size = rng.randrange(4)
+            burst = f"{rng.randrange(4)} {rng.randrange(8192):x} {rng.choice((0, 0, 1, 3, 15))} {size} 1"
+            return rng.choice(("AW", "AR")) + " " + burst
+        if kind == 1:
+            lanes = lacks.transfer(8)[2] & rng.getrandbits(8)
+            return f"W {rng.getrandbits(64):x} {lanes:x} {int(lacks.is_last())}"
+        if kind == 2 and whole:
+            return f"B {rng.choice(whole).id} {rng.choice(('OKAY', 'OKAY', 'SLVERR', 'DECERR'))}"
+        if board.reads.bursts:
+            first = rng.choice(board.reads.bursts)
+            first = next(it for it in board.reads.bursts if it.id == first.id)
+            return f"R {first.id} {rng.getrandbits(64):x} {rng.choice(('OKAY', 'SLVERR'))} {int(first.is_last())}"
+        return f"B {rng.randrange(5)} OKAY"
+
+
+def main():
+    asked = argparse.ArgumentParser(description=__doc__)
+    asked.add_argument("tlscore")
+    asked.add_argument("tlbridge")
+    asked.add_argument("mutated", nargs="?", type=int, default=1000)
+    asked.add_argument("beats", nargs="?", type=int, default=1_000_000)
+    asked.add_argument("--seed", default=secrets.token_hex(4))
+    given = asked.parse_args()
+    print(f"seed {given.seed}")
+    rng, began, failed, tried = random.Random(given.seed), time.monotonic(), 0, 0
+
+    def compare(what, lines):
+        nonlocal failed, tried
+        tried += 1
+        wanted, got = judged(lines), answered(given.tlscore, lines)
+        if wanted != got:
+            failed += 1
+            print(f"{what}: {differs(wanted, got)}")
+        return wanted
+
+    traces = observations(given.tlbridge)
+    for name, lines in traces.items():
+        wrong, _ = compare(name, lines)
+        if wrong:
+            failed += 1
+            print(f"{name}: a right trace is found wrong at line {wrong[0][0]}")
+    names, found = sorted(traces), 0
+    for _ in range(given.mutated):
+        name = rng.choice(names)
+        _, _, first = setup_of(traces[name])
+        found += bool(compare(f"{name}, changed", changed(rng, traces[name], first))[0])
+    print(f"{found} of {given.mutated} changed traces are wrong")
+    lot = Lot(rng)
+    lines = [*lot.lines, *(lot.draw() for _ in range(given.beats))]
+    wrong, counts = compare("beats by lot", lines)
+    print(f"{len(wrong)} of {counts[0]} beats by lot are wrong; {time.monotonic() - began:.0f} s")
+    print(f"{tried - failed} passed, {failed} failed")
+    return failed > 0
+
+
+def differs(wanted, got):
+    """The first line that one of them finds wrong and the other doesn't, or the last lines."""
+    first = min(set(wanted[0]) ^ set(got[0]), default=None)
+    return f"line {first[0]}, {first[1]}" if first else f"{wanted[1]} and {got[1]}"
+
+
+def observations(program):
+    """The stored traces that `run` prints, each behind its set-up, and a long one."""
+    found = {}
+    for script in sorted((TOP / "examples").glob("*.script")):
+        trace = script.with_suffix(".trace").read_text().splitlines()
+        lines = script.read_text().splitlines()
+        if any(it.startswith(("= accepted", "= refused")) for it in trace):
+            found[script.stem] = [*lines[: setup_of(lines)[2]], *trace]
+    return found
+
+
+if __name__ == "__main__":
+    sys.exit(main())
