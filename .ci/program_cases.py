@@ -2,6 +2,8 @@
 line is 'N passed, M failed'. What is wanted stands beside the examples, in docs/SCRIPT.md and in the tables here.
 
     python3 .ci/program_cases.py PROGRAM
+
+Where tlscore was built too, its cases are tried as well.
 """
 
 import os
@@ -17,6 +19,7 @@ sys.dont_write_bytecode = True
 import client  # noqa: E402
 import launcher_cases  # noqa: E402
 import random_bench  # noqa: E402
+import script_cases  # noqa: E402
 
 FIRST = (TOP / "examples/first.script").read_bytes()
 TRACE = (TOP / "examples/first.trace").read_bytes()
@@ -238,6 +241,11 @@ def of_table(program):
         yield name, lambda s=line, g=given, x=wanted: wrong(started(["sh", "-c", s, program], g), *x)
 
 
+def of_scripts(program):
+    for name, word, given, *wanted in script_cases.cases():
+        yield name, lambda w=word, g=given, x=wanted: wrong(started([program, w], g), *x)
+
+
 def of_examples(program):
     """Each example against its trace, as it is and with CR LF; each faulty one also against its line on standard error."""
     for script in sorted(TOP.glob("examples/**/*.script")):
@@ -251,6 +259,11 @@ def of_examples(program):
         yield f"{name} with CR LF", lambda w=word, g=crlf, x=wanted: wrong(started([program, w], g), *x)
 
 
+def score_of(program):
+    """Where tlscore is built, beside a program."""
+    return str(Path(program).resolve().parents[2] / "tlscore/out/tlscore")
+
+
 def of_pages(program):
     """Each script of a page, by its word, against the trace or the fault that stands after it, with its status."""
     for page in sorted((TOP / "docs").glob("*.md")):
@@ -260,7 +273,8 @@ def of_pages(program):
         for number, (word, script, kind, status, shown) in enumerate(scripts):
             name, shown = f"script {number + 1} of {page.name}", shown.encode()
             wanted = (int(status), b"", shown) if kind == "fault" else (int(status), shown, b"")
-            yield name, lambda w=word, g=script.encode(), x=wanted: wrong(started([program, w], g), *x)
+            words = [score_of(program)] if word == "score" else [program, word]
+            yield name, lambda w=words, g=script.encode(), x=wanted: wrong(started(w, g), *x)
 
 
 def reader_gone(program, word, given):
@@ -307,13 +321,48 @@ def of_pipes(program):
         yield f"the random bench, seed {seed}", lambda s=seed: bench(program, s, 2_000)
 
 
+def setup_of(script):
+    """The set-up lines of a script."""
+    words = (b"config", b"region", b"page", b"bad")
+    return b"".join(line for line in script.read_bytes().splitlines(True) if line.split()[:1] and line.split()[0] in words)
+
+
+def of_scores(program):
+    """What was observed, against what tlscore says of it: each row, its words, and each trace of a run, which is right."""
+    score = score_of(program)
+    yield "tlscore is built", lambda: None if os.access(score, os.X_OK) else "it isn't there"
+    for row in sorted(TOP.glob("examples/scoreboard/*.in")):
+        wanted = int(row.with_suffix(".status").read_text().split()[-1]), row.with_suffix(".out").read_bytes(), row.with_suffix(".err").read_bytes()
+        given, name = row.read_bytes(), f"tlscore: {row.stem}"
+        yield name, lambda g=given, x=wanted: wrong(started([score], g), *x)
+        yield f"{name} with CR LF", lambda g=given.replace(b"\n", b"\r\n"), x=wanted: wrong(started([score], g), *x)
+    yield "tlscore: a word", lambda: wrong(started([score, "run"], b""), 6, b"", b"usage: tlscore\n")
+    for script in sorted(TOP.glob("examples/*.script")):
+        if not script.stem.startswith(("check", "threads")):
+            given = setup_of(script) + script.with_suffix(".trace").read_bytes()
+            yield f"tlscore: the trace of {script.stem}", lambda g=given: of_right(started([score], g))
+    for how, *wanted in (
+        ("<&-", 3, b"", READ), (">&-", 3, b"", WRITE), (">/dev/full", 3, b"", WRITE), ("</", 3, b"", READ),
+    ):
+        given = (TOP / "examples/scoreboard/right.in").read_bytes()
+        yield f"tlscore {how}", lambda h=how, g=given, x=wanted: wrong(started(["sh", "-c", f'"$0" {h}', score], g), *x)
+
+
+def of_right(ran):
+    """Tells how a run isn't one that found nothing wrong."""
+    last = ran.stdout.splitlines()[-1:]
+    if ran.returncode or ran.stderr or not last or b" wrong 0 " not in last[0]:
+        return f"status {ran.returncode}, {ran.stderr[-200:]!r}, {ran.stdout[-200:]!r}"
+    return None
+
+
 def main(program):
     program = str(Path(program).resolve())
     if not os.access(program, os.X_OK):
         print("the program isn't built: ./tlbridge builds it, and so does ./test\n0 passed, 1 failed")
         return 1
     passed = failed = 0
-    for cases in (of_examples, of_pages, of_table, of_pipes, launcher_cases.cases):
+    for cases in (of_examples, of_pages, of_table, of_scripts, of_pipes, of_scores, launcher_cases.cases):
         for name, case in cases(program):
             try:
                 why = case()

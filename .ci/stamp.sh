@@ -1,7 +1,8 @@
-# What ./tlbridge and ./test both know of the program: where it stands, and what it was built from. Both read this file
-# at the top of the repository.
-program=crates/tlbridge/out/tlbridge
-stamp=out/tlbridge.stamp
+# What ./tlbridge, ./tlscore and ./test know of a program, by its name, `tool`, or of the first where there is none: where it
+# stands, and what it was built from. They read this file at the top of the repository.
+: "${tool:=tlbridge}"
+program=crates/$tool/out/$tool
+stamp=out/$tool.stamp
 
 # Prints the checksum of each source. A source that was edited, added, deleted or put back changes this, whatever its date.
 sources() {

@@ -61,8 +61,8 @@ STATEMENTS = (
         "`tlbridge::carried_out`, clauses `run` and `check`, and `tlbridge::status_of`.",
         (
             ("tlbridge", "Endings", "EndsAs"),
-            ("tlbridge", "Run", "run_reading"),
-            ("tlbridge", "Check", "check_reading"),
+            ("run_script", "Run", "run_reading"),
+            ("check_script", "Check", "check_reading"),
             ("tlbridge", "Modes", "Flushes"),
             ("tlbridge", "Results", "status_of"),
         ),
@@ -71,13 +71,19 @@ STATEMENTS = (
         "A run in threads",
         "`bridge_threads::run_threads`, clauses `report`, `one_at_a_time`, `refused`, `full` and `beat`.",
         (
-            ("bridge_threads", "Reports", "IsReport"),
-            ("bridge_threads", "Refusals", "is_refused"),
-            ("bridge_threads", "Refusals", "IsFullHistory"),
-            ("bridge_threads", "Refusals", "IsRefusedBeat"),
+            ("thread_reports", "Reports", "IsReport"),
+            ("thread_reports", "Refusals", "is_refused"),
+            ("thread_reports", "FullHistories", "IsFullHistory"),
+            ("bridge_threads", "RefusedBeats", "IsRefusedBeat"),
         ),
     ),
     ("The text of `threads`", "`tlbridge::carried_out_in_threads`, clause `ending`.", (("tlbridge", "Threads", "EndsAsRead"),)),
+    (
+        "What the scoreboard says",
+        "`scoreboard::Scoreboard::judge`, clauses `answer` and `state`.",
+        (("scoreboard", "Boards", "wrong_at"), ("scoreboard", "Boards", "IsAfter")),
+    ),
+    ("The text of the scoreboard", "`score_script::score_text`.", (("score_script", "Scores", "score_reading"),)),
 )
 
 PUBLIC = re.compile(r"^(?:abbrev pub|unfoldable pub|pub record|pub data|pub) (.*)$")
