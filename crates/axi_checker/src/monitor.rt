@@ -152,6 +152,14 @@ impl Monitor {
         Ok(())
     }
 
+    /// Nothing is outstanding any more: bursts whose last beats nobody saw are over. Nothing else changes.
+    pub fn clear(&mut self)
+        ensures { self.new ≡ record self.old { open_bursts = nothing_open } }
+    {
+        self.writes.clear();
+        self.reads.clear();
+    }
+
     /// The first rule that the beats with which a burst is sent would break, in their order; a write whose data end before
     /// its last transfer breaks `WLast`. Nothing changes.
     ///

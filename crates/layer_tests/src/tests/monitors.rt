@@ -317,6 +317,37 @@ fn takes_whole_bursts(rt: HostRuntime) -> Result<(), Fail> {
     Ok(())
 }
 
+/// After beats that nobody saw nothing is outstanding: no data are due and nothing waits for an answer, the ID may have bursts
+/// again, and the port has the limits that it had.
+#[test]
+fn clears_what_is_outstanding(rt: HostRuntime) -> Result<(), Fail> {
+    let mut monitor = Monitor::new(rt.alloc(), 1, 1, 8)?;
+    let seen = [
+        (Beat::Aw(write(0, 0x10000, 1, 3)), 0),
+        (Beat::W(data(0xff, false)), 0),
+        (Beat::Ar(read(0, 0x10000, 1, 3)), 0),
+        (read_data(0, Resp::Okay, false), 0),
+    ];
+    let later = [
+        (Beat::W(data(0xff, true)), 6),
+        (response(0, Resp::Okay), 9),
+        (read_data(0, Resp::Okay, true), 10),
+        (Beat::Aw(write(1, 0x10000, 0, 3)), 4),
+        (Beat::Aw(write(0, 0x10000, 0, 4)), 1),
+        (Beat::Aw(write(0, 0x10000, 0, 3)), 0),
+        (Beat::Aw(write(0, 0x10000, 0, 3)), 5),
+        (Beat::Ar(read(0, 0x10000, 0, 3)), 0),
+        (Beat::Ar(read(0, 0x10000, 0, 3)), 5),
+        (Beat::W(data(0xff, true)), 0),
+        (response(0, Resp::Okay), 0),
+        (read_data(0, Resp::Okay, true), 0),
+    ];
+    assert_eq!(rt; first_difference(&mut monitor, &seen), None);
+    monitor.clear();
+    assert_eq!(rt; first_difference(&mut monitor, &later), None);
+    Ok(())
+}
+
 #[test]
 fn numbers_and_names(rt: HostRuntime) {
     for (rule, number, name) in [
