@@ -83,17 +83,14 @@ class Observation:
         self.clients = [Client(it) for it in levels]
         self.replies = []  # of each accepted request
         self.writes, self.reads = Side(), Side()
-        self.is_blind = False
         self.taken = 0
 
     def drained(self):
-        """AXI4 beats went unseen: from here on none is judged."""
-        self.is_blind = True
+        """AXI4 beats went unseen, the last of every burst among them: both sides are as at the start."""
+        self.writes, self.reads = Side(), Side()
 
     def is_right(self, channel, beat, client=None):
         """Takes a beat, and answers whether it can be right."""
-        if self.is_blind and channel not in "AD":
-            return True
         self.taken += 1
         if channel in "AD":
             if client >= len(self.clients):
@@ -105,7 +102,7 @@ class Observation:
         return sum(len(next(iter(it.readings)).due) for it in self.clients)
 
     def open(self):
-        return 0 if self.is_blind else len(self.writes.bursts) + len(self.reads.bursts)
+        return len(self.writes.bursts) + len(self.reads.bursts)
 
     # ---- channels A and D
 

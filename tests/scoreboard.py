@@ -112,15 +112,17 @@ def answered(program, lines):
 
 
 def changed(rng, lines, first):
-    """Lines with one of their beats changed, left out, written twice or moved."""
+    """Lines with one of their beats changed, left out, written twice or moved, or said to come after a drain."""
     lines = list(lines)
     places = [at for at in range(first, len(lines)) if lines[at].split()[:1] and lines[at].split()[0] in KINDS]
     at = rng.choice(places)
-    kind = rng.randrange(5)
+    kind = rng.randrange(6)
     if kind == 0:
         del lines[at]
     elif kind == 1:
         lines.insert(at, lines[at])
+    elif kind == 3:
+        lines.insert(at, "= drained 1")
     elif kind == 2:
         line = lines.pop(at)
         lines.insert(min(len(lines), at + rng.randrange(1, 6)), line)
@@ -159,6 +161,9 @@ class Lot:
 
     def draw(self):
         rng = self.rng
+        if rng.random() < 0.002:
+            self.board.drained()
+            return "= drained 9"
         kind = rng.randrange(100)
         line = self.a() if kind < 35 else self.d() if kind < 65 else self.axi()
         if rng.random() < 0.03:

@@ -5,7 +5,7 @@ use Rattle.scoreboard.specs.Boards.{Board, ClientBoard, IsAfter, IsAfterA, IsAns
 use Rattle.scoreboard.specs.InsideSerial.{bytes_in}
 use Rattle.scoreboard.specs.SerialMemory.{SerialState}
 use Rattle.scoreboard.specs.declared.Seen.{Seen}
-use Rattle.scoreboard.specs.declared.Seen.TheVariants.{A, D, Aw, W, B, Ar, R}
+use Rattle.scoreboard.specs.declared.Seen.TheVariants.{A, D, Aw, W, B, Ar, R, Drained}
 use Rattle.score_script.specs.SeenBoards.{SeenBoard, after_reply, after_request, after_seen, bytes_after, client_after, seen_board, wrong_in}
 use Rattle.subordinate.specs.Faults.{Faults}
 use Rattle.tl_checker.specs.declared.Progress.{Progress}
@@ -23,6 +23,7 @@ wrong_said board (W beat) = refl
 wrong_said board (B beat) = refl
 wrong_said board (Ar beat) = refl
 wrong_said board (R beat) = refl
+wrong_said board Drained = refl
 
 -- ---- the board after a beat
 
@@ -66,3 +67,4 @@ after_said old new (W beat) after = ap seen_board after
 after_said old new (B beat) after = ap seen_board after
 after_said old new (Ar beat) after = ap seen_board after
 after_said old new (R beat) after = ap seen_board after
+after_said old new Drained after = ap seen_board after

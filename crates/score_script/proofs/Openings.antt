@@ -16,7 +16,7 @@ use Rattle.world_run.specs.declared.SetupFault.TheVariants.{BadConfig, Map, Devi
 
 -- a score of which nothing was observed
 abbrev pub score_with : Board → Score
-score_with board = record { board = seen_board board; held = None; is_blind = false; judged = 0; wrong = 0 }
+score_with board = record { board = seen_board board; held = None; judged = 0; wrong = 0 }
 
 abbrev pub made : Result Board SetupFault → Result Score SetupFault
 made (Ok board) = Ok (score_with board)

@@ -13,7 +13,7 @@ use Rattle.world_run.specs.declared.SetupFault.{SetupFault}
 -- a score, with its board said by its bytes
 abbrev pub score_of : HeldScore → Score
 score_of score =
-    record { board = seen_board score.board; held = score.held; is_blind = score.is_blind; judged = score.judged; wrong = score.wrong }
+    record { board = seen_board score.board; held = score.held; judged = score.judged; wrong = score.wrong }
 
 -- how far an observation has come
 abbrev pub stage_of : HeldStage → Stage Score

@@ -1,5 +1,5 @@
 -- What each line of an observation does (this project's profile).
-use Rattle.std.specs.Prelude.{ℕ, ◌+◌, ◌^◌, ◌-◌, Bool, true, false, ◌&&◌, List, [], ◌++◌, min, Option, Some, None, Result, Ok, Err, if◌then◌else◌, is_some, nat_lt, codes}
+use Rattle.std.specs.Prelude.{ℕ, ◌+◌, ◌^◌, ◌-◌, Bool, true, false, List, [], ◌++◌, min, Option, Some, None, Result, Ok, Err, if◌then◌else◌, is_some, nat_lt, codes}
 use Rattle.std.specs.Str.{bytes_eq}
 use Rattle.score_script.specs.FindingTexts.{last_text, optional_text}
 use Rattle.score_script.specs.ObservedLines.{address_line, channel_of, is_withdrawal, seen_line}
@@ -11,7 +11,7 @@ use Rattle.score_script.specs.declared.score.Command.{Command}
 use Rattle.score_script.specs.declared.score.Command.TheVariants as command
 use Rattle.score_script.specs.declared.score.HeldBeat.{HeldBeat}
 use Rattle.scoreboard.specs.declared.Seen.{Seen}
-use Rattle.scoreboard.specs.declared.Seen.TheVariants.{A, D, Aw, W, B, Ar, R}
+use Rattle.scoreboard.specs.declared.Seen.TheVariants.{A, D, Aw, W, B, Ar, R, Drained}
 use Rattle.scoreboard.specs.declared.Wrong.{Wrong}
 use Rattle.script_text.specs.Forms.{form_of}
 use Rattle.script_text.specs.Scripts.{LineStep, Reading, TextResult, ended}
@@ -25,17 +25,16 @@ use Rattle.script_text.specs.declared.setup_parser.SetupLine.{SetupLine}
 use Rattle.world_run.specs.Setups.{SetupLists, setup_fault}
 use Rattle.world_run.specs.declared.SetupFault.{SetupFault}
 
--- the scoreboard; the beat that is held; whether AXI beats went unseen; and how many beats were judged, and how many of them are wrong
+-- the scoreboard; the beat that is held; and how many beats were judged, and how many of them are wrong
 pub record Score : Type 0 where
   pub board : SeenBoard
   pub held : Option HeldBeat
-  pub is_blind : Bool
   pub judged : ℕ
   pub wrong : ℕ
 
 -- a score of which nothing was observed
 abbrev pub opening_score : SetupLists → Score
-opening_score setup = record { board = opening_seen setup; held = None; is_blind = false; judged = 0; wrong = 0 }
+opening_score setup = record { board = opening_seen setup; held = None; judged = 0; wrong = 0 }
 
 -- ---- judging
 
@@ -43,17 +42,18 @@ opening_score setup = record { board = opening_seen setup; held = None; is_blind
 abbrev pub counted : ℕ → ℕ
 counted count = min (count + 1) (2 ^ 64 - 1)
 
--- whether a beat is one of the AXI4 port
-abbrev pub is_axi : Seen → Bool
-is_axi (A client beat) = false
-is_axi (D client beat) = false
-is_axi (Aw beat) = true
-is_axi (W beat) = true
-is_axi (B beat) = true
-is_axi (Ar beat) = true
-is_axi (R beat) = true
+-- how many beats were judged, with what was observed last: that beats went unobserved is no beat
+abbrev pub beats_judged : ℕ → Seen → ℕ
+beats_judged count (A client beat) = counted count
+beats_judged count (D client beat) = counted count
+beats_judged count (Aw beat) = counted count
+beats_judged count (W beat) = counted count
+beats_judged count (B beat) = counted count
+beats_judged count (Ar beat) = counted count
+beats_judged count (R beat) = counted count
+beats_judged count Drained = count
 
--- the client of a beat; 0 for one of the AXI4 port
+-- the client of a beat; 0 for what is of the AXI4 port
 abbrev pub client_of : Seen → ℕ
 client_of (A client beat) = client
 client_of (D client beat) = client
@@ -62,31 +62,25 @@ client_of (W beat) = 0
 client_of (B beat) = 0
 client_of (Ar beat) = 0
 client_of (R beat) = 0
+client_of Drained = 0
 
 -- a wrong beat, by the number of its line
 abbrev pub found : ℕ → Seen → Option Wrong → Option Finding
 found number seen None = None
 found number seen (Some wrong) = Some (finding.Beat number (client_of seen) wrong)
 
--- the score after a beat that was judged so
+-- the score after what was observed, which was judged so
 abbrev pub score_after : Score → Seen → Option Wrong → Score
 score_after score seen verdict =
     record score {
       board = after_seen score.board seen;
-      judged = counted score.judged;
+      judged = beats_judged score.judged seen;
       wrong = if is_some verdict then counted score.wrong else score.wrong;
     }
 
--- whether a beat isn't judged: AXI beats aren't from the first on that went unseen
-abbrev pub is_passed_over : Score → Seen → Bool
-is_passed_over score seen = score.is_blind && is_axi seen
-
--- a beat is judged: what is found, and the score after it
+-- what was observed is judged: what is found, and the score after it
 abbrev pub judging : Score → ℕ → Seen → Option Finding × Score
-judging score number seen =
-    if is_passed_over score seen
-    then (None, score)
-    else (found number seen (wrong_in score.board seen), score_after score seen (wrong_in score.board seen))
+judging score number seen = (found number seen (wrong_in score.board seen), score_after score seen (wrong_in score.board seen))
 
 -- the held beat is judged, if there is one
 abbrev pub settling_held : Score → Option HeldBeat → Option Finding × Score
@@ -105,7 +99,7 @@ pub record Finds : Type 0 where
   pub own : Option Finding
   pub after : Score
 
--- a beat on channel A is held, any other is judged
+-- a beat on channel A is held, all else is judged
 abbrev pub observing : Option Finding × Score → ℕ → Seen → Finds
 observing settled number (A client beat) =
     record { held = settled.0; own = None; after = record settled.1 { held = Some (record { number = number; client = client; beat = beat }) } }
@@ -113,11 +107,10 @@ observing settled number seen = record { held = settled.0; own = (judging settle
 
 -- what a line of this number finds. The held beat is judged first, but where the line withdraws it
 abbrev pub finds : Score → ℕ → Command → Finds
-finds score number (command.Beat seen) = observing (settling score) number seen
+finds score number (command.Seen seen) = observing (settling score) number seen
 finds score number (command.Byte address) =
     record { held = (settling score).0; own = Some (finding.Byte (byte_in (settling score).1.board address)); after = (settling score).1 }
 finds score number command.Withdrawal = record { held = None; own = None; after = record score { held = None } }
-finds score number command.Drained = record { held = (settling score).0; own = None; after = record (settling score).1 { is_blind = true } }
 
 -- the lines of what a line finds
 abbrev pub finds_text : Finds → List ℕ
@@ -146,12 +139,12 @@ abbrev pub told_step : Stage Score → ℕ → Result Command ℕ → LineStep (
 told_step stage number (Err word) = Err (Script number word)
 told_step stage number (Ok command) = command_step (score_at stage number) number command
 
--- an answer, by the word after `=`: it withdraws the beat before it, says that AXI beats went unseen, or is skipped
+-- an answer, by the word after `=`: it withdraws the beat before it, says that AXI beats went unobserved, or is skipped
 abbrev pub answer_step : Stage Score → ℕ → List ℕ → LineStep (Stage Score)
 answer_step stage number word =
     if is_withdrawal word
     then command_step (score_at stage number) number command.Withdrawal
-    else (if bytes_eq word (codes "drained") then command_step (score_at stage number) number command.Drained else Ok ([], stage))
+    else (if bytes_eq word (codes "drained") then command_step (score_at stage number) number (command.Seen Drained) else Ok ([], stage))
 
 -- whether `config` is still to come
 abbrev pub is_opening : Stage Score → Bool
@@ -161,7 +154,7 @@ is_opening (Running score) = false
 
 -- a beat as a command
 abbrev pub beat_of : Result Seen ℕ → Result Command ℕ
-beat_of (Ok seen) = Ok (command.Beat seen)
+beat_of (Ok seen) = Ok (command.Seen seen)
 beat_of (Err word) = Err word
 
 -- a line of a channel, which comes behind `config`
@@ -210,7 +203,7 @@ closing settled =
     record {
       output =
           optional_text settled.0
-          ++ last_text settled.1.judged settled.1.wrong (replies_open settled.1.board) (if settled.1.is_blind then 0 else bursts_open settled.1.board);
+          ++ last_text settled.1.judged settled.1.wrong (replies_open settled.1.board) (bursts_open settled.1.board);
       result = Ok (nat_lt 0 settled.1.wrong);
     }
 

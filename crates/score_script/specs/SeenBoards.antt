@@ -1,13 +1,13 @@
 -- A scoreboard whose memory is said by its bytes: what it says of a beat, and what it is after it.
 use Rattle.std.specs.Prelude.{ℕ, List, Option, Some, None, Result, Ok, Err, if◌then◌else◌, slice_get, slice_set, sum_by}
-use Rattle.axi_checker.specs.OpenBursts.{AxiBeat, OnAr, OnAw, OnB, OnR, OnW, OpenBursts}
+use Rattle.axi_checker.specs.OpenBursts.{AxiBeat, OnAr, OnAw, OnB, OnR, OnW, OpenBursts, nothing_open}
 use Rattle.axi_checker.specs.Rules.{AxiPortLimits, axi_fault}
 use Rattle.burst_plan.specs.declared.Region.{Region}
 use Rattle.responses.specs.Shown.{shown}
 use Rattle.scoreboard.specs.Boards.{Board, ClientBoard, a_wrong, after_reply_beat, answer_to, bursts_after, d_wrong, open_count, opening_board, replies_left, with_due, wrong_axi}
 use Rattle.scoreboard.specs.InsideSerial.{bytes_in}
 use Rattle.scoreboard.specs.declared.Seen.{Seen}
-use Rattle.scoreboard.specs.declared.Seen.TheVariants.{A, D, Aw, W, B, Ar, R}
+use Rattle.scoreboard.specs.declared.Seen.TheVariants.{A, D, Aw, W, B, Ar, R, Drained}
 use Rattle.scoreboard.specs.declared.Wrong.{Wrong}
 use Rattle.subordinate.specs.Faults.{Faults, is_good, standing_at}
 use Rattle.tl_checker.specs.Ports.{joined}
@@ -61,6 +61,7 @@ wrong_in board (W beat) = axi_wrong board (OnW beat)
 wrong_in board (B beat) = axi_wrong board (OnB beat)
 wrong_in board (Ar beat) = axi_wrong board (OnAr beat)
 wrong_in board (R beat) = axi_wrong board (OnR beat)
+wrong_in board Drained = None
 
 -- ---- the board after a beat
 
@@ -110,6 +111,7 @@ after_seen old (W beat) = after_axi old (OnW beat)
 after_seen old (B beat) = after_axi old (OnB beat)
 after_seen old (Ar beat) = after_axi old (OnAr beat)
 after_seen old (R beat) = after_axi old (OnR beat)
+after_seen old Drained = record old { open_bursts = nothing_open }
 
 -- ---- questions
 

@@ -1,7 +1,7 @@
 //! What was found of the beats that were read so far, and what each line finds.
-ghost use Rattle.std.specs.Prelude.{◌≡◌, ◌++◌, None, false, true, if◌then◌else◌, is_some, nat_lt};
+ghost use Rattle.std.specs.Prelude.{◌≡◌, ◌++◌, None, if◌then◌else◌, is_some, nat_lt};
 ghost use Rattle.script_text.specs.Stages.{WritesEnd};
-ghost use Rattle.score_script.specs.Scores.{client_of, closing, counted, finds, found, is_axi, judging, observing, settling};
+ghost use Rattle.score_script.specs.Scores.{beats_judged, client_of, closing, counted, finds, found, judging, observing, settling};
 ghost use Rattle.score_script.specs.ScoreStates.{score_of};
 ghost use Rattle.score_script.specs.SeenBoards.{after_seen, byte_in, bursts_open, replies_open, seen_board, wrong_in};
 
@@ -14,14 +14,12 @@ use tl_messages::ABeat;
 /// What a line says that isn't one of the set-up.
 #[derive(Clone, Copy, Debug, PartialEq, Eq)]
 pub(crate) enum Command {
-    /// A beat was observed.
-    Beat(Seen),
+    /// Something was observed.
+    Seen(Seen),
     /// The byte at an address is asked for.
     Byte(u32),
     /// The beat before it wasn't taken.
     Withdrawal,
-    /// AXI beats went unseen.
-    Drained,
 }
 
 /// A beat on channel A that may still be withdrawn.
@@ -35,11 +33,10 @@ pub(crate) struct HeldBeat {
     pub(crate) beat: ABeat,
 }
 
-/// A scoreboard, the beat that is held, whether AXI beats went unseen, and how many beats were judged and are wrong.
+/// A scoreboard, the beat that is held, and how many beats were judged and are wrong.
 pub(crate) struct Score {
     board: Scoreboard,
     held: Option<HeldBeat>,
-    is_blind: bool,
     judged: u64,
     wrong: u64,
 }
@@ -50,21 +47,13 @@ impl Drop for Score {
         let Score {
             board: _,
             held: _,
-            is_blind: _,
             judged: _,
             wrong: _,
         } = self;
     }
 }
 
-/// Whether a beat is one of the AXI4 port.
-fn is_axi(seen: &Seen) -> bool
-    ensures { result ≡ is_axi seen.now }
-{
-    !matches!(seen, Seen::A(_, _) | Seen::D(_, _))
-}
-
-/// The client of a beat; 0 for one of the AXI4 port.
+/// The client of a beat; 0 for what is of the AXI4 port.
 fn client_of(seen: &Seen) -> u8
     ensures { result ≡ client_of seen.now }
 {
@@ -91,6 +80,16 @@ fn counted(count: u64) -> u64
     count.saturating_add(1)
 }
 
+/// A count of judged beats, with what was observed last: that beats went unobserved is no beat.
+fn beats_judged(count: u64, seen: &Seen) -> u64
+    ensures { result ≡ beats_judged count seen.now }
+{
+    match seen {
+        Seen::Drained => count,
+        _ => counted(count),
+    }
+}
+
 /// A count of wrong beats after a verdict.
 fn counted_wrong(count: u64, verdict: Option<Wrong>) -> u64
     ensures { result ≡ (if is_some verdict then counted count else count) }
@@ -101,7 +100,7 @@ fn counted_wrong(count: u64, verdict: Option<Wrong>) -> u64
     }
 }
 
-/// Judges a beat: the board is said by its bytes.
+/// Judges what was observed: the board is said by its bytes.
 fn judged_by(board: &mut Scoreboard, seen: &Seen) -> Option<Wrong>
     ensures verdict { result ≡ wrong_in (seen_board board.old) seen.now }
     ensures state { seen_board board.new ≡ after_seen (seen_board board.old) seen.now }
@@ -112,27 +111,23 @@ fn judged_by(board: &mut Scoreboard, seen: &Seen) -> Option<Wrong>
 impl Score {
     /// Nothing was observed.
     pub(crate) fn opening(board: Scoreboard) -> Score
-        ensures { result ≡ record { board = board; held = None; is_blind = false; judged = 0; wrong = 0 } }
+        ensures { result ≡ record { board = board; held = None; judged = 0; wrong = 0 } }
     {
         Score {
             board,
             held: None,
-            is_blind: false,
             judged: 0,
             wrong: 0,
         }
     }
 
-    /// Judges a beat, by the number of its line.
+    /// Judges what was observed, by the number of its line.
     fn judge(&mut self, number: u32, seen: &Seen) -> Option<Finding>
         ensures found { result ≡ (judging (score_of self.old) number seen.now).0 }
         ensures state { score_of self.new ≡ (judging (score_of self.old) number seen.now).1 }
     {
-        if self.is_blind && is_axi(seen) {
-            return None;
-        }
         let verdict = judged_by(&mut self.board, seen);
-        self.judged = counted(self.judged);
+        self.judged = beats_judged(self.judged, seen);
         self.wrong = counted_wrong(self.wrong, verdict);
         found(number, seen, verdict)
     }
@@ -175,13 +170,6 @@ impl Score {
         self.board.byte(address)
     }
 
-    /// AXI beats went unseen.
-    fn pass_over(&mut self)
-        ensures { score_of self.new ≡ record (score_of self.old) { is_blind = true } }
-    {
-        self.is_blind = true;
-    }
-
     /// Withdraws the beat that is held.
     fn withdraw(&mut self)
         ensures { score_of self.new ≡ record (score_of self.old) { held = None } }
@@ -196,7 +184,7 @@ impl Score {
         ensures state { score_of self.new ≡ (finds (score_of self.old) number command.now).after }
     {
         match command {
-            Command::Beat(seen) => self.observe(number, seen),
+            Command::Seen(seen) => self.observe(number, seen),
             Command::Byte(address) => {
                 let held = self.settle();
                 let own = Some(Finding::Byte(self.byte(*address)));
@@ -209,21 +197,13 @@ impl Score {
                     own: None,
                 }
             }
-            Command::Drained => {
-                let held = self.settle();
-                self.pass_over();
-                Findings { held, own: None }
-            }
         }
     }
 
-    /// How many AXI bursts are open, where none went unseen.
+    /// How many AXI bursts are open.
     fn open_bursts(&self) -> u8
-        ensures { result ≡ (if self.now.is_blind then 0 else bursts_open (seen_board self.now.board)) }
+        ensures { result ≡ bursts_open (seen_board self.now.board) }
     {
-        if self.is_blind {
-            return 0;
-        }
         self.board.open_bursts()
     }
 

@@ -11,7 +11,7 @@ ghost use Rattle.score_script.specs.ScoreStates.{made_score, state_of};
 use crate::findings::findings_lines;
 use crate::lines::{Channel, address_line, is_withdrawal, seen_line};
 use crate::score::{Command, Score};
-use scoreboard::Scoreboard;
+use scoreboard::{Scoreboard, Seen};
 use script_text::{
     Form, Script, ScriptFault, SetupLine, Words, add_setup_line, has_no_room, is_setup_form,
     read_script, setup_line,
@@ -146,7 +146,7 @@ impl ScoreScript {
             return self.carry_out(alloc, number, &Command::Withdrawal, writer);
         }
         if word == "drained" {
-            return self.carry_out(alloc, number, &Command::Drained, writer);
+            return self.carry_out(alloc, number, &Command::Seen(Seen::Drained), writer);
         }
         Ok(false)
     }
@@ -170,7 +170,7 @@ impl ScoreScript {
         }
         match seen_line(channel, words) {
             Err(word) => Err(ScriptFault::Script { line: number, word }),
-            Ok(seen) => self.carry_out(alloc, number, &Command::Beat(seen), writer),
+            Ok(seen) => self.carry_out(alloc, number, &Command::Seen(seen), writer),
         }
     }
 

@@ -22,7 +22,7 @@ use Rattle.scoreboard.specs.SerialMemory.{IsCarriedOut, SerialState, meaning_now
 use Rattle.scoreboard.specs.declared.ReplyRule.{ReplyRule}
 use Rattle.scoreboard.specs.declared.ReplyRule.TheVariants as rule
 use Rattle.scoreboard.specs.declared.Seen.{Seen}
-use Rattle.scoreboard.specs.declared.Seen.TheVariants.{A, D, Aw, W, B, Ar, R}
+use Rattle.scoreboard.specs.declared.Seen.TheVariants.{A, D, Aw, W, B, Ar, R, Drained}
 use Rattle.scoreboard.specs.declared.Wrong.{Wrong}
 use Rattle.scoreboard.specs.declared.Wrong.TheVariants.{NoClient, Request, Reply, Axi}
 
@@ -124,6 +124,7 @@ wrong_at board (W beat) = axi_wrong board (OnW beat)
 wrong_at board (B beat) = axi_wrong board (OnB beat)
 wrong_at board (Ar beat) = axi_wrong board (OnAr beat)
 wrong_at board (R beat) = axi_wrong board (OnR beat)
+wrong_at board Drained = None
 
 -- ---- the board after a beat; one that is wrong changes nothing, but a reply's beat counts as come whatever it shows
 
@@ -189,6 +190,7 @@ IsAfter old (W beat) new = new ≡ after_axi old (OnW beat)
 IsAfter old (B beat) new = new ≡ after_axi old (OnB beat)
 IsAfter old (Ar beat) new = new ≡ after_axi old (OnAr beat)
 IsAfter old (R beat) new = new ≡ after_axi old (OnR beat)
+IsAfter old Drained new = new ≡ record old { open_bursts = nothing_open }
 
 -- ---- what isn't finished
 

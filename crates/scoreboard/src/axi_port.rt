@@ -56,6 +56,14 @@ impl AxiPort {
         self.count
     }
 
+    /// Nothing is outstanding any more: what went unobserved has closed all bursts.
+    pub(crate) fn clear(&mut self)
+        ensures { self.new ≡ record self.old { open_bursts = nothing_open } }
+    {
+        self.monitor.clear();
+        self.count = 0;
+    }
+
     /// Judges a write's address.
     pub(crate) fn aw(&mut self, beat: &AwBeat) -> Option<Wrong>
         ensures wrong { result ≡ wrong_axi (axi_fault self.old.port self.old.open_bursts (OnAw beat.now)) }

@@ -129,6 +129,10 @@ impl Scoreboard {
             Seen::B(beat) => self.axi.b(beat),
             Seen::Ar(beat) => self.axi.ar(beat),
             Seen::R(beat) => self.axi.r(beat),
+            Seen::Drained => {
+                self.axi.clear();
+                None
+            }
         }
     }
 

@@ -17,7 +17,7 @@ pub use serial::SerialMemory;
 use tl_checker::TlRule;
 use tl_messages::{ABeat, DBeat};
 
-/// What was observed: a beat that was taken at a port, where the two sides agreed on it.
+/// What was observed: a beat that was taken at a port, where the two sides agreed on it, or that a port went unobserved.
 #[derive(Clone, Copy, Debug, PartialEq, Eq)]
 pub enum Seen {
     /// On channel A of a client.
@@ -34,6 +34,8 @@ pub enum Seen {
     Ar(ArBeat),
     /// On the read data channel.
     R(RBeat),
+    /// No beat: those of the AXI4 port went unobserved, until nothing was outstanding there.
+    Drained,
 }
 
 /// How a beat on channel D isn't the next one of a reply that is due (TileLink 1.8, channel D; this project's profile).

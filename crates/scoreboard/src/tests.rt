@@ -61,6 +61,7 @@ enum Beat {
     B(u8),
     Ar(u8, u32, u8, u8),
     R(u8, u64, bool),
+    Drained,
 }
 
 /// Opcode, size, source, denied, payload and corrupt.
@@ -77,7 +78,7 @@ enum Said {
     Reply(ReplyRule, Reply),
 }
 
-use Beat::{A, Ar, Aw, B, D, R, W};
+use Beat::{A, Ar, Aw, B, D, Drained, R, W};
 use Said::Right;
 
 fn d_beat((opcode, size, source, denied, payload, corrupt): Reply) -> DBeat {
@@ -145,6 +146,7 @@ fn seen(beat: Beat) -> Seen {
             resp: Resp::Okay,
             last,
         }),
+        Drained => Seen::Drained,
     }
 }
 
@@ -341,7 +343,7 @@ const MEMORY: [History; 3] = [
     },
 ];
 
-const PORTS: [History; 2] = [
+const PORTS: [History; 3] = [
     History {
         name: "requests",
         beats: &[
@@ -367,6 +369,30 @@ const PORTS: [History; 2] = [
         ],
         outstanding: 0,
         open: 2,
+    },
+    History {
+        name: "AXI4 beats that went unobserved",
+        beats: &[
+            (PUT, Right),
+            (Aw(0, 0x10008, 0, 3), Right),
+            (Aw(0, 0x10000, 1, 3), Right),
+            (Aw(0, 0x10000, 0, 3), Said::Axi(AxiRule::Depth)),
+            (Ar(3, 0x1000c, 1, 2), Right),
+            (R(3, 0, false), Right),
+            (A(1, 0, 0, 4, 1, 0, 0xff, 1), Right),
+            (Drained, Right),
+            (B(0), Said::Axi(AxiRule::BWithoutWrite)),
+            (R(3, 0, true), Said::Axi(AxiRule::RWithoutRead)),
+            (W(WORD, 0xff, true), Said::Axi(AxiRule::WWithoutAw)),
+            (D(0, ACK), Right),
+            (A(1, 0, 0, 4, 1, 0, 0xff, 2), Right),
+            (Aw(0, 0x10000, 0, 3), Right),
+            (Aw(0, 0x10008, 0, 3), Right),
+            (W(1, 0xff, true), Right),
+            (B(0), Right),
+        ],
+        outstanding: 1,
+        open: 1,
     },
 ];
 
