@@ -1,13 +1,14 @@
 -- The beats of an open burst, counted by whether they are performed.
-use Rattle.std.proofs.Common.{◌≡◌, ℕ, zero, suc, ◌+◌, ◌-◌, ◌<◌, ◌≤◌, ◌==◌, false, not, List, [], ◌∷◌, ◌++◌, length, get_or, map, replicate, drop, refl, sym, ◌∙◌, ap, arith}
+use Rattle.std.proofs.Common.{◌≡◌, ℕ, zero, suc, ◌+◌, ◌-◌, ◌<◌, ◌≤◌, ◌==◌, true, false, ◌⊎◌, inl, inr, not, List, [], ◌∷◌, ◌++◌, length, get_or, map, replicate, drop, refl, sym, ◌∙◌, ap, arith}
 use Rattle.std.proofs.Math.ListN.{drop_of_length-le}
 use Rattle.std.proofs.Math.Seq.{drop-cons}
 use Rattle.std.proofs.lemmas.Bool.{ne_eqb}
-use Rattle.std.proofs.lemmas.List.{length-append, length-map}
+use Rattle.std.proofs.lemmas.Bool.Decides.{eqb_tells}
+use Rattle.std.proofs.lemmas.List.{length-append, length-map, length-set}
 use Rattle.std.proofs.lemmas.List.Sums.{sum_by-drop_more}
 use Rattle.std.proofs.lemmas.Option.{slice_get-get_or, slice_get-map}
 use Rattle.std.specs.List.{AllByRecursion, list_any, enumerate_from}
-use Rattle.std.specs.Prelude.{Some, None, filter, filter_map, flat_map, option_map, sum_by, if◌then◌else◌, slice_get, slice_set, take}
+use Rattle.std.specs.Prelude.{◌≢◌, Some, None, filter, filter_map, flat_map, option_map, sum_by, if◌then◌else◌, slice_get, slice_set, take}
 use Rattle.subordinate.specs.FreeMemory.{Pending, is_waiting, performed_waiting_in, waiting_in}
 use Rattle.subordinate.specs.Inside.{count_waiting, waiting_places}
 use Rattle.subordinate.specs.Laws.{IsPerformed}
@@ -75,6 +76,49 @@ count_waiting-drop (suc n) (Written ∷ beats) performed within =
 count_waiting-drop (suc n) (Captured payload resp ∷ beats) performed within =
     let rest = count_waiting-drop n beats performed.1 (omega (arith, within)) in
     (rest.0, omega (arith, rest.1))
+
+-- ---- the beats before a place are performed
+
+set_performed : (n : ℕ) (beats : List BeatState) (k : ℕ) (state : BeatState) → AllByRecursion IsPerformed (take n beats) → IsPerformed state → AllByRecursion IsPerformed (take n (slice_set beats k state))
+set_performed zero beats k state performed is = tt
+set_performed (suc n) [] k state performed is = tt
+set_performed (suc n) (beat ∷ beats) zero state performed is = (is, performed.1)
+set_performed (suc n) (beat ∷ beats) (suc k) state performed is = (performed.0, set_performed n beats k state performed.1 is)
+
+one_more_performed : (n : ℕ) (beats : List BeatState) (state : BeatState) → n < length beats → AllByRecursion IsPerformed (take n beats) → IsPerformed state
+    → AllByRecursion IsPerformed (take (suc n) (slice_set beats n state))
+one_more_performed n [] state within performed is = tt
+one_more_performed zero (beat ∷ beats) state within performed is = (is, tt)
+one_more_performed (suc n) (beat ∷ beats) state within performed is = (performed.0, one_more_performed n beats state (omega (arith, within)) performed.1 is)
+
+pub put_performed : (first : ℕ) (beats : List BeatState) (k : ℕ) (state : BeatState) → k < length beats → AllByRecursion IsPerformed (take first beats) → IsPerformed state
+    → AllByRecursion IsPerformed (take (if k == first then first + 1 else first) (slice_set beats k state))
+put_performed first beats k state within performed is = by_test (eqb_tells k first)
+  where
+    by_test : (((k == first) ≡ true) × (k ≡ first)) ⊎ (((k == first) ≡ false) × (k ≢ first)) → AllByRecursion IsPerformed (take (if k == first then first + 1 else first) (slice_set beats k state))
+    by_test (inl (it_is, same)) =
+        let next : first + 1 ≡ suc first = omega arith in
+        rw (it_is, next, same) (one_more_performed first beats state (omega (arith, within, same)) performed is)
+    by_test (inr (it_is_not, other)) = rw it_is_not (set_performed first beats k state performed is)
+
+pub past-within : (first : ℕ) (beats : List BeatState) (k : ℕ) (state : BeatState) → k < length beats → first ≤ length beats → (if k == first then first + 1 else first) ≤ length (slice_set beats k state)
+past-within first beats k state within most = by_test (eqb_tells k first)
+  where
+    by_test : (((k == first) ≡ true) × (k ≡ first)) ⊎ (((k == first) ≡ false) × (k ≢ first)) → (if k == first then first + 1 else first) ≤ length (slice_set beats k state)
+    by_test (inl (it_is, same)) = rw it_is (omega (arith, length-set beats k state, within, same))
+    by_test (inr (it_is_not, other)) = rw it_is_not (omega (arith, length-set beats k state, most))
+
+-- no place of a beat that waits is before it
+pub places-after : (first from : ℕ) (beats : List BeatState) → AllByRecursion IsPerformed (take first beats) → first ≤ length beats → waiting_places from beats ≡ waiting_places (from + first) (drop first beats)
+places-after zero from beats performed within = let same : from ≡ from + 0 = omega arith in ap (λ (n : ℕ). waiting_places n beats) same
+places-after (suc first) from [] performed within = absurd (omega (arith, within))
+places-after (suc first) from (Waiting ∷ beats) performed within = absurd (cc (performed.0))
+places-after (suc first) from (Written ∷ beats) performed within =
+    let same : from + 1 + first ≡ from + suc first = omega arith in
+    places-after first (from + 1) beats performed.1 (omega (arith, within)) ∙ ap (λ (n : ℕ). waiting_places n (drop first beats)) same
+places-after (suc first) from (Captured payload resp ∷ beats) performed within =
+    let same : from + 1 + first ≡ from + suc first = omega arith in
+    places-after first (from + 1) beats performed.1 (omega (arith, within)) ∙ ap (λ (n : ℕ). waiting_places n (drop first beats)) same
 
 -- the performed beats that aren't answered, counted by those that wait
 pub performed_waiting-count : (pending : Pending) → AllByRecursion IsPerformed (take pending.answered pending.beats) → pending.answered ≤ length pending.beats

@@ -7,6 +7,7 @@ pub mod BytesWritten
 pub mod Changes
 pub mod EffectLaws
 pub mod FaultLaws
+pub mod FirstReady
 pub mod GoodPages
 pub mod Monitors
 pub mod OpenBursts

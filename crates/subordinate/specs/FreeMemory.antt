@@ -247,6 +247,13 @@ ids_with_b state = filter (λ id. is_some (b_of state id)) (range_with_len 0 16)
 abbrev pub ids_with_r : FreeMemory → List ℕ
 ids_with_r state = filter (λ id. is_some (r_of state id)) (range_with_len 0 16)
 
+-- the smallest ID that may give a B, and the smallest that may give an R
+abbrev pub first_with_b : FreeMemory → Option ℕ
+first_with_b state = find (λ id. is_some (b_of state id)) (range_with_len 0 16)
+
+abbrev pub first_with_r : FreeMemory → Option ℕ
+first_with_r state = find (λ id. is_some (r_of state id)) (range_with_len 0 16)
+
 -- the answers that an open burst has still to give
 abbrev pub answers_left : ℕ → Burst → ℕ
 answers_left answered (WriteBurst aw data_beats) = 1

@@ -1,5 +1,5 @@
 //! What became of the beats of an open burst.
-ghost use Rattle.std.specs.Prelude.{◌≡◌, ◌<◌, ◌≤◌, false, [], Some, IfOk, length, not, replicate, slice_get, slice_set};
+ghost use Rattle.std.specs.Prelude.{◌≡◌, ◌==◌, ◌+◌, ◌<◌, ◌≤◌, if◌then◌else◌, false, [], Some, IfOk, length, not, replicate, slice_get, slice_set};
 ghost use Rattle.std.specs.List.{list_any};
 ghost use Rattle.subordinate.specs.FreeMemory.{is_waiting};
 ghost use Rattle.subordinate.specs.Inside.{count_waiting, waiting_places};
@@ -15,19 +15,24 @@ use std::marker::Model;
 pub(crate) struct Beats {
     states: Vec<BeatState>,
     waiting: u16,
+    /// No beat before this one waits: beats that are performed in order are found without a search.
+    first: u16,
 }
 
 impl Model for Beats {
-    ghost use Rattle.std.specs.Prelude.{List, ◌≡◌, ◌≤◌};
+    ghost use Rattle.std.specs.Prelude.{List, ◌≡◌, ◌≤◌, length, take};
+    ghost use Rattle.std.specs.List.{AllByRecursion};
     ghost use Rattle.std.specs.Vec.{vec_capacity, vec_len};
     ghost use Rattle.subordinate.specs.Inside.{count_waiting};
+    ghost use Rattle.subordinate.specs.Laws.{IsPerformed};
     ghost use Rattle.subordinate.specs.declared.BeatState.{BeatState};
 
     ghost Value = { List BeatState };
 
     ghost view = { λ b. b.states.items };
 
-    ghost invariant = { λ b. (256 ≤ vec_capacity b.states) × (vec_len b.states ≤ 256) × (b.waiting ≡ count_waiting b.states.items) };
+    ghost invariant = { λ b. (256 ≤ vec_capacity b.states) × (vec_len b.states ≤ 256) × (b.waiting ≡ count_waiting b.states.items)
+        × (b.first ≤ length b.states.items) × AllByRecursion IsPerformed (take b.first b.states.items) };
 }
 
 fn is_waiting(state: BeatState) -> bool
@@ -36,13 +41,25 @@ fn is_waiting(state: BeatState) -> bool
     matches!(state, BeatState::Waiting)
 }
 
+/// Where no earlier beat waits, once a beat is performed.
+fn past(first: u16, beat: u16) -> u16
+    requires { first ≤ 256 }
+    ensures { result ≡ (if beat == first then first + 1 else first) }
+{
+    if beat == first { first + 1 } else { first }
+}
+
 impl Beats {
     /// No beats, with the room for those of any burst.
     pub(crate) fn new(alloc: Global) -> Result<Self, AllocError>
         ensures { IfOk result (λ beats. beats ≡ []) }
     {
         let states = Vec::with_capacity(alloc, MAX_TRANSFERS)?;
-        Ok(Beats { states, waiting: 0 })
+        Ok(Beats {
+            states,
+            waiting: 0,
+            first: 0,
+        })
     }
 
     /// Becomes so many beats of which none is performed.
@@ -55,6 +72,7 @@ impl Beats {
             .resize(usize::from(transfers), BeatState::Waiting)
             .unwrap();
         self.waiting = transfers;
+        self.first = 0;
     }
 
     /// The state of a beat, from 0; none where there is no such beat.
@@ -72,6 +90,7 @@ impl Beats {
     {
         self.states[usize::from(beat)] = state;
         self.waiting -= 1;
+        self.first = past(self.first, beat);
     }
 
     /// How many beats there are.
@@ -104,10 +123,10 @@ impl Beats {
         ensures { slice_get (waiting_places 0 self.now) k ≡ Some result }
     {
         let mut left = k;
-        for (beat, state) in self.states.iter().enumerate() {
-            if is_waiting(*state) {
+        for beat in self.first..self.states.len() as u16 {
+            if is_waiting(self.states[usize::from(beat)]) {
                 if left == 0 {
-                    return beat as u16;
+                    return beat;
                 }
                 left -= 1;
             }

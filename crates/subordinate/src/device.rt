@@ -7,7 +7,7 @@ ghost use Rattle.axi_beats.specs.Transfers.{IsBusWidth};
 ghost use Rattle.axi_checker.specs.OpenBursts.{OnB, OnR, nothing_open, open_after};
 ghost use Rattle.axi_checker.specs.Rules.{axi_fault, beats_sent, id_of, open_after_all, open_with_burst, outstanding_beside};
 ghost use Rattle.subordinate.specs.FreeMemory.{Pending, beat_after, beat_at, device_port, has_serial, is_read_of, is_write_of, memory_after, open_bursts_of, transfers_in};
-ghost use Rattle.subordinate.specs.Inside.{after_closing, after_counting, after_performing, captured_at, is_beside, memory_over};
+ghost use Rattle.subordinate.specs.Inside.{after_closing, after_counting, after_performing, captured_at, is_beside, memory_over, smaller_ready};
 ghost use Rattle.subordinate.specs.Laws.{IsSoundMemory, IsSoundPending};
 
 use crate::beats::Beats;
@@ -80,7 +80,7 @@ impl Device {
     ghost use Rattle.subordinate.specs.Device.{after_b, after_r, after_take, open_burst, opening_device};
     ghost use Rattle.subordinate.specs.Effects.{HasEffectAt};
     ghost use Rattle.subordinate.specs.Faults.{device_fault};
-    ghost use Rattle.subordinate.specs.FreeMemory.{b_of, performed, performed_waiting, r_of, send_fault, waiting_beats, with_burst, work_open};
+    ghost use Rattle.subordinate.specs.FreeMemory.{b_of, first_with_b, first_with_r, performed, performed_waiting, r_of, send_fault, waiting_beats, with_burst, work_open};
     ghost use Rattle.subordinate.specs.Order.{AnswersNextBeat, AnswersOldestWrite, OwesAfterOthers, OwesTheSame};
     ghost use Rattle.subordinate.specs.Pages.{byte_at_address};
     ghost use Rattle.subordinate.specs.declared.DeviceFault.TheVariants.{NoMemory};
@@ -205,6 +205,18 @@ impl Device {
             left -= waiting;
         }
         unreachable!()
+    }
+
+    /// Serial and beat of the first beat that isn't performed, by rising serial and beat.
+    pub fn first_pending(&self) -> Option<(u64, u16)>
+        ensures { result ≡ slice_get (waiting_beats self.now.memory) 0 }
+    {
+        for burst in self.open.iter() {
+            if burst.waiting() > 0 {
+                return Some((burst.serial(), burst.nth_waiting(0)));
+            }
+        }
+        None
     }
 
     /// The byte at an address of a good page; none outside these.
@@ -367,6 +379,64 @@ impl Device {
         match self.oldest_read(id) {
             Some(place) => self.open_at(place).captured().is_some(),
             None => false,
+        }
+    }
+
+    /// The smallest ID for which `answer_b` would give a B.
+    pub fn first_b(&self) -> Option<u8>
+        ensures { result ≡ first_with_b self.now.memory }
+    {
+        let mut first = None;
+        for burst in self.open.iter() {
+            first = self.smaller_b(first, burst.write_id());
+        }
+        first
+    }
+
+    /// The smallest ID for which `answer_r` would give an R.
+    pub fn first_r(&self) -> Option<u8>
+        ensures { result ≡ first_with_r self.now.memory }
+    {
+        let mut first = None;
+        for burst in self.open.iter() {
+            first = self.smaller_r(first, burst.read_id());
+        }
+        first
+    }
+
+    /// The smaller of an ID found and of one more, if that may give a B.
+    fn smaller_b(&self, first: Option<u8>, id: Option<u8>) -> Option<u8>
+        ensures { result ≡ smaller_ready (λ id. is_some (b_of self.now.memory id)) first id }
+    {
+        let Some(id) = id else {
+            return first;
+        };
+        let is_smaller = match first {
+            None => true,
+            Some(best) => id < best,
+        };
+        if is_smaller && self.can_b(id) {
+            Some(id)
+        } else {
+            first
+        }
+    }
+
+    /// The smaller of an ID found and of one more, if that may give an R.
+    fn smaller_r(&self, first: Option<u8>, id: Option<u8>) -> Option<u8>
+        ensures { result ≡ smaller_ready (λ id. is_some (r_of self.now.memory id)) first id }
+    {
+        let Some(id) = id else {
+            return first;
+        };
+        let is_smaller = match first {
+            None => true,
+            Some(best) => id < best,
+        };
+        if is_smaller && self.can_r(id) {
+            Some(id)
+        } else {
+            first
         }
     }
 

@@ -2,7 +2,7 @@
 ghost use Rattle.std.specs.Prelude.{◌≡◌, ◌+◌, ◌<◌, ◌≤◌, false, IsSome, Some, length, not, slice_get, take};
 ghost use Rattle.std.specs.List.{AllByRecursion, list_any};
 ghost use Rattle.subordinate.specs.FreeMemory.{answers_left, beat_at, gives_last, is_read_of, is_waiting, is_write_of, newly_pending, performed_waiting_in, start_of, transfers_in, with_beat, work_in};
-ghost use Rattle.subordinate.specs.Inside.{burst_in, captured_at, count_waiting, waiting_places, with_answer};
+ghost use Rattle.subordinate.specs.Inside.{burst_in, captured_at, count_waiting, read_id_in, waiting_places, with_answer, write_id_in};
 ghost use Rattle.subordinate.specs.Laws.{IsPerformed};
 ghost use Rattle.subordinate.specs.declared.BeatState.TheVariants.{Waiting};
 
@@ -89,6 +89,28 @@ impl OpenBurst {
         ensures { result ≡ is_read_of id self.now }
     {
         !self.burst.is_write() && self.burst.ar().id == id
+    }
+
+    /// The ID of a write.
+    pub(crate) fn write_id(&self) -> Option<u8>
+        ensures { result ≡ write_id_in self.now.burst }
+    {
+        if self.burst.is_write() {
+            Some(self.burst.aw().id)
+        } else {
+            None
+        }
+    }
+
+    /// The ID of a read.
+    pub(crate) fn read_id(&self) -> Option<u8>
+        ensures { result ≡ read_id_in self.now.burst }
+    {
+        if self.burst.is_write() {
+            None
+        } else {
+            Some(self.burst.ar().id)
+        }
     }
 
     /// The first address.

@@ -6,8 +6,8 @@ use Rattle.std.specs.Prelude.{Option, Some, None, filter, find, if◌then◌else
 use Rattle.std.specs.List.{range_with_len}
 use Rattle.std.proofs.lemmas.List.{length-append, length-map}
 use Rattle.std.proofs.lemmas.Option.{slice_get-map}
-use Rattle.subordinate.specs.FreeMemory.{FreeMemory, b_of, ids_with_b, ids_with_r, r_of}
-use Rattle.world_run.specs.Choices.{answers_enabled, first_with_b, first_with_r}
+use Rattle.subordinate.specs.FreeMemory.{FreeMemory, b_of, first_with_b, first_with_r, ids_with_b, ids_with_r, r_of}
+use Rattle.world_run.specs.Choices.{answers_enabled}
 use Rattle.world_run.specs.World.{perform_at}
 use Rattle.world_run.specs.declared.Step.{Step}
 use Rattle.world_run.specs.declared.Step.TheVariants.{AnswerB, AnswerR, Pump}
@@ -83,6 +83,10 @@ none_kept {X = X} p (x ∷ xs) none = by_test (p x) none (none_kept p xs)
     by_test false none rest = rest none
 
 -- ---- the answers that may come
+
+pub none_at_first : {X : Type 0} (xs : List X) → slice_get xs 0 ≡ None → length xs ≤ 0
+none_at_first [] none = omega arith
+none_at_first (x ∷ xs) none = absurd (cc (none))
 
 pub first_is_b : (memory : FreeMemory) (id : ℕ) → first_with_b memory ≡ Some id → Some (AnswerB id) ≡ slice_get (answers_enabled memory) 0
 first_is_b memory id is =

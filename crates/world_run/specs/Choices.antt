@@ -1,21 +1,12 @@
 -- How the parts of a world count what they can do by themselves. It knows which steps are enabled; which bytes they move is left out.
-use Rattle.std.specs.Prelude.{ℕ, ◌++◌, Bool, true, false, List, map, Option, find, is_some}
-use Rattle.std.specs.List.{range_with_len}
-use Rattle.subordinate.specs.FreeMemory.{FreeMemory, b_of, ids_with_b, ids_with_r, r_of}
+use Rattle.std.specs.Prelude.{◌++◌, Bool, true, false, List, map}
+use Rattle.subordinate.specs.FreeMemory.{FreeMemory, ids_with_b, ids_with_r}
 use Rattle.world_run.specs.declared.Step.{Step}
 use Rattle.world_run.specs.declared.Step.TheVariants.{Offer, Pump, Perform, AnswerB, AnswerR, Take}
 
 -- the answers of a memory that may come: AnswerB by rising ID, AnswerR by rising ID
 abbrev pub answers_enabled : FreeMemory → List Step
 answers_enabled memory = map AnswerB (ids_with_b memory) ++ map AnswerR (ids_with_r memory)
-
--- the smallest ID that may give a B, and the smallest that may give an R
-abbrev pub first_with_b : FreeMemory → Option ℕ
-first_with_b memory = find (λ id. is_some (b_of memory id)) (range_with_len 0 16)
-
--- as above, of an R
-abbrev pub first_with_r : FreeMemory → Option ℕ
-first_with_r memory = find (λ id. is_some (r_of memory id)) (range_with_len 0 16)
 
 -- whether a step is one that bridge and memory make by themselves
 abbrev pub is_own : Step → Bool

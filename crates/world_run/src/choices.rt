@@ -1,7 +1,7 @@
 //! What bridge and memory can do by themselves, and a drain.
 ghost use Rattle.std.specs.Prelude.{◌≡◌, ◌<◌, ◌≤◌, IfSome, Some, length, slice_get, true};
 ghost use Rattle.subordinate.specs.FreeMemory.{ids_with_b, ids_with_r};
-ghost use Rattle.world_run.specs.Choices.{answers_enabled, first_with_b, first_with_r, is_own};
+ghost use Rattle.world_run.specs.Choices.{answers_enabled, is_own};
 
 use crate::{Answer, Step, World};
 use subordinate::Device;
@@ -67,8 +67,7 @@ impl World {
         if self.bridge.can_pump() {
             return Some(Step::Pump);
         }
-        if self.device.pending() > 0 {
-            let (serial, beat) = self.device.pending_at(0);
+        if let Some((serial, beat)) = self.device.first_pending() {
             return Some(Step::Perform(serial, beat));
         }
         first_answer(&self.device)
@@ -152,28 +151,16 @@ fn id_with_r(device: &Device, k: u32) -> u8
     unreachable!()
 }
 
-/// The smallest ID that may give a B.
-fn first_b(device: &Device) -> Option<u8>
-    ensures { result ≡ first_with_b device.now.memory }
-{
-    (0..IDS).find(|id| device.can_b(*id))
-}
-
-/// The smallest ID that may give an R.
-fn first_r(device: &Device) -> Option<u8>
-    ensures { result ≡ first_with_r device.now.memory }
-{
-    (0..IDS).find(|id| device.can_r(*id))
-}
-
 /// The first answer that may come, where there is one.
 fn first_answer(device: &Device) -> Option<Step>
     ensures own { IfSome result (λ step. is_own step ≡ true) }
     ensures first { result ≡ slice_get (answers_enabled device.now.memory) 0 }
 {
-    match (first_b(device), first_r(device)) {
-        (Some(id), _) => Some(Step::AnswerB(id)),
-        (None, Some(id)) => Some(Step::AnswerR(id)),
-        (None, None) => None,
+    if let Some(id) = device.first_b() {
+        return Some(Step::AnswerB(id));
+    }
+    match device.first_r() {
+        Some(id) => Some(Step::AnswerR(id)),
+        None => None,
     }
 }

@@ -200,14 +200,27 @@ fn waiting(device: &Device, k: u32) -> Option<(u64, u16)> {
     }
 }
 
+/// Whether an ID that may give an answer, or not, goes with the smallest that may.
+fn may_be_first(first: Option<u8>, id: u8, can: bool) -> bool {
+    match first {
+        Some(smallest) => smallest <= id || !can,
+        None => !can,
+    }
+}
+
 /// Whether what is seen of a memory is what the event tells.
 fn shows(device: &Device, event: Event) -> bool {
     match event {
-        Can(id, b, r) => (device.can_b(id), device.can_r(id)) == (b, r),
+        Can(id, b, r) => {
+            (device.can_b(id), device.can_r(id)) == (b, r)
+                && may_be_first(device.first_b(), id, b)
+                && may_be_first(device.first_r(), id, r)
+        }
         Counts(sent, pending, performed) => {
             (device.sent(), device.pending(), device.performed_waiting())
                 == (sent, pending, performed)
         }
+        Waits(0, beat) => waiting(device, 0) == beat && device.first_pending() == beat,
         Waits(k, beat) => waiting(device, k) == beat,
         Byte(address, byte) => device.byte(address) == byte,
         Open(serial, burst) => holds_expected(device.burst(serial), burst),

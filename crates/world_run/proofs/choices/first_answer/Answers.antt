@@ -5,13 +5,13 @@ use Rattle.world_run.specs.declared.Step.TheVariants.{AnswerR}
 use Rattle.world_run.proofs.EnabledSteps.{first_is_b, first_is_r}
 use Rattle.world_run.proofs.choices.first_answer.Goals as goal
 
-pub returns-in-Some-default-clause-first : goal.returns-in-Some-default-clause-first
-returns-in-Some-default-clause-first c = first_is_b c.args.device.now.memory c.in-Some-default.id (sym c.first_b.ensures ∙ c.in-Some-default.is-0)
+pub returns-in-Some-clause-first : goal.returns-in-Some-clause-first
+returns-in-Some-clause-first c = first_is_b c.args.device.now.memory c.in-Some.id (sym c.first_b.ensures ∙ c.in-Some.is)
 
-pub returns-in-None-Some-clause-first : goal.returns-in-None-Some-clause-first
-returns-in-None-Some-clause-first c =
-    ap (option_map AnswerR) (sym c.in-None-Some.is-1 ∙ c.first_r.ensures) ∙ first_is_r c.args.device.now.memory (sym c.first_b.ensures ∙ c.in-None-Some.is-0)
+pub returns-in-Some-first_r-clause-first : goal.returns-in-Some-first_r-clause-first
+returns-in-Some-first_r-clause-first c =
+    ap (option_map AnswerR) (sym c.in-Some-first_r.is ∙ c.first_r.ensures) ∙ first_is_r c.args.device.now.memory (sym c.first_b.ensures ∙ c.in_default.is)
 
-pub returns-in-None-None-clause-first : goal.returns-in-None-None-clause-first
-returns-in-None-None-clause-first c =
-    ap (option_map AnswerR) (sym c.in-None-None.is-1 ∙ c.first_r.ensures) ∙ first_is_r c.args.device.now.memory (sym c.first_b.ensures ∙ c.in-None-None.is-0)
+pub returns-in-None-clause-first : goal.returns-in-None-clause-first
+returns-in-None-clause-first c =
+    ap (option_map AnswerR) (sym c.in-None.is ∙ c.first_r.ensures) ∙ first_is_r c.args.device.now.memory (sym c.first_b.ensures ∙ c.in_default.is)

@@ -9,4 +9,4 @@ pub invariant_of-self : goal.invariant_of-self
 invariant_of-self c =
     let items : c.resize.new.self.items ≡ replicate c.args.transfers Waiting = search rules in
     let len : vec_len c.resize.new.self ≡ c.args.transfers = search rules in
-    (search rules, omega (arith, len, c.requires), rw items (sym (count_waiting-replicate c.args.transfers)))
+    (search rules, omega (arith, len, c.requires), rw items (sym (count_waiting-replicate c.args.transfers)), omega arith, tt)

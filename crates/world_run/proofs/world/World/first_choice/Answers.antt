@@ -5,7 +5,7 @@ use Rattle.bridge_core.specs.Bridge.{burst_to_send}
 use Rattle.subordinate.specs.FreeMemory.{waiting_beats}
 use Rattle.world_run.specs.Choices.{answers_enabled}
 use Rattle.world_run.specs.World.{WorldState, enabled}
-use Rattle.world_run.proofs.EnabledSteps.{answer_found, pump_count}
+use Rattle.world_run.proofs.EnabledSteps.{answer_found, none_at_first, pump_count}
 use Rattle.world_run.proofs.world.World.first_choice.Goals as goal
 
 pub returns-clause-first : goal.returns-clause-first
@@ -16,5 +16,5 @@ returns-clause-first c =
     let first : 0 - pump_count pump - length (waiting_beats memory) ≡ 0 = omega arith in
     c.first_answer.ensures.first
     ∙ ap (slice_get (answers_enabled memory)) (sym first)
-    ∙ sym (answer_found pump (waiting_beats memory) (answers_enabled memory) 0 (omega (arith, none)) (omega (arith, none, c.pending.ensures, c.if-pending-gt0.false)))
+    ∙ sym (answer_found pump (waiting_beats memory) (answers_enabled memory) 0 (omega (arith, none)) (omega (arith, none, none_at_first (waiting_beats memory) (sym c.first_pending.ensures ∙ c.in_default.is))))
     ∙ ap (λ (state : WorldState). slice_get (enabled state) 0) c.self.view_is
