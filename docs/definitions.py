@@ -79,9 +79,14 @@ STATEMENTS = (
     ),
     ("The text of `threads`", "`tlbridge::carried_out_in_threads`, clause `ending`.", (("tlbridge", "Threads", "EndsAsRead"),)),
     (
+        "When what was observed is right",
+        "`scoreboard::Scoreboard::judge`, clauses `right` and `memory`.",
+        (("scoreboard", "Right", "IsRight"),),
+    ),
+    (
         "What the scoreboard says",
-        "`scoreboard::Scoreboard::judge`, clauses `answer` and `state`.",
-        (("scoreboard", "Boards", "wrong_at"), ("scoreboard", "Boards", "IsAfter")),
+        "`scoreboard::Scoreboard::judge`, clauses `answer` and `state`, and the board that `right` begins with.",
+        (("scoreboard", "Boards", "wrong_at"), ("scoreboard", "Boards", "IsAfter"), ("scoreboard", "Boards", "IsReached")),
     ),
     ("The text of the scoreboard", "`score_script::score_text`.", (("score_script", "Scores", "score_reading"),)),
 )

@@ -222,3 +222,10 @@ opening_board setup =
       port = axi_port_of setup.config;
       open_bursts = nothing_open;
     }
+
+-- ---- lists of beats
+
+-- the board after beats of which none was wrong
+abbrev pub IsReached : Board → List Seen → Board → Type 0
+IsReached start [] board = board ≡ start
+IsReached start (seen ∷ rest) board = (next : Board) × (wrong_at start seen ≡ None) × IsAfter start seen next × IsReached next rest board

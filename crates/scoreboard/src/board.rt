@@ -1,9 +1,10 @@
 //! The scoreboard.
-ghost use Rattle.std.specs.Prelude.{◌≡◌, ◌≤◌, ◌⊎◌, true, length, map, sum_by, if◌then◌else◌, None, Some, Err, IfErr, IfOk, IfSome, slice_get};
+ghost use Rattle.std.specs.Prelude.{◌≡◌, ◌<◌, ◌≤◌, ◌⊎◌, ◌↔◌, List, [], ◌∷◌, ◌++◌, true, length, map, sum_by, if◌then◌else◌, None, Some, Err, IfErr, IfOk, IfSome, slice_get};
 ghost use Rattle.std.specs.List.{range_with_len};
 ghost use Rattle.bridge_core.specs.Configs.{is_valid};
 ghost use Rattle.subordinate.specs.Faults.{is_good, standing_at};
-ghost use Rattle.world_run.specs.Setups.{lists_of, setup_fault};
+ghost use Rattle.world_run.specs.Headline.{bytes_of_all};
+ghost use Rattle.world_run.specs.Setups.{SetupLists, lists_of, setup_fault};
 ghost use Rattle.world_run.specs.declared.SetupFault.TheVariants.{NoMemory};
 ghost use Rattle.scoreboard.specs.Boards.{opening_client, replies_left};
 ghost use Rattle.scoreboard.specs.InsideSerial.{bytes_in};
@@ -78,7 +79,10 @@ fn outstanding_of(clients: &[Client]) -> u16
 }
 
 impl Scoreboard {
-    ghost use Rattle.scoreboard.specs.Boards.{IsAfter, IsAfterA, a_wrong, after_d, d_wrong, open_count, opening_board, outstanding, wrong_at};
+    ghost use Rattle.scoreboard.specs.Boards.{IsAfter, IsAfterA, IsReached, a_wrong, after_d, d_wrong, open_count, opening_board, outstanding, wrong_at};
+    ghost use Rattle.scoreboard.specs.InsideBoards.{HasSource};
+    ghost use Rattle.scoreboard.specs.Observed.{observed_in, requests_in};
+    ghost use Rattle.scoreboard.specs.Right.{IsRight};
 
     /// A scoreboard of a set-up, of which nothing was observed: its clients, limits and regions are those that the observed
     /// ports allow, and all bytes of its good pages are zero.
@@ -120,6 +124,18 @@ impl Scoreboard {
     pub fn judge(&mut self, seen: &Seen) -> Option<Wrong>
         ensures answer { result ≡ wrong_at self.old seen.now }
         ensures state { IsAfter self.old seen.now self.new }
+        ensures right { (setup : SetupLists) (before : List Seen) → IsReached (opening_board setup) before self.old → (result ≡ None) ↔ IsRight setup (before ++ seen.now ∷ []) }
+        ensures memory { (setup : SetupLists) (before : List Seen) → IsReached (opening_board setup) before self.old
+          → bytes_in self.old.serial.pages ≡ bytes_of_all setup (requests_in (observed_in before)) }
+    {
+        self.judge_by_board(seen)
+    }
+
+    /// What is wrong with a beat, by what the board holds.
+    fn judge_by_board(&mut self, seen: &Seen) -> Option<Wrong>
+        ensures answer { result ≡ wrong_at self.old seen.now }
+        ensures state { IsAfter self.old seen.now self.new }
+        ensures source { HasSource seen.now }
     {
         match seen {
             Seen::A(client, beat) => self.judge_request(*client, beat),
@@ -156,7 +172,10 @@ impl Scoreboard {
     fn judge_reply(&mut self, client: u8, beat: &DBeat) -> Option<Wrong>
         ensures answer { result ≡ d_wrong (slice_get self.old.clients client) beat.now }
         ensures state { self.new ≡ after_d self.old client (slice_get self.old.clients client) beat.now }
+        ensures source { beat.now.source < 256 }
     {
+        // A source is below 256.
+        let _source = beat.source;
         let Some(found) = self.clients.get_mut(usize::from(client)) else {
             return Some(Wrong::NoClient);
         };

@@ -35,7 +35,7 @@ zero_pages [] = tt
 zero_pages (page ∷ pages) = (refl, zero_pages pages)
 
 -- a byte of the opening memory is zero, where there is one
-zero_byte : (pages : List (ℕ × PageKind)) (address : ℕ) → unwrap_or (byte_at_address (opening_memory pages) address) 0 ≡ 0
+pub zero_byte : (pages : List (ℕ × PageKind)) (address : ℕ) → unwrap_or (byte_at_address (opening_memory pages) address) 0 ≡ 0
 zero_byte pages address = by_page (find (holds_address address) (opening_memory pages)) refl
   where
     by_page : (o : Option GoodPage) → find (holds_address address) (opening_memory pages) ≡ o

@@ -1,0 +1,170 @@
+-- What a scoreboard holds, by what was observed: at the start, and what one client's part and the memory become by a request.
+use Rattle.std.proofs.Common.{◌≡◌, ℕ, ◌+◌, ◌<◌, ◌≤◌, zero, suc, ◌==◌, Bool, true, false, ◌&&◌, ◌||◌, List, [], ◌∷◌, ◌++◌, map, length, zip, Option, Some, None, Result, Ok, Err, if◌then◌else◌, refl, sym, ◌∙◌, ap, subst, arith}
+use Rattle.std.specs.Prelude.{◌≢◌, option_map, replicate, slice_get, slice_index_or, slice_set, unwrap_or}
+use Rattle.std.specs.List.{AllByRecursion, range_with_len}
+use Rattle.std.proofs.Math.Path.{fun_ext}
+use Rattle.std.proofs.lemmas.List.FromFn.{length-map-range_with_len}
+use Rattle.bus_words.specs.Lanes.{given_at, payload_of}
+use Rattle.tl_messages.specs.Requests.{HeldMessage, WholeRequest, held_of, request_of}
+use Rattle.tl_messages.specs.Operations.{beats_of, reply_has_data}
+use Rattle.tl_messages.specs.declared.ABeat.{ABeat}
+use Rattle.tl_messages.specs.declared.DBeat.{DBeat}
+use Rattle.tl_checker.specs.Requests.{IsFront, TlPortLimits}
+use Rattle.tl_checker.proofs.Fronts.{none_front}
+use Rattle.axi_checker.specs.OpenBursts.{nothing_open}
+use Rattle.axi_checker.specs.Rules.{open_after_all}
+use Rattle.responses.specs.Shown.{Reply, address_in_word, beat_of_word, beat_without_data, lacks_a_byte, shown}
+use Rattle.bridge_core.specs.Configs.{axi_port_of, port_of}
+use Rattle.world_run.specs.Headline.{bytes_of_all, replies_of}
+use Rattle.world_run.specs.Meaning.{Bytes, bytes_after_all, meaning, zeros}
+use Rattle.world_run.specs.Runs.{AcceptedMessage}
+use Rattle.world_run.specs.Setups.{SetupLists, faults_of}
+use Rattle.world_run.proofs.OrderOpens.{zero_byte}
+use Rattle.scoreboard.specs.Boards.{Board, ClientBoard, opening_board, opening_client, opening_due, due_of}
+use Rattle.scoreboard.specs.InsideSerial.{bytes_in}
+use Rattle.scoreboard.specs.Observed.{Observed, nothing_observed, requests_in}
+use Rattle.scoreboard.specs.Right.{IsRightNow, IsTold, is_of, replies_to, shown_to}
+use Rattle.scoreboard.specs.SerialMemory.{IsCarriedOut, SerialState, meaning_now}
+use Rattle.scoreboard.proofs.Owed.{AreDues, AreOf, IsOwed, eqb_other, eqb_same}
+use Rattle.scoreboard.proofs.SeenLists.{bytes_after_all-append, replies-append, replies-count, shown_to-append, shown_to-other}
+use Rattle.scoreboard.proofs.Told.{told_nothing}
+
+-- ---- what is held
+
+-- of a client: what it has begun, and what is left of its replies
+pub record IsClientOf (setup : SetupLists) (observed : Observed) (number : ℕ) (client : ClientBoard) : Type 0 where
+  pub limits : client.limits ≡ port_of setup.config number
+  pub front : client.front ≡ held_of number (observed.begun number)
+  pub dues : AreDues client.replies
+  pub owed : (source : ℕ) → source < 256 → IsOwed (replies_to setup observed number source) (observed.told number source) client.replies source
+
+-- the memory as the requests leave it
+pub record IsMemoryOf (setup : SetupLists) (requests : List WholeRequest) (serial : SerialState) : Type 0 where
+  pub regions : serial.regions ≡ setup.regions
+  pub faults : serial.pages.faults ≡ faults_of setup
+  pub bytes : bytes_in serial.pages ≡ bytes_of_all setup requests
+
+-- of a right observation
+pub record IsBoardOf (setup : SetupLists) (observed : Observed) (board : Board) : Type 0 where
+  pub count : length board.clients ≡ setup.config.clients
+  pub clients : (number : ℕ) (client : ClientBoard) → slice_get board.clients number ≡ Some client → IsClientOf setup observed number client
+  pub memory : IsMemoryOf setup (requests_in observed) board.serial
+  pub port : board.port ≡ axi_port_of setup.config
+  pub open_bursts : board.open_bursts ≡ open_after_all nothing_open observed.axi
+  pub right : IsRightNow setup observed
+
+-- ---- at the start
+
+none_due : (n source : ℕ) (none : List DBeat) → slice_index_or (replicate n none) source none ≡ none
+none_due zero source none = refl
+none_due (suc n) zero none = refl
+none_due (suc n) (suc source) none = none_due n source none
+
+dues_open : AreDues opening_due
+dues_open =
+    record {
+      places = refl;
+      sources = λ source. rw (none_due 256 source []) tt;
+      one = (0, omega arith, tt);
+      apart = λ source has. none_due 256 source [];
+    }
+
+owed_open : (source : ℕ) → IsOwed [] [] opening_due source
+owed_open source =
+    record { is_told = told_nothing.is_told; waits = λ waiting. (sym (none_due 256 source []), λ partly. omega (arith, partly.some_left)); runs = λ has. absurd (cc (has)) }
+
+client_opens : (setup : SetupLists) (number : ℕ) → IsClientOf setup nothing_observed number (opening_client setup.config number)
+client_opens setup number = record { limits = refl; front = refl; dues = dues_open; owed = λ source small. owed_open source }
+
+pub right_opens : (setup : SetupLists) → IsRightNow setup nothing_observed
+right_opens setup =
+    record {
+      spelled = tt;
+      as_many = refl;
+      begun = λ client. none_front (port_of setup.config client);
+      told = λ client source small. told_nothing.is_told;
+      free = λ client. tt;
+      axi = refl;
+    }
+
+client_among : (setup : SetupLists) (from count number : ℕ) (client : ClientBoard) → slice_get (map (opening_client setup.config) (range_with_len from count)) number ≡ Some client
+    → client ≡ opening_client setup.config (from + number)
+client_among setup from zero number client is = absurd (cc (is))
+client_among setup from (suc count) zero client is = let same : from + 0 ≡ from = omega arith in rw same (cc (is))
+client_among setup from (suc count) (suc number) client is =
+    let same : from + suc number ≡ from + 1 + number = omega arith in
+    client_among setup (from + 1) count number client is ∙ ap (opening_client setup.config) (sym same)
+
+pub board_opens : (setup : SetupLists) → IsBoardOf setup nothing_observed (opening_board setup)
+board_opens setup =
+    record {
+      count = length-map-range_with_len (opening_client setup.config) 0 setup.config.clients;
+      clients = λ number client is.
+          let first : 0 + number ≡ number = omega arith in
+          let same : client ≡ opening_client setup.config number = client_among setup 0 setup.config.clients number client is ∙ ap (opening_client setup.config) first in
+          subst (IsClientOf setup nothing_observed number) (sym same) (client_opens setup number);
+      memory = record { regions = refl; faults = refl; bytes = fun_ext (λ x. zero_byte setup.pages x) };
+      port = refl;
+      open_bursts = refl;
+      right = right_opens setup;
+    }
+
+-- ---- a request that is carried out
+
+-- what it means to the memory as it is
+pub meaning_here : (setup : SetupLists) (requests : List WholeRequest) (serial : SerialState) (q : WholeRequest) → IsMemoryOf setup requests serial
+    → meaning_now serial q ≡ meaning (faults_of setup) setup.regions q (bytes_of_all setup requests)
+meaning_here setup requests serial q memory = rw (memory.regions, memory.faults, memory.bytes) refl
+
+pub memory_after : (setup : SetupLists) (requests : List WholeRequest) (old new : SerialState) (q : WholeRequest) → IsMemoryOf setup requests old → IsCarriedOut old new q
+    → IsMemoryOf setup (requests ++ q ∷ []) new
+memory_after setup requests old new q memory out =
+    record {
+      regions = out.regions ∙ memory.regions;
+      faults = out.faults ∙ memory.faults;
+      bytes =
+          out.bytes ∙ ap (λ effect. effect.after) (meaning_here setup requests old q memory)
+          ∙ sym (bytes_after_all-append (faults_of setup) setup.regions requests q zeros);
+    }
+
+-- ---- the beats of a reply
+
+all_words : (q : WholeRequest) (reply : Reply) (places : List ℕ) → AreOf q.source (map (beat_of_word q reply) places)
+all_words q reply [] = tt
+all_words q reply (place ∷ places) = (by_word (reply.denied || lacks_a_byte q reply place), all_words q reply places)
+  where
+    by_word : (b : Bool) → (if b then record (beat_without_data q reply) { corrupt = true } else record (beat_without_data q reply) { payload = payload_of (λ lane. given_at reply.bytes q.address (address_in_word q place lane)) }).source ≡ q.source
+    by_word true = refl
+    by_word false = refl
+
+-- are all of its request's source
+pub shown_source : (q : WholeRequest) (reply : Reply) → AreOf q.source (shown q reply)
+shown_source q reply = by_data (reply_has_data q.operation)
+  where
+    by_data : (b : Bool) → AreOf q.source (if b then map (beat_of_word q reply) (range_with_len 0 (beats_of q.size true)) else (beat_without_data q reply ∷ []))
+    by_data true = all_words q reply (range_with_len 0 (beats_of q.size true))
+    by_data false = (refl, tt)
+
+-- ---- the replies to a client's requests of a source, after one more request
+
+pub record IsWith (setup : SetupLists) (old new : Observed) (q : WholeRequest) (reply : Reply) : Type 0 where
+  pub requests : requests_in new ≡ requests_in old ++ q ∷ []
+  pub reply_is : reply ≡ (meaning (faults_of setup) setup.regions q (bytes_of_all setup (requests_in old))).reply
+
+replies_with : (setup : SetupLists) (old new : Observed) (q : WholeRequest) (reply : Reply) (client source : ℕ) → IsWith setup old new q reply
+    → replies_to setup new client source ≡ shown_to client source (requests_in old ++ q ∷ []) (replies_of setup (requests_in old) ++ reply ∷ [])
+replies_with setup old new q reply client source with_q =
+    rw (with_q.requests, replies-append (faults_of setup) setup.regions (requests_in old) q zeros, with_q.reply_is) refl
+
+pub replies_to-own : (setup : SetupLists) (old new : Observed) (q : WholeRequest) (reply : Reply) → IsWith setup old new q reply
+    → replies_to setup new q.client q.source ≡ replies_to setup old q.client q.source ++ shown q reply ∷ []
+replies_to-own setup old new q reply with_q =
+    replies_with setup old new q reply q.client q.source with_q
+    ∙ shown_to-append q.client q.source (requests_in old) (replies_of setup (requests_in old)) q reply (replies-count (faults_of setup) setup.regions (requests_in old) zeros)
+    (rw (eqb_same q.client, eqb_same q.source) refl)
+
+pub replies_to-other : (setup : SetupLists) (old new : Observed) (q : WholeRequest) (reply : Reply) (client source : ℕ) → IsWith setup old new q reply → is_of client source q ≡ false
+    → replies_to setup new client source ≡ replies_to setup old client source
+replies_to-other setup old new q reply client source with_q other =
+    replies_with setup old new q reply client source with_q
+    ∙ shown_to-other client source (requests_in old) (replies_of setup (requests_in old)) q reply (replies-count (faults_of setup) setup.regions (requests_in old) zeros) other
