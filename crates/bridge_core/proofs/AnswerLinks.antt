@@ -14,7 +14,8 @@ use Rattle.burst_plan.specs.Pieces.{PlannedRange}
 use Rattle.burst_plan.specs.declared.Piece.{Piece}
 use Rattle.tl_messages.specs.Operations.{has_data, reply_has_data}
 use Rattle.flight_table.specs.Laws.{IsSoundRequest}
-use Rattle.flight_table.specs.LiveRequests.{LiveRequest, course, pieces_planned, planned, planned_writes, read_pieces}
+use Rattle.flight_table.specs.LiveRequests.{LiveRequest, bursts_of, phase_pieces, pieces_planned, planned, read_pieces, with_answered}
+use Rattle.flight_table.proofs.PhaseLaws.{read_at}
 use Rattle.flight_table.specs.Order.{is_id}
 use Rattle.bridge_core.specs.Bridge.{BridgeState, b_fault, r_fault}
 use Rattle.bridge_core.specs.Configs.{axi_port_of, table_limits_of}
@@ -30,45 +31,12 @@ use Rattle.bridge_core.proofs.ReadCounts.{reads_counted}
 abbrev pub AreOf : Bool → List (Bool × Piece) → Type 0
 AreOf side bursts = AllByRecursion (λ burst. burst.0 ≡ side) bursts
 
--- the side of a request's outstanding bursts: writes, once all of its reads were answered
-abbrev pub side_of : LiveRequest → Bool
-side_of flight = nat_le (length (read_pieces flight)) flight.answered
+of_one_side : (side : Bool) (parts : List Piece) → AreOf side (bursts_of side parts)
+of_one_side side [] = tt
+of_one_side side (piece ∷ parts) = (refl, of_one_side side parts)
 
-reads_alone : (reads : List Piece) → AreOf false (course reads [])
-reads_alone [] = tt
-reads_alone (piece ∷ reads) = (refl, reads_alone reads)
-
-writes_alone : (writes : List Piece) → AreOf true (course [] writes)
-writes_alone [] = tt
-writes_alone (piece ∷ writes) = (refl, writes_alone writes)
-
-writes_past_reads : (reads writes : List Piece) (from to : ℕ) → length reads ≤ from → AreOf true (drop from (take to (course reads writes)))
-writes_past_reads [] writes from to past = all-part (λ burst. burst.0 ≡ true) (course [] writes) from to (writes_alone writes)
-writes_past_reads (piece ∷ reads) writes zero to past = absurd (omega (arith, past))
-writes_past_reads (piece ∷ reads) writes (suc from) zero past = tt
-writes_past_reads (piece ∷ reads) writes (suc from) (suc to) past = writes_past_reads reads writes from to (omega (arith, past))
-
--- no write is planned while a read is unanswered
-no_writes_by : (reads writes writing : Bool) (parts : List Piece) (answered : ℕ) → (writing ≡ true → length (if reads then parts else []) ≤ answered) → answered < length (if reads then parts else [])
-    → (if not (reads && writes) || writing then (if writes then parts else []) else []) ≡ []
-no_writes_by false writes writing parts answered late below = absurd (omega arith)
-no_writes_by true false true parts answered late below = refl
-no_writes_by true false false parts answered late below = refl
-no_writes_by true true true parts answered late below = absurd (omega (arith, late refl))
-no_writes_by true true false parts answered late below = refl
-
-no_writes : (flight : LiveRequest) → (flight.writing ≡ true → length (read_pieces flight) ≤ flight.answered) → flight.answered < length (read_pieces flight) → planned_writes flight ≡ []
-no_writes flight late below = no_writes_by (reply_has_data flight.operation) (has_data flight.operation) flight.writing (pieces_planned flight.plan) flight.answered late below
-
-pub one_side : (flight : LiveRequest) → (flight.writing ≡ true → length (read_pieces flight) ≤ flight.answered) → AreOf (side_of flight) (outstanding flight)
-one_side flight late = by_side (side_of flight) refl
-  where
-    by_side : (side : Bool) → side_of flight ≡ side → AreOf side (outstanding flight)
-    by_side true is = writes_past_reads (read_pieces flight) (planned_writes flight) flight.answered flight.sent (leb-true (length (read_pieces flight)) flight.answered is)
-    by_side false is =
-        let below : flight.answered < length (read_pieces flight) = leb-false (length (read_pieces flight)) flight.answered is in
-        let none : planned_writes flight ≡ [] = no_writes flight late below in
-        rw none (all-part (λ burst. burst.0 ≡ false) (course (read_pieces flight) []) flight.answered flight.sent (reads_alone (read_pieces flight)))
+pub one_side : (flight : LiveRequest) → AreOf flight.writing (outstanding flight)
+one_side flight = all-part (λ burst. burst.0 ≡ flight.writing) (planned flight) flight.answered flight.sent (of_one_side flight.writing (phase_pieces flight))
 
 -- what a port sees of bursts of the other side
 pub open_writes-reads : (id : ℕ) (bursts : List (Bool × Piece)) → AreOf false bursts → open_writes id bursts ≡ []
@@ -114,7 +82,7 @@ pub record IsHolder (table : RequestTable) (id : ℕ) (request : BridgedRequest)
   pub sound : IsSoundRequest (table_limits_of table.config) table.accepted request.flight
   pub has_id : request.flight.id ≡ Some id
   pub live : request.flight.done ≡ false
-  pub one_side : AreOf (side_of request.flight) (outstanding request.flight)
+  pub one_side : AreOf request.flight.writing (outstanding request.flight)
 
 id_held : (own : Option ℕ) (id : ℕ) → is_id id own ≡ true → own ≡ Some id
 id_held None id holds = absurd (cc (holds))
@@ -140,7 +108,7 @@ holder_known table id request sound held =
       sound = flight_sound;
       has_id = holds_it;
       live = undone request.flight id holds_it flight_sound.freed;
-      one_side = one_side request.flight (λ writing. (served.writing writing).1);
+      one_side = one_side request.flight;
     }
 
 -- ---- a B
@@ -163,7 +131,7 @@ finds_writer state b sound none =
     by_holder None write writes is listed = absurd (cc (listed))
     by_holder (Some request) write writes is listed =
         let known = holder_known state.requests b.id request sound.requests is in
-        record { request = request; holder = known; next = next_write b.id (side_of request.flight) (outstanding request.flight) known.one_side write writes listed }
+        record { request = request; holder = known; next = next_write b.id request.flight.writing (outstanding request.flight) known.one_side write writes listed }
 
 -- what a B that breaks no rule tells of the live request that holds its ID: the oldest of its bursts that aren't answered is a write
 pub record AnsweredWriter (state : BridgeState) (b : BBeat) : Type 0 where
@@ -192,20 +160,6 @@ answered_writer state b sound none =
 
 -- ---- an R
 
--- a burst of a course that is a read is one of its reads
-not_read : (writes : List Piece) (k : ℕ) (piece : Piece) → slice_get (course [] writes) k ≡ Some (false, piece) → ⊥
-not_read [] k piece found = absurd (cc (found))
-not_read (w ∷ writes) zero piece found =
-    let sides : true ≡ false = ap (λ (burst : Bool × Piece). burst.0) (same_Some (true, w) (false, piece) found) in
-    absurd (cc (sides))
-not_read (w ∷ writes) (suc k) piece found = not_read writes k piece found
-
-pub read_at : (reads writes : List Piece) (k : ℕ) (piece : Piece) → slice_get (course reads writes) k ≡ Some (false, piece) → slice_get reads k ≡ Some piece
-read_at [] writes k piece found = absurd (not_read writes k piece found)
-read_at (p ∷ reads) writes zero piece found =
-    ap Some (ap (λ (burst : Bool × Piece). burst.1) (same_Some (false, p) (false, piece) found))
-read_at (p ∷ reads) writes (suc k) piece found = read_at reads writes k piece found
-
 -- the transfers of the pieces to a place, with the next one
 pub beats_in-next : (pieces : List Piece) (k : ℕ) (piece : Piece) → slice_get pieces k ≡ Some piece → beats_in (take (k + 1) pieces) ≡ beats_in (take k pieces) + (piece.len + 1)
 beats_in-next [] k piece found = absurd (cc (found))
@@ -216,6 +170,19 @@ beats_in-next (p ∷ pieces) (suc k) piece found =
     let next : suc k + 1 ≡ suc (k + 1) = omega arith in
     let rest = beats_in-next pieces k piece found in
     rw (next, sum_by-cons (λ (q : Piece). q.len + 1) p (take k pieces), sum_by-cons (λ (q : Piece). q.len + 1) p (take (k + 1) pieces)) (omega (arith, rest))
+
+-- the reads that were answered are some of its reads
+pub answered_least : (flight : LiveRequest) → beats_in (answered_pieces flight) ≤ beats_in (read_pieces flight)
+answered_least flight = by_side flight.writing
+  where
+    by_side : (writing : Bool) → beats_in (if writing then read_pieces flight else take flight.answered (read_pieces flight)) ≤ beats_in (read_pieces flight)
+    by_side true = omega arith
+    by_side false = sum_by-take-le (λ (p : Piece). p.len + 1) (read_pieces flight) flight.answered
+
+-- one more of its reads was answered whole
+pub answered_next : (flight : LiveRequest) (piece : Piece) → flight.writing ≡ false → slice_get (read_pieces flight) flight.answered ≡ Some piece
+    → beats_in (answered_pieces (with_answered flight)) ≡ beats_in (answered_pieces flight) + (piece.len + 1)
+answered_next flight piece reads read = rw reads (beats_in-next (read_pieces flight) flight.answered piece read)
 
 -- a request that reads has a plan
 reader_plan : (flight : LiveRequest) (k : ℕ) (piece : Piece) → slice_get (read_pieces flight) k ≡ Some piece → (range : PlannedRange) × (flight.plan ≡ Some range)
@@ -236,7 +203,7 @@ pub record IsReader (state : BridgeState) (r : RBeat) (request : BridgedRequest)
   pub found : find (read_of_id r.id) state.open_bursts.reads ≡ Some (open_read r.id (came_of_next request) piece)
   pub last : r.last ≡ (came_of_next request == piece.len)
   pub few : came_of_next request ≤ piece.len
-  pub more : beats_in (take (request.flight.answered + 1) (read_pieces request.flight)) ≡ beats_in (answered_pieces request.flight) + (piece.len + 1)
+  pub more : beats_in (answered_pieces (with_answered request.flight)) ≡ beats_in (answered_pieces request.flight) + (piece.len + 1)
   pub place : request.gathering.came < reads_of state.requests.config.axi_bytes (outline_in request)
 
 pub record FindsReader (state : BridgeState) (r : RBeat) : Type 0 where
@@ -250,14 +217,13 @@ pub reader_known : (state : BridgeState) (r : RBeat) (request : BridgedRequest) 
     → r.last ≡ (came_of_next request == piece.len) → IsReader state r request piece rest
 reader_known state r request piece rest sound known first alike found last =
     let flight = request.flight in
-    let reads = read_pieces flight in
     let next = part-next (planned flight) flight.answered flight.sent (false, piece) rest first in
-    let read = read_at reads (planned_writes flight) flight.answered piece next.at in
+    let (side, read) = read_at flight flight.answered piece next.at in
     let few : came_of_next request ≤ piece.len = subst (IsPartWay (came_of_next request)) first known.served.next in
     let (range, planned_so) = reader_plan flight flight.answered piece read in
     let counted = reads_counted state.requests.config state.requests.regions request range sound.requests.config known.served.pages known.served planned_so in
-    let within = sum_by-take-le (λ (p : Piece). p.len + 1) reads (flight.answered + 1) in
-    let more = beats_in-next reads flight.answered piece read in
+    let within = answered_least (with_answered flight) in
+    let more = answered_next flight piece side read in
     record {
       holder = known;
       first = first;
@@ -284,7 +250,7 @@ finds_reader state r sound none =
     by_holder None read reads is listed found last = absurd (cc (listed))
     by_holder (Some request) read reads is listed found last =
         let known = holder_known state.requests r.id request sound.requests is in
-        let next = next_read r.id (came_of_next request) (side_of request.flight) (outstanding request.flight) known.one_side read reads listed in
+        let next = next_read r.id (came_of_next request) request.flight.writing (outstanding request.flight) known.one_side read reads listed in
         let opened = ap (open_reads r.id (came_of_next request)) (sym next.is) ∙ listed in
         let same : open_read r.id (came_of_next request) next.piece ≡ read = cc (opened) in
         let flag : r.last ≡ (came_of_next request == next.piece.len) = last ∙ ap (λ (o : OpenRead). o.came == o.ar.len) (sym same) in

@@ -12,7 +12,8 @@ use Rattle.burst_plan.specs.declared.Piece.{Piece}
 use Rattle.burst_plan.specs.declared.Region.{Region}
 use Rattle.burst_plan.proofs.TranslationLaws.{same_byte-mod}
 use Rattle.flight_table.specs.Laws.{IsSound}
-use Rattle.flight_table.specs.LiveRequests.{LiveRequest, course, is_atomic, next_burst, pieces_planned, planned_writes, read_pieces, with_sent}
+use Rattle.flight_table.specs.LiveRequests.{LiveRequest, next_burst, pieces_planned, with_sent}
+use Rattle.flight_table.proofs.PhaseLaws.{write_at}
 use Rattle.flight_table.specs.Order.{id_for, is_ready}
 use Rattle.flight_table.specs.Tables.{FlightTable, KeyedTable, change_key, has_number, request_at, requests_of, table_of}
 use Rattle.flight_table.proofs.KeyLaws.{found_by_number}
@@ -118,26 +119,12 @@ going config regions flight helds spare key number range write piece id kept sou
 -- ---- a write can be filled
 
 -- only what has data writes
-some_writes : (reads writes : List Piece) (k : ℕ) (piece : Piece) → slice_get (course reads writes) k ≡ Some (true, piece) → writes ≡ [] → ⊥
-some_writes [] [] k piece there none = absurd (cc (there))
-some_writes [] (w ∷ writes) k piece there none = absurd (cc (none))
-some_writes (r ∷ reads) writes zero piece there none =
-    let reading : false ≡ true = ap (λ (burst : Bool × Piece). burst.0) (same_Some (false, r) (true, piece) there) in
-    absurd (cc (reading))
-some_writes (r ∷ reads) writes (suc k) piece there none = some_writes reads writes k piece there none
-
-no_writes : (carries plans : Bool) (parts : List Piece) → carries ≡ false → (if plans then (if carries then parts else []) else []) ≡ []
-no_writes true plans parts is = absurd (cc (is))
-no_writes false true parts is = refl
-no_writes false false parts is = refl
-
 writes_data : (flight : LiveRequest) (piece : Piece) → next_burst flight ≡ Some (true, piece) → has_data flight.operation ≡ true
-writes_data flight piece next = by_data (has_data flight.operation) refl
+writes_data flight piece next = by_data (has_data flight.operation) (write_at flight flight.sent piece next).1
   where
-    by_data : (b : Bool) → has_data flight.operation ≡ b → b ≡ true
-    by_data true is = refl
-    by_data false is =
-        absurd (some_writes (read_pieces flight) (planned_writes flight) flight.sent piece next (no_writes (has_data flight.operation) (not (is_atomic flight) || flight.writing) (pieces_planned flight.plan) is))
+    by_data : (b : Bool) → slice_get (if b then pieces_planned flight.plan else []) flight.sent ≡ Some piece → b ≡ true
+    by_data true there = refl
+    by_data false there = absurd (cc (there))
 
 pub can_fill : (config : Config) (regions : List Region) (flight : KeyedTable) (helds : List HeldRequest) (number : ℕ) (range : PlannedRange) (piece : Piece) (id : ℕ) (held : HeldRequest) → find (is_held number) helds ≡ Some held
     → IsGoing config regions flight helds number range true piece id → CanFill held range piece

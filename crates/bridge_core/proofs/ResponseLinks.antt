@@ -2,7 +2,7 @@
 use Rattle.std.proofs.Common.{◌≡◌, ◌≢◌, ℕ, ◌≤◌, Bool, true, false, not, ◌&&◌, is_some, List, [], ◌∷◌, length, drop, refl, ap, sym, ◌∙◌, subst, arith, inl, inr, ◌⊎◌}
 use Rattle.std.specs.Prelude.{None, Option, Some}
 use Rattle.std.specs.List.{filter}
-use Rattle.std.proofs.lemmas.Bool.{cases_eq, eq-eqb, eqb-true, leb-true, ne_eqb}
+use Rattle.std.proofs.lemmas.Bool.{and_parts, cases_eq, eq-eqb, eqb-true, leb-true, ne_eqb}
 use Rattle.bus_words.specs.Places.{change_first}
 use Rattle.bus_words.proofs.PlaceChanges.{find-without_first-none}
 use Rattle.axi_beats.specs.declared.BBeat.{BBeat}
@@ -29,14 +29,18 @@ finished_one request = record request { flight = finished request.flight }
 
 pub record IsAtEnd (request : BridgedRequest) : Type 0 where
   pub answered : is_settled request.flight ≡ true
-  pub becomes : (settled request ≡ with_its_write request) ⊎ (settled request ≡ finished_one request)
+  pub becomes : ((request.flight.writing ≡ false) × (settled request ≡ with_its_write request)) ⊎ (settled request ≡ finished_one request)
+
+pub not_so : (b : Bool) → not b ≡ true → b ≡ false
+not_so true is = absurd (cc (is))
+not_so false is = refl
 
 pub settled_as : (request : BridgedRequest) → ((is_settled request.flight ≡ false) × (settled request ≡ request)) ⊎ IsAtEnd request
 settled_as request = by_flag (is_settled request.flight) refl
   where
     by_write : (b : Bool) → (not request.flight.writing && is_some (value_found request)) ≡ b → is_settled request.flight ≡ true
-        → (settled request ≡ with_its_write request) ⊎ (settled request ≡ finished_one request)
-    by_write true is at_end = inl (rw (at_end, is) refl)
+        → ((request.flight.writing ≡ false) × (settled request ≡ with_its_write request)) ⊎ (settled request ≡ finished_one request)
+    by_write true is at_end = inl (not_so request.flight.writing (and_parts (not request.flight.writing) (is_some (value_found request)) is).0, rw (at_end, is) refl)
     by_write false is at_end = inr (rw (at_end, is) refl)
 
     by_flag : (b : Bool) → is_settled request.flight ≡ b → ((is_settled request.flight ≡ false) × (settled request ≡ request)) ⊎ IsAtEnd request
@@ -63,8 +67,7 @@ left-itself id request = record { writes = refl; reads = refl }
 left-write : (id : ℕ) (request : BridgedRequest) → request.flight.sent ≤ request.flight.answered → IsLeft id (Some (with_its_write request)) request
 left-write id request past =
     let before : outstanding request.flight ≡ [] = nothing_outstanding request.flight past in
-    let after : outstanding (with_write request.flight) ≡ [] = nothing_outstanding (with_write request.flight) past in
-    record { writes = rw (before, after) refl; reads = rw (before, after) refl }
+    record { writes = rw before refl; reads = rw before refl }
 
 left-nobody : (id : ℕ) (request : BridgedRequest) → request.flight.sent ≤ request.flight.answered → IsLeft id None request
 left-nobody id request past =
@@ -95,8 +98,8 @@ left_after id live change old answered held changed has sent one =
         let found : holder id (change_first (holds id) change live) ≡ None = find-changed-gone (holds id) change live old held fails one in
         rw found left
 
-    ending : answered.flight.sent ≤ answered.flight.answered → (settled answered ≡ with_its_write answered) ⊎ (settled answered ≡ finished_one answered) → IsLeft id (holder id (change_first (holds id) change live)) answered
-    ending past (inl writes) = still (with_its_write answered) (changed ∙ writes) has (left-write id answered past)
+    ending : answered.flight.sent ≤ answered.flight.answered → ((answered.flight.writing ≡ false) × (settled answered ≡ with_its_write answered)) ⊎ (settled answered ≡ finished_one answered) → IsLeft id (holder id (change_first (holds id) change live)) answered
+    ending past (inl writes) = still (with_its_write answered) (changed ∙ writes.1) has (left-write id answered past)
     ending past (inr ends) = gone (finished_one answered) (changed ∙ ends) refl (left-nobody id answered past)
 
 -- ---- who holds the other IDs
@@ -112,8 +115,8 @@ settled-other other request fails =
       | inr at_end ↦ ending at_end.becomes
     ]
   where
-    ending : (settled request ≡ with_its_write request) ⊎ (settled request ≡ finished_one request) → holds other (settled request) ≡ false
-    ending (inl writes) = ap (holds other) writes ∙ fails
+    ending : ((request.flight.writing ≡ false) × (settled request ≡ with_its_write request)) ⊎ (settled request ≡ finished_one request) → holds other (settled request) ≡ false
+    ending (inl writes) = ap (holds other) writes.1 ∙ fails
     ending (inr ends) = ap (holds other) ends
 
 pub holder-other : (id other : ℕ) (live : List BridgedRequest) (change : BridgedRequest → BridgedRequest) → id ≢ other

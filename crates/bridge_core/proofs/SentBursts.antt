@@ -26,7 +26,8 @@ use Rattle.burst_plan.specs.declared.Piece.{Piece}
 use Rattle.burst_plan.specs.declared.Region.{Region}
 use Rattle.burst_plan.proofs.TranslationLaws.{LeadsTo-alignment, translated-LeadsTo}
 use Rattle.burst_plan.proofs.WriteLaws.{puts_given_bytes, reads_are_legal}
-use Rattle.flight_table.specs.LiveRequests.{LiveRequest, course, next_burst, pieces_planned, planned, planned_writes, read_pieces, write_pieces}
+use Rattle.flight_table.specs.LiveRequests.{LiveRequest, next_burst, pieces_planned, planned}
+use Rattle.flight_table.proofs.PhaseLaws.{piece_planned}
 use Rattle.flight_table.specs.Laws.{IsSoundRequest}
 use Rattle.flight_table.specs.declared.TableLimits.{TableLimits}
 use Rattle.flight_table.proofs.Steps.{MayTake, takes_id}
@@ -111,41 +112,14 @@ plannable config regions request range valid map_of served plan =
       refl,
     )
 
--- ---- a burst of its course is one of its plan's
+-- ---- its next burst is a piece of its plan
 
 abbrev pub IsListed : List Piece → Piece → Type 0
 IsListed parts piece = (k : ℕ) × (slice_get parts k ≡ Some piece)
 
-abbrev as_writes : List Piece → List (Bool × Piece)
-as_writes writes = map (λ piece. (true, piece)) writes
-
-listed_write : (writes : List Piece) (k : ℕ) (b : Bool) (piece : Piece) → slice_get (as_writes writes) k ≡ Some (b, piece) → IsListed writes piece
-listed_write [] k b piece there = absurd (cc (there))
-listed_write (w ∷ writes) zero b piece there = (0, ap (λ (p : Piece). Some p) (ap (λ (q : Bool × Piece). q.1) (same_Some (true, w) (b, piece) there)))
-listed_write (w ∷ writes) (suc k) b piece there = let (j, is) = listed_write writes k b piece there in (suc j, is)
-
-listed_burst : (reads writes : List Piece) (k : ℕ) (b : Bool) (piece : Piece) → slice_get (course reads writes) k ≡ Some (b, piece) → IsListed reads piece ⊎ IsListed writes piece
-listed_burst [] writes k b piece there = inr (listed_write writes k b piece there)
-listed_burst (r ∷ reads) writes zero b piece there = inl (0, ap (λ (p : Piece). Some p) (ap (λ (q : Bool × Piece). q.1) (same_Some (false, r) (b, piece) there)))
-listed_burst (r ∷ reads) writes (suc k) b piece there =
-    elim (listed_burst reads writes k b piece there) [
-      | inl read ↦ let (j, is) = read in inl (suc j, is)
-      | inr write ↦ inr write
-    ]
-
-listed_if : (b : Bool) (parts : List Piece) (piece : Piece) → IsListed (if b then parts else []) piece → IsListed parts piece
-listed_if true parts piece listed = listed
-listed_if false parts piece listed = absurd (cc (listed.1))
-
 pub piece_of_plan : (flight : LiveRequest) (range : PlannedRange) (write : Bool) (piece : Piece) → flight.plan ≡ Some range → next_burst flight ≡ Some (write, piece) → IsListed (pieces range) piece
-piece_of_plan flight range write piece plan next = subst (λ (p : Option PlannedRange). IsListed (pieces_planned p) piece) plan of_plan
-  where
-    of_plan : IsListed (pieces_planned flight.plan) piece
-    of_plan =
-        elim (listed_burst (read_pieces flight) (planned_writes flight) flight.sent write piece next) [
-          | inl read ↦ listed_if (reply_has_data flight.operation) (pieces_planned flight.plan) piece read
-          | inr written ↦ listed_if (has_data flight.operation) (pieces_planned flight.plan) piece (listed_if _ (write_pieces flight) piece written)
-        ]
+piece_of_plan flight range write piece plan next =
+    (flight.sent, ap (λ (p : Option PlannedRange). slice_get (pieces_planned p) flight.sent) (sym plan) ∙ piece_planned flight flight.sent write piece next)
 
 -- ---- so it is legal
 

@@ -262,7 +262,7 @@ none_taken xs a s none below =
 pub none_sent : (limits : TableLimits) (accepted : ℕ) (flight : LiveRequest) → IsSoundRequest limits accepted flight → flight.done ≡ false → flight.id ≡ None → flight.sent ≡ 0
 none_sent limits accepted flight sound undone none =
     elim (cases_lt 0 flight.sent) [
-      | inl some ↦ let held = sound.holds undone some in absurd (grind (arith, none, held))
+      | inl some ↦ let held = sound.holds undone (omega (arith, some)) in absurd (grind (arith, none, held))
       | inr few ↦ omega (arith, few)
     ]
 

@@ -1,9 +1,10 @@
 -- A live request stays served: a new one, one that sent a burst, and one whose burst was answered.
-use Rattle.std.proofs.Common.{◌≡◌, ℕ, zero, suc, ◌+◌, ◌==◌, ◌<◌, ◌≤◌, min, Bool, true, false, ◌&&◌, ◌||◌, not, List, [], ◌∷◌, length, drop, take, Option, Some, None, is_none, is_some, IsSome, refl, ap, sym, ◌∙◌, subst, arith}
+use Rattle.std.proofs.Common.{◌≡◌, ℕ, zero, suc, ◌+◌, ◌-◌, ◌==◌, ◌<◌, ◌≤◌, min, Bool, true, false, ◌&&◌, ◌||◌, not, List, [], ◌∷◌, length, drop, take, Option, Some, None, is_none, is_some, IsSome, refl, ap, sym, ◌∙◌, subst, arith}
 use Rattle.std.specs.Prelude.{if◌then◌else◌, option_map, slice_get}
 use Rattle.std.specs.List.{AllByRecursion, find}
 use Rattle.std.proofs.lemmas.Bool.{and_parts, eqb-true, leb-false, leb-true, lt-leb}
-use Rattle.std.proofs.lemmas.Option.{same_Some, slice_get_within}
+use Rattle.std.proofs.lemmas.List.{take_all}
+use Rattle.std.proofs.lemmas.Option.{same_Some}
 use Rattle.bus_words.specs.Places.{change_first}
 use Rattle.tl_messages.specs.Operations.{has_data, reply_has_data}
 use Rattle.tl_messages.specs.Requests.{HeldMessage, request_of}
@@ -18,9 +19,9 @@ use Rattle.burst_plan.specs.Pieces.{PlannedRange, pieces}
 use Rattle.burst_plan.specs.declared.Piece.{Piece}
 use Rattle.burst_plan.specs.declared.Region.{Region}
 use Rattle.flight_table.specs.Laws.{IsSoundRequest}
-use Rattle.flight_table.specs.LiveRequests.{LiveRequest, course, finished, is_atomic, is_settled, plan_for, planned, planned_writes, read_pieces, with_answered, with_write, write_pieces}
+use Rattle.flight_table.specs.LiveRequests.{LiveRequest, bursts_of, finished, is_atomic, is_settled, pieces_planned, plan_for, planned, read_pieces, with_answered, with_write, write_pieces}
 use Rattle.flight_table.specs.declared.TableLimits.{TableLimits}
-use Rattle.flight_table.proofs.CourseLaws.{length_course}
+use Rattle.flight_table.proofs.PhaseLaws.{length_bursts, length_reading, length_writing, read_at, write_at}
 use Rattle.responses.specs.Gathered.{Gathering, after_b, after_r, old_value, reads_of}
 use Rattle.responses.specs.Gathered as gathered
 use Rattle.responses.specs.declared.gather.Outline.{Outline}
@@ -28,7 +29,7 @@ use Rattle.bridge_core.specs.Configs.{is_valid, port_of}
 use Rattle.bridge_core.specs.Laws.{IsOfMessage, IsPartWay, IsServed, answered_pieces, beats_in, came_of_next, outstanding}
 use Rattle.bridge_core.specs.Requests.{BridgedRequest, RequestTable, address_of, after_read, after_response, after_sending, newly_live, outline_in, range_of, settled, value_found}
 use Rattle.bridge_core.specs.declared.Config.{Config}
-use Rattle.bridge_core.proofs.AnswerLinks.{beats_in-next, read_at}
+use Rattle.bridge_core.proofs.AnswerLinks.{answered_next}
 use Rattle.bridge_core.proofs.HolderChanges.{part-empty, part-next}
 use Rattle.bridge_core.proofs.PlannedPieces.{HasPlan, atomic_plan, live_plan, plan_known, some_pieces}
 use Rattle.bridge_core.proofs.ResponseLinks.{part_way-zero}
@@ -51,12 +52,9 @@ is_not : (b : Bool) → not b ≡ true → b ≡ false
 is_not true is = absurd (cc (is))
 is_not false is = refl
 
--- of an atomic only the reads are planned, and from then on its writes too
-pub planned_before : (flight : LiveRequest) → is_atomic flight ≡ true → flight.writing ≡ false → length (planned flight) ≡ length (read_pieces flight)
-planned_before flight atomic isnt = rw (atomic, isnt) (length_course (read_pieces flight) [] ∙ omega arith)
-
-pub planned_after : (flight : LiveRequest) → is_atomic flight ≡ true → flight.writing ≡ true → length (planned flight) ≡ length (read_pieces flight) + length (write_pieces flight)
-planned_after flight atomic is = rw (atomic, is) (length_course (read_pieces flight) (write_pieces flight))
+-- all reads came, once each of their bursts was answered
+pub reads_came : (flight : LiveRequest) → flight.writing ≡ false → length (read_pieces flight) ≤ flight.answered → answered_pieces flight ≡ read_pieces flight
+reads_came flight reads past = rw reads (take_all flight.answered (read_pieces flight) past)
 
 -- the old value is that of an atomic
 pub atomic_both : (operation : Operation) → gathered.is_atomic operation ≡ true → (reply_has_data operation && has_data operation) ≡ true
@@ -92,8 +90,8 @@ pub record IsCounted (config : Config) (regions : List Region) (request : Bridge
   pub message : IsSound (port_of config request.message.client) request.message
   pub flight : IsOfMessage config regions request
   pub live : request.flight.done ≡ false
-  pub writing : request.flight.writing ≡ true → (is_atomic request.flight ≡ true) × (length (read_pieces request.flight) ≤ request.flight.answered)
-  pub found : request.flight.writing ≡ true → is_settled request.flight ≡ false → IsSome (value_found request)
+  pub reading : request.flight.writing ≡ false → reply_has_data request.flight.operation ≡ true
+  pub found : is_atomic request.flight ≡ true → request.flight.writing ≡ true → is_settled request.flight ≡ false → IsSome (value_found request)
   pub came : beats_in (answered_pieces request.flight) ≤ request.gathering.came
   pub next : IsPartWay (came_of_next request) (outstanding request.flight)
   pub answered : request.flight.answered ≤ length (planned request.flight)
@@ -111,11 +109,11 @@ going_on config regions request counted going =
       message = counted.message;
       flight = counted.flight;
       done = counted.live ∙ sym going;
-      writing = counted.writing;
-      found = λ writing live. counted.found writing going;
+      reading = counted.reading;
+      found = λ atomic writing live. counted.found atomic writing going;
       failed = λ atomic isnt past.
           let open_ones = leb-false (length (planned request.flight)) request.flight.answered going in
-          absurd (omega (arith, past, open_ones, planned_before request.flight atomic isnt));
+          absurd (omega (arith, past, open_ones, length_reading request.flight isnt));
       came = counted.came;
       next = counted.next;
     }
@@ -128,20 +126,19 @@ to_write config regions request valid counted settles test =
     let atomic : is_atomic request.flight ≡ true = found_is_atomic config regions request request.gathering counted.flight parts.1 in
     let plan = atomic_plan config regions request valid counted.message counted.flight counted.has atomic in
     let all = leb-true (length (planned request.flight)) request.flight.answered settles in
-    let before = planned_before request.flight atomic isnt in
-    let after : length (planned (with_write request.flight)) ≡ length (read_pieces request.flight) + length (write_pieces request.flight) = planned_after (with_write request.flight) atomic refl in
-    let past : request.flight.answered < length (planned (with_write request.flight)) = omega (arith, after, plan.writes, before, counted.answered) in
+    let whole = reads_came request.flight isnt (omega (arith, all, length_reading request.flight isnt)) in
+    let some : 0 < length (planned (with_write request.flight)) = omega (arith, length_writing (with_write request.flight) refl, plan.writes) in
     let none : came_of_next request ≡ 0 = none_came request.flight (came_of_next request) (omega (arith, counted.sent, all)) counted.next in
     record {
       pages = counted.pages;
       message = counted.message;
       flight = record { client = counted.flight.client; source = counted.flight.source; operation = counted.flight.operation; plan = counted.flight.plan };
-      done = counted.live ∙ sym (lt-leb (length (planned (with_write request.flight))) request.flight.answered past);
-      writing = λ is. (atomic, omega (arith, before, all));
-      found = λ is live. parts.1;
-      failed = λ is none. absurd (cc (none));
-      came = counted.came;
-      next = subst (λ n. IsPartWay n (outstanding (with_write request.flight))) (sym none) (part_way-zero (outstanding (with_write request.flight)));
+      done = counted.live ∙ sym (lt-leb (length (planned (with_write request.flight))) 0 some);
+      reading = λ reads. absurd (cc (reads));
+      found = λ atomic is live. parts.1;
+      failed = λ atomic isnt past. absurd (cc (isnt));
+      came = subst (λ (parts : List Piece). beats_in parts ≤ request.gathering.came) whole counted.came;
+      next = subst (λ (parts : List Piece). request.gathering.came - beats_in parts ≡ 0) whole none;
     }
 
 to_end : (config : Config) (regions : List Region) (request : BridgedRequest) → IsCounted config regions request → is_settled request.flight ≡ true
@@ -152,8 +149,8 @@ to_end config regions request counted settles test =
       message = counted.message;
       flight = record { client = counted.flight.client; source = counted.flight.source; operation = counted.flight.operation; plan = counted.flight.plan };
       done = sym settles;
-      writing = counted.writing;
-      found = λ writing live. absurd (cc (live));
+      reading = counted.reading;
+      found = λ atomic writing live. absurd (cc (live));
       failed = λ atomic isnt past. no_value request.flight.writing (value_found request) isnt test;
       came = counted.came;
       next = counted.next;
@@ -190,18 +187,29 @@ has_course (Atomic op) plan range is = refl
 has_course Get plan range is = refl
 has_course (Intent write) plan range is = absurd (cc (is))
 
-some_planned : (reads writes : Bool) (parts : List Piece) → (reads || writes) ≡ true → 1 ≤ length parts
-    → 0 < length (course (if reads then parts else []) (if not (reads && writes) || false then (if writes then parts else []) else []))
-some_planned true true parts either some = rw (length_course parts []) (omega (arith, some))
-some_planned true false parts either some = rw (length_course parts []) (omega (arith, some))
-some_planned false true parts either some = rw (length_course [] parts) (omega (arith, some))
+some_planned : (replies carries : Bool) (parts : List Piece) → (replies || carries) ≡ true → 1 ≤ length parts
+    → 0 < length (bursts_of (not replies) (if not replies then (if carries then parts else []) else (if replies then parts else [])))
+some_planned true carries parts either some = omega (arith, some, length_bursts false parts)
+some_planned false true parts either some = omega (arith, some, length_bursts true parts)
 some_planned false false parts either some = absurd (cc (either))
 
-none_planned : (reads writes : Bool) → length (course (if reads then [] else []) (if not (reads && writes) || false then (if writes then [] else []) else [])) ≡ 0
-none_planned true true = refl
-none_planned true false = refl
+none_planned : (replies carries : Bool) → length (bursts_of (not replies) (if not replies then (if carries then [] else []) else (if replies then [] else []))) ≡ 0
+none_planned true carries = refl
 none_planned false true = refl
 none_planned false false = refl
+
+-- what doesn't write at first has data in its reply, and an atomic reads at first
+reads_first : (replies : Bool) → not replies ≡ false → replies ≡ true
+reads_first true reads = refl
+reads_first false reads = absurd (cc (reads))
+
+pub atomic_first : (replies carries : Bool) → (replies && carries) ≡ true → not replies ≡ true → ⊥
+atomic_first true carries atomic writes = absurd (cc (writes))
+atomic_first false carries atomic writes = absurd (cc (atomic))
+
+none_read : (replies : Bool) (parts : List Piece) → beats_in (if not replies then (if replies then parts else []) else take 0 (if replies then parts else [])) ≡ 0
+none_read true parts = refl
+none_read false parts = refl
 
 -- an atomic has the plan of its range
 atomic_planned : (operation : Operation) (plan : Option PlannedRange) → (reply_has_data operation && has_data operation) ≡ true → plan_for operation plan ≡ plan
@@ -229,11 +237,11 @@ served_new table message valid pages sound =
       message = sound;
       flight = record { client = refl; source = refl; operation = refl; plan = refl };
       done = done_by plan refl;
-      writing = λ is. absurd (cc (is));
-      found = λ is live. absurd (cc (is));
+      reading = λ reads. reads_first (reply_has_data message.operation) reads;
+      found = λ atomic is live. absurd (atomic_first (reply_has_data message.operation) (has_data message.operation) atomic is);
       failed = λ atomic isnt past. failed_by atomic past plan refl;
-      came = omega arith;
-      next = refl;
+      came = omega (arith, none_read (reply_has_data message.operation) (pieces_planned plan));
+      next = omega arith;
     }
   where
     fresh : LiveRequest
@@ -294,7 +302,7 @@ served_sent config regions id request served =
       message = served.message;
       flight = record { client = served.flight.client; source = served.flight.source; operation = served.flight.operation; plan = served.flight.plan };
       done = served.done;
-      writing = served.writing;
+      reading = served.reading;
       found = served.found;
       failed = served.failed;
       came = served.came;
@@ -302,22 +310,6 @@ served_sent config regions id request served =
     }
 
 -- ---- a burst was answered by a B
-
--- a burst of a course that is a write stands past its reads
-pub write_past : (reads writes : List Piece) (k : ℕ) (piece : Piece) → slice_get (course reads writes) k ≡ Some (true, piece) → length reads ≤ k
-write_past [] writes k piece found = omega arith
-write_past (p ∷ reads) writes zero piece found =
-    let sides : false ≡ true = ap (λ (burst : Bool × Piece). burst.0) (same_Some (false, p) (true, piece) found) in
-    absurd (cc (sides))
-write_past (p ∷ reads) writes (suc k) piece found = omega (arith, write_past reads writes k piece found)
-
-pub take_past : (parts : List Piece) (k : ℕ) → length parts ≤ k → take (k + 1) parts ≡ take k parts
-take_past [] zero past = refl
-take_past [] (suc k) past = let next : suc k + 1 ≡ suc (k + 1) = omega arith in rw next refl
-take_past (p ∷ parts) zero past = absurd (omega (arith, past))
-take_past (p ∷ parts) (suc k) past =
-    let next : suc k + 1 ≡ suc (k + 1) = omega arith in
-    rw next (ap (λ (rest : List Piece). p ∷ rest) (take_past parts k (omega (arith, past))))
 
 -- with the B counted, before it is settled
 abbrev after_its_b : Resp → BridgedRequest → BridgedRequest
@@ -328,24 +320,23 @@ response_counted : (config : Config) (regions : List Region) (limits : TableLimi
     → slice_get (planned request.flight) request.flight.answered ≡ Some (true, piece) → IsCounted config regions (after_its_b resp request)
 response_counted config regions limits accepted resp request piece valid pages served sound within live burst =
     let flight = request.flight in
-    let past = write_past (read_pieces flight) (planned_writes flight) flight.answered piece burst in
+    let writes = (write_at flight flight.answered piece burst).0 in
     let has = live_plan config regions request valid pages served.message served.flight sound.no_plan live in
-    let same : take (flight.answered + 1) (read_pieces flight) ≡ take flight.answered (read_pieces flight) = take_past (read_pieces flight) flight.answered past in
+    let same : answered_pieces (with_answered flight) ≡ answered_pieces flight = rw writes refl in
     let begins = part_begins (planned flight) flight.answered flight.sent (true, piece) burst within in
     let none : came_of_next request ≡ 0 = subst (IsPartWay (came_of_next request)) begins.is served.next in
-    let still : came_of_next (after_its_b resp request) ≡ 0 = rw same none in
+    let still : came_of_next (after_its_b resp request) ≡ 0 = subst (λ (parts : List Piece). request.gathering.came - beats_in parts ≡ 0) (sym same) none in
     record {
       pages = served.pages;
       message = served.message;
       flight = record { client = served.flight.client; source = served.flight.source; operation = served.flight.operation; plan = served.flight.plan };
       live = live;
-      writing = λ is. ((served.writing is).0, omega (arith, past));
-      found = λ is going.
-          let plan = atomic_plan config regions request valid served.message served.flight has (served.writing is).0 in
-          let all = planned_after flight (served.writing is).0 is in
+      reading = served.reading;
+      found = λ atomic is going.
+          let plan = atomic_plan config regions request valid served.message served.flight has atomic in
           let open_ones = leb-false (length (planned flight)) (flight.answered + 1) going in
-          absurd (omega (arith, open_ones, all, plan.reads, plan.writes, past));
-      came = rw same served.came;
+          absurd (omega (arith, open_ones, length_writing flight writes, plan.writes));
+      came = subst (λ (parts : List Piece). beats_in parts ≤ request.gathering.came) (sym same) served.came;
       next = subst (λ n. IsPartWay n (outstanding (with_answered flight))) (sym still) (part_way-zero (outstanding (with_answered flight)));
       answered = omega (arith, within, sound.sent);
       sent = sound.sent;
@@ -376,12 +367,6 @@ pub record IsReading (request : BridgedRequest) (piece : Piece) (count : ℕ) : 
   pub came : request.gathering.came ≡ beats_in (answered_pieces request.flight) + count
   pub few : count ≤ piece.len
 
--- no write is planned yet
-pub not_writing : (config : Config) (regions : List Region) (request : BridgedRequest) (piece : Piece) (count : ℕ) → IsServed config regions request → IsReading request piece count → request.flight.writing ≡ true → ⊥
-not_writing config regions request piece count served reading is =
-    let read = read_at (read_pieces request.flight) (planned_writes request.flight) request.flight.answered piece reading.burst in
-    omega (arith, slice_get_within (read_pieces request.flight) request.flight.answered piece read, (served.writing is).1)
-
 last_counted : (config : Config) (regions : List Region) (limits : TableLimits) (accepted : ℕ) (r : RBeat) (request : BridgedRequest) (piece : Piece) (count : ℕ) → is_valid config ≡ true → IsPageMap regions
     → IsServed config regions request → IsSoundRequest limits accepted request.flight → IsReading request piece count → count ≡ piece.len
     → request.gathering.came < reads_of config.axi_bytes (outline_in request) → IsCounted config regions (after_last_r config.axi_bytes r request)
@@ -389,17 +374,17 @@ last_counted config regions limits accepted r request piece count valid pages se
     let flight = request.flight in
     let answered = after_last_r config.axi_bytes r request in
     let has = live_plan config regions request valid pages served.message served.flight sound.no_plan reading.live in
-    let read = read_at (read_pieces flight) (planned_writes flight) flight.answered piece reading.burst in
-    let more : beats_in (take (flight.answered + 1) (read_pieces flight)) ≡ beats_in (answered_pieces flight) + (piece.len + 1) = beats_in-next (read_pieces flight) flight.answered piece read in
-    let all : min (request.gathering.came + 1) (reads_of config.axi_bytes (outline_in request)) ≡ beats_in (take (flight.answered + 1) (read_pieces flight)) = omega (arith, place, more, reading.came, last) in
+    let read = read_at flight flight.answered piece reading.burst in
+    let more = answered_next flight piece read.0 read.1 in
+    let all : min (request.gathering.came + 1) (reads_of config.axi_bytes (outline_in request)) ≡ beats_in (answered_pieces (with_answered flight)) = omega (arith, place, more, reading.came, last) in
     let none : came_of_next answered ≡ 0 = omega (arith, all) in
     record {
       pages = served.pages;
       message = served.message;
       flight = record { client = served.flight.client; source = served.flight.source; operation = served.flight.operation; plan = served.flight.plan };
       live = reading.live;
-      writing = λ is. absurd (not_writing config regions request piece count served reading is);
-      found = λ is going. absurd (not_writing config regions request piece count served reading is);
+      reading = served.reading;
+      found = λ atomic is going. absurd (cc (read.0, is));
       came = omega (arith, all);
       next = subst (λ n. IsPartWay n (outstanding answered.flight)) (sym none) (part_way-zero (outstanding answered.flight));
       answered = omega (arith, reading.within, sound.sent);
@@ -422,8 +407,8 @@ more_counted config regions limits accepted r request piece count valid pages se
       message = served.message;
       flight = record { client = served.flight.client; source = served.flight.source; operation = served.flight.operation; plan = served.flight.plan };
       live = reading.live;
-      writing = λ is. absurd (not_writing config regions request piece count served reading is);
-      found = λ is going. absurd (not_writing config regions request piece count served reading is);
+      reading = served.reading;
+      found = λ atomic is going. absurd (cc ((read_at flight flight.answered piece reading.burst).0, is));
       came = omega (arith, counted);
       next = subst (IsPartWay (came_of_next answered)) (sym begins.is) below;
       answered = omega (arith, reading.within, sound.sent);

@@ -4,11 +4,10 @@ use Rattle.std.proofs.Common.{◌≡◌, ℕ, zero, suc, ◌+◌, ◌*◌, ◌==
 use Rattle.std.specs.Prelude.{if◌then◌else◌}
 use Rattle.std.specs.List.{AllByRecursion, filter, sum_by}
 use Rattle.std.proofs.lemmas.Bool.{eq-eqb, eqb-true}
-use Rattle.std.proofs.lemmas.List.{append-nil, take-append-le}
 use Rattle.std.proofs.lemmas.List.Sums.{sum_by-cons}
 use Rattle.burst_plan.specs.declared.Piece.{Piece}
 use Rattle.flight_table.specs.Laws.{IsSoundRequest}
-use Rattle.flight_table.specs.LiveRequests.{LiveRequest, course, is_atomic, read_pieces, whole_course, write_pieces}
+use Rattle.flight_table.specs.LiveRequests.{LiveRequest, planned}
 use Rattle.flight_table.specs.Order.{holds_id}
 use Rattle.flight_table.specs.Work.{answers_of_burst, beats_of_burst, unsent, unsent_work, work, work_of}
 use Rattle.flight_table.specs.declared.TableLimits.{TableLimits}
@@ -21,7 +20,7 @@ use Rattle.bridge_core.specs.declared.Config.{Config}
 use Rattle.burst_plan.specs.declared.Region.{Region}
 use Rattle.bridge_core.proofs.HolderChanges.{find-none-kept}
 use Rattle.bridge_core.proofs.SendingLinks.{sound_requests}
-use Rattle.bridge_core.proofs.SentLinks.{holders_counted}
+use Rattle.bridge_core.proofs.SentLinks.{holders_counted, none_sent}
 
 -- ---- the items of an ID, and the others
 
@@ -144,40 +143,22 @@ sum_from measure (suc a) zero (x ∷ xs) within = absurd (omega (arith, within))
 sum_from measure zero (suc s) (x ∷ xs) within = omega (arith, sum_from measure zero s xs (omega arith), sum_by-cons measure x xs, sum_by-cons measure x (take s xs))
 sum_from measure (suc a) (suc s) (x ∷ xs) within = sum_from measure a s xs (omega (arith, within))
 
--- what is planned is the front of what may come
-planned_first : (writes_planned : Bool) (reads writes : List Piece) (n : ℕ) → n ≤ length (course reads (if writes_planned then writes else []))
-    → take n (course reads (if writes_planned then writes else [])) ≡ take n (course reads writes)
-planned_first true reads writes n within = refl
-planned_first false reads writes n within =
-    let before : List (Bool × Piece) = map (λ piece. (false, piece)) reads in
-    let alone : before ++ [] ≡ before = append-nil before in
-    let few : n ≤ length before = rw alone at within in
-    ap (take n) alone ∙ sym (take-append-le n before (map (λ piece. (true, piece)) writes) few)
-
 -- a request that isn't done: the bursts that it has still to send, and those that are outstanding
 work_of_undone : (limits : TableLimits) (accepted : ℕ) (flight : LiveRequest) → IsSoundRequest limits accepted flight → flight.done ≡ false
     → work_of flight ≡ unsent_work flight + whole_planned (outstanding flight)
 work_of_undone limits accepted flight sound undone =
-    let sent = planned_first (not (is_atomic flight) || flight.writing) (read_pieces flight) (write_pieces flight) flight.sent sound.sent in
-    let beats = sum_from beats_of_burst flight.answered flight.sent (whole_course flight) sound.answered in
-    let answers = sum_from answers_of_burst flight.answered flight.sent (whole_course flight) sound.answered in
-    rw (undone, sent) (omega (arith, beats, answers))
+    let beats = sum_from beats_of_burst flight.answered flight.sent (planned flight) sound.answered in
+    let answers = sum_from answers_of_burst flight.answered flight.sent (planned flight) sound.answered in
+    rw undone (omega (arith, beats, answers))
 
 -- one without an ID has nothing outstanding
 work_without_id : (limits : TableLimits) (accepted : ℕ) (flight : LiveRequest) → IsSoundRequest limits accepted flight → flight.id ≡ None → work_of flight ≡ unsent_work flight
 work_without_id limits accepted flight sound none = by_done flight.done refl
   where
-    nothing_sent : flight.done ≡ false → flight.sent ≡ 0
-    nothing_sent undone = by_count flight.sent refl
-      where
-        by_count : (n : ℕ) → flight.sent ≡ n → flight.sent ≡ 0
-        by_count zero is = is
-        by_count (suc n) is = let some = sound.holds undone (omega (arith, is)) in absurd (cc (none, some))
-
     by_done : (done : Bool) → flight.done ≡ done → work_of flight ≡ unsent_work flight
     by_done true is = rw is refl
     by_done false is =
-        let nothing : flight.sent ≡ 0 = nothing_sent is in
+        let nothing = none_sent limits accepted flight sound is none in
         let answered : flight.answered ≡ 0 = omega (arith, nothing, sound.answered) in
         work_of_undone limits accepted flight sound is ∙ rw (nothing, answered) (omega arith)
 

@@ -1,6 +1,7 @@
 -- What is true of every bridge that the calls make (this project's profile).
-use Rattle.std.specs.Prelude.{ℕ, ◌≡◌, ◌+◌, ◌-◌, ◌≤◌, Bool, true, false, List, [], ◌∷◌, length, drop, take, filter, Option, Some, None, IfSome, IsSome, sum_by}
+use Rattle.std.specs.Prelude.{ℕ, ◌≡◌, ◌+◌, ◌-◌, ◌≤◌, Bool, true, false, List, [], ◌∷◌, length, drop, take, filter, Option, Some, None, IfSome, IsSome, sum_by, if◌then◌else◌}
 use Rattle.std.specs.List.{AllByRecursion}
+use Rattle.tl_messages.specs.Operations.{reply_has_data}
 use Rattle.tl_messages.specs.Requests.{HeldMessage, request_of}
 use Rattle.tl_checker.specs.Sound.{IsSound}
 use Rattle.axi_checker.specs.OpenBursts.{OpenBursts, OpenRead, OpenWrite, read_of_id, write_of_id, write_to_fill}
@@ -19,9 +20,9 @@ use Rattle.bridge_core.specs.declared.Config.{Config}
 abbrev pub beats_in : List Piece → ℕ
 beats_in pieces = sum_by (λ piece. piece.len + 1) pieces
 
--- the pieces of a request's read that were answered whole
+-- the pieces of a request's read that were answered whole: all of them, once it writes
 abbrev pub answered_pieces : LiveRequest → List Piece
-answered_pieces flight = take flight.answered (read_pieces flight)
+answered_pieces flight = if flight.writing then read_pieces flight else take flight.answered (read_pieces flight)
 
 -- the bursts that a request has sent and that aren't answered whole
 abbrev pub outstanding : LiveRequest → List (Bool × Piece)
@@ -45,15 +46,15 @@ pub record IsOfMessage (config : Config) (regions : List Region) (request : Brid
   pub plan : request.flight.plan ≡ plan_for request.message.operation (range_of config regions (request_of request.message))
 
 -- a live request: it was accepted over a page map, and its message is one that its client's port takes; it is done exactly when all its
--- planned answers came; an atomic plans its write exactly where its whole read was answered and found the old value; and the reads that came
--- are those of the bursts that were answered, and of the next one some, but not all
+-- planned answers came; what reads has data in its reply; an atomic goes on to write exactly where its whole read was answered and found the old
+-- value; and the reads that came are those of the bursts that were answered, and of the next one some, but not all
 pub record IsServed (config : Config) (regions : List Region) (request : BridgedRequest) : Type 0 where
   pub pages : IsPageMap regions
   pub message : IsSound (port_of config request.message.client) request.message
   pub flight : IsOfMessage config regions request
   pub done : request.flight.done ≡ is_settled request.flight
-  pub writing : request.flight.writing ≡ true → (is_atomic request.flight ≡ true) × (length (read_pieces request.flight) ≤ request.flight.answered)
-  pub found : request.flight.writing ≡ true → request.flight.done ≡ false → IsSome (value_found request)
+  pub reading : request.flight.writing ≡ false → reply_has_data request.flight.operation ≡ true
+  pub found : is_atomic request.flight ≡ true → request.flight.writing ≡ true → request.flight.done ≡ false → IsSome (value_found request)
   pub failed :
       is_atomic request.flight ≡ true → request.flight.writing ≡ false → length (read_pieces request.flight) ≤ request.flight.answered → value_found request ≡ None
   pub came : beats_in (answered_pieces request.flight) ≤ request.gathering.came

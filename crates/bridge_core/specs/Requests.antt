@@ -102,7 +102,7 @@ with_sent_burst number id table = record table { live = change_first (is_numbere
 abbrev pub value_found : BridgedRequest → Option ℕ
 value_found request = old_value (outline_in request) request.gathering
 
--- where all planned answers came: an atomic that found its old value plans its write, and every other request is done
+-- where all answers of its phase came: an atomic that found its old value goes on to write, and every other request is done
 abbrev pub settled : BridgedRequest → BridgedRequest
 settled request =
     if is_settled request.flight

@@ -9,7 +9,7 @@ pub mod RowLaws
 pub mod Lowered
 pub mod SlabScans
 pub mod Index
-pub mod CourseLaws
+pub mod PhaseLaws
 pub mod KeyLaws
 pub mod TableChanges
 pub mod Steps

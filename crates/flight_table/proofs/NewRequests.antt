@@ -1,5 +1,5 @@
 -- One more request keeps the laws of the table, and how many there can be.
-use Rattle.std.proofs.Common.{◌≡◌, ℕ, suc, zero, ◌+◌, ◌*◌, ◌==◌, ◌<◌, ◌≤◌, Bool, true, false, nat_lt, List, [], ◌∷◌, ◌++◌, map, length, Option, Some, None, refl, ap, sym, ◌∙◌, arith, length-append, subst}
+use Rattle.std.proofs.Common.{◌≡◌, ℕ, suc, zero, ◌+◌, ◌*◌, ◌==◌, ◌<◌, ◌≤◌, Bool, true, false, not, nat_lt, List, [], ◌∷◌, ◌++◌, map, length, Option, Some, None, refl, ap, sym, ◌∙◌, arith, length-append, subst}
 use Rattle.std.specs.Prelude.{if◌then◌else◌}
 use Rattle.std.specs.List.{AllByRecursion, filter, list_any}
 use Rattle.std.proofs.Math.Nat.{mul-le-mul_right}
@@ -7,7 +7,9 @@ use Rattle.std.proofs.lemmas.Bool.{and_parts, eqb-true, lt-ltb, ltb-true}
 use Rattle.std.proofs.lemmas.List.Elements.{filter-append}
 use Rattle.bus_words.proofs.PlaceChanges.{all-append}
 use Rattle.flight_table.specs.Laws.{AreLimits, AreRising, HaveOwnKeys, IsSound, IsSoundRequest, IsSoundTable}
-use Rattle.flight_table.specs.LiveRequests.{LiveRequest, flight_for}
+use Rattle.flight_table.specs.LiveRequests.{LiveRequest, all_sent, flight_for, pieces_planned, plan_for}
+use Rattle.burst_plan.specs.declared.Piece.{Piece}
+use Rattle.tl_messages.specs.Operations.{reply_has_data}
 use Rattle.burst_plan.specs.Pieces.{PlannedRange}
 use Rattle.tl_messages.specs.Requests.{HeldMessage}
 use Rattle.bus_words.specs.Places.{without_first}
@@ -21,7 +23,7 @@ abbrev number_of : LiveRequest → ℕ
 number_of r = r.number
 
 abbrev InOrder : List LiveRequest → LiveRequest → Type 0
-InOrder live request = request.done ≡ false → is_held live request ≡ true → request.sent ≡ 0
+InOrder live request = request.done ≡ false → is_held live request ≡ true → request.id ≡ None
 
 -- a request as it is accepted
 pub record IsNew (table : FlightTable) (r : LiveRequest) : Type 0 where
@@ -30,6 +32,7 @@ pub record IsNew (table : FlightTable) (r : LiveRequest) : Type 0 where
   pub room : has_room table r.client ≡ true
   pub source : is_busy table r.client r.source ≡ false
   pub sent : r.sent ≡ 0
+  pub all : all_sent r ≡ 0
   pub answered : r.answered ≡ 0
   pub id : r.id ≡ None
   pub no_plan : r.plan ≡ None → r.done ≡ true
@@ -63,7 +66,7 @@ sound_new table r sound new =
       requests = all-append (IsSoundRequest table.limits (table.accepted + 1)) table.live r (all-map (IsSoundRequest table.limits table.accepted) (IsSoundRequest table.limits (table.accepted + 1)) table.live later sound.requests) fresh;
       rising = rising-append table.live r sound.rising below;
       one_holder = λ id. omega (arith, sound.one_holder id, count-append-none (holds_id id) table.live r (no_id id));
-      in_order = all-append (InOrder (table.live ++ r ∷ [])) table.live r (in_order table.live below sound.in_order) (λ undone held. new.sent);
+      in_order = all-append (InOrder (table.live ++ r ∷ [])) table.live r (in_order table.live below sound.in_order) (λ undone held. new.id);
       few = λ client. few client (r.client == client) refl;
       own_sources = λ client source. own client source (has_source client source r) refl;
     }
@@ -92,7 +95,7 @@ sound_new table r sound new =
           answered = omega (arith, new.answered);
           depth = omega (arith, new.sent);
           id = rw new.id tt;
-          holds = λ undone sent. absurd (omega (arith, sent, new.sent));
+          holds = λ undone sent. absurd (omega (arith, sent, new.all));
           unsent = λ unsent. new.id;
           freed = λ done. new.id;
           no_plan = new.no_plan;
@@ -184,11 +187,19 @@ pub record MayAccept (keyed : KeyedTable) (client source : ℕ) : Type 0 where
   pub room : has_room (table_of keyed) client ≡ true
   pub free : is_busy (table_of keyed) client source ≡ false
 
+-- whatever it reads or writes, it has sent nothing yet
+none_sent : (replies : Bool) (parts : List Piece) → (if not replies then length (if replies then parts else []) else 0) + 0 ≡ 0
+none_sent true parts = refl
+none_sent false parts = refl
+
+pub nothing_sent : (number client : ℕ) (held : HeldMessage) (plan : Option PlannedRange) → all_sent (flight_for number client held plan) ≡ 0
+nothing_sent number client held plan = none_sent (reply_has_data held.operation) (pieces_planned (plan_for held.operation plan))
+
 new_table : (keyed : KeyedTable) (client : ℕ) (held : HeldMessage) (plan : Option PlannedRange) → IsSound keyed → MayAccept keyed client held.source
     → IsSoundTable (with_request (flight_for keyed.accepted client held plan) (table_of keyed))
 new_table keyed client held plan sound may =
     sound_new (table_of keyed) (flight_for keyed.accepted client held plan) sound.table
-    (record { number = refl; client = may.there; room = may.room; source = may.free; sent = refl; answered = refl; id = refl; no_plan = λ none. rw none refl })
+    (record { number = refl; client = may.there; room = may.room; source = may.free; sent = refl; all = nothing_sent keyed.accepted client held plan; answered = refl; id = refl; no_plan = λ none. rw none refl })
 
 before : (old now : KeyedTable) (client source : ℕ) → old ≡ now → MayAccept now client source → MayAccept old client source
 before old now client source same may = subst (λ t. MayAccept t client source) (sym same) may

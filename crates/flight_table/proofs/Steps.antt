@@ -4,16 +4,16 @@ use Rattle.std.specs.Prelude.{IfSome, IsSomeAnd, if◌then◌else◌}
 use Rattle.std.proofs.lemmas.Bool.{cases_lt}
 use Rattle.std.specs.List.{AllByRecursion, find, list_any, range_with_len, slice_get}
 use Rattle.std.specs.Option.{option_or}
-use Rattle.std.proofs.lemmas.Bool.{and_parts, eqb-true, ltb-true}
+use Rattle.std.proofs.lemmas.Bool.{and_parts, eqb-true, leb-true, ltb-true}
 use Rattle.bus_words.proofs.PlaceChanges.{find-passes}
 use Rattle.bus_words.specs.Places.{change_first}
 use Rattle.flight_table.specs.Inside.{HasOneHolder, IsProgress, MayName}
 use Rattle.flight_table.specs.Laws.{HaveOwnKeys, IsSound, IsSoundRequest, IsSoundTable}
-use Rattle.flight_table.specs.LiveRequests.{LiveRequest, finished, is_atomic, next_burst, planned, planned_writes, read_pieces, unanswered, with_answered, with_sent, with_write, write_pieces}
+use Rattle.flight_table.specs.LiveRequests.{LiveRequest, all_sent, awaits_write, finished, is_atomic, is_settled, next_burst, planned, read_pieces, unanswered, with_answered, with_sent, with_write}
 use Rattle.flight_table.specs.Order.{conflict, free_id, holds_back, holds_id, id_for, is_free, is_held, is_id, is_ready}
 use Rattle.flight_table.specs.Tables.{FlightTable, KeyedRequest, KeyedTable, change_entry, change_key, change_number, has_key, has_number, key_in, request_at, request_in, requests_of, table_of}
 use Rattle.flight_table.specs.declared.TableLimits.{TableLimits}
-use Rattle.flight_table.proofs.CourseLaws.{length_course}
+use Rattle.flight_table.proofs.PhaseLaws.{length_reading}
 use Rattle.flight_table.proofs.Index.{change-constant}
 use Rattle.flight_table.proofs.KeyLaws.{by_number, found_by_number, request_listed}
 use Rattle.flight_table.proofs.TableChanges.{IsStep, sound-put}
@@ -109,13 +109,11 @@ step_sent table r id sound ready is =
       order = λ undone held. absurd (cc (held, parts.free));
     }
 
--- ---- answered, and the write of an atomic
+-- ---- answered
 
--- more bursts answered, or an atomic's write planned
-step_progressed : (table : FlightTable) (r : LiveRequest) (answered : ℕ) (writing : Bool) → IsSoundRequest table.limits table.accepted r → (r.done ≡ false → is_held table.live r ≡ true → r.sent ≡ 0) → r.answered ≤ answered
-    → answered ≤ r.sent → length (planned r) ≤ length (planned (record r { answered = answered; writing = writing }))
-    → IsStep table.limits table.accepted table.live r (record r { answered = answered; writing = writing })
-step_progressed table r answered writing sound order later within more =
+pub step_answered : (table : FlightTable) (r : LiveRequest) → IsSoundRequest table.limits table.accepted r → (r.done ≡ false → is_held table.live r ≡ true → r.id ≡ None) → r.answered < r.sent
+    → IsStep table.limits table.accepted table.live r (with_answered r)
+step_answered table r sound order one =
     record {
       number = refl;
       client = refl;
@@ -124,9 +122,9 @@ step_progressed table r answered writing sound order later within more =
           record {
             number = sound.number;
             client = sound.client;
-            sent = omega (arith, sound.sent, more);
-            answered = within;
-            depth = omega (arith, sound.depth, later);
+            sent = sound.sent;
+            answered = omega (arith, one);
+            depth = omega (arith, sound.depth);
             id = sound.id;
             holds = sound.holds;
             unsent = sound.unsent;
@@ -138,24 +136,51 @@ step_progressed table r answered writing sound order later within more =
       order = order;
     }
 
-pub step_answered : (table : FlightTable) (r : LiveRequest) → IsSoundRequest table.limits table.accepted r → (r.done ≡ false → is_held table.live r ≡ true → r.sent ≡ 0) → r.answered < r.sent
-    → IsStep table.limits table.accepted table.live r (with_answered r)
-step_answered table r sound order one = step_progressed table r (r.answered + 1) r.writing sound order (omega arith) (omega (arith, one)) (omega arith)
+-- ---- the write of an atomic is planned
 
-more_planned : (r : LiveRequest) → length (planned r) ≤ length (planned (with_write r))
-more_planned r =
-    let old : length (planned r) ≡ length (read_pieces r) + length (planned_writes r) = length_course (read_pieces r) (planned_writes r) in
-    let new : length (planned (with_write r)) ≡ length (read_pieces r) + length (planned_writes (with_write r)) = length_course (read_pieces r) (planned_writes (with_write r)) in
-    omega (arith, old, new, by_tests (not (is_atomic r)) r.writing)
-  where
-    by_tests : (b c : Bool) → length (if b || c then write_pieces r else []) ≤ length (if b || true then write_pieces r else [])
-    by_tests true c = omega arith
-    by_tests false true = omega arith
-    by_tests false false = omega arith
+-- an atomic that awaits its write: it isn't done, reads, and all of that is answered
+pub record AwaitsWrite (r : LiveRequest) : Type 0 where
+  pub undone : r.done ≡ false
+  pub reads : r.writing ≡ false
+  pub settled : is_settled r ≡ true
 
-pub step_write : (table : FlightTable) (r : LiveRequest) → IsSoundRequest table.limits table.accepted r → (r.done ≡ false → is_held table.live r ≡ true → r.sent ≡ 0)
+pub awaits_parts : (r : LiveRequest) → awaits_write r ≡ true → AwaitsWrite r
+awaits_parts r awaits =
+    let all = and_parts (is_atomic r && not r.done && not r.writing) (is_settled r) awaits in
+    let three = and_parts (is_atomic r && not r.done) (not r.writing) all.0 in
+    let two = and_parts (is_atomic r) (not r.done) three.0 in
+    record { undone = not_false r.done two.1; reads = not_false r.writing three.1; settled = all.1 }
+
+-- it has sent what it sent before
+pub sent_before : (r : LiveRequest) → AwaitsWrite r → r.answered ≤ r.sent → r.sent ≤ length (planned r) → all_sent (with_write r) ≡ all_sent r
+sent_before r awaits later most =
+    rw awaits.reads (omega (arith, later, most, leb-true (length (planned r)) r.answered awaits.settled, length_reading r awaits.reads))
+
+pub step_write : (table : FlightTable) (r : LiveRequest) → IsSoundRequest table.limits table.accepted r → (r.done ≡ false → is_held table.live r ≡ true → r.id ≡ None) → AwaitsWrite r
     → IsStep table.limits table.accepted table.live r (with_write r)
-step_write table r sound order = step_progressed table r r.answered true sound order (omega arith) sound.answered (more_planned r)
+step_write table r sound order awaits =
+    let same = sent_before r awaits sound.answered sound.sent in
+    record {
+      number = refl;
+      client = refl;
+      source = refl;
+      sound =
+          record {
+            number = sound.number;
+            client = sound.client;
+            sent = omega arith;
+            answered = omega arith;
+            depth = omega arith;
+            id = sound.id;
+            holds = λ undone some. sound.holds undone (omega (arith, some, same));
+            unsent = λ none. sound.unsent (sym same ∙ none);
+            freed = sound.freed;
+            no_plan = sound.no_plan;
+          };
+      ids = λ id holds. inl holds;
+      back = λ x holds. holds;
+      order = order;
+    }
 
 -- ---- done
 
@@ -201,10 +226,10 @@ needs P old now key r same found holds = by_request (request_at key old) found (
 
 -- what is known of the request that a key names
 pub known : (keyed : KeyedTable) (key : ℕ) (r : LiveRequest) → IsSound keyed → request_at key keyed ≡ Some r
-    → IsSoundRequest keyed.limits keyed.accepted r × (r.done ≡ false → is_held (requests_of keyed.entries) r ≡ true → r.sent ≡ 0)
+    → IsSoundRequest keyed.limits keyed.accepted r × (r.done ≡ false → is_held (requests_of keyed.entries) r ≡ true → r.id ≡ None)
 known keyed key r sound found = (
   request_listed (IsSoundRequest keyed.limits keyed.accepted) key keyed.entries r sound.table.requests found,
-  request_listed (λ q. q.done ≡ false → is_held (requests_of keyed.entries) q ≡ true → q.sent ≡ 0) key keyed.entries r sound.table.in_order found,
+  request_listed (λ q. q.done ≡ false → is_held (requests_of keyed.entries) q ≡ true → q.id ≡ None) key keyed.entries r sound.table.in_order found,
 )
 
 -- the table after the request of a key changed, and nothing else

@@ -1,5 +1,5 @@
 -- A change of one request keeps the laws of the table, where what it becomes keeps them.
-use Rattle.std.proofs.Common.{◌≡◌, ℕ, suc, ◌+◌, ◌==◌, ◌<◌, ◌≤◌, Bool, true, false, ◌||◌, List, [], ◌∷◌, map, length, Some, refl, ap, sym, ◌∙◌, arith, inl, inr, ◌⊎◌}
+use Rattle.std.proofs.Common.{◌≡◌, ℕ, suc, ◌+◌, ◌==◌, ◌<◌, ◌≤◌, Bool, true, false, ◌||◌, None, List, [], ◌∷◌, map, length, Some, refl, ap, sym, ◌∙◌, arith, inl, inr, ◌⊎◌}
 use Rattle.std.specs.Prelude.{if◌then◌else◌}
 use Rattle.std.specs.List.{AllByRecursion, filter, find, list_any}
 use Rattle.std.proofs.lemmas.Bool.{eqb-true}
@@ -115,7 +115,7 @@ pub record IsStep (limits : TableLimits) (accepted : ℕ) (live : List LiveReque
   pub sound : IsSoundRequest limits accepted new
   pub ids : (id : ℕ) → holds_id id new ≡ true → (holds_id id r ≡ true) ⊎ (list_any (holds_id id) live ≡ false)
   pub back : (x : LiveRequest) → holds_back x new ≡ true → holds_back x r ≡ true
-  pub order : new.done ≡ false → is_held live new ≡ true → new.sent ≡ 0
+  pub order : new.done ≡ false → is_held live new ≡ true → new.id ≡ None
 
 abbrev number_of : LiveRequest → ℕ
 number_of r = r.number
@@ -142,7 +142,7 @@ holders-put limits accepted live r new step found id one = by_test (holds_id id 
     by_test false holds = omega (arith, one, count-put (holds_id id) (has_number r.number) new 0 live (none_more (holds_id id) new holds))
 
 abbrev IsInOrder : List LiveRequest → LiveRequest → Type 0
-IsInOrder live request = request.done ≡ false → is_held live request ≡ true → request.sent ≡ 0
+IsInOrder live request = request.done ≡ false → is_held live request ≡ true → request.id ≡ None
 
 abbrev replaced : LiveRequest → LiveRequest → List LiveRequest → List LiveRequest
 replaced r new live = put_first (has_number r.number) new live

@@ -12,7 +12,7 @@ use Rattle.flight_table.specs.declared.TableLimits.{TableLimits}
 -- what stands in where a key has no request
 abbrev pub no_request : LiveRequest
 no_request =
-    record { number = 0; client = 0; source = 0; operation = Get; plan = None; id = None; sent = 0; answered = 0; writing = false; done = false }
+    record { number = 0; client = 0; source = 0; operation = Get; plan = None; id = None; writing = false; sent = 0; answered = 0; done = false }
 
 abbrev pub stored : Slab LiveRequest → ℕ → LiveRequest
 stored slab key = unwrap_or (get slab key) no_request

@@ -1,7 +1,7 @@
 -- What is true of every table that the calls make (this project's profile).
 use Rattle.std.specs.Prelude.{ℕ, ◌≡◌, ◌≢◌, ◌+◌, ◌<◌, ◌≤◌, true, false, List, [], ◌∷◌, length, map, filter, None, IfSome, IsSome, ⊤}
 use Rattle.std.specs.List.{AllByRecursion}
-use Rattle.flight_table.specs.LiveRequests.{LiveRequest, planned}
+use Rattle.flight_table.specs.LiveRequests.{LiveRequest, all_sent, planned}
 use Rattle.flight_table.specs.Order.{holds_id, is_held}
 use Rattle.flight_table.specs.Tables.{FlightTable, KeyedRequest, KeyedTable, has_source, live_of, table_of}
 use Rattle.flight_table.specs.declared.TableLimits.{TableLimits}
@@ -25,8 +25,8 @@ pub record IsSoundRequest (limits : TableLimits) (accepted : ℕ) (request : Liv
   pub answered : request.answered ≤ request.sent
   pub depth : request.sent ≤ request.answered + limits.depth
   pub id : IfSome request.id (λ id. id < limits.ids)
-  pub holds : request.done ≡ false → 0 < request.sent → IsSome request.id
-  pub unsent : request.sent ≡ 0 → request.id ≡ None
+  pub holds : request.done ≡ false → 0 < all_sent request → IsSome request.id
+  pub unsent : all_sent request ≡ 0 → request.id ≡ None
   pub freed : request.done ≡ true → request.id ≡ None
   pub no_plan : request.plan ≡ None → request.done ≡ true
 
@@ -40,13 +40,13 @@ abbrev pub AreDistinct : List ℕ → Type 0
 AreDistinct [] = ⊤
 AreDistinct (n ∷ ns) = AllByRecursion (λ m. m ≢ n) ns × AreDistinct ns
 
--- numbers rise; an ID is held by one request at most; of two requests that conflict and aren't done, the one that was accepted later has sent
--- nothing; no client has more live requests than it may have, or two of the same source
+-- numbers rise; an ID is held by one request at most; of two requests that conflict and aren't done, the one that was accepted later holds no ID, so
+-- it has sent nothing; no client has more live requests than it may have, or two of the same source
 pub record IsSoundTable (table : FlightTable) : Type 0 where
   pub requests : AllByRecursion (IsSoundRequest table.limits table.accepted) table.live
   pub rising : AreRising (map (λ request. request.number) table.live)
   pub one_holder : (id : ℕ) → length (filter (holds_id id) table.live) ≤ 1
-  pub in_order : AllByRecursion (λ request. request.done ≡ false → is_held table.live request ≡ true → request.sent ≡ 0) table.live
+  pub in_order : AllByRecursion (λ request. request.done ≡ false → is_held table.live request ≡ true → request.id ≡ None) table.live
   pub few : (client : ℕ) → length (live_of client table.live) ≤ table.limits.quota
   pub own_sources : (client source : ℕ) → length (filter (has_source client source) table.live) ≤ 1
 

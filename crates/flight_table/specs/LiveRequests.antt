@@ -1,5 +1,5 @@
 -- A live request: it was accepted, and its reply wasn't taken yet (this project's profile).
-use Rattle.std.specs.Prelude.{ℕ, ◌+◌, ◌-◌, Bool, true, false, ◌&&◌, ◌||◌, not, List, [], ◌++◌, map, length, Option, Some, None, is_none, if◌then◌else◌, slice_get, nat_le}
+use Rattle.std.specs.Prelude.{ℕ, ◌+◌, ◌-◌, Bool, true, false, ◌&&◌, not, List, [], map, length, Option, Some, None, is_none, if◌then◌else◌, slice_get, nat_le}
 use Rattle.tl_messages.specs.Operations.{has_data, reply_has_data}
 use Rattle.tl_messages.specs.Requests.{HeldMessage}
 use Rattle.tl_messages.specs.declared.Operation.{Operation}
@@ -7,8 +7,9 @@ use Rattle.tl_messages.specs.declared.Operation.TheVariants.{PutFull, PutPartial
 use Rattle.burst_plan.specs.Pieces.{PlannedRange, pieces}
 use Rattle.burst_plan.specs.declared.Piece.{Piece}
 
--- who asks for what under which number; the range of AXI addresses with its plan, which a request that sends nothing doesn't have; its ID; how
--- many of its bursts were sent and answered; whether an atomic's write is planned; and whether it is done
+-- who asks for what under which number; the range of AXI addresses with its plan, which a request that sends nothing doesn't have; its ID; and how
+-- far it has come: it reads, as a Get and at first an atomic do, or writes, as a Put and then an atomic do, and has sent and answered so many bursts
+-- of this phase; or it is done
 pub record LiveRequest : Type 0 where
   pub number : ℕ
   pub client : ℕ
@@ -16,9 +17,9 @@ pub record LiveRequest : Type 0 where
   pub operation : Operation
   pub plan : Option PlannedRange
   pub id : Option ℕ
+  pub writing : Bool
   pub sent : ℕ
   pub answered : ℕ
-  pub writing : Bool
   pub done : Bool
 
 -- an Intent sends nothing, so it has no plan
@@ -39,9 +40,9 @@ flight_for number client request plan =
       operation = request.operation;
       plan = plan_for request.operation plan;
       id = None;
+      writing = not (reply_has_data request.operation);
       sent = 0;
       answered = 0;
-      writing = false;
       done = is_none (plan_for request.operation plan);
     }
 
@@ -55,28 +56,27 @@ pieces_planned (Some range) = pieces range
 abbrev pub is_atomic : LiveRequest → Bool
 is_atomic request = reply_has_data request.operation && has_data request.operation
 
--- the pieces that it reads, as a Get and an atomic do, those that it writes, as a Put and an atomic do, and which of these are planned: of an
--- atomic none until its write is planned
+-- the pieces that it reads, as a Get and an atomic do, those that it writes, as a Put and an atomic do, and those of its phase
 abbrev pub read_pieces : LiveRequest → List Piece
 read_pieces request = if reply_has_data request.operation then pieces_planned request.plan else []
 
 abbrev pub write_pieces : LiveRequest → List Piece
 write_pieces request = if has_data request.operation then pieces_planned request.plan else []
 
-abbrev pub planned_writes : LiveRequest → List Piece
-planned_writes request = if not (is_atomic request) || request.writing then write_pieces request else []
+abbrev pub phase_pieces : LiveRequest → List Piece
+phase_pieces request = if request.writing then write_pieces request else read_pieces request
 
--- reads and then writes, as bursts; true is a write
-abbrev pub course : List Piece → List Piece → List (Bool × Piece)
-course reads writes = map (λ piece. (false, piece)) reads ++ map (λ piece. (true, piece)) writes
+-- pieces as bursts of one side; true is a write
+abbrev pub bursts_of : Bool → List Piece → List (Bool × Piece)
+bursts_of write parts = map (λ piece. (write, piece)) parts
 
--- all bursts that a request may come to send
-abbrev pub whole_course : LiveRequest → List (Bool × Piece)
-whole_course request = course (read_pieces request) (write_pieces request)
-
--- the bursts that are planned
+-- the bursts of its phase
 abbrev pub planned : LiveRequest → List (Bool × Piece)
-planned request = course (read_pieces request) (planned_writes request)
+planned request = bursts_of request.writing (phase_pieces request)
+
+-- how many bursts it has sent since it was accepted: while it writes, its reads too
+abbrev pub all_sent : LiveRequest → ℕ
+all_sent request = (if request.writing then length (read_pieces request) else 0) + request.sent
 
 -- the next burst, if one is planned and unsent
 abbrev pub next_burst : LiveRequest → Option (Bool × Piece)
@@ -103,8 +103,9 @@ with_sent id request = record request { id = Some id; sent = request.sent + 1 }
 abbrev pub with_answered : LiveRequest → LiveRequest
 with_answered request = record request { answered = request.answered + 1 }
 
+-- from reading to writing
 abbrev pub with_write : LiveRequest → LiveRequest
-with_write request = record request { writing = true }
+with_write request = record request { writing = true; sent = 0; answered = 0 }
 
 -- done, and its ID free again
 abbrev pub finished : LiveRequest → LiveRequest

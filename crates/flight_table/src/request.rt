@@ -1,18 +1,19 @@
 //! One live request.
 ghost use Rattle.std.specs.Prelude.{◌≡◌, ◌↔◌, ◌&&◌, ◌+◌, ◌<◌, ◌≤◌, IfSome, IsTrue, Some, drop, is_some, length, slice_get, sum_by};
-ghost use Rattle.flight_table.specs.LiveRequests.{awaits_write, finished, flight_for, is_atomic, is_settled, next_burst, pieces_planned, plan_for, planned, read_pieces, unanswered, whole_course, with_answered, with_sent, with_write, write_pieces};
+ghost use Rattle.flight_table.specs.LiveRequests.{awaits_write, finished, flight_for, is_atomic, is_settled, next_burst, pieces_planned, plan_for, planned, read_pieces, unanswered, with_answered, with_sent, with_write, write_pieces};
 ghost use Rattle.flight_table.specs.Inside.{is_open};
 ghost use Rattle.flight_table.specs.Order.{HaveCommonAddress, conflict, holds_back, share_bytes};
 ghost use Rattle.std.specs.List.{AllByRecursion};
 ghost use Rattle.burst_plan.specs.Pieces.{IsPlannable, range_end};
 ghost use Rattle.flight_table.specs.Rows.{page_of};
-ghost use Rattle.flight_table.specs.Work.{answers_of_burst, beats_of_burst, unsent_work, work_of};
+ghost use Rattle.flight_table.specs.Work.{answers_of_burst, beats_of_burst, later_work, unsent_work, work_of};
 
 use burst_plan::{Piece, Plan};
 use std::marker::Model;
 use tl_messages::{Operation, Request};
 
-/// A live request: whose it is, what it sends, and how far it has come.
+/// A live request: whose it is, what it sends, and how far it has come. It reads, as a Get and at first an atomic do, or
+/// writes, as a Put and then an atomic do; so many bursts of this phase were sent and answered; or it is done.
 #[derive(Clone, Copy)]
 pub(crate) struct LiveRequest {
     pub(crate) number: u64,
@@ -21,9 +22,9 @@ pub(crate) struct LiveRequest {
     pub(crate) operation: Operation,
     pub(crate) plan: Option<Plan>,
     pub(crate) id: Option<u8>,
+    pub(crate) writing: bool,
     pub(crate) sent: u32,
     pub(crate) answered: u32,
-    pub(crate) writing: bool,
     pub(crate) done: bool,
 }
 
@@ -39,9 +40,9 @@ impl Model for LiveRequest {
       operation = r.operation;
       plan = r.plan;
       id = r.id;
+      writing = r.writing;
       sent = r.sent;
       answered = r.answered;
-      writing = r.writing;
       done = r.done;
     } };
 
@@ -52,9 +53,9 @@ impl Model for LiveRequest {
       operation = r.operation;
       plan = r.plan;
       id = r.id;
+      writing = r.writing;
       sent = r.sent;
       answered = r.answered;
-      writing = r.writing;
       done = r.done;
     } };
 }
@@ -103,9 +104,9 @@ impl LiveRequest {
             operation,
             plan,
             id: None,
+            writing: !operation.reply_has_data(),
             sent: 0,
             answered: 0,
-            writing: false,
             done: plan.is_none(),
         }
     }
@@ -135,7 +136,7 @@ impl LiveRequest {
         }
     }
 
-    /// How many bursts are reads.
+    /// How many bursts it reads with.
     fn reads(&self) -> u32
         ensures count { result ≡ length (read_pieces self.now) }
         ensures bound { result < 65536 }
@@ -147,7 +148,7 @@ impl LiveRequest {
         }
     }
 
-    /// How many bursts are writes, planned or not.
+    /// How many bursts it writes with, now or later.
     fn writes(&self) -> u32
         ensures count { result ≡ length (write_pieces self.now) }
         ensures bound { result < 65536 }
@@ -166,14 +167,13 @@ impl LiveRequest {
         self.operation.reply_has_data() && self.operation.has_data()
     }
 
-    /// How many bursts are planned.
+    /// How many bursts its phase has.
     pub(crate) fn planned(&self) -> u32
         ensures count { result ≡ length (planned self.now) }
-        ensures bound { result < 131072 }
-        ensures writes { result < length (read_pieces self.now) + 65536 }
+        ensures bound { result < 65536 }
     {
-        if !self.is_atomic() || self.writing {
-            self.reads() + self.writes()
+        if self.writing {
+            self.writes()
         } else {
             self.reads()
         }
@@ -221,11 +221,7 @@ impl LiveRequest {
         if self.sent >= self.planned() {
             return None;
         }
-        let reads = self.reads();
-        if self.sent < reads {
-            return Some((false, self.piece(self.sent as u16)));
-        }
-        Some((true, self.piece((self.sent - reads) as u16)))
+        Some((self.writing, self.piece(self.sent as u16)))
     }
 
     /// The request with one more burst sent, under an ID that it keeps.
@@ -252,12 +248,14 @@ impl LiveRequest {
         }
     }
 
-    /// The request with its write planned.
+    /// The request with its write planned: it writes from here on.
     pub(crate) fn with_write(self) -> Self
         ensures { result ≡ with_write self }
     {
         LiveRequest {
             writing: true,
+            sent: 0,
+            answered: 0,
             ..self
         }
     }
@@ -321,20 +319,30 @@ impl LiveRequest {
         u64::from(self.piece(0).len) + 1
     }
 
-    /// The bursts to send and the beats and answers to come, where so many bursts were sent and so many answered; the write
-    /// of an atomic counts from the start.
+    /// The work of what it has still to write once it has read.
+    fn later_work(&self) -> u64
+        ensures work { result ≡ later_work self.now }
+        ensures bound { result ≤ 40000000 }
+    {
+        if self.writing {
+            return 0;
+        }
+        u64::from(self.writes()) * (self.piece_beats() + 2)
+    }
+
+    /// The bursts to send and the beats and answers to come, where so many bursts of the phase were sent and so many
+    /// answered; the write of an atomic counts from the start.
     fn work_after(&self, sent: u32, answered: u32) -> u64
-        ensures work { result ≡ length (drop sent (whole_course self.now)) + sum_by beats_of_burst (drop answered (whole_course self.now))
-            + sum_by answers_of_burst (drop answered (whole_course self.now)) }
+        ensures work { result ≡ length (drop sent (planned self.now)) + sum_by beats_of_burst (drop answered (planned self.now))
+            + sum_by answers_of_burst (drop answered (planned self.now)) + later_work self.now }
         ensures bound { result ≤ 100000000 }
     {
-        let reads = self.reads();
-        let course = reads + self.writes();
         let beats = self.piece_beats();
-        let unsent = u64::from(course.saturating_sub(sent));
-        let unread = u64::from(reads.saturating_sub(answered));
-        let unanswered = u64::from(course.saturating_sub(answered));
-        unsent + unanswered * beats + (unread * beats + (unanswered - unread))
+        let answers = if self.writing { 1 } else { beats };
+        let count = self.planned();
+        let unsent = u64::from(count.saturating_sub(sent));
+        let unanswered = u64::from(count.saturating_sub(answered));
+        unsent + unanswered * beats + unanswered * answers + self.later_work()
     }
 
     /// The bursts to send, beats to perform and answers to come, as though no beat of an unanswered burst was performed or

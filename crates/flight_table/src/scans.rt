@@ -21,9 +21,9 @@ pub(crate) fn stored(requests: &Slab<LiveRequest>, key: Key) -> LiveRequest
             operation: Operation::Get,
             plan: None,
             id: None,
+            writing: false,
             sent: 0,
             answered: 0,
-            writing: false,
             done: false,
         },
     }

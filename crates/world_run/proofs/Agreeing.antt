@@ -1,7 +1,7 @@
 -- Bridge and memory agree after each event. It knows the events by case and both parts' laws; which bytes move is hidden, and why neither
 -- refuses the other stands in TakesAll.
 use Rattle.std.proofs.Common.{◌≡◌, ℕ, suc, ◌+◌, ◌*◌, ◌^◌, ◌<◌, ◌≤◌, Bool, true, false, List, [], ◌∷◌, length, Option, Some, None, refl, ap, sym, ◌∙◌, arith}
-use Rattle.std.specs.Prelude.{find, if◌then◌else◌, nat_le, not, is_some, ◌&&◌, sum_by, Result, Ok, Err}
+use Rattle.std.specs.Prelude.{find, if◌then◌else◌, nat_le, sum_by, Result, Ok, Err}
 use Rattle.std.specs.List.{AllByRecursion}
 use Rattle.std.proofs.lemmas.Bool.{leb-false}
 use Rattle.std.proofs.lemmas.List.{length-append}
@@ -12,7 +12,8 @@ use Rattle.axi_beats.specs.declared.RBeat.{RBeat}
 use Rattle.axi_beats.specs.declared.Resp.{Resp}
 use Rattle.axi_checker.specs.OpenBursts.{OpenBursts, OnB, OnR, open_after}
 use Rattle.axi_checker.specs.Rules.{open_with_burst}
-use Rattle.flight_table.specs.LiveRequests.{finished, is_settled, with_answered, with_write}
+use Rattle.flight_table.specs.LiveRequests.{all_sent, planned, with_answered}
+use Rattle.flight_table.proofs.PhaseLaws.{length_reading}
 use Rattle.tl_messages.specs.Requests.{HeldMessage}
 use Rattle.tl_messages.specs.declared.ABeat.{ABeat}
 use Rattle.tl_checker.specs.declared.Progress.{Progress}
@@ -22,7 +23,7 @@ use Rattle.flight_table.specs.Laws.{IsSoundRequest}
 use Rattle.flight_table.specs.Tables.{has_room}
 use Rattle.bridge_core.specs.declared.Offered.{Offered}
 use Rattle.bridge_core.specs.declared.Offered.TheVariants as offer
-use Rattle.responses.specs.Gathered.{after_b, after_r}
+use Rattle.responses.specs.Gathered.{Gathering, after_b, after_r}
 use Rattle.bridge_core.specs.Configs.{is_valid, table_limits_of}
 use Rattle.bridge_core.specs.declared.Config.{Config}
 use Rattle.burst_plan.specs.declared.Region.{Region}
@@ -30,7 +31,7 @@ use Rattle.flight_table.specs.declared.TableLimits.{TableLimits}
 use Rattle.std.proofs.Math.Nat.{mul-suc}
 use Rattle.bridge_core.specs.Bridge.{BridgeState, after_b_beat, after_r_beat, after_sent, after_take, completed, message_with, offered, offered_after, verdict_on, with_front}
 use Rattle.bridge_core.specs.Laws.{IsServed, IsSoundBridge}
-use Rattle.bridge_core.specs.Requests.{BridgedRequest, after_read, after_response, after_sending, flight_table_of, holds, is_done_for, newly_live, with_request, is_numbered, outline_in, settled, value_found}
+use Rattle.bridge_core.specs.Requests.{BridgedRequest, after_read, after_response, after_sending, flight_table_of, holds, is_done_for, newly_live, with_request, is_numbered, outline_in, settled}
 use Rattle.bridge_core.specs.Sending.{Sending, next_sending}
 use Rattle.bridge_core.proofs.NextSending.{next_found}
 use Rattle.bridge_core.proofs.SentLinks.{found_by_number}
@@ -40,7 +41,8 @@ use Rattle.subordinate.specs.Laws.{IsSoundMemory}
 use Rattle.world_run.specs.Laws.{Agree, bursts_sent}
 use Rattle.world_run.proofs.Serials.{most_sent}
 use Rattle.subordinate.proofs.Monitors.{HasBeatsToCome, outstanding_after_b, outstanding_after_r, outstanding_performed, outstanding_sent}
-use Rattle.world_run.proofs.Sums.{sum_between, sum_unseen, sum_without}
+use Rattle.world_run.proofs.Sums.{sum_between, sum_more, sum_without}
+use Rattle.world_run.proofs.SettledInOrder.{settled_has}
 
 -- ---- a burst is sent
 
@@ -48,8 +50,7 @@ sent_counted : (state : BridgeState) (sending : Sending) → IsSoundBridge state
 sent_counted state sending sound is =
     let next = next_found state.requests sending is in
     let there = found_by_number _ state.requests.live sending.request sound.requests.flights.rising next.found in
-    let one_more : bursts_sent (after_sent state sending) + sending.request.flight.sent ≡ bursts_sent state + (sending.request.flight.sent + 1) =
-    sum_between (λ (r : BridgedRequest). r.flight.sent) (is_numbered sending.request.flight.number) (after_sending sending.id) state.requests.live sending.request there in
+    let one_more = sum_between (λ (r : BridgedRequest). all_sent r.flight) (is_numbered sending.request.flight.number) (after_sending sending.id) state.requests.live sending.request there in
     omega (arith, one_more)
 
 pub agree_sent : (state : BridgeState) (memory : FreeMemory) (sending : Sending) → Agree state memory → next_sending state.requests ≡ Some sending
@@ -84,35 +85,35 @@ agree_performed state memory pending beat agree memory_laws =
 
 -- ---- an answer comes
 
-settled_sent : (request : BridgedRequest) → (settled request).flight.sent ≡ request.flight.sent
-settled_sent request = by_tests (is_settled request.flight) (not request.flight.writing && is_some (value_found request))
-  where
-    by_tests : (over writes : Bool) → (if over then record request { flight = if writes then with_write request.flight else finished request.flight } else request).flight.sent ≡ request.flight.sent
-    by_tests true true = refl
-    by_tests true false = refl
-    by_tests false writes = refl
+-- a request that is settled has sent as much, or has all its reads behind it
+settled_sent : (request : BridgedRequest) → request.flight.sent ≤ length (planned request.flight) → all_sent request.flight ≤ all_sent (settled request).flight
+settled_sent request most =
+    settled_has (λ (r : BridgedRequest). all_sent request.flight ≤ all_sent r.flight) request (omega arith)
+    (λ reads. rw reads (omega (arith, most, length_reading request.flight reads))) (omega arith)
 
-response_sent : (resp : Resp) (request : BridgedRequest) → (after_response resp request).flight.sent ≡ request.flight.sent
-response_sent resp request = settled_sent (record request { flight = with_answered request.flight; gathering = after_b resp request.gathering })
+response_sent : (resp : Resp) (request : BridgedRequest) → request.flight.sent ≤ length (planned request.flight) → all_sent request.flight ≤ all_sent (after_response resp request).flight
+response_sent resp request most = settled_sent (record request { flight = with_answered request.flight; gathering = after_b resp request.gathering }) most
 
-read_sent : (bus_bytes : ℕ) (r : RBeat) (request : BridgedRequest) → (after_read bus_bytes r request).flight.sent ≡ request.flight.sent
-read_sent bus_bytes r request =
-    settled_sent
-    (record request {
-      flight = if r.last then with_answered request.flight else request.flight;
-      gathering = after_r bus_bytes (outline_in request) r request.gathering.came request.gathering;
-    })
-    ∙ by_last r.last
+read_sent : (bus_bytes : ℕ) (r : RBeat) (request : BridgedRequest) → request.flight.sent ≤ length (planned request.flight) → all_sent request.flight ≤ all_sent (after_read bus_bytes r request).flight
+read_sent bus_bytes r request most = by_last r.last
   where
-    by_last : (last : Bool) → (if last then with_answered request.flight else request.flight).sent ≡ request.flight.sent
-    by_last true = refl
-    by_last false = refl
+    gathers : Gathering
+    gathers = after_r bus_bytes (outline_in request) r request.gathering.came request.gathering
+
+    by_last : (last : Bool) → all_sent request.flight ≤ all_sent (settled (record request { flight = if last then with_answered request.flight else request.flight; gathering = gathers })).flight
+    by_last true = settled_sent (record request { flight = with_answered request.flight; gathering = gathers }) most
+    by_last false = settled_sent (record request { gathering = gathers }) most
+
+abbrev IsSoundOne : BridgeState → BridgedRequest → Type 0
+IsSoundOne state request = IsSoundRequest (table_limits_of state.requests.config) state.requests.accepted request.flight
 
 pub agree_after_b : (state : BridgeState) (memory : FreeMemory) (b : BBeat) → Agree state memory → IsSoundBridge (after_b_beat state b) → IsSoundMemory (after_b_of memory b.id)
     → Agree (after_b_beat state b) (after_b_of memory b.id)
 agree_after_b state memory b agree bridge_laws memory_laws =
     let same = length-change_first (holds b.id) (after_response b.resp) state.requests.live in
-    let counted = sum_unseen (λ (r : BridgedRequest). r.flight.sent) (holds b.id) (after_response b.resp) state.requests.live (response_sent b.resp) in
+    let counted =
+    sum_more (IsSoundOne state) (λ (q : BridgedRequest). all_sent q.flight) (holds b.id) (after_response b.resp) state.requests.live (λ q one. response_sent b.resp q one.sent) (sound_requests state.requests agree.bridge_laws.requests)
+    in
     record {
       bridge_laws = bridge_laws;
       memory_laws = memory_laws;
@@ -130,7 +131,9 @@ pub agree_after_r : (state : BridgeState) (memory : FreeMemory) (r : RBeat) → 
 agree_after_r state memory r agree to_come bridge_laws memory_laws =
     let change = after_read state.requests.config.axi_bytes r in
     let same = length-change_first (holds r.id) change state.requests.live in
-    let counted = sum_unseen (λ (q : BridgedRequest). q.flight.sent) (holds r.id) change state.requests.live (read_sent state.requests.config.axi_bytes r) in
+    let counted =
+    sum_more (IsSoundOne state) (λ (q : BridgedRequest). all_sent q.flight) (holds r.id) change state.requests.live (λ q one. read_sent state.requests.config.axi_bytes r q one.sent) (sound_requests state.requests agree.bridge_laws.requests)
+    in
     record {
       bridge_laws = bridge_laws;
       memory_laws = memory_laws;
@@ -145,17 +148,17 @@ agree_after_r state memory r agree to_come bridge_laws memory_laws =
 
 -- ---- a reply leaves
 
-few_sent : (state : BridgeState) (client : ℕ) (request : BridgedRequest) → IsSoundBridge state → find (is_done_for client) state.requests.live ≡ Some request → request.flight.sent ≤ 2048
+few_sent : (state : BridgeState) (client : ℕ) (request : BridgedRequest) → IsSoundBridge state → find (is_done_for client) state.requests.live ≡ Some request → all_sent request.flight ≤ 2048
 few_sent state client request sound found =
     let served = all-find (IsServed state.requests.config state.requests.regions) (is_done_for client) state.requests.live request sound.requests.served found in
     let each = all-find (λ (r : BridgedRequest). IsSoundRequest (table_limits_of state.requests.config) state.requests.accepted r.flight) (is_done_for client) state.requests.live request (sound_requests state.requests sound.requests) found in
-    omega (arith, each.sent, most_sent state.requests.config state.requests.regions request sound.requests.config served)
+    most_sent state.requests.config state.requests.regions request sound.requests.config served each.sent
 
 pub agree_taken : (state : BridgeState) (memory : FreeMemory) (client : ℕ) (request : BridgedRequest) → Agree state memory → find (is_done_for client) state.requests.live ≡ Some request
     → IsSoundBridge (after_take state client) → Agree (after_take state client) memory
 agree_taken state memory client request agree found bridge_laws =
     let fewer = length-without_found (is_done_for client) state.requests.live request found in
-    let counted = sum_without (λ (q : BridgedRequest). q.flight.sent) (is_done_for client) state.requests.live request found in
+    let counted = sum_without (λ (q : BridgedRequest). all_sent q.flight) (is_done_for client) state.requests.live request found in
     let few = few_sent state client request agree.bridge_laws found in
     record {
       bridge_laws = bridge_laws;
@@ -187,7 +190,7 @@ agree_joined : (state : BridgeState) (memory : FreeMemory) (fronts : List (Optio
     → IsSoundBridge (record state { fronts = fronts; requests = with_request message state.requests }) → Agree (record state { fronts = fronts; requests = with_request message state.requests }) memory
 agree_joined state memory fronts message agree below bridge_laws =
     let one = length-append state.requests.live (newly_live state.requests message ∷ []) in
-    let counted = sum_by-append (λ (q : BridgedRequest). q.flight.sent) state.requests.live (newly_live state.requests message ∷ []) in
+    let counted = sum_by-append (λ (q : BridgedRequest). all_sent q.flight) state.requests.live (newly_live state.requests message ∷ []) in
     record {
       bridge_laws = bridge_laws;
       memory_laws = agree.memory_laws;
@@ -245,16 +248,16 @@ sum_few measure most (x ∷ xs) all =
     omega (arith, sum_by-cons measure x xs, all.0, sum_few measure most xs all.1, one)
 
 sent_few : (config : Config) (regions : List Region) (limits : TableLimits) (accepted : ℕ) (live : List BridgedRequest) → is_valid config ≡ true → AllByRecursion (IsServed config regions) live
-    → AllByRecursion (λ (r : BridgedRequest). IsSoundRequest limits accepted r.flight) live → AllByRecursion (λ (r : BridgedRequest). r.flight.sent ≤ 2048) live
+    → AllByRecursion (λ (r : BridgedRequest). IsSoundRequest limits accepted r.flight) live → AllByRecursion (λ (r : BridgedRequest). all_sent r.flight ≤ 2048) live
 sent_few config regions limits accepted [] valid served sound = tt
 sent_few config regions limits accepted (r ∷ live) valid served sound =
-    (omega (arith, sound.0.sent, most_sent config regions r valid served.0), sent_few config regions limits accepted live valid served.1 sound.1)
+    (most_sent config regions r valid served.0 sound.0.sent, sent_few config regions limits accepted live valid served.1 sound.1)
 
 pub serials_left : (state : BridgeState) (memory : FreeMemory) → Agree state memory → memory.sent < 2 ^ 60
 serials_left state memory agree =
     let table = state.requests in
     let few =
-    sum_few (λ (r : BridgedRequest). r.flight.sent) 2048 table.live
+    sum_few (λ (r : BridgedRequest). all_sent r.flight) 2048 table.live
     (sent_few table.config table.regions (table_limits_of table.config) table.accepted table.live agree.bridge_laws.requests.config agree.bridge_laws.requests.served (sound_requests table agree.bridge_laws.requests)) in
     omega (arith, agree.serials.accepted, agree.serials.live, agree.serials.sent, few)
 

@@ -137,16 +137,16 @@ held_ready bridge id request sound idle held =
     let answered = all_answered request.flight known.sound.sent (holder_idle bridge id request sound idle held) in
     ready_now table request sound.requests known.served known.sound known.live answered (rw known.has_id refl) (free (is_held (flights_of table.live) request.flight) refl)
   where
-    in_order : (b : Bool) → is_held (flights_of bridge.requests.live) request.flight ≡ true → request.flight.sent ≡ 0
+    in_order : (b : Bool) → is_held (flights_of bridge.requests.live) request.flight ≡ true → request.flight.id ≡ None
     in_order b is =
         let known = holder_known bridge.requests id request sound.requests held in
-        all-find (λ (r : BridgedRequest). r.flight.done ≡ false → is_held (flights_of bridge.requests.live) r.flight ≡ true → r.flight.sent ≡ 0) (holds id) bridge.requests.live request
-        (all-mapped (λ r. r.done ≡ false → is_held (flights_of bridge.requests.live) r ≡ true → r.sent ≡ 0) (λ (r : BridgedRequest). r.flight) bridge.requests.live sound.requests.flights.in_order) held known.live is
+        all-find (λ (r : BridgedRequest). r.flight.done ≡ false → is_held (flights_of bridge.requests.live) r.flight ≡ true → r.flight.id ≡ None) (holds id) bridge.requests.live request
+        (all-mapped (λ r. r.done ≡ false → is_held (flights_of bridge.requests.live) r ≡ true → r.id ≡ None) (λ (r : BridgedRequest). r.flight) bridge.requests.live sound.requests.flights.in_order) held known.live is
 
     free : (b : Bool) → is_held (flights_of bridge.requests.live) request.flight ≡ b → is_held (flights_of bridge.requests.live) request.flight ≡ false
     free true is =
         let known = holder_known bridge.requests id request sound.requests held in
-        absurd (cc (known.sound.unsent (in_order true is), known.has_id))
+        absurd (cc (in_order true is, known.has_id))
     free false is = is
 
 nobody_holds : (bridge : BridgeState) (id : ℕ) → IsSoundBridge bridge → IsIdle bridge → burst_to_send bridge ≡ None → holder id bridge.requests.live ≡ None

@@ -15,8 +15,8 @@ use Rattle.burst_plan.specs.Pieces.{PlannedRange, pieces}
 use Rattle.burst_plan.specs.PlannedTransfers.{HasAddress, HoldsEachByteOnce, piece_of, transfer_of}
 use Rattle.burst_plan.specs.declared.Piece.{Piece}
 use Rattle.burst_plan.proofs.TransferPlaces.{holds_each_byte_once}
-use Rattle.flight_table.specs.LiveRequests.{LiveRequest, is_atomic, plan_for, planned, planned_writes, read_pieces}
-use Rattle.flight_table.proofs.CourseLaws.{in_writes, length_course}
+use Rattle.flight_table.specs.LiveRequests.{is_atomic, plan_for, planned, read_pieces, write_pieces}
+use Rattle.flight_table.proofs.PhaseLaws.{length_reading, write_planned}
 use Rattle.bridge_core.specs.Configs.{is_valid}
 use Rattle.bridge_core.specs.Laws.{IsServed}
 use Rattle.bridge_core.specs.Requests.{BridgedRequest, address_of, range_at, range_of}
@@ -88,15 +88,6 @@ atomic_fine faults q address x (Atomic op) atomic gives = isnt (is_bad faults ad
 atomic_fine faults q address x Get atomic gives = absurd (cc (atomic))
 atomic_fine faults q address x (Intent write) atomic gives = absurd (cc (atomic))
 
--- a piece of a plan that is written whole, among the planned bursts
-planned_write : (flight : LiveRequest) (range : PlannedRange) (k : ℕ) (piece : Piece) → planned_writes flight ≡ pieces range → slice_get (pieces range) k ≡ Some piece
-    → slice_get (planned flight) (length (read_pieces flight) + k) ≡ Some (true, piece)
-planned_write flight range k piece all listed =
-    let reads = read_pieces flight in
-    let place : length reads + k - length reads ≡ k = omega arith in
-    in_writes reads (planned_writes flight) (length reads + k) piece (omega arith)
-    (ap (λ i. slice_get (planned_writes flight) i) place ∙ ap (λ (parts : List Piece). slice_get parts k) all ∙ listed)
-
 -- an atomic whose read came and that plans no write found no old value, so it writes nothing
 failed_atomic : (order : Order) (config : Config) (request : BridgedRequest) (range : PlannedRange) (x : ℕ) → IsPlannedAt config order.regions request range → IsServed config order.regions request
     → asked order request.flight.number ≡ Some (request_of request.message) → is_atomic request.flight ≡ true → request.flight.writing ≡ false → length (read_pieces request.flight) ≤ request.flight.answered
@@ -119,26 +110,24 @@ all_written_done order config bus_bytes wrote request valid pages served of is_d
     settled : length (planned request.flight) ≤ request.flight.answered
     settled = leb-true (length (planned request.flight)) request.flight.answered (sym served.done ∙ is_done)
 
-    reads_came : length (read_pieces request.flight) ≤ request.flight.answered
-    reads_came = omega (arith, length_course (read_pieces request.flight) (planned_writes request.flight), settled)
-
-    whole : (range : PlannedRange) → IsPlannedAt config order.regions request range → planned_writes request.flight ≡ pieces range → wrote request.flight.number x ≡ true
-    whole range at all =
+    whole : (range : PlannedRange) → IsPlannedAt config order.regions request range → request.flight.writing ≡ true → write_pieces request.flight ≡ pieces range → wrote request.flight.number x ≡ true
+    whole range at writing all =
         all_pieces_written order request.flight.number range wrote (holds_each_byte_once range at.plannable)
         (λ k n y piece listed first last has there.
-        let burst = planned_write request.flight range k piece all listed in
-        of.written (length (read_pieces request.flight) + k) n y piece (omega (arith, slice_get_within (planned request.flight) (length (read_pieces request.flight) + k) (true, piece) burst, settled)) burst first last has there)
+        let burst = write_planned request.flight k piece writing (ap (λ (parts : List Piece). slice_get parts k) all ∙ listed) in
+        of.written k n y piece (omega (arith, slice_get_within (planned request.flight) k (true, piece) burst, settled)) burst first last has there)
         (λ y there. (writes_in_range order config request range y at of.asked there).inside) x written
 
-    by_writes : (range : PlannedRange) → request.flight.plan ≡ Some range → IsPlannedAt config order.regions request range → (carried : Bool) → has_data request.flight.operation ≡ carried → (atomic writing : Bool)
-        → is_atomic request.flight ≡ atomic → request.flight.writing ≡ writing → wrote request.flight.number x ≡ true
-    by_writes range plan at true carries true false is isnt = absurd (failed_atomic order config request range x at served of.asked is isnt reads_came (finds range plan is isnt) written)
-    by_writes range plan at true carries true true is planned = whole range at (rw (is, planned, carries, plan) refl)
-    by_writes range plan at true carries false writing is planned = whole range at (rw (is, carries, plan) refl)
-    by_writes range plan at false none atomic writing is planned =
+    by_writes : (range : PlannedRange) → request.flight.plan ≡ Some range → IsPlannedAt config order.regions request range → (carried writing : Bool) → has_data request.flight.operation ≡ carried
+        → request.flight.writing ≡ writing → wrote request.flight.number x ≡ true
+    by_writes range plan at true true carries writing = whole range at writing (rw (carries, plan) refl)
+    by_writes range plan at true false carries isnt =
+        let atomic : is_atomic request.flight ≡ true = rw (served.reading isnt, carries) refl in
+        absurd (failed_atomic order config request range x at served of.asked atomic isnt (omega (arith, settled, length_reading request.flight isnt)) (finds range plan atomic isnt) written)
+    by_writes range plan at false writing none is =
         absurd (cc (written, no_data_written order request.flight.number (request_of request.message) x of.asked (ap has_data (sym served.flight.operation) ∙ none)))
 
     by_plan : (plan : Option PlannedRange) → request.flight.plan ≡ plan → wrote request.flight.number x ≡ true
     by_plan None none = absurd (cc (written, nothing_written order config request x served of.asked none))
     by_plan (Some range) plan =
-        by_writes range plan (planned_at config order.regions request range valid pages served plan) (has_data request.flight.operation) refl (is_atomic request.flight) request.flight.writing refl refl
+        by_writes range plan (planned_at config order.regions request range valid pages served plan) (has_data request.flight.operation) request.flight.writing refl refl

@@ -24,7 +24,8 @@ use Rattle.burst_plan.specs.declared.Piece.{Piece}
 use Rattle.burst_plan.specs.declared.Region.{Region}
 use Rattle.burst_plan.proofs.TransferPlaces.{holds_each_byte_once}
 use Rattle.burst_plan.proofs.WriteLaws.{puts_given_bytes}
-use Rattle.flight_table.specs.LiveRequests.{LiveRequest, course, is_atomic, next_burst, plan_for, planned, planned_writes, read_pieces}
+use Rattle.flight_table.specs.LiveRequests.{LiveRequest, is_atomic, next_burst, plan_for, planned}
+use Rattle.flight_table.proofs.PhaseLaws.{write_at}
 use Rattle.bridge_core.specs.Configs.{is_valid}
 use Rattle.bridge_core.specs.Laws.{IsServed}
 use Rattle.bridge_core.specs.Requests.{BridgedRequest, address_of, range_at, range_of, value_found}
@@ -117,22 +118,6 @@ range_touched order config request range x served at is_asked plan inside =
 pub atomic_is : (config : Config) (regions : List Region) (request : BridgedRequest) (op : AtomicOp) → IsServed config regions request → request.message.operation ≡ Atomic op → is_atomic request.flight ≡ true
 atomic_is config regions request op served is = ap (λ (o : Operation). reply_has_data o && has_data o) (served.flight.operation ∙ is) ∙ atomic_both (Atomic op) refl
 
--- a burst of reads alone isn't a write
-no_write : (reads : List Piece) (k : ℕ) (piece : Piece) → slice_get (course reads []) k ≡ Some (true, piece) → ⊥
-no_write [] k piece there = absurd (cc (there))
-no_write (r ∷ reads) zero piece there = let same : false ≡ true = ap (λ (burst : Bool × Piece). burst.0) (same_Some (false, r) (true, piece) there) in absurd (cc (same))
-no_write (r ∷ reads) (suc k) piece there = no_write reads k piece there
-
--- an atomic of which a write is planned is writing
-pub write_is_planned : (flight : LiveRequest) (k : ℕ) (piece : Piece) → is_atomic flight ≡ true → slice_get (planned flight) k ≡ Some (true, piece) → flight.writing ≡ true
-write_is_planned flight k piece atomic there = by_writing flight.writing refl
-  where
-    by_writing : (b : Bool) → flight.writing ≡ b → b ≡ true
-    by_writing true is = refl
-    by_writing false isnt =
-        let none : planned_writes flight ≡ [] = rw (atomic, isnt) refl in
-        absurd (no_write (read_pieces flight) k piece (ap (λ (writes : List Piece). slice_get (course (read_pieces flight) writes) k) (sym none) ∙ there))
-
 is_some_value : (o : Option ℕ) (v : ℕ) → o ≡ Some v → unwrap_or o 0 ≡ v
 is_some_value o v is = ap (λ (found : Option ℕ). unwrap_or found 0) is
 
@@ -166,7 +151,7 @@ atomic_found : (order : Order) (config : Config) (request : BridgedRequest) (ran
     → (is_bad order.faults range.address ≡ false) × (unwrap_or (value_found request) 0 ≡ value (bytes_at (bytes_before order request.flight.number) range.address (2 ^ request.message.size)))
 atomic_found order config request range piece served live next finds op is =
     let atomic = atomic_is config order.regions request op served is in
-    let found = served.found (write_is_planned request.flight request.flight.sent piece atomic next) live in
+    let found = served.found atomic (write_at request.flight request.flight.sent piece next).0 live in
     let serially = finds atomic in
     let fine = serially.word found in
     let number = value (bytes_at (bytes_before order request.flight.number) range.address (2 ^ request.message.size)) in

@@ -7,15 +7,16 @@ use Rattle.axi_beats.specs.Responses.{is_okay}
 use Rattle.burst_plan.specs.declared.Piece.{Piece}
 use Rattle.data_unit.specs.Words.{value}
 use Rattle.flight_table.specs.Laws.{IsSoundRequest}
-use Rattle.flight_table.specs.LiveRequests.{is_atomic, planned, planned_writes, read_pieces}
-use Rattle.flight_table.proofs.CourseLaws.{length_course}
+use Rattle.flight_table.specs.LiveRequests.{is_atomic, planned, read_pieces}
+use Rattle.flight_table.proofs.PhaseLaws.{length_reading}
 use Rattle.flight_table.specs.declared.TableLimits.{TableLimits}
 use Rattle.tl_messages.specs.Operations.{has_data, reply_has_data}
 use Rattle.tl_messages.specs.Requests.{request_of}
 use Rattle.bridge_core.specs.Configs.{is_valid}
-use Rattle.bridge_core.specs.Laws.{IsServed}
+use Rattle.bridge_core.specs.Laws.{IsServed, answered_pieces}
 use Rattle.bridge_core.specs.Requests.{BridgedRequest, address_of, value_found}
 use Rattle.bridge_core.specs.declared.Config.{Config}
+use Rattle.bridge_core.proofs.ServedRequests.{reads_came}
 use Rattle.subordinate.specs.Faults.{is_bad, is_good, read_response, standing_at}
 use Rattle.world_run.specs.InOrder.{HasGathered, IsGathered}
 use Rattle.world_run.specs.Meaning.{bytes_at}
@@ -61,32 +62,28 @@ gathered_at : (order : Order) (bus_bytes : ℕ) (request : BridgedRequest) (plac
 gathered_at order bus_bytes request place address at told = subst (IsGathered order bus_bytes request) at told
 
 pub finds_old_value : (order : Order) (config : Config) (request : BridgedRequest) (address : ℕ) → is_valid config ≡ true → IsServed config order.regions request
-    → address_of order.regions (request_of request.message) ≡ Some address → is_atomic request.flight ≡ true → request.flight.answered ≡ length (read_pieces request.flight)
+    → address_of order.regions (request_of request.message) ≡ Some address → is_atomic request.flight ≡ true → answered_pieces request.flight ≡ read_pieces request.flight
+    → (if request.flight.writing then request.flight.answered else 0) ≡ 0
     → IsGathered order config.axi_bytes request (address_of order.regions (request_of request.message)) → FindsSerially order request address
-finds_old_value order config request address valid served at atomic answered told =
+finds_old_value order config request address valid served at atomic whole none told =
     finds_number order request address
     (old_value_served order config request address valid served at
-    (atomic_is request.message.operation (sym (ap (λ operation. reply_has_data operation && has_data operation) served.flight.operation) ∙ atomic)) answered
+    (atomic_is request.message.operation (sym (ap (λ operation. reply_has_data operation && has_data operation) served.flight.operation) ∙ atomic)) whole none
     (gathered_at order config.axi_bytes request (address_of order.regions (request_of request.message)) address at told))
 
--- an atomic that isn't done and plans its write
+-- an atomic that isn't done and writes
 pub finds_writing : (order : Order) (config : Config) (limits : TableLimits) (accepted : ℕ) (request : BridgedRequest) (address : ℕ) → is_valid config ≡ true → IsServed config order.regions request
-    → IsSoundRequest limits accepted request.flight → request.flight.done ≡ false → request.flight.writing ≡ true → address_of order.regions (request_of request.message) ≡ Some address
-    → IsGathered order config.axi_bytes request (address_of order.regions (request_of request.message)) → FindsSerially order request address
-finds_writing order config limits accepted request address valid served sound live writing at told =
-    finds_old_value order config request address valid served at (served.writing writing).0 (writes_unanswered order config limits accepted request valid served sound live writing) told
+    → IsSoundRequest limits accepted request.flight → request.flight.done ≡ false → is_atomic request.flight ≡ true → request.flight.writing ≡ true
+    → address_of order.regions (request_of request.message) ≡ Some address → IsGathered order config.axi_bytes request (address_of order.regions (request_of request.message))
+    → FindsSerially order request address
+finds_writing order config limits accepted request address valid served sound live atomic writing at told =
+    finds_old_value order config request address valid served at atomic (rw writing refl) (rw writing (writes_unanswered order config limits accepted request valid served sound live atomic writing)) told
 
--- an atomic that is done and planned no write
-unplanned_reads : (request : BridgedRequest) → is_atomic request.flight ≡ true → request.flight.writing ≡ false → length (planned request.flight) ≡ length (read_pieces request.flight)
-unplanned_reads request atomic isnt =
-    let none : planned_writes request.flight ≡ [] = rw (atomic, isnt) refl in
-    length_course (read_pieces request.flight) (planned_writes request.flight) ∙ ap (λ (writes : List Piece). length (read_pieces request.flight) + length writes) none ∙ omega arith
-
+-- an atomic that is done and only read
 pub finds_unplanned : (order : Order) (config : Config) (limits : TableLimits) (accepted : ℕ) (request : BridgedRequest) (address : ℕ) → is_valid config ≡ true → IsServed config order.regions request
     → IsSoundRequest limits accepted request.flight → request.flight.done ≡ true → is_atomic request.flight ≡ true → request.flight.writing ≡ false
     → address_of order.regions (request_of request.message) ≡ Some address → IsGathered order config.axi_bytes request (address_of order.regions (request_of request.message))
     → FindsSerially order request address
 finds_unplanned order config limits accepted request address valid served sound done atomic isnt at told =
     let settles = leb-true (length (planned request.flight)) request.flight.answered (sym served.done ∙ done) in
-    let reads = unplanned_reads request atomic isnt in
-    finds_old_value order config request address valid served at atomic (omega (arith, settles, reads, sound.answered, sound.sent)) told
+    finds_old_value order config request address valid served at atomic (reads_came request.flight isnt (omega (arith, settles, length_reading request.flight isnt))) (rw isnt refl) told

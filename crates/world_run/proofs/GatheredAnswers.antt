@@ -4,7 +4,6 @@ use Rattle.std.proofs.Common.{◌≡◌, ℕ, ◌+◌, ◌*◌, ◌==◌, ◌<�
 use Rattle.std.specs.Prelude.{option_map, slice_get}
 use Rattle.std.specs.Option.{option_flatten}
 use Rattle.std.proofs.lemmas.Bool.{and_parts, eqb-true, leb-true}
-use Rattle.std.proofs.lemmas.List.{take_all}
 use Rattle.std.proofs.lemmas.Option.{slice_get_within}
 use Rattle.tl_messages.specs.Operations.{has_data, reply_has_data}
 use Rattle.tl_messages.specs.Requests.{request_of}
@@ -19,19 +18,20 @@ use Rattle.burst_plan.specs.PlannedTransfers.{burst_bytes}
 use Rattle.burst_plan.specs.declared.Piece.{Piece}
 use Rattle.burst_plan.proofs.PieceLaws.{divides_evenly, piece_listed, piece_within}
 use Rattle.flight_table.specs.Laws.{IsSoundRequest}
-use Rattle.flight_table.specs.LiveRequests.{is_settled, plan_for, planned, planned_writes, read_pieces}
+use Rattle.flight_table.specs.LiveRequests.{is_settled, plan_for, planned, read_pieces}
 use Rattle.flight_table.specs.declared.TableLimits.{TableLimits}
-use Rattle.flight_table.proofs.CourseLaws.{length_course}
+use Rattle.flight_table.proofs.PhaseLaws.{length_reading, read_at, write_at}
 use Rattle.responses.specs.Gathered.{Gathering, holds_number, is_atomic, old_value, reads_of}
 use Rattle.responses.specs.declared.gather.Outline.{Outline}
 use Rattle.bridge_core.specs.Configs.{is_valid}
-use Rattle.bridge_core.specs.Laws.{IsServed, beats_in}
+use Rattle.bridge_core.specs.Laws.{IsServed, answered_pieces, beats_in}
 use Rattle.bridge_core.specs.Requests.{BridgedRequest, address_of, after_read, after_response, outline_in, range_at, range_of, value_found}
 use Rattle.bridge_core.specs.declared.Config.{Config}
-use Rattle.bridge_core.proofs.AnswerLinks.{beats_in-next, read_at}
+use Rattle.bridge_core.proofs.AnswerLinks.{answered_next}
+use Rattle.bridge_core.proofs.ResponseLinks.{not_so}
 use Rattle.bridge_core.proofs.ReadCounts.{reads_counted}
 use Rattle.bridge_core.proofs.SentBursts.{piece_of_plan, plannable}
-use Rattle.bridge_core.proofs.ServedRequests.{IsReading, atomic_both, planned_before, write_past}
+use Rattle.bridge_core.proofs.ServedRequests.{IsReading, reads_came}
 use Rattle.subordinate.specs.Faults.{read_response, standing_at, write_response}
 use Rattle.world_run.specs.InOrder.{HasGathered, IsGathered, TellsAt, TellsSerially}
 use Rattle.world_run.specs.Serial.{Order}
@@ -74,28 +74,25 @@ last_readable order config request piece count address r valid served at reading
     number : (reply_has_data request.message.operation ≡ true) × (request.message.size ≤ 3)
     number = atomic_small request.message.operation request.message.size (found_atomic (outline_in request) new.gathering found) served.message.atomic_size
 
-    read : slice_get (read_pieces request.flight) request.flight.answered ≡ Some piece
-    read = read_at (read_pieces request.flight) (planned_writes request.flight) request.flight.answered piece reading.burst
+    read : (request.flight.writing ≡ false) × (slice_get (read_pieces request.flight) request.flight.answered ≡ Some piece)
+    read = read_at request.flight request.flight.answered piece reading.burst
 
-    past : length (read_pieces request.flight) ≤ request.flight.answered + 1
-    past = omega (arith, leb-true (length (planned request.flight)) (request.flight.answered + 1) settles, length_course (read_pieces request.flight) (planned_writes request.flight))
+    whole : answered_pieces new.flight ≡ read_pieces request.flight
+    whole = reads_came new.flight read.0 (omega (arith, leb-true (length (planned request.flight)) (request.flight.answered + 1) settles, length_reading request.flight read.0))
 
     counted : beats_in (read_pieces request.flight) ≡ reads_of config.axi_bytes (outline_in request)
     counted =
         reads_counted config order.regions request (range_at config (request_of request.message) address) valid served.pages served
         (has_range order config request address served at (rw number.0 refl))
 
-    whole : beats_in (take (request.flight.answered + 1) (read_pieces request.flight)) ≡ beats_in (read_pieces request.flight)
-    whole = ap beats_in (take_all (request.flight.answered + 1) (read_pieces request.flight) past)
-
     most : reads_of config.axi_bytes (outline_in request) ≤ min (request.gathering.came + 1) (reads_of config.axi_bytes (outline_in request))
-    most = omega (arith, counted, whole, beats_in-next (read_pieces request.flight) request.flight.answered piece read, reading.came, last)
+    most = omega (arith, counted, ap beats_in whole, answered_next request.flight piece read.0 read.1, reading.came, last)
 
     value_is : value_found new ≡ number_there order new address
     value_is =
         old_value_by order config new address (translated_to config order.regions request.message address valid served.pages served.message at)
         (found_atomic (outline_in request) new.gathering found) number.1 told most
-        (no_responses order config.axi_bytes new address told (omega (arith, slice_get_within (read_pieces request.flight) request.flight.answered piece read)))
+        (no_responses order config.axi_bytes new address told (rw read.0 refl))
 
 -- one more read that tells what the request finds
 pub gathered-read : (order : Order) (config : Config) (request : BridgedRequest) (piece : Piece) (count address : ℕ) (r : RBeat) → is_valid config ≡ true → IsServed config order.regions request
@@ -105,13 +102,11 @@ pub gathered-read : (order : Order) (config : Config) (request : BridgedRequest)
 gathered-read order config request piece count address r valid served at reading last few tells told =
     settled_gathered order config.axi_bytes (with_read_told config.axi_bytes r r.last request) address (by_last r.last refl) (told_more r.last)
   where
-    unanswered : request.flight.answered < length (read_pieces request.flight)
-    unanswered =
-        slice_get_within (read_pieces request.flight) request.flight.answered piece
-        (read_at (read_pieces request.flight) (planned_writes request.flight) request.flight.answered piece reading.burst)
+    reads : request.flight.writing ≡ false
+    reads = (read_at request.flight request.flight.answered piece reading.burst).0
 
     told_more : (b : Bool) → HasGathered order config.axi_bytes (with_read_told config.axi_bytes r b request) address
-    told_more b = read_told order config.axi_bytes request address r told (no_responses order config.axi_bytes request address told (omega (arith, unanswered))) few unanswered tells b
+    told_more b = read_told order config.axi_bytes request address r told (no_responses order config.axi_bytes request address told (rw reads refl)) few reads tells b
 
     by_last : (b : Bool) → r.last ≡ b → is_settled (with_read_told config.axi_bytes r b request).flight ≡ true
         → (not (with_read_told config.axi_bytes r b request).flight.writing && is_some (value_found (with_read_told config.axi_bytes r b request))) ≡ true
@@ -120,32 +115,25 @@ gathered-read order config request piece count address r valid served at reading
         last_readable order config request piece count address r valid served at reading (eqb-true count piece.len (sym last ∙ is)) (told_more true) settles
         (and_parts (not request.flight.writing) (is_some (value_found (with_read_told config.axi_bytes r true request))) found).1
     by_last false is settles found =
-        absurd (omega (arith, leb-true (length (planned request.flight)) request.flight.answered settles, length_course (read_pieces request.flight) (planned_writes request.flight), unanswered))
+        absurd (omega (arith, leb-true (length (planned request.flight)) request.flight.answered settles, slice_get_within (planned request.flight) request.flight.answered (false, piece) reading.burst))
 
 -- ---- a response
-
-is_not : (b : Bool) → not b ≡ true → b ≡ false
-is_not true is = absurd (cc (is))
-is_not false is = refl
 
 -- one more response to a write
 pub gathered-response : (order : Order) (config : Config) (request : BridgedRequest) (piece : Piece) (address : ℕ) (resp : Resp) → IsServed config order.regions request
     → slice_get (planned request.flight) request.flight.answered ≡ Some (true, piece) → resp ≡ write_response (standing_at order.faults address)
     → HasGathered order config.axi_bytes request address → HasGathered order config.axi_bytes (after_response resp request) address
 gathered-response order config request piece address resp served burst is told =
-    settled_gathered order config.axi_bytes (with_response_told resp request) address none_found (response_told order config.axi_bytes request address resp past is told)
+    settled_gathered order config.axi_bytes (with_response_told resp request) address none_found (response_told order config.axi_bytes request address resp writes is told)
   where
-    past : length (read_pieces request.flight) ≤ request.flight.answered
-    past = write_past (read_pieces request.flight) (planned_writes request.flight) request.flight.answered piece burst
+    writes : request.flight.writing ≡ true
+    writes = (write_at request.flight request.flight.answered piece burst).0
 
     none_found : is_settled (with_response_told resp request).flight ≡ true → (not request.flight.writing && is_some (value_found (with_response_told resp request))) ≡ true
         → is_okay (read_response order.faults address) ≡ true
     none_found settles test =
-        let parts = and_parts (not request.flight.writing) (is_some (value_found (with_response_told resp request))) test in
-        let both = atomic_both request.message.operation (found_atomic (outline_in request) (with_response_told resp request).gathering parts.1) in
-        let atomic = ap (λ operation. reply_has_data operation && has_data operation) served.flight.operation ∙ both in
-        let before = planned_before request.flight atomic (is_not request.flight.writing parts.0) in
-        absurd (omega (arith, before, past, slice_get_within (planned request.flight) request.flight.answered (true, piece) burst))
+        let reads = not_so request.flight.writing (and_parts (not request.flight.writing) (is_some (value_found (with_response_told resp request))) test).0 in
+        absurd (cc (writes, reads))
 
 -- ---- the answers as the memory gives them
 

@@ -18,9 +18,9 @@ use Rattle.burst_plan.specs.PageMap.{IsPageMap, translated_address}
 use Rattle.burst_plan.specs.Pieces.{PlannedRange, pieces}
 use Rattle.burst_plan.specs.declared.Region.{Region}
 use Rattle.flight_table.specs.Laws.{IsSoundRequest}
-use Rattle.flight_table.specs.LiveRequests.{pieces_planned, plan_for, planned, planned_writes, read_pieces}
+use Rattle.flight_table.specs.LiveRequests.{LiveRequest, is_atomic, pieces_planned, plan_for, planned, read_pieces, write_pieces}
 use Rattle.flight_table.specs.declared.TableLimits.{TableLimits}
-use Rattle.flight_table.proofs.CourseLaws.{length_course}
+use Rattle.flight_table.proofs.PhaseLaws.{length_reading, length_writing}
 use Rattle.responses.specs.Answers.{after_reads, after_writes}
 use Rattle.responses.specs.Gathered.{Gathering, after_b, after_r, gathered, gathering_of, reads_of}
 use Rattle.responses.specs.Shown.{shown}
@@ -31,6 +31,7 @@ use Rattle.bridge_core.specs.Laws.{IsServed, answered_pieces, beats_in}
 use Rattle.bridge_core.specs.Requests.{BridgedRequest, address_of, outline_in, range_at, range_of, reply_beats}
 use Rattle.bridge_core.specs.declared.Config.{Config}
 use Rattle.bridge_core.proofs.PlannedPieces.{plan_known, some_pieces}
+use Rattle.bridge_core.proofs.ServedRequests.{reads_came}
 use Rattle.bridge_core.proofs.ReadCounts.{config_parts, leads_there, reads_counted, uncorrupt_address}
 use Rattle.subordinate.specs.Faults.{Faults, is_bad, is_good, standing_at}
 use Rattle.world_run.specs.InOrder.{HasGathered, IsGathered}
@@ -104,50 +105,48 @@ has_range order config request address served at sends =
 
 -- all reads came, once their bursts were answered
 pub all_reads : (order : Order) (config : Config) (request : BridgedRequest) (address : ℕ) → is_valid config ≡ true → IsServed config order.regions request
-    → address_of order.regions (request_of request.message) ≡ Some address → reply_has_data request.message.operation ≡ true → length (read_pieces request.flight) ≤ request.flight.answered
+    → address_of order.regions (request_of request.message) ≡ Some address → reply_has_data request.message.operation ≡ true → answered_pieces request.flight ≡ read_pieces request.flight
     → reads_of config.axi_bytes (outline_in request) ≤ request.gathering.came
-all_reads order config request address valid served at has past =
+all_reads order config request address valid served at has whole =
     let plan = has_range order config request address served at (rw has refl) in
     let counted = reads_counted config order.regions request (range_at config (request_of request.message) address) valid served.pages served plan in
-    let all : answered_pieces request.flight ≡ read_pieces request.flight = take_all request.flight.answered (read_pieces request.flight) past in
-    let came : beats_in (read_pieces request.flight) ≤ request.gathering.came = rw all at served.came in
-    omega (arith, counted, came)
+    omega (arith, counted, ap beats_in whole, served.came)
 
--- a Put's planned bursts are its writes
-puts_alone : (operation : Operation) (plan : Option PlannedRange) (writing : Bool) → is_put operation ≡ true
-    → (length (if reply_has_data operation then pieces_planned plan else []) ≡ 0)
-    × (length (if not (reply_has_data operation && has_data operation) || writing then (if has_data operation then pieces_planned plan else []) else []) ≡ length (pieces_planned plan))
-puts_alone PutFull plan writing is = (refl, refl)
-puts_alone PutPartial plan writing is = (refl, refl)
-puts_alone (Atomic op) plan writing is = absurd (cc (is))
-puts_alone Get plan writing is = absurd (cc (is))
-puts_alone (Intent write) plan writing is = absurd (cc (is))
-
--- what isn't a Put has none, until an atomic's write is planned
-no_writes : (operation : Operation) (plan : Option PlannedRange) → is_put operation ≡ false
-    → length (if not (reply_has_data operation && has_data operation) || false then (if has_data operation then pieces_planned plan else []) else []) ≡ 0
-no_writes PutFull plan isnt = absurd (cc (isnt))
-no_writes PutPartial plan isnt = absurd (cc (isnt))
-no_writes (Atomic op) plan isnt = by_data (has_data (Atomic op))
-  where
-    by_data : (b : Bool) → length (if not (true && b) || false then (if b then pieces_planned plan else []) else []) ≡ 0
-    by_data true = refl
-    by_data false = refl
-no_writes Get plan isnt = refl
-no_writes (Intent write) plan isnt = refl
-
--- a request that is done has an answer to each planned burst
+-- a request that is done has an answer to each burst of its phase
 all_answered : (config : Config) (order : Order) (limits : TableLimits) (accepted : ℕ) (request : BridgedRequest) → IsServed config order.regions request → IsSoundRequest limits accepted request.flight
-    → request.flight.done ≡ true → request.flight.answered ≡ length (read_pieces request.flight) + length (planned_writes request.flight)
+    → request.flight.done ≡ true → request.flight.answered ≡ length (planned request.flight)
 all_answered config order limits accepted request served sound done =
     let settles = leb-true (length (planned request.flight)) request.flight.answered (sym served.done ∙ done) in
-    omega (arith, settles, sound.sent, sound.answered, length_course (read_pieces request.flight) (planned_writes request.flight))
+    omega (arith, settles, sound.sent, sound.answered)
 
--- no response came before the last read was answered
+-- and all its reads came
+done_reads : (flight : LiveRequest) → flight.answered ≡ length (planned flight) → answered_pieces flight ≡ read_pieces flight
+done_reads flight all = by_side flight.writing refl
+  where
+    by_side : (b : Bool) → flight.writing ≡ b → answered_pieces flight ≡ read_pieces flight
+    by_side true writes = rw writes refl
+    by_side false reads = reads_came flight reads (omega (arith, all, length_reading flight reads))
+
+-- no response came before a write was answered
 pub no_responses : (order : Order) (bus_bytes : ℕ) (request : BridgedRequest) (address : ℕ) → (told : HasGathered order bus_bytes request address)
-    → request.flight.answered ≤ length (read_pieces request.flight) → told.responses ≡ []
-no_responses order bus_bytes request address told few =
-    nil_from_length told.responses (omega (arith, told.answered, length-take request.flight.answered (read_pieces request.flight), few))
+    → (if request.flight.writing then request.flight.answered else 0) ≡ 0 → told.responses ≡ []
+no_responses order bus_bytes request address told none = nil_from_length told.responses (told.answered ∙ none)
+
+-- a Put writes with all pieces of its plan
+put_sides : (operation : Operation) → is_put operation ≡ true → (reply_has_data operation ≡ false) × (has_data operation ≡ true)
+put_sides PutFull is = (refl, refl)
+put_sides PutPartial is = (refl, refl)
+put_sides (Atomic op) is = absurd (cc (is))
+put_sides Get is = absurd (cc (is))
+put_sides (Intent write) is = absurd (cc (is))
+
+-- what has data is a Put or an atomic
+carries_none : (operation : Operation) → is_put operation ≡ false → (reply_has_data operation && has_data operation) ≡ false → has_data operation ≡ false
+carries_none PutFull isnt other = absurd (cc (isnt))
+carries_none PutPartial isnt other = absurd (cc (isnt))
+carries_none (Atomic op) isnt other = other
+carries_none Get isnt other = refl
+carries_none (Intent write) isnt other = refl
 
 -- all answers to a request that is done
 all_came : (order : Order) (config : Config) (limits : TableLimits) (accepted : ℕ) (request : BridgedRequest) (address : ℕ) → is_valid config ≡ true → IsServed config order.regions request
@@ -156,23 +155,36 @@ all_came : (order : Order) (config : Config) (limits : TableLimits) (accepted : 
 all_came order config limits accepted request address valid served sound done at told =
     record {
       all_reads = λ has.
-          let past : length (read_pieces request.flight) ≤ request.flight.answered = omega (arith, answered) in
-          let most = all_reads order config request address valid served at has past in
+          let most = all_reads order config request address valid served at has (done_reads request.flight answered) in
           let few = (answered_as order config request address fits told).few in
           omega (arith, most, few, told.came);
       one_response = λ put.
           let plan = has_range order config request address served at (either put) in
-          let (none, all) = puts_alone request.flight.operation request.flight.plan request.flight.writing (ap is_put served.flight.operation ∙ put) in
           let some : 1 ≤ length (pieces_planned request.flight.plan) = rw plan (some_planned plan) in
-          omega (arith, none, all, some, answered, told.answered, length-take request.flight.answered (read_pieces request.flight));
+          by_put (ap is_put served.flight.operation ∙ put) some;
       others = λ isnt failed. by_flag request.flight.writing refl (ap is_put served.flight.operation ∙ isnt) failed;
     }
   where
     fits : IsTranslated config request.message address
     fits = translated_to config order.regions request.message address valid served.pages served.message at
 
-    answered : request.flight.answered ≡ length (read_pieces request.flight) + length (planned_writes request.flight)
+    answered : request.flight.answered ≡ length (planned request.flight)
     answered = all_answered config order limits accepted request served sound done
+
+    by_put : is_put request.flight.operation ≡ true → 1 ≤ length (pieces_planned request.flight.plan) → 1 ≤ length told.responses
+    by_put put some = by_side request.flight.writing refl
+      where
+        sides : (reply_has_data request.flight.operation ≡ false) × (has_data request.flight.operation ≡ true)
+        sides = put_sides request.flight.operation put
+
+        all : length (write_pieces request.flight) ≡ length (pieces_planned request.flight.plan)
+        all = rw sides.1 refl
+
+        by_side : (b : Bool) → request.flight.writing ≡ b → 1 ≤ length told.responses
+        by_side true writes =
+            let responded : length told.responses ≡ request.flight.answered = told.answered ∙ rw writes refl in
+            omega (arith, responded, answered, length_writing request.flight writes, all, some)
+        by_side false reads = absurd (cc (served.reading reads, sides.0))
 
     either : is_put request.message.operation ≡ true → (reply_has_data request.message.operation || is_put request.message.operation) ≡ true
     either put = by_data (reply_has_data request.message.operation)
@@ -187,12 +199,16 @@ all_came order config limits accepted request address valid served sound done at
         (plan_known config order.regions request.message (range_at config (request_of request.message) address) valid served.pages served.message (sym served.flight.plan ∙ plan))
 
     by_flag : (writing : Bool) → request.flight.writing ≡ writing → is_put request.flight.operation ≡ false → is_good (standing_at order.faults address) ≡ false → told.responses ≡ []
-    by_flag true is isnt failed =
-        let good = okay_is_good (standing_at order.faults address) (is_bad order.faults address) (told.readable is) in
-        absurd (cc (good, failed))
-    by_flag false is isnt failed =
-        let none : length (planned_writes request.flight) ≡ 0 = rw is (no_writes request.flight.operation request.flight.plan isnt) in
-        no_responses order config.axi_bytes request address told (omega (arith, answered, none))
+    by_flag true writes isnt failed = by_kind (is_atomic request.flight) refl
+      where
+        by_kind : (b : Bool) → is_atomic request.flight ≡ b → told.responses ≡ []
+        by_kind true atomic =
+            let good = okay_is_good (standing_at order.faults address) (is_bad order.faults address) (told.readable atomic writes) in
+            absurd (cc (good, failed))
+        by_kind false other =
+            let none : length (write_pieces request.flight) ≡ 0 = rw (carries_none request.flight.operation isnt other) refl in
+            no_responses order config.axi_bytes request address told (rw writes (omega (arith, answered, length_writing request.flight writes, none)))
+    by_flag false reads isnt failed = no_responses order config.axi_bytes request address told (rw reads refl)
 
 -- ---- the reply
 

@@ -4,22 +4,29 @@ use Rattle.std.proofs.Common.{◌≡◌, ℕ, zero, suc, ◌+◌, ◌<◌, ◌�
 use Rattle.std.specs.Prelude.{slice_get}
 use Rattle.std.specs.List.{enumerate_from}
 use Rattle.std.proofs.lemmas.List.Elements.{All-nil, All-push}
+use Rattle.std.proofs.lemmas.Bool.{and_parts}
 use Rattle.std.proofs.lemmas.Option.{same_Some}
+use Rattle.tl_messages.specs.Operations.{has_data, reply_has_data}
 use Rattle.tl_messages.specs.Requests.{HeldMessage, request_of}
 use Rattle.axi_beats.specs.Responses.{is_okay}
 use Rattle.axi_beats.specs.declared.RBeat.{RBeat}
 use Rattle.axi_beats.specs.declared.Resp.{Resp}
-use Rattle.flight_table.specs.LiveRequests.{finished, is_settled, read_pieces, with_answered, with_write}
+use Rattle.flight_table.specs.LiveRequests.{finished, is_settled, with_answered, with_write}
 use Rattle.responses.specs.Answers.{after_reads, after_writes, gathering_after}
 use Rattle.responses.specs.Gathered.{Gathering, after_b, after_r, gathering_of, reads_of}
 use Rattle.responses.specs.declared.gather.Outline.{Outline}
-use Rattle.bridge_core.specs.Laws.{answered_pieces}
 use Rattle.bridge_core.specs.Requests.{BridgedRequest, RequestTable, address_of, after_sending, newly_live, outline_in, settled, value_found}
+use Rattle.bridge_core.proofs.ResponseLinks.{not_so}
+use Rattle.bridge_core.proofs.ServedRequests.{atomic_first}
 use Rattle.subordinate.specs.Faults.{read_response, standing_at, write_response}
 use Rattle.world_run.specs.InOrder.{HasGathered, IsGathered, TellsAt}
 use Rattle.world_run.specs.Serial.{Order}
 
 -- ---- a new request
+
+none_yet : (writing : Bool) → ◌≡◌ {A = ℕ} 0 (if writing then 0 else 0)
+none_yet true = refl
+none_yet false = refl
 
 nothing_told : (order : Order) (table : RequestTable) (bus_bytes : ℕ) (message : HeldMessage) (place : Option ℕ) → address_of table.regions (request_of message) ≡ place
     → IsGathered order bus_bytes (newly_live table message) place
@@ -30,10 +37,10 @@ nothing_told order table bus_bytes message (Some address) at =
       responses = [];
       gathered = rw at refl;
       came = refl;
-      answered = refl;
+      answered = none_yet (not (reply_has_data message.operation));
       tell = λ place r there. absurd (cc (there));
       responded = All-nil (λ (resp : Resp). resp ≡ write_response (standing_at order.faults address));
-      readable = λ writing. absurd (cc (writing));
+      readable = λ atomic writing. absurd (atomic_first (reply_has_data message.operation) (has_data message.operation) atomic writing);
     }
 
 -- a new request has gathered nothing
@@ -58,18 +65,18 @@ gathered-sent order bus_bytes id request (Some address) told =
       readable = told.readable;
     }
 
-writes_now : (order : Order) (bus_bytes : ℕ) (request : BridgedRequest) (address : ℕ) → is_okay (read_response order.faults address) ≡ true → HasGathered order bus_bytes request address
-    → HasGathered order bus_bytes (record request { flight = with_write request.flight }) address
-writes_now order bus_bytes request address okay told =
+writes_now : (order : Order) (bus_bytes : ℕ) (request : BridgedRequest) (address : ℕ) → is_okay (read_response order.faults address) ≡ true → request.flight.writing ≡ false
+    → HasGathered order bus_bytes request address → HasGathered order bus_bytes (record request { flight = with_write request.flight }) address
+writes_now order bus_bytes request address okay reads told =
     record {
       reads = told.reads;
       responses = told.responses;
       gathered = told.gathered;
       came = told.came;
-      answered = told.answered;
+      answered = told.answered ∙ rw reads refl;
       tell = λ place r there. let t = told.tell place r there in record { response = t.response; bytes = t.bytes };
       responded = told.responded;
-      readable = λ writing. okay;
+      readable = λ atomic writing. okay;
     }
 
 ends_now : (order : Order) (bus_bytes : ℕ) (request : BridgedRequest) (address : ℕ) → HasGathered order bus_bytes request address → HasGathered order bus_bytes (record request { flight = finished request.flight }) address
@@ -93,7 +100,8 @@ settled_gathered order bus_bytes request address readable told = by_flag (is_set
   where
     by_value : (b : Bool) → (not request.flight.writing && is_some (value_found request)) ≡ b → is_settled request.flight ≡ true
         → HasGathered order bus_bytes (record request { flight = if b then with_write request.flight else finished request.flight }) address
-    by_value true found settles = writes_now order bus_bytes request address (readable settles found) told
+    by_value true found settles =
+        writes_now order bus_bytes request address (readable settles found) (not_so request.flight.writing (and_parts (not request.flight.writing) (is_some (value_found request)) found).0) told
     by_value false found settles = ends_now order bus_bytes request address told
 
     by_flag : (b : Bool) → is_settled request.flight ≡ b
@@ -147,9 +155,9 @@ read_behind bus_bytes outline g reads [] r is came none =
 read_behind bus_bytes outline g reads (resp ∷ responses) r is came none = absurd (cc (none))
 
 pub read_told : (order : Order) (bus_bytes : ℕ) (request : BridgedRequest) (address : ℕ) (r : RBeat) → (told : HasGathered order bus_bytes request address) → told.responses ≡ []
-    → request.gathering.came < reads_of bus_bytes (outline_in request) → request.flight.answered < length (read_pieces request.flight) → TellsAt order bus_bytes request address request.gathering.came r
+    → request.gathering.came < reads_of bus_bytes (outline_in request) → request.flight.writing ≡ false → TellsAt order bus_bytes request address request.gathering.came r
     → (last : Bool) → HasGathered order bus_bytes (with_read_told bus_bytes r last request) address
-read_told order bus_bytes request address r told none few unanswered tells = by_last
+read_told order bus_bytes request address r told none few reads tells = by_last
   where
     came : length (told.reads ++ r ∷ []) ≡ min (request.gathering.came + 1) (reads_of bus_bytes (outline_in request))
     came = length-append told.reads (r ∷ []) ∙ omega (arith, told.came, few)
@@ -167,9 +175,6 @@ read_told order bus_bytes request address r told none few unanswered tells = by_
               (subst (λ (beat : RBeat). TellsAt order bus_bytes request address request.gathering.came beat) (sym last.1) tells)
         ]
 
-    more : length (take (request.flight.answered + 1) (read_pieces request.flight)) ≡ length (answered_pieces request.flight) + 1
-    more = omega (arith, length-take (request.flight.answered + 1) (read_pieces request.flight), length-take request.flight.answered (read_pieces request.flight), unanswered)
-
     by_last : (last : Bool) → HasGathered order bus_bytes (with_read_told bus_bytes r last request) address
     by_last true =
         record {
@@ -177,7 +182,7 @@ read_told order bus_bytes request address r told none few unanswered tells = by_
           responses = told.responses;
           gathered = behind;
           came = came;
-          answered = omega (arith, more, told.answered);
+          answered = rw reads (rw reads at told.answered);
           tell = λ place other there. let t = tell place other there in record { response = t.response; bytes = t.bytes };
           responded = told.responded;
           readable = told.readable;
@@ -204,9 +209,9 @@ one_more_write (first ∷ writes) resp g = one_more_write writes resp (after_b f
 abbrev pub with_response_told : Resp → BridgedRequest → BridgedRequest
 with_response_told resp request = record request { flight = with_answered request.flight; gathering = after_b resp request.gathering }
 
-pub response_told : (order : Order) (bus_bytes : ℕ) (request : BridgedRequest) (address : ℕ) (resp : Resp) → length (read_pieces request.flight) ≤ request.flight.answered
+pub response_told : (order : Order) (bus_bytes : ℕ) (request : BridgedRequest) (address : ℕ) (resp : Resp) → request.flight.writing ≡ true
     → resp ≡ write_response (standing_at order.faults address) → HasGathered order bus_bytes request address → HasGathered order bus_bytes (with_response_told resp request) address
-response_told order bus_bytes request address resp past is told =
+response_told order bus_bytes request address resp writes is told =
     record {
       reads = told.reads;
       responses = told.responses ++ resp ∷ [];
@@ -214,15 +219,7 @@ response_told order bus_bytes request address resp past is told =
           ap (after_b resp) told.gathered
           ∙ sym (one_more_write told.responses resp (after_reads bus_bytes (outline_in request) (enumerate_from 0 told.reads) (gathering_of (outline_in request) false)));
       came = told.came;
-      answered =
-          omega (
-            arith,
-            told.answered,
-            length-append told.responses (resp ∷ []),
-            length-take (request.flight.answered + 1) (read_pieces request.flight),
-            length-take request.flight.answered (read_pieces request.flight),
-            past,
-          );
+      answered = rw writes (omega (arith, rw writes at told.answered, length-append told.responses (resp ∷ [])));
       tell = λ place r there. let t = told.tell place r there in record { response = t.response; bytes = t.bytes };
       responded = All-push (λ (other : Resp). other ≡ write_response (standing_at order.faults address)) told.responses resp told.responded is;
       readable = told.readable;

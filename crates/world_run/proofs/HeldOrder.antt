@@ -1,6 +1,6 @@
 -- Of two requests that touch a byte which one of them writes, the later starts when the earlier is finished: no event changes that. It
 -- knows the hold rule of the table of live requests, and makes of ranges that meet a byte in common; bursts and the memory are hidden.
-use Rattle.std.proofs.Common.{◌≡◌, ℕ, ◌<◌, ◌≤◌, nat_lt, Bool, true, false, ◌&&◌, ◌||◌, not, List, [], ◌∷◌, ◌⊎◌, inl, inr, Option, Some, None, refl, sym, subst, ◌∙◌, ap, arith}
+use Rattle.std.proofs.Common.{◌≡◌, ℕ, ◌<◌, ◌≤◌, nat_lt, Bool, true, false, ◌&&◌, ◌||◌, not, List, [], ◌∷◌, ◌⊎◌, inl, inr, Option, Some, None, is_some, refl, sym, subst, ◌∙◌, ap, arith}
 use Rattle.std.specs.Prelude.{option_map, if◌then◌else◌}
 use Rattle.std.specs.List.{AllByRecursion, find, list_any}
 use Rattle.std.proofs.lemmas.Bool.Decides.{nat_tests}
@@ -40,7 +40,7 @@ unaccepted table j past = let none : nat_lt j table.accepted ≡ false = grind (
 -- who is finished has started
 pub done_begun : (o : Option BridgedRequest) → is_over o ≡ true → has_begun o ≡ true
 done_begun None over = refl
-done_begun (Some request) over = or_last (nat_lt 0 request.flight.sent) request.flight.done over
+done_begun (Some request) over = or_last (is_some request.flight.id) request.flight.done over
 
 -- ---- the range of a request that touches a byte
 
@@ -175,9 +175,9 @@ module _ (order : Order) (table : RequestTable) (sound : IsSoundRequestTable tab
       unheld : is_held (flights_of table.live) b.flight ≡ false
       unheld = elim (cases_Bool (is_held (flights_of table.live) b.flight)) [
         | inl held ↦ (
-            let none : b.flight.sent ≡ 0 = all-find _ (is_numbered j) table.live b (all-mapped (λ (r : LiveRequest). r.done ≡ false → is_held (flights_of table.live) r ≡ true → r.sent ≡ 0) (λ (r : BridgedRequest). r.flight) table.live sound.flights.in_order) there undone held in
-            let sends : nat_lt 0 b.flight.sent ≡ true = first_only (nat_lt 0 b.flight.sent) b.flight.done begun undone in
-            absurd (grind (arith, nat_tests)))
+            let none : b.flight.id ≡ None = all-find _ (is_numbered j) table.live b (all-mapped (λ (r : LiveRequest). r.done ≡ false → is_held (flights_of table.live) r ≡ true → r.id ≡ None) (λ (r : BridgedRequest). r.flight) table.live sound.flights.in_order) there undone held in
+            let holds_one : is_some b.flight.id ≡ true = first_only (is_some b.flight.id) b.flight.done begun undone in
+            absurd (cc (holds_one, ap (λ (own : Option ℕ). is_some own) none)))
         | inr free ↦ free
       ]
 

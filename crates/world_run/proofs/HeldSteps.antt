@@ -17,6 +17,7 @@ use Rattle.responses.specs.Gathered.{after_b, after_r}
 use Rattle.burst_plan.specs.declared.Region.{Region}
 use Rattle.flight_table.specs.Laws.{AreRising, IsSoundRequest}
 use Rattle.flight_table.specs.LiveRequests.{LiveRequest, is_settled, plan_for, with_answered}
+use Rattle.flight_table.specs.Order.{is_id}
 use Rattle.bridge_core.specs.Bridge.{message_with}
 use Rattle.bridge_core.specs.Configs.{table_limits_of}
 use Rattle.bridge_core.specs.Laws.{IsServed, IsSoundRequestTable}
@@ -87,67 +88,31 @@ record Follows (old new : Option BridgedRequest) : Type 0 where
 follows_same : (o : Option BridgedRequest) → Follows o o
 follows_same o = record { begun = λ b. b; over = λ b. b; before = done_begun o }
 
--- its number, its message and its counts of bursts stay; it is done where it was, or where it is settled
+-- its number and its message stay; it has begun, and is done, where it had and was
 record IsStill (old new : BridgedRequest) : Type 0 where
   number : new.flight.number ≡ old.flight.number
   message : new.message ≡ old.message
-  sent : new.flight.sent ≡ old.flight.sent
-  answered : new.flight.answered ≡ old.flight.answered
+  begun : has_begun (Some old) ≡ true → has_begun (Some new) ≡ true
   done : old.flight.done ≡ true → new.flight.done ≡ true
-  settled : new.flight.done ≡ true → (old.flight.done ≡ true) ⊎ (is_settled old.flight ≡ true)
 
 still_settled : (request : BridgedRequest) → IsStill request (settled request)
 still_settled request = cond_both (is_settled request.flight) _ _ (IsStill request)
     (λ all. cond_both (not request.flight.writing && is_some (value_found request)) _ _ (λ (flight : LiveRequest). IsStill request (record request { flight = flight }))
-    (λ found. record { number = refl; message = refl; sent = refl; answered = refl; done = λ d. d; settled = λ d. inl d })
-    (λ ends. record { number = refl; message = refl; sent = refl; answered = refl; done = λ d. refl; settled = λ d. inr all }))
-    (λ more. record { number = refl; message = refl; sent = refl; answered = refl; done = λ d. d; settled = λ d. inl d })
+    (λ found. record { number = refl; message = refl; begun = λ b. b; done = λ d. d })
+    (λ ends. record { number = refl; message = refl; begun = λ b. refl; done = λ d. refl }))
+    (λ more. record { number = refl; message = refl; begun = λ b. b; done = λ d. d })
 
--- where it sent a burst, and one more was answered
-follows_sent : (old middle new : BridgedRequest) → IsStill middle new → middle.flight.sent ≡ old.flight.sent → (old.flight.done ≡ true → middle.flight.done ≡ true) → 0 < old.flight.sent
-    → Follows (Some old) (Some new)
-follows_sent old middle new still sent done some = record {
-  begun = λ was. now;
-  over = λ was. still.done (done was);
-  before = λ over. had;
+-- where it holds an ID as it is answered
+follows_answered : (old middle new : BridgedRequest) (id : ℕ) → IsStill middle new → middle.flight.id ≡ old.flight.id → middle.flight.done ≡ old.flight.done → holds id old ≡ true → Follows (Some old) (Some new)
+follows_answered old middle new id still same done held = record {
+  begun = λ was. still.begun (rw (same, held_some old.flight.id held) refl);
+  over = λ was. still.done (done ∙ was);
+  before = λ over. rw (held_some old.flight.id held) refl;
 }
   where
-    sends : nat_lt 0 old.flight.sent ≡ true
-    sends = grind (arith, nat_tests)
-
-    had : has_begun (Some old) ≡ true
-    had = rw sends refl
-
-    now : has_begun (Some new) ≡ true
-    now = rw (still.sent, sent, sends) refl
-
-follows_answered : (old middle new : BridgedRequest) → IsStill middle new → middle.flight.sent ≡ old.flight.sent → (old.flight.done ≡ true → middle.flight.done ≡ true)
-    → middle.flight.answered ≡ old.flight.answered + 1 → new.flight.answered ≤ new.flight.sent → Follows (Some old) (Some new)
-follows_answered old middle new still sent done answered within =
-    let same = still.sent in
-    let counted = still.answered in
-    follows_sent old middle new still sent done (omega (arith, sent, answered, within, same, counted))
-
--- where nothing was answered whole
-follows_going : (old middle new : BridgedRequest) → IsStill middle new → middle.flight ≡ old.flight → old.flight.done ≡ is_settled old.flight → Follows (Some old) (Some new)
-follows_going old middle new still same served = record {
-  begun = λ was. elim (cases_Bool old.flight.done) [
-    | inl done ↦ done_begun (Some new) (kept done)
-    | inr live ↦ rw (still.sent, same) (or_first (nat_lt 0 old.flight.sent) old.flight.done new.flight.done was live)
-  ];
-  over = kept;
-  before = λ over. done_begun (Some old) (elim (still.settled over) [
-    | inl was ↦ sym (ap (λ (flight : LiveRequest). flight.done) same) ∙ was
-    | inr all ↦ served ∙ sym (ap (λ (flight : LiveRequest). is_settled flight) same) ∙ all
-  ]);
-}
-  where
-    kept : old.flight.done ≡ true → new.flight.done ≡ true
-    kept done = still.done (ap (λ (flight : LiveRequest). flight.done) same ∙ done)
-
-    or_first : (a b c : Bool) → (a || b) ≡ true → b ≡ false → (a || c) ≡ true
-    or_first true b c one other = refl
-    or_first false b c one other = absurd (cc)
+    held_some : (own : Option ℕ) → is_id id own ≡ true → is_some own ≡ true
+    held_some None held = absurd (cc (held))
+    held_some (Some own) held = refl
 
 over_begun : (table : RequestTable) (j : ℕ) → finished table j ≡ true → started table j ≡ true
 over_begun table j over = rw (and_parts (nat_lt j table.accepted) (is_over (find (is_numbered j) table.live)) over).0 (done_begun (find (is_numbered j) table.live) (and_parts (nat_lt j table.accepted) (is_over (find (is_numbered j) table.live)) over).1)
@@ -199,7 +164,7 @@ sends_on : (order : Order) (table : RequestTable) (number id : ℕ) → AreAsked
 sends_on order table number id all =
     changes order table (is_numbered number) (after_sending id) all (λ r. refl) (λ r. refl)
     (λ j r first now. record {
-      begun = λ was. (let sends : nat_lt 0 (r.flight.sent + 1) ≡ true = grind (arith, nat_tests) in rw sends refl);
+      begun = λ was. refl;
       over = λ was. was;
       before = λ over. done_begun (Some r) over;
     })
@@ -211,23 +176,18 @@ sound_found table j r sound found =
     all-find (λ (q : BridgedRequest). IsSoundRequest (table_limits_of table.config) table.accepted q.flight) (is_numbered j) table.live r
     (all-mapped (IsSoundRequest (table_limits_of table.config) table.accepted) (λ (q : BridgedRequest). q.flight) table.live sound.flights.requests) found
 
-responds_on : (order : Order) (table : RequestTable) (id : ℕ) (resp : Resp) → AreAsked order table.live → IsSoundRequestTable (with_response id resp table) → MovesOn order table (with_response id resp table)
-responds_on order table id resp all sound =
+responds_on : (order : Order) (table : RequestTable) (id : ℕ) (resp : Resp) → AreAsked order table.live → MovesOn order table (with_response id resp table)
+responds_on order table id resp all =
     changes order table (holds id) (after_response resp) all (λ r. (still_settled (middle r)).number) (λ r. (still_settled (middle r)).message)
-    (λ j r first now. follows_answered r (middle r) (after_response resp r) (still_settled (middle r)) refl (λ done. done) refl (sound_found (with_response id resp table) j (after_response resp r) sound now).answered)
+    (λ j r first now. follows_answered r (middle r) (after_response resp r) id (still_settled (middle r)) refl refl (find-passes (holds id) table.live r first))
   where
     middle : BridgedRequest → BridgedRequest
     middle r = record r { flight = with_answered r.flight; gathering = after_b resp r.gathering }
 
-reads_on : (order : Order) (table : RequestTable) (beat : RBeat) → AreAsked order table.live → IsSoundRequestTable table → IsSoundRequestTable (with_read beat table) → MovesOn order table (with_read beat table)
-reads_on order table beat all old sound =
+reads_on : (order : Order) (table : RequestTable) (beat : RBeat) → AreAsked order table.live → MovesOn order table (with_read beat table)
+reads_on order table beat all =
     changes order table (holds beat.id) (after_read table.config.axi_bytes beat) all (λ r. (still_settled (middle r)).number ∙ number r beat.last) (λ r. (still_settled (middle r)).message)
-    (λ j r first now. elim (cases_Bool beat.last) [
-      | inl last ↦ follows_answered r (middle r) (after_read table.config.axi_bytes beat r) (still_settled (middle r)) (rw last refl) (λ done. rw last done) (rw last refl)
-          (sound_found (with_read beat table) j (after_read table.config.axi_bytes beat r) sound now).answered
-      | inr more ↦ follows_going r (middle r) (after_read table.config.axi_bytes beat r) (still_settled (middle r)) (rw more refl)
-          (all-find (IsServed table.config table.regions) (holds beat.id) table.live r old.served first).done
-    ])
+    (λ j r first now. follows_answered r (middle r) (after_read table.config.axi_bytes beat r) beat.id (still_settled (middle r)) (own r beat.last) (done r beat.last) (find-passes (holds beat.id) table.live r first))
   where
     middle : BridgedRequest → BridgedRequest
     middle r = record r {
@@ -238,6 +198,14 @@ reads_on order table beat all old sound =
     number : (r : BridgedRequest) (last : Bool) → (if last then with_answered r.flight else r.flight).number ≡ r.flight.number
     number r true = refl
     number r false = refl
+
+    own : (r : BridgedRequest) (last : Bool) → (if last then with_answered r.flight else r.flight).id ≡ r.flight.id
+    own r true = refl
+    own r false = refl
+
+    done : (r : BridgedRequest) (last : Bool) → (if last then with_answered r.flight else r.flight).done ≡ r.flight.done
+    done r true = refl
+    done r false = refl
 
 takes_on : (order : Order) (table : RequestTable) (client : ℕ) → AreAsked order table.live → IsSoundRequestTable table → MovesOn order table (without_done client table)
 takes_on order table client all sound = record {
@@ -355,8 +323,8 @@ module _ (order : Order) (state : WorldState) (sound : IsSoundWorld state) (regi
     accepts = λ client beat accepted new foreseen. accepts_on order state.bridge.requests (message_with state.bridge client beat) all sound.bridge_laws.requests regions foreseen;
     sends = λ sending is new foreseen. sends_on order state.bridge.requests sending.request.flight.number sending.id all;
     performs = λ serial beat memory done new foreseen. moves_same order state.bridge.requests all;
-    gives_b = λ id b given new foreseen. responds_on order state.bridge.requests b.id b.resp all new.bridge_laws.requests;
-    gives_r = λ id r given new foreseen. reads_on order state.bridge.requests r all sound.bridge_laws.requests new.bridge_laws.requests;
+    gives_b = λ id b given new foreseen. responds_on order state.bridge.requests b.id b.resp all;
+    gives_r = λ id r given new foreseen. reads_on order state.bridge.requests r all;
     hands_out = λ client request known first new foreseen. takes_on order state.bridge.requests client all sound.bridge_laws.requests;
   }
 

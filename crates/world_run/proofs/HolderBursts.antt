@@ -53,9 +53,9 @@ of_answered order bus_bytes wrote mine id live change old answered held changed 
     writing : answered.flight.sent ≤ answered.flight.answered → AreBurstsOf order bus_bytes wrote answered.flight.number mine (outstanding (with_its_write answered).flight)
     writing past =
         subst (λ (bursts : List (Bool × Piece)). AreBurstsOf order bus_bytes wrote answered.flight.number mine bursts)
-        (nothing_planned answered past ∙ sym (nothing_planned (with_its_write answered) past)) are
+        (nothing_planned answered past) are
 
-    ending : answered.flight.sent ≤ answered.flight.answered → (settled answered ≡ with_its_write answered) ⊎ (settled answered ≡ finished_one answered)
+    ending : answered.flight.sent ≤ answered.flight.answered → ((answered.flight.writing ≡ false) × (settled answered ≡ with_its_write answered)) ⊎ (settled answered ≡ finished_one answered)
         → AreOfHolder order bus_bytes wrote mine (holder id (change_first (holds id) change live))
-    ending past (inl writes) = still (with_its_write answered) (changed ∙ writes) has (writing past)
+    ending past (inl writes) = still (with_its_write answered) (changed ∙ writes.1) has (writing past)
     ending past (inr ends) = gone (changed ∙ ends) (none past)

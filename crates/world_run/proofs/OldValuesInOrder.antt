@@ -12,14 +12,15 @@ use Rattle.axi_beats.specs.declared.Resp.{Resp}
 use Rattle.data_unit.specs.Words.{value}
 use Rattle.flight_table.specs.Laws.{IsSoundRequest}
 use Rattle.flight_table.specs.LiveRequests.{planned, read_pieces}
+use Rattle.flight_table.specs.LiveRequests as live
+use Rattle.flight_table.proofs.PhaseLaws.{length_writing}
 use Rattle.flight_table.specs.declared.TableLimits.{TableLimits}
 use Rattle.responses.specs.Gathered.{is_atomic, old_value, reads_of}
 use Rattle.bridge_core.specs.Configs.{is_valid}
-use Rattle.bridge_core.specs.Laws.{IsServed}
+use Rattle.bridge_core.specs.Laws.{IsServed, answered_pieces}
 use Rattle.bridge_core.specs.Requests.{BridgedRequest, address_of, outline_in, value_found}
 use Rattle.bridge_core.specs.declared.Config.{Config}
 use Rattle.bridge_core.proofs.PlannedPieces.{atomic_plan, live_plan}
-use Rattle.bridge_core.proofs.ServedRequests.{planned_after}
 use Rattle.subordinate.specs.Faults.{Faults, IsAbsent, IsGood, IsSlaveError, Standing, is_bad, is_good, read_response, read_response_on, standing_at}
 use Rattle.world_run.specs.InOrder.{HasGathered}
 use Rattle.world_run.specs.Meaning.{bytes_at}
@@ -55,23 +56,22 @@ atomic_small (Intent write) size is small = absurd (cc (is))
 
 -- the old value of an atomic whose reads all came and of which no write was answered
 pub old_value_served : (order : Order) (config : Config) (request : BridgedRequest) (address : ℕ) → is_valid config ≡ true → IsServed config order.regions request
-    → address_of order.regions (request_of request.message) ≡ Some address → is_atomic request.message.operation ≡ true → request.flight.answered ≡ length (read_pieces request.flight)
-    → HasGathered order config.axi_bytes request address → value_found request ≡ number_there order request address
-old_value_served order config request address valid served at atomic answered told =
+    → address_of order.regions (request_of request.message) ≡ Some address → is_atomic request.message.operation ≡ true → answered_pieces request.flight ≡ read_pieces request.flight
+    → (if request.flight.writing then request.flight.answered else 0) ≡ 0 → HasGathered order config.axi_bytes request address → value_found request ≡ number_there order request address
+old_value_served order config request address valid served at atomic whole none told =
     let (has, small) = atomic_small request.message.operation request.message.size atomic served.message.atomic_size in
     let fits = translated_to config order.regions request.message address valid served.pages served.message at in
-    let most = all_reads order config request address valid served at has (omega (arith, answered)) in
-    old_value_by order config request address fits atomic small told most (no_responses order config.axi_bytes request address told (omega (arith, answered)))
+    let most = all_reads order config request address valid served at has whole in
+    old_value_by order config request address fits atomic small told most (no_responses order config.axi_bytes request address told none)
 
 -- an atomic that isn't done and writes has had no response: its one write isn't answered
 pub writes_unanswered : (order : Order) (config : Config) (limits : TableLimits) (accepted : ℕ) (request : BridgedRequest) → is_valid config ≡ true → IsServed config order.regions request
-    → IsSoundRequest limits accepted request.flight → request.flight.done ≡ false → request.flight.writing ≡ true → request.flight.answered ≡ length (read_pieces request.flight)
-writes_unanswered order config limits accepted request valid served sound live writing =
-    let (atomic, past) = served.writing writing in
-    let has = live_plan config order.regions request valid served.pages served.message served.flight sound.no_plan live in
+    → IsSoundRequest limits accepted request.flight → request.flight.done ≡ false → live.is_atomic request.flight ≡ true → request.flight.writing ≡ true → request.flight.answered ≡ 0
+writes_unanswered order config limits accepted request valid served sound undone atomic writing =
+    let has = live_plan config order.regions request valid served.pages served.message served.flight sound.no_plan undone in
     let plan = atomic_plan config order.regions request valid served.message served.flight has atomic in
-    let going = leb-false (length (planned request.flight)) request.flight.answered (sym served.done ∙ live) in
-    omega (arith, past, going, plan.writes, planned_after request.flight atomic writing)
+    let going = leb-false (length (planned request.flight)) request.flight.answered (sym served.done ∙ undone) in
+    omega (arith, going, plan.writes, length_writing request.flight writing)
 
 -- what reads and writes is an atomic
 pub atomic_is : (operation : Operation) → (reply_has_data operation && has_data operation) ≡ true → is_atomic operation ≡ true

@@ -1,6 +1,6 @@
 -- The live request that an open burst belongs to: it has started, isn't finished, and the burst is a piece of its plan. It knows both parts
 -- of a sound world; what becomes of the burst is hidden.
-use Rattle.std.proofs.Common.{◌≡◌, ℕ, zero, suc, ◌+◌, ◌<◌, ◌≤◌, nat_lt, Bool, true, false, ◌&&◌, ◌||◌, List, [], ◌∷◌, drop, take, Option, Some, None, refl, ap, ◌∙◌, subst, arith}
+use Rattle.std.proofs.Common.{◌≡◌, ℕ, zero, suc, ◌+◌, ◌<◌, ◌≤◌, nat_lt, Bool, true, false, ◌&&◌, ◌||◌, List, [], ◌∷◌, drop, take, Option, Some, None, is_some, refl, ap, ◌∙◌, subst, arith}
 use Rattle.std.specs.List.{filter, find, slice_get}
 use Rattle.std.proofs.lemmas.Bool.{lt-ltb}
 use Rattle.axi_beats.specs.Transfers.{transfer_has}
@@ -89,8 +89,8 @@ planned_range flight no_plan undone = by_plan flight.plan refl
     by_plan None is = absurd (cc (no_plan is, undone))
     by_plan (Some range) is = record { range = range; is = is }
 
-begun : (sent : ℕ) (done : Bool) → 0 < sent → (nat_lt 0 sent || done) ≡ true
-begun sent done some = rw (lt-ltb 0 sent some) refl
+begun : (own : Option ℕ) (id : ℕ) (done : Bool) → own ≡ Some id → (is_some own || done) ≡ true
+begun own id done is = rw is refl
 
 pub going_on : (order : Order) (state : WorldState) (id : ℕ) (request : BridgedRequest) (k : ℕ) (burst : Bool × Piece) → IsSoundWorld state → state.bridge.requests.regions ≡ order.regions
     → IsHolder state.bridge.requests id request → slice_get (outstanding request.flight) k ≡ Some burst → IsGoingOn order state.bridge.requests request burst
@@ -111,15 +111,15 @@ going_on order state id request k burst sound regions known there =
       at = planned_at table.config order.regions request plan.range sound.bridge_laws.requests.config pages served plan.is;
       pages = pages;
       served = served;
-      started = ap (λ (found : Option BridgedRequest). nat_lt request.flight.number table.accepted && has_begun found) by_number ∙ both known.sound.number (begun request.flight.sent request.flight.done (omega (arith, before)));
+      started = ap (λ (found : Option BridgedRequest). nat_lt request.flight.number table.accepted && has_begun found) by_number ∙ both known.sound.number (begun request.flight.id id request.flight.done known.has_id);
       unfinished = ap (λ (found : Option BridgedRequest). nat_lt request.flight.number table.accepted && is_over found) by_number ∙ neither known.live;
     }
   where
     by_number : find (is_numbered request.flight.number) state.bridge.requests.live ≡ Some request
     by_number = found_by_number (holds id) state.bridge.requests.live request sound.bridge_laws.requests.flights.rising known.held
 
-    both : request.flight.number < state.bridge.requests.accepted → (nat_lt 0 request.flight.sent || request.flight.done) ≡ true
-        → (nat_lt request.flight.number state.bridge.requests.accepted && (nat_lt 0 request.flight.sent || request.flight.done)) ≡ true
+    both : request.flight.number < state.bridge.requests.accepted → (is_some request.flight.id || request.flight.done) ≡ true
+        → (nat_lt request.flight.number state.bridge.requests.accepted && (is_some request.flight.id || request.flight.done)) ≡ true
     both below has = rw (lt-ltb request.flight.number state.bridge.requests.accepted below, has) refl
 
     last : (a : Bool) → (a && false) ≡ false
@@ -129,7 +129,7 @@ going_on order state id request k burst sound regions known there =
     neither : request.flight.done ≡ false → (nat_lt request.flight.number state.bridge.requests.accepted && request.flight.done) ≡ false
     neither undone = rw undone (last (nat_lt request.flight.number state.bridge.requests.accepted))
 
--- its place is counted through all its bursts
+-- its place is counted through the bursts of its phase
 pub going_on-place : (order : Order) (state : WorldState) (id : ℕ) (request : BridgedRequest) (k : ℕ) (burst : Bool × Piece) (sound : IsSoundWorld state) (regions : state.bridge.requests.regions ≡ order.regions)
     (known : IsHolder state.bridge.requests id request) (there : slice_get (outstanding request.flight) k ≡ Some burst) → (going_on order state id request k burst sound regions known there).place ≡ k + request.flight.answered
 unfolding going_on

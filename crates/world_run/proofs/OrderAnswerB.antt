@@ -19,7 +19,6 @@ use Rattle.bridge_core.specs.Bridge.{after_b_beat}
 use Rattle.bridge_core.specs.Configs.{table_limits_of}
 use Rattle.bridge_core.specs.Laws.{IsServed, outstanding}
 use Rattle.bridge_core.specs.Requests.{BridgedRequest, RequestTable, address_of, after_response, holds}
-use Rattle.bridge_core.proofs.AnswerLinks.{side_of}
 use Rattle.bridge_core.proofs.HolderChanges.{IsNextOf, filter-without-other, part-next}
 use Rattle.bridge_core.proofs.ResponseLinks.{settled-other}
 use Rattle.subordinate.specs.Faults.{Faults, standing_at, write_response}
@@ -84,7 +83,7 @@ module _ (order : Order) (state : WorldState) (id : ℕ) (pending : Pending) (so
 
   abbrev first : IsFirstOf order state.memory.bus_bytes keeps.wrote request.flight.number true mine (outstanding request.flight) pending
   first =
-      first_on order state.memory.bus_bytes keeps.wrote request.flight.number id true (side_of request.flight) mine (outstanding request.flight) pending (all_kept (is_of_id id) state.memory.pending)
+      first_on order state.memory.bus_bytes keeps.wrote request.flight.number id true request.flight.writing mine (outstanding request.flight) pending (all_kept (is_of_id id) state.memory.pending)
       has.known.one_side has.are found_mine
 
   next : IsNextOf (planned request.flight) request.flight.answered request.flight.sent (true, first.piece) first.rest
@@ -141,7 +140,7 @@ module _ (order : Order) (state : WorldState) (id : ℕ) (pending : Pending) (so
         number = refl;
         has_id = has.known.has_id;
         sent = has.known.sound.sent;
-        in_order = settled_in_order order state.memory.bus_bytes keeps.wrote answered (omega (arith, next.within, has.known.sound.sent)) of.asked of.unwritten of.unsent written told;
+        in_order = settled_in_order order state.memory.bus_bytes keeps.wrote answered of.asked of.unwritten of.unsent written told;
         own = own;
         others = λ j other. filter-without-other (is_of_id j) (is_write_of id) state.memory.pending (λ p is. of_one id j p other (write_is_of id p is));
         held_by_others = λ j r fails. settled-other j (record r { flight = with_answered r.flight; gathering = after_b resp r.gathering }) fails;

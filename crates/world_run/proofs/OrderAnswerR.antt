@@ -21,7 +21,7 @@ use Rattle.bridge_core.specs.Bridge.{after_r_beat}
 use Rattle.bridge_core.specs.Configs.{table_limits_of}
 use Rattle.bridge_core.specs.Laws.{IsServed, came_of, came_of_next, open_read, open_reads, outstanding, outstanding_of}
 use Rattle.bridge_core.specs.Requests.{BridgedRequest, RequestTable, address_of, after_read, holds, settled}
-use Rattle.bridge_core.proofs.AnswerLinks.{AreOf, IsReader, reader_known, side_of}
+use Rattle.bridge_core.proofs.AnswerLinks.{AreOf, IsReader, reader_known}
 use Rattle.bridge_core.proofs.HolderChanges.{filter-found, filter-without-other}
 use Rattle.bridge_core.proofs.ReadLinks.{after_read-last, after_read-more, after_read-other, closed_by, counted_by}
 use Rattle.bridge_core.proofs.ServedRequests.{IsReading}
@@ -122,7 +122,7 @@ module _ (order : Order) (state : WorldState) (id : ℕ) (pending : Pending) (pa
 
   abbrev first : IsFirstOf order state.memory.bus_bytes keeps.wrote request.flight.number false mine (outstanding request.flight) pending
   first =
-      first_on order state.memory.bus_bytes keeps.wrote request.flight.number id false (side_of request.flight) mine (outstanding request.flight) pending (all_kept (is_of_id id) state.memory.pending)
+      first_on order state.memory.bus_bytes keeps.wrote request.flight.number id false request.flight.writing mine (outstanding request.flight) pending (all_kept (is_of_id id) state.memory.pending)
       has.known.one_side has.are found_mine
 
   abbrev open_one : OpenRead
@@ -153,7 +153,7 @@ module _ (order : Order) (state : WorldState) (id : ℕ) (pending : Pending) (pa
 
   alike : AreOf false first.rest
   alike =
-      let sides = subst (λ (bursts : List (Bool × Piece)). AreOf (side_of request.flight) bursts) first.outstanding has.known.one_side in
+      let sides = subst (λ (bursts : List (Bool × Piece)). AreOf request.flight.writing bursts) first.outstanding has.known.one_side in
       subst (λ (side : Bool). AreOf side first.rest) (sym sides.0) sides.1
 
   reader : IsReader state.bridge r request first.piece first.rest
@@ -222,7 +222,7 @@ module _ (order : Order) (state : WorldState) (id : ℕ) (pending : Pending) (pa
         has_id = has.known.has_id;
         sent = has.known.sound.sent;
         in_order =
-            settled_in_order order state.memory.bus_bytes keeps.wrote closed (omega (arith, reader.next.within, has.known.sound.sent)) of.asked of.unwritten of.unsent closed_written (told_settled closed becomes);
+            settled_in_order order state.memory.bus_bytes keeps.wrote closed of.asked of.unwritten of.unsent closed_written (told_settled closed becomes);
         own = closed_own;
         others = λ j other. filter-without-other (is_of_id j) (is_read_of id) state.memory.pending (λ p passes. of_one id j p other (read_is_of id p passes));
         held_by_others = λ j q fails. after_read-other table.config.axi_bytes r j q fails;
@@ -255,7 +255,7 @@ module _ (order : Order) (state : WorldState) (id : ℕ) (pending : Pending) (pa
         has_id = has.known.has_id;
         sent = has.known.sound.sent;
         in_order =
-            settled_in_order order state.memory.bus_bytes keeps.wrote counted (omega (arith, reader.next.within, has.known.sound.sent)) of.asked of.unwritten of.unsent of.written (told_settled counted becomes);
+            settled_in_order order state.memory.bus_bytes keeps.wrote counted of.asked of.unwritten of.unsent of.written (told_settled counted becomes);
         own = counted_own;
         others = λ j other.
             let fails = of_one id j pending other passes_mine in

@@ -77,7 +77,7 @@ accept_keeps order state client beat foreseen keeps moves held =
     in_order =
         record {
           asked = foreseen;
-          unwritten = λ atomic isnt x. unwritten_yet order state.bridge.requests keeps.wrote (memory_bytes state) x keeps.history;
+          unwritten = λ isnt x. unwritten_yet order state.bridge.requests keeps.wrote (memory_bytes state) x keeps.history;
           unsent = λ k n x piece past there within has. unwritten_yet order state.bridge.requests keeps.wrote (memory_bytes state) x keeps.history;
           written = λ k n x piece below there first last has writes_it. absurd (omega (arith, below));
           gathered = gathered-start order state.bridge.requests state.memory.bus_bytes (message_with state.bridge client beat) keeps.regions;

@@ -13,11 +13,11 @@ use Rattle.axi_checker.specs.Rules.{id_of}
 use Rattle.burst_plan.specs.declared.Piece.{Piece}
 use Rattle.tl_messages.specs.Operations.{has_data, reply_has_data}
 use Rattle.tl_messages.specs.Requests.{request_of}
-use Rattle.flight_table.specs.LiveRequests.{is_atomic, pieces_planned, planned, planned_writes, read_pieces}
+use Rattle.flight_table.specs.LiveRequests.{planned}
+use Rattle.flight_table.proofs.PhaseLaws.{read_at, write_at}
 use Rattle.flight_table.specs.Order.{is_id}
 use Rattle.bridge_core.specs.Laws.{outstanding}
 use Rattle.bridge_core.specs.Requests.{BridgedRequest, RequestTable, holder, holds}
-use Rattle.bridge_core.proofs.AnswerLinks.{read_at}
 use Rattle.subordinate.specs.FreeMemory.{FreeMemory, Pending, beat_after, beat_at, has_serial, memory_after, performed, with_beat, with_performed, reads_as, writes_as}
 use Rattle.subordinate.proofs.PerformedBeats.{performs_done}
 use Rattle.subordinate.specs.Laws.{IsSoundPending}
@@ -31,7 +31,7 @@ use Rattle.world_run.specs.World.{WorldState, changed}
 use Rattle.world_run.specs.declared.Answer.TheVariants.{Done}
 use Rattle.world_run.proofs.AllWritten.{no_data_written}
 use Rattle.world_run.proofs.ApartWrites.{same_transfer}
-use Rattle.world_run.proofs.BurstBytes.{write_is_planned, writes_in_range}
+use Rattle.world_run.proofs.BurstBytes.{writes_in_range}
 use Rattle.world_run.proofs.History.{found_here, history_stores, store_adds, store_keeps, with_written}
 use Rattle.world_run.proofs.HolderBursts.{of_same_holder}
 use Rattle.world_run.proofs.ListChanges.{all_both, filter-change-kept, filter-change-other, find-filter}
@@ -43,41 +43,10 @@ use Rattle.world_run.proofs.SerialBytes.{left_alone, message_touches}
 
 -- ---- what its request hasn't written
 
--- a request that still reads has written nothing
+-- a request that reads has written nothing
 pub reader_unwritten : (order : Order) (table : RequestTable) (bus_bytes : ℕ) (wrote : ℕ → ℕ → Bool) (request : BridgedRequest) (piece : Piece) (x : ℕ) → IsGoingOn order table request (false, piece)
-    → IsInOrder order bus_bytes wrote request → (wrote request.flight.number x ≡ true → writes order request.flight.number x ≡ true) → wrote request.flight.number x ≡ false
-reader_unwritten order table bus_bytes wrote request piece x going of writer = by_atomic (is_atomic request.flight) refl
-  where
-    read : slice_get (read_pieces request.flight) going.place ≡ Some piece
-    read = read_at (read_pieces request.flight) (planned_writes request.flight) going.place piece going.planned
-
-    reading : (b : Bool) → request.flight.writing ≡ b → b ≡ false
-    reading true is =
-        let writing = going.served.writing is in
-        let within = slice_get_within (read_pieces request.flight) going.place piece read in
-        absurd (omega (arith, going.unanswered, writing.1, within))
-    reading false is = refl
-
-    has_reply : (b : Bool) → reply_has_data request.flight.operation ≡ b → slice_get (if b then pieces_planned request.flight.plan else []) going.place ≡ Some piece → b ≡ true
-    has_reply true is there = refl
-    has_reply false is there = absurd (cc (there))
-
-    replies : reply_has_data request.flight.operation ≡ true
-    replies = has_reply (reply_has_data request.flight.operation) refl read
-
-    no_data : (b : Bool) → has_data request.flight.operation ≡ b → is_atomic request.flight ≡ false → b ≡ false
-    no_data true is isnt = let both : is_atomic request.flight ≡ true = rw (replies, is) refl in absurd (cc (both, isnt))
-    no_data false is isnt = refl
-
-    by_atomic : (b : Bool) → is_atomic request.flight ≡ b → wrote request.flight.number x ≡ false
-    by_atomic true is = of.unwritten is (reading request.flight.writing refl) x
-    by_atomic false isnt =
-        let none : has_data request.message.operation ≡ false = ap has_data (sym going.served.flight.operation) ∙ no_data (has_data request.flight.operation) refl isnt in
-        let never = no_data_written order request.flight.number (request_of request.message) x of.asked none in
-        elim (cases_Bool (wrote request.flight.number x)) [
-          | inl there ↦ absurd (cc (writer there, never))
-          | inr out ↦ out
-        ]
+    → IsInOrder order bus_bytes wrote request → wrote request.flight.number x ≡ false
+reader_unwritten order table bus_bytes wrote request piece x going of = of.unwritten (read_at request.flight going.place piece going.planned).0 x
 
 -- ---- the step
 
@@ -136,8 +105,7 @@ module _ (order : Order) (state : WorldState) (pending : Pending) (beat : ℕ) (
   finds x holds_it reads =
       found_here (writes order) (touches order) (bytes_before order) (started table) (finished table) keeps.wrote (memory_bytes state) number x keeps.history keeps.held going.started going.unfinished
       (transfer_touches order table has.request one.burst (beat + 1) x going of.asked (omega arith) within holds_it)
-      (reader_unwritten order table state.memory.bus_bytes keeps.wrote has.request one.burst.1 x (subst (λ (side : Bool). IsGoingOn order table has.request (side, one.burst.1)) reads going) of
-      (keeps.history.writer number x))
+      (reader_unwritten order table state.memory.bus_bytes keeps.wrote has.request one.burst.1 x (subst (λ (side : Bool). IsGoingOn order table has.request (side, one.burst.1)) reads going) of)
 
   does : PerformsSerially order state.memory keeps.wrote number pending one.burst beat
   does =
@@ -169,21 +137,17 @@ module _ (order : Order) (state : WorldState) (pending : Pending) (beat : ℕ) (
   kept : (i x : ℕ) → keeps.wrote i x ≡ true → more i x ≡ true
   kept i x there = store_keeps number adds keeps.wrote i x there
 
-  -- an atomic whose write isn't planned has written no more
-  same_unplanned : (burst : Bool × Piece) (x : ℕ) → IsGoingOn order table has.request burst → is_atomic has.request.flight ≡ true → has.request.flight.writing ≡ false
-      → stores_by order number burst (beat + 1) x ≡ false
-  same_unplanned (true, piece) x is_going atomic isnt =
-      let planned_one = write_is_planned has.request.flight is_going.place piece atomic is_going.planned in
-      absurd (cc (planned_one, isnt))
-  same_unplanned (false, piece) x is_going atomic isnt = refl
+  -- a request that reads has written no more
+  same_unplanned : (burst : Bool × Piece) (x : ℕ) → IsGoingOn order table has.request burst → has.request.flight.writing ≡ false → stores_by order number burst (beat + 1) x ≡ false
+  same_unplanned (true, piece) x is_going isnt = absurd (cc ((write_at has.request.flight is_going.place piece is_going.planned).0, isnt))
+  same_unplanned (false, piece) x is_going isnt = refl
 
-  same_unwritten : (r : BridgedRequest) → (r.flight.number ≡ number → r ≡ has.request) → is_atomic r.flight ≡ true → r.flight.writing ≡ false → (x : ℕ)
-      → more r.flight.number x ≡ keeps.wrote r.flight.number x
-  same_unwritten r alone atomic isnt x =
+  same_unwritten : (r : BridgedRequest) → (r.flight.number ≡ number → r ≡ has.request) → r.flight.writing ≡ false → (x : ℕ) → more r.flight.number x ≡ keeps.wrote r.flight.number x
+  same_unwritten r alone isnt x =
       elim (cases_eq r.flight.number number) [
         | inl its ↦
             let same = alone its in
-            let none = same_unplanned one.burst x going (ap (λ (q : BridgedRequest). is_atomic q.flight) (sym same) ∙ atomic) (ap (λ (q : BridgedRequest). q.flight.writing) (sym same) ∙ isnt) in
+            let none = same_unplanned one.burst x going (ap (λ (q : BridgedRequest). q.flight.writing) (sym same) ∙ isnt) in
             not_added number adds keeps.wrote r.flight.number x (and_right (r.flight.number == number) (adds x) none)
         | inr other ↦ not_added number adds keeps.wrote r.flight.number x (rw (ne_eqb r.flight.number number other) refl)
       ]

@@ -34,7 +34,8 @@ use Rattle.world_run.proofs.LiveNumbers.{HoldsBackIn, history_changed}
 use Rattle.world_run.proofs.OpenOfHolder.{bursts_append}
 use Rattle.burst_plan.specs.declared.Region.{Region}
 use Rattle.flight_table.specs.LiveRequests.{is_atomic}
-use Rattle.world_run.proofs.BurstBytes.{burst_of_next, planned_at, write_is_planned}
+use Rattle.flight_table.proofs.PhaseLaws.{write_at}
+use Rattle.world_run.proofs.BurstBytes.{burst_of_next, planned_at}
 use Rattle.world_run.proofs.BytesLeft.{FindsSerially}
 use Rattle.world_run.proofs.FoundValues.{finds_writing}
 
@@ -87,8 +88,8 @@ module _ (order : Order) (state : WorldState) (sending : Sending) (sent : IsNext
   -- an atomic that writes does so with the value that it finds
   finds : is_atomic request.flight ≡ true → sent.write ≡ true → FindsSerially order request sent.range.address
   finds atomic writes =
-      finds_writing order table.config (table_limits_of table.config) table.accepted request sent.range.address sound.bridge_laws.requests.config served each sent.ready.undone
-      (write_is_planned request.flight request.flight.sent sent.piece atomic (sent.next ∙ ap (λ (side : Bool). Some (side, sent.piece)) writes))
+      finds_writing order table.config (table_limits_of table.config) table.accepted request sent.range.address sound.bridge_laws.requests.config served each sent.ready.undone atomic
+      (write_at request.flight request.flight.sent sent.piece (sent.next ∙ ap (λ (side : Bool). Some (side, sent.piece)) writes)).0
       (planned_at table.config order.regions request sent.range sound.bridge_laws.requests.config served.pages served sent.plan).address
       (subst (λ bus. IsGathered order bus request (address_of order.regions (request_of request.message))) sound.bus of.gathered)
 

@@ -1,6 +1,6 @@
 -- A reply that is taken keeps the order: its request is done, so it has no open burst, and a number that isn't live any more is finished.
 -- It knows the table with one entry less; the memory stays as it was.
-use Rattle.std.proofs.Common.{◌≡◌, ℕ, ◌==◌, nat_lt, Bool, true, false, ◌&&◌, ◌||◌, Option, Some, None, refl, ap, sym, ◌∙◌, inl, inr}
+use Rattle.std.proofs.Common.{◌≡◌, ℕ, ◌==◌, nat_lt, Bool, true, false, ◌&&◌, ◌||◌, Option, Some, None, is_some, refl, ap, sym, ◌∙◌, inl, inr}
 use Rattle.std.specs.List.{filter, find}
 use Rattle.std.proofs.lemmas.Bool.{and_parts}
 use Rattle.bus_words.proofs.PlaceChanges.{all-without_first}
@@ -39,7 +39,7 @@ take_keeps order state client request sound keeps held =
       regions = keeps.regions;
       history =
           history_moves (writes order) (bytes_before order) (started state.bridge.requests) (finished state.bridge.requests) (started (without_done client state.bridge.requests)) (finished (without_done client state.bridge.requests)) keeps.wrote (memory_bytes state) keeps.history
-          (λ n was. ap (λ b. nat_lt n state.bridge.requests.accepted && b) (same_test state.bridge.requests client n has_begun rising (λ r done. begun_last (nat_lt 0 r.flight.sent) r.flight.done done) refl) ∙ was)
+          (λ n was. ap (λ b. nat_lt n state.bridge.requests.accepted && b) (same_test state.bridge.requests client n has_begun rising (λ r done. begun_last (is_some r.flight.id) r.flight.done done) refl) ∙ was)
           (λ n over. inl (ap (λ b. nat_lt n state.bridge.requests.accepted && b) (sym (same_test state.bridge.requests client n is_over rising (λ r done. done) refl)) ∙ over));
       held = held;
       live = all-without_first (IsInOrder order state.memory.bus_bytes keeps.wrote) (is_done_for client) state.bridge.requests.live keeps.live;

@@ -13,7 +13,7 @@ use Rattle.axi_beats.specs.declared.AwBeat.{AwBeat}
 use Rattle.axi_beats.specs.declared.Resp.{Resp}
 use Rattle.axi_beats.specs.declared.WBeat.{WBeat}
 use Rattle.burst_plan.specs.declared.Piece.{Piece}
-use Rattle.flight_table.specs.LiveRequests.{is_atomic, planned}
+use Rattle.flight_table.specs.LiveRequests.{planned}
 use Rattle.bridge_core.specs.Laws.{outstanding}
 use Rattle.bridge_core.specs.Requests.{BridgedRequest}
 use Rattle.subordinate.specs.Effects.{HasEffect, IsCaptured, IsWritten}
@@ -334,15 +334,15 @@ of_holder_same order bus_bytes wrote more mine (Some request) same of =
     leaves (true, piece) = λ n x within has none. same x ∙ none
     leaves (false, piece) = tt
 
--- and a live request stays in order, where an atomic that doesn't write yet still wrote nothing, and nothing more is written of what isn't sent
+-- and a live request stays in order, where one that reads still wrote nothing, and nothing more is written of what isn't sent
 pub in_order_more : (order : Order) (bus_bytes : ℕ) (wrote more : ℕ → ℕ → Bool) (request : BridgedRequest) → ((x : ℕ) → wrote request.flight.number x ≡ true → more request.flight.number x ≡ true)
-    → (is_atomic request.flight ≡ true → request.flight.writing ≡ false → (x : ℕ) → more request.flight.number x ≡ wrote request.flight.number x)
+    → (request.flight.writing ≡ false → (x : ℕ) → more request.flight.number x ≡ wrote request.flight.number x)
     → ((k : ℕ) (burst : Bool × Piece) → request.flight.sent ≤ k → slice_get (planned request.flight) k ≡ Some burst → LeavesBurst wrote more request.flight.number burst)
     → IsInOrder order bus_bytes wrote request → IsInOrder order bus_bytes more request
 in_order_more order bus_bytes wrote more request kept same leaves of =
     record {
       asked = of.asked;
-      unwritten = λ atomic isnt x. same atomic isnt x ∙ of.unwritten atomic isnt x;
+      unwritten = λ isnt x. same isnt x ∙ of.unwritten isnt x;
       unsent = λ k n x piece past there within has. leaves k (true, piece) past there n x within has (of.unsent k n x piece past there within has);
       written = λ k n x piece answered there first last has writes_there. kept x (of.written k n x piece answered there first last has writes_there);
       gathered = of.gathered;

@@ -13,12 +13,13 @@ use Rattle.burst_plan.specs.PlannedTransfers.{beat_bytes, burst_beats, burst_byt
 use Rattle.burst_plan.specs.declared.Piece.{Piece}
 use Rattle.burst_plan.proofs.PieceLaws.{DividesEvenly, burst_count, divides_evenly, piece_at, piece_listed, slice_get-pieces}
 use Rattle.burst_plan.proofs.TransferPlaces.{transfer_end-at, transfer_start-at}
-use Rattle.flight_table.specs.LiveRequests.{pieces_planned, planned_writes, read_pieces}
+use Rattle.flight_table.specs.LiveRequests.{read_pieces}
+use Rattle.flight_table.proofs.PhaseLaws.{read_at}
 use Rattle.bridge_core.specs.Configs.{is_valid}
 use Rattle.bridge_core.specs.Laws.{IsServed, answered_pieces, beats_in}
 use Rattle.bridge_core.specs.Requests.{BridgedRequest, address_of, range_at}
 use Rattle.bridge_core.specs.declared.Config.{Config}
-use Rattle.bridge_core.proofs.AnswerLinks.{beats_in-next, read_at}
+use Rattle.bridge_core.proofs.AnswerLinks.{beats_in-next}
 use Rattle.bridge_core.proofs.SentBursts.{plannable}
 use Rattle.bridge_core.proofs.ServedRequests.{IsReading}
 use Rattle.subordinate.specs.Faults.{read_response}
@@ -84,10 +85,6 @@ transfer_at range even k n =
 
 -- ---- a read of a request
 
-read_has : (has : Bool) (parts : List Piece) (k : ℕ) (piece : Piece) → slice_get (if has then parts else []) k ≡ Some piece → has ≡ true
-read_has true parts k piece found = refl
-read_has false parts k piece found = absurd (cc (found))
-
 -- the next beat of a read, as one of the transfers of the request's range
 transfer_of_read : (order : Order) (config : Config) (request : BridgedRequest) (address : ℕ) (piece : Piece) (n : ℕ) → is_valid config ≡ true → IsServed config order.regions request
     → address_of order.regions (request_of request.message) ≡ Some address → IsReading request piece n
@@ -102,11 +99,11 @@ transfer_of_read order config request address piece n valid served at reading =
     k : ℕ
     k = request.flight.answered
 
-    read : slice_get (read_pieces request.flight) k ≡ Some piece
-    read = read_at (read_pieces request.flight) (planned_writes request.flight) k piece reading.burst
+    read : (request.flight.writing ≡ false) × (slice_get (read_pieces request.flight) k ≡ Some piece)
+    read = read_at request.flight k piece reading.burst
 
     has : reply_has_data request.flight.operation ≡ true
-    has = read_has (reply_has_data request.flight.operation) (pieces_planned request.flight.plan) k piece read
+    has = served.reading read.0
 
     sends : reply_has_data request.message.operation ≡ true
     sends = ap reply_has_data (sym served.flight.operation) ∙ has
@@ -121,11 +118,11 @@ transfer_of_read order config request address piece n valid served at reading =
     even = divides_evenly range (plannable config order.regions request range valid served.pages served plan).0
 
     listed : (k < burst_count range) × (piece ≡ piece_at range k)
-    listed = piece_listed range even k piece (rw parts at read)
+    listed = piece_listed range even k piece (rw parts at read.1)
 
     place : k * burst_beats range + n ≡ request.gathering.came
     place =
-        let before : beats_in (answered_pieces request.flight) ≡ k * burst_beats range = rw parts (beats_before range even k (omega (arith, listed.0))) in
+        let before : beats_in (answered_pieces request.flight) ≡ k * burst_beats range = rw (read.0, parts) (beats_before range even k (omega (arith, listed.0))) in
         omega (arith, before, reading.came)
 
 -- the next beat of a read tells, at its place, what the request finds

@@ -1,6 +1,6 @@
 -- Serials of bursts don't run out. It counts bursts by request; everything else is hidden.
 use Rattle.std.proofs.Common.{◌≡◌, ℕ, ◌*◌, ◌^◌, ◌<◌, ◌≤◌, ◌⊎◌, inl, inr, Bool, true, false, List, [], length, Option, Some, None, refl, sym, subst, arith}
-use Rattle.std.specs.Prelude.{if◌then◌else◌, min, not, ◌||◌}
+use Rattle.std.specs.Prelude.{if◌then◌else◌, min}
 use Rattle.std.proofs.Math.Nat.{mul-le-mul_left, mul-le-mul_right}
 use Rattle.std.proofs.Math.Pow.{pow_mono}
 use Rattle.tl_messages.specs.Operations.{has_data, reply_has_data}
@@ -15,8 +15,8 @@ use Rattle.bridge_core.specs.Laws.{IsServed}
 use Rattle.bridge_core.specs.Requests.{BridgedRequest}
 use Rattle.bridge_core.specs.declared.Config.{Config}
 use Rattle.bridge_core.proofs.SentBursts.{plannable}
-use Rattle.flight_table.specs.LiveRequests.{LiveRequest, is_atomic, pieces_planned, planned, planned_writes, read_pieces, write_pieces}
-use Rattle.flight_table.proofs.CourseLaws.{length_course}
+use Rattle.flight_table.specs.LiveRequests.{LiveRequest, all_sent, pieces_planned, planned, read_pieces, write_pieces}
+use Rattle.flight_table.proofs.PhaseLaws.{length_reading, length_writing}
 
 -- ---- a plan has at most 1,024 pieces
 
@@ -52,12 +52,18 @@ few_either : (test : Bool) (parts : List Piece) → length parts ≤ 1024 → le
 few_either true parts few = few
 few_either false parts few = omega arith
 
-few_planned : (flight : LiveRequest) → length (pieces_planned flight.plan) ≤ 1024 → length (planned flight) ≤ 2048
-few_planned flight few =
-    let reads = few_either (reply_has_data flight.operation) (pieces_planned flight.plan) few in
-    let writes = few_either (has_data flight.operation) (pieces_planned flight.plan) few in
-    let planned = few_either (not (is_atomic flight) || flight.writing) (write_pieces flight) writes in
-    omega (arith, length_course (read_pieces flight) (planned_writes flight), reads, planned)
+few_planned : (flight : LiveRequest) → length (pieces_planned flight.plan) ≤ 1024 → flight.sent ≤ length (planned flight) → all_sent flight ≤ 2048
+few_planned flight few most = by_side flight.writing refl
+  where
+    reads : length (read_pieces flight) ≤ 1024
+    reads = few_either (reply_has_data flight.operation) (pieces_planned flight.plan) few
+
+    writes : length (write_pieces flight) ≤ 1024
+    writes = few_either (has_data flight.operation) (pieces_planned flight.plan) few
+
+    by_side : (b : Bool) → flight.writing ≡ b → all_sent flight ≤ 2048
+    by_side true is = let sent : flight.sent ≤ 1024 = omega (arith, most, length_writing flight is, writes) in rw is (omega (arith, sent, reads))
+    by_side false is = let sent : flight.sent ≤ 1024 = omega (arith, most, length_reading flight is, reads) in rw is (omega (arith, sent))
 
 -- a live request has sent at most 2,048 bursts
 few_of_plan : (config : Config) (regions : List Region) (request : BridgedRequest) → is_valid config ≡ true → IsServed config regions request → (plan : Option PlannedRange) → request.flight.plan ≡ plan
@@ -65,5 +71,6 @@ few_of_plan : (config : Config) (regions : List Region) (request : BridgedReques
 few_of_plan config regions request valid served None is = omega arith
 few_of_plan config regions request valid served (Some range) is = few_pieces range (plannable config regions request range valid served.pages served is).0
 
-pub most_sent : (config : Config) (regions : List Region) (request : BridgedRequest) → is_valid config ≡ true → IsServed config regions request → length (planned request.flight) ≤ 2048
-most_sent config regions request valid served = few_planned request.flight (few_of_plan config regions request valid served request.flight.plan refl)
+pub most_sent : (config : Config) (regions : List Region) (request : BridgedRequest) → is_valid config ≡ true → IsServed config regions request → request.flight.sent ≤ length (planned request.flight)
+    → all_sent request.flight ≤ 2048
+most_sent config regions request valid served most = few_planned request.flight (few_of_plan config regions request valid served request.flight.plan refl) most

@@ -5,48 +5,32 @@ use Rattle.std.specs.Prelude.{if◌then◌else◌}
 use Rattle.std.specs.List.{slice_get}
 use Rattle.axi_beats.specs.Transfers.{transfer_has}
 use Rattle.burst_plan.specs.declared.Piece.{Piece}
-use Rattle.flight_table.specs.LiveRequests.{course, is_atomic, is_settled, planned, read_pieces, write_pieces}
+use Rattle.flight_table.specs.LiveRequests.{is_settled, planned}
 use Rattle.tl_messages.specs.Requests.{request_of}
 use Rattle.bridge_core.specs.Requests.{BridgedRequest, address_of, settled}
 use Rattle.bridge_core.proofs.ResponseLinks.{finished_one, settled_as, with_its_write}
-use Rattle.bridge_core.proofs.ServedRequests.{write_past}
 use Rattle.world_run.specs.InOrder.{IsGathered, IsInOrder}
 use Rattle.world_run.specs.Serial.{Order, asked, writes}
 
 -- ---- what settling leaves
 
-pub settled_has : (P : BridgedRequest → Type 0) (request : BridgedRequest) → P request → (is_settled request.flight ≡ true → P (with_its_write request)) → (is_settled request.flight ≡ true → P (finished_one request))
+pub settled_has : (P : BridgedRequest → Type 0) (request : BridgedRequest) → P request → (request.flight.writing ≡ false → P (with_its_write request)) → P (finished_one request)
     → P (settled request)
 settled_has P request going writing ending =
     elim (settled_as request) [
       | inl goes_on ↦ subst P (sym goes_on.1) going
-      | inr at_end ↦ at_the_end at_end.answered at_end.becomes
+      | inr at_end ↦ at_the_end at_end.becomes
     ]
   where
-    at_the_end : is_settled request.flight ≡ true → (settled request ≡ with_its_write request) ⊎ (settled request ≡ finished_one request) → P (settled request)
-    at_the_end all (inl writes) = subst P (sym writes) (writing all)
-    at_the_end all (inr ends) = subst P (sym ends) (ending all)
+    at_the_end : ((request.flight.writing ≡ false) × (settled request ≡ with_its_write request)) ⊎ (settled request ≡ finished_one request) → P (settled request)
+    at_the_end (inl writes) = subst P (sym writes.1) (writing writes.0)
+    at_the_end (inr ends) = subst P (sym ends) ending
 
 pub settled_number : (request : BridgedRequest) → (settled request).flight.number ≡ request.flight.number
-settled_number request = settled_has (λ r. r.flight.number ≡ request.flight.number) request refl (λ all. refl) (λ all. refl)
+settled_number request = settled_has (λ r. r.flight.number ≡ request.flight.number) request refl (λ reads. refl) refl
 
 pub settled_message : (request : BridgedRequest) → (settled request).message ≡ request.message
-settled_message request = settled_has (λ r. r.message ≡ request.message) request refl (λ all. refl) (λ all. refl)
-
--- ---- its planned bursts
-
-length_reads : (reads : List Piece) → length (course reads []) ≡ length reads
-length_reads [] = refl
-length_reads (r ∷ reads) = ap suc (length_reads reads)
-
--- a write that is answered was planned before its request planned more
-planned_before : (reads writes : List Piece) (atomic writing : Bool) (k : ℕ) (piece : Piece) → k < length (course reads (if not atomic || writing then writes else []))
-    → slice_get (course reads (if not atomic || true then writes else [])) k ≡ Some (true, piece) → slice_get (course reads (if not atomic || writing then writes else [])) k ≡ Some (true, piece)
-planned_before reads writes false writing k piece below there = there
-planned_before reads writes true true k piece below there = there
-planned_before reads writes true false k piece below there =
-    let past = write_past reads writes k piece there in
-    absurd (omega (arith, past, below, length_reads reads))
+settled_message request = settled_has (λ r. r.message ≡ request.message) request refl (λ reads. refl) refl
 
 -- ---- it is in order
 
@@ -57,18 +41,13 @@ HasWritten order wrote request =
     → transfer_has piece.address piece.size n x ≡ true → writes order request.flight.number x ≡ true → wrote request.flight.number x ≡ true
 
 abbrev pub IsUnwritten : (ℕ → ℕ → Bool) → BridgedRequest → Type 0
-IsUnwritten wrote request = is_atomic request.flight ≡ true → request.flight.writing ≡ false → (x : ℕ) → wrote request.flight.number x ≡ false
+IsUnwritten wrote request = request.flight.writing ≡ false → (x : ℕ) → wrote request.flight.number x ≡ false
 
-settled_written : (order : Order) (wrote : ℕ → ℕ → Bool) (request : BridgedRequest) → request.flight.answered ≤ length (planned request.flight) → HasWritten order wrote request → HasWritten order wrote (settled request)
-settled_written order wrote request most written =
-    settled_has (HasWritten order wrote) request written
-    (λ all k n x piece below there first last has writing.
-    written k n x piece below
-    (planned_before (read_pieces request.flight) (write_pieces request.flight) (is_atomic request.flight) request.flight.writing k piece (omega (arith, below, most)) there) first last has writing)
-    (λ all. written)
+settled_written : (order : Order) (wrote : ℕ → ℕ → Bool) (request : BridgedRequest) → HasWritten order wrote request → HasWritten order wrote (settled request)
+settled_written order wrote request written = settled_has (HasWritten order wrote) request written (λ reads k n x piece below. absurd (omega (arith, below))) written
 
 settled_unwritten : (wrote : ℕ → ℕ → Bool) (request : BridgedRequest) → IsUnwritten wrote request → IsUnwritten wrote (settled request)
-settled_unwritten wrote request none = settled_has (IsUnwritten wrote) request none (λ all atomic isnt x. absurd (cc (isnt))) (λ all. none)
+settled_unwritten wrote request none = settled_has (IsUnwritten wrote) request none (λ reads isnt x. absurd (cc (isnt))) none
 
 -- of a write that isn't sent nothing is written
 abbrev pub IsUnsent : (ℕ → ℕ → Bool) → BridgedRequest → Type 0
@@ -78,25 +57,15 @@ IsUnsent wrote request =
 
 -- nor of one that an atomic plans now
 settled_unsent : (wrote : ℕ → ℕ → Bool) (request : BridgedRequest) → IsUnwritten wrote request → IsUnsent wrote request → IsUnsent wrote (settled request)
-settled_unsent wrote request none unsent =
-    settled_has (IsUnsent wrote) request unsent
-    (λ all k n x piece past there within has. by_plan (is_atomic request.flight) request.flight.writing refl refl k n x piece past there within has)
-    (λ all. unsent)
-  where
-    by_plan : (atomic writing : Bool) → is_atomic request.flight ≡ atomic → request.flight.writing ≡ writing → (k n x : ℕ) (piece : Piece) → request.flight.sent ≤ k
-        → slice_get (planned (with_its_write request).flight) k ≡ Some (true, piece) → n ≤ piece.len → transfer_has piece.address piece.size (n + 1) x ≡ true → wrote request.flight.number x ≡ false
-    by_plan true false atomic isnt k n x piece past there within has = none atomic isnt x
-    by_plan false writing atomic is k n x piece past there within has = unsent k n x piece past (rw atomic (rw atomic at there)) within has
-    by_plan true true atomic is k n x piece past there within has = unsent k n x piece past (rw (atomic, is) (rw atomic at there)) within has
+settled_unsent wrote request none unsent = settled_has (IsUnsent wrote) request unsent (λ reads k n x piece past there within has. none reads x) unsent
 
-pub settled_in_order : (order : Order) (bus_bytes : ℕ) (wrote : ℕ → ℕ → Bool) (request : BridgedRequest) → request.flight.answered ≤ length (planned request.flight)
-    → asked order request.flight.number ≡ Some (request_of request.message) → IsUnwritten wrote request → IsUnsent wrote request → HasWritten order wrote request
+pub settled_in_order : (order : Order) (bus_bytes : ℕ) (wrote : ℕ → ℕ → Bool) (request : BridgedRequest) → asked order request.flight.number ≡ Some (request_of request.message) → IsUnwritten wrote request → IsUnsent wrote request → HasWritten order wrote request
     → IsGathered order bus_bytes (settled request) (address_of order.regions (request_of request.message)) → IsInOrder order bus_bytes wrote (settled request)
-settled_in_order order bus_bytes wrote request most is_asked none unsent written told =
+settled_in_order order bus_bytes wrote request is_asked none unsent written told =
     record {
       asked = ap (asked order) (settled_number request) ∙ is_asked ∙ ap (λ m. Some (request_of m)) (sym (settled_message request));
       unwritten = settled_unwritten wrote request none;
       unsent = settled_unsent wrote request none unsent;
-      written = settled_written order wrote request most written;
+      written = settled_written order wrote request written;
       gathered = subst (λ m. IsGathered order bus_bytes (settled request) (address_of order.regions (request_of m))) (sym (settled_message request)) told;
     }

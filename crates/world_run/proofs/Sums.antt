@@ -1,6 +1,7 @@
 -- Sums over lists of which one item changes or goes. Lists alone: no requests, no bursts.
-use Rattle.std.proofs.Common.{◌≡◌, ℕ, ◌+◌, Bool, true, false, List, [], ◌∷◌, Some, refl, ap, arith}
+use Rattle.std.proofs.Common.{◌≡◌, ℕ, ◌+◌, ◌≤◌, Bool, true, false, List, [], ◌∷◌, Some, refl, ap, arith}
 use Rattle.std.specs.Prelude.{find, if◌then◌else◌, sum_by}
+use Rattle.std.specs.List.{AllByRecursion}
 use Rattle.std.proofs.lemmas.List.Sums.{sum_by-cons}
 use Rattle.std.proofs.lemmas.Option.{same_Some}
 use Rattle.bus_words.specs.Places.{change_first, without_first}
@@ -18,14 +19,14 @@ sum_between {X = X} measure test change (y ∷ ys) x found = by_test (test y) fo
         rw same (omega (arith, sum_by-cons measure (change x) ys, sum_by-cons measure x ys))
     by_test false later rest = omega (arith, rest later, sum_by-cons measure y ys, sum_by-cons measure y (change_first test change ys))
 
--- a change that a measure doesn't see
-pub sum_unseen : {X : Type 0} (measure : X → ℕ) (test : X → Bool) (change : X → X) (xs : List X) → ((x : X) → measure (change x) ≡ measure x) → sum_by measure (change_first test change xs) ≡ sum_by measure xs
-sum_unseen measure test change [] unseen = refl
-sum_unseen {X = X} measure test change (y ∷ ys) unseen = by_test (test y) (sum_unseen measure test change ys unseen)
+-- a change that takes nothing from a measure
+pub sum_more : {X : Type 0} (P : X → Type 0) (measure : X → ℕ) (test : X → Bool) (change : X → X) (xs : List X) → ((x : X) → P x → measure x ≤ measure (change x)) → AllByRecursion P xs
+    → sum_by measure xs ≤ sum_by measure (change_first test change xs)
+sum_more P measure test change [] more all = omega arith
+sum_more {X = X} P measure test change (y ∷ ys) more all = by_test (test y) (sum_more P measure test change ys more all.1)
   where
-    by_test : (here : Bool) → sum_by measure (change_first test change ys) ≡ sum_by measure ys
-        → sum_by measure (if here then change y ∷ ys else y ∷ change_first test change ys) ≡ sum_by measure (y ∷ ys)
-    by_test true later = omega (arith, sum_by-cons measure (change y) ys, sum_by-cons measure y ys, unseen y)
+    by_test : (here : Bool) → sum_by measure ys ≤ sum_by measure (change_first test change ys) → sum_by measure (y ∷ ys) ≤ sum_by measure (if here then change y ∷ ys else y ∷ change_first test change ys)
+    by_test true later = omega (arith, sum_by-cons measure (change y) ys, sum_by-cons measure y ys, more y all.0)
     by_test false later = omega (arith, sum_by-cons measure y (change_first test change ys), sum_by-cons measure y ys, later)
 
 -- the first item that passes a test goes

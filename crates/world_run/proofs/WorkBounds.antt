@@ -11,8 +11,8 @@ use Rattle.burst_plan.specs.declared.Piece.{Piece}
 use Rattle.burst_plan.specs.declared.Region.{Region}
 use Rattle.burst_plan.proofs.PlanLaws.{beats_counted}
 use Rattle.tl_messages.specs.Operations.{has_data, reply_has_data}
-use Rattle.flight_table.specs.LiveRequests.{LiveRequest, course, pieces_planned, read_pieces, whole_course, write_pieces}
-use Rattle.flight_table.specs.Work.{answers_of_burst, beats_of_burst, unsent_work, work_of_bursts}
+use Rattle.flight_table.specs.LiveRequests.{LiveRequest, bursts_of, phase_pieces, pieces_planned, planned, read_pieces, write_pieces}
+use Rattle.flight_table.specs.Work.{answers_of_burst, beats_of_burst, later_work, unsent_work, work_of_bursts}
 use Rattle.bridge_core.specs.Configs.{is_valid}
 use Rattle.bridge_core.specs.Laws.{IsServed, beats_in}
 use Rattle.bridge_core.specs.Requests.{BridgedRequest, flights_of}
@@ -47,34 +47,42 @@ bursts_work : (bursts : List (Bool × Piece)) → work_of_bursts bursts ≤ 3 * 
 bursts_work [] = omega arith
 bursts_work (burst ∷ bursts) = omega (arith, burst_work burst, bursts_work bursts, sum_by-cons beats_of_burst burst bursts, sum_by-cons answers_of_burst burst bursts)
 
-course_beats : (reads writes : List Piece) → sum_by beats_of_burst (course reads writes) ≡ beats_in reads + beats_in writes
-course_beats [] [] = refl
-course_beats [] (w ∷ writes) = sum_by-cons beats_of_burst (true, w) (course [] writes) ∙ omega (arith, course_beats [] writes, sum_by-cons (λ (p : Piece). p.len + 1) w writes)
-course_beats (r ∷ reads) writes = sum_by-cons beats_of_burst (false, r) (course reads writes) ∙ omega (arith, course_beats reads writes, sum_by-cons (λ (p : Piece). p.len + 1) r reads)
+beats_of_side : (write : Bool) (parts : List Piece) → sum_by beats_of_burst (bursts_of write parts) ≡ beats_in parts
+beats_of_side write [] = refl
+beats_of_side write (p ∷ parts) = sum_by-cons beats_of_burst (write, p) (bursts_of write parts) ∙ omega (arith, beats_of_side write parts, sum_by-cons (λ (q : Piece). q.len + 1) p parts)
 
 few_either : (test : Bool) (parts : List Piece) → beats_in parts ≤ 4096 → beats_in (if test then parts else []) ≤ 4096
 few_either true parts few = few
 few_either false parts few = omega arith
 
-left_work : (sent : ℕ) (reads writes : List Piece) → beats_in reads ≤ 4096 → beats_in writes ≤ 4096 → work_of_bursts (drop sent (course reads writes)) ≤ 24576
-left_work sent reads writes few_reads few_writes =
-    omega (
-      arith,
-      few_reads,
-      few_writes,
-      course_beats reads writes,
-      bursts_work (drop sent (course reads writes)),
-      sum_by-take-drop beats_of_burst (course reads writes) sent,
-    )
+few_of_two : (test : Bool) (parts others : List Piece) → beats_in parts ≤ 4096 → beats_in others ≤ 4096 → beats_in (if test then parts else others) ≤ 4096
+few_of_two true parts others few other = few
+few_of_two false parts others few other = other
+
+left_work : (sent : ℕ) (write : Bool) (parts : List Piece) → beats_in parts ≤ 4096 → work_of_bursts (drop sent (bursts_of write parts)) ≤ 12288
+left_work sent write parts few =
+    omega (arith, few, beats_of_side write parts, bursts_work (drop sent (bursts_of write parts)), sum_by-take-drop beats_of_burst (bursts_of write parts) sent)
+
+few_later : (flight : LiveRequest) → beats_in (write_pieces flight) ≤ 4096 → later_work flight ≤ 12288
+few_later flight few = by_side flight.writing
+  where
+    by_side : (b : Bool) → (if b then 0 else work_of_bursts (bursts_of true (write_pieces flight))) ≤ 12288
+    by_side true = omega arith
+    by_side false = left_work 0 true (write_pieces flight) few
 
 few_unsent : (flight : LiveRequest) → beats_in (pieces_planned flight.plan) ≤ 4096 → unsent_work flight ≤ 24576
-few_unsent flight few =
-    by_flag flight.done
-    (left_work flight.sent (read_pieces flight) (write_pieces flight) (few_either (reply_has_data flight.operation) (pieces_planned flight.plan) few) (few_either (has_data flight.operation) (pieces_planned flight.plan) few))
+few_unsent flight few = by_flag flight.done
   where
-    by_flag : (done : Bool) → work_of_bursts (drop flight.sent (whole_course flight)) ≤ 24576 → (if done then 0 else work_of_bursts (drop flight.sent (whole_course flight))) ≤ 24576
-    by_flag true few = omega arith
-    by_flag false few = few
+    reads : beats_in (read_pieces flight) ≤ 4096
+    reads = few_either (reply_has_data flight.operation) (pieces_planned flight.plan) few
+
+    writes : beats_in (write_pieces flight) ≤ 4096
+    writes = few_either (has_data flight.operation) (pieces_planned flight.plan) few
+
+    by_flag : (done : Bool) → (if done then 0 else work_of_bursts (drop flight.sent (planned flight)) + later_work flight) ≤ 24576
+    by_flag true = omega arith
+    by_flag false =
+        omega (arith, few_later flight writes, left_work flight.sent flight.writing (phase_pieces flight) (few_of_two flight.writing (write_pieces flight) (read_pieces flight) writes reads))
 
 all_unsent : (config : Config) (regions : List Region) (live : List BridgedRequest) → is_valid config ≡ true → AllByRecursion (IsServed config regions) live → sum_by unsent_work (flights_of live) ≤ length live * 24576
 all_unsent config regions [] valid served = omega arith

@@ -2,7 +2,7 @@
 use Rattle.std.proofs.Common.{◌≡◌, ℕ, zero, suc, ◌+◌, ◌-◌, ◌<◌, ◌≤◌, Bool, true, false, ◌&&◌, ◌||◌, not, List, [], ◌∷◌, ◌++◌, length, drop, map, Option, Some, None, is_some, refl, ap, sym, ◌∙◌, subst, arith, inl, inr}
 use Rattle.std.specs.Prelude.{IfSome, filter, find, if◌then◌else◌, slice_get, sum_by}
 use Rattle.std.specs.List.{range_with_len}
-use Rattle.std.proofs.lemmas.Bool.{cases_lt, leb-true}
+use Rattle.std.proofs.lemmas.Bool.{and_parts, cases_lt, leb-true}
 use Rattle.std.proofs.lemmas.List.Sums.{sum_by-cons}
 use Rattle.std.proofs.lemmas.Option.{same_Some, slice_get-map}
 use Rattle.axi_beats.specs.Bursts.{Burst}
@@ -11,14 +11,14 @@ use Rattle.axi_beats.specs.declared.RBeat.{RBeat}
 use Rattle.axi_beats.specs.declared.Resp.{Resp}
 use Rattle.burst_plan.specs.Pieces.{PlannedRange}
 use Rattle.burst_plan.specs.declared.Piece.{Piece}
-use Rattle.flight_table.specs.LiveRequests.{LiveRequest, course, finished, is_atomic, is_settled, next_burst, planned, read_pieces, whole_course, with_answered, with_sent, with_write, write_pieces}
-use Rattle.flight_table.specs.Work.{answers_of_burst, beats_of_burst, spared_work, unsent_work, work_of_bursts}
-use Rattle.flight_table.proofs.CourseLaws.{length_course}
+use Rattle.flight_table.specs.LiveRequests.{LiveRequest, finished, is_settled, next_burst, planned, with_answered, with_sent, with_write}
+use Rattle.flight_table.specs.Work.{answers_of_burst, beats_of_burst, later_work, spared_work, unsent_work, work_of_bursts}
 use Rattle.bridge_core.specs.Bridge.{after_b_beat, after_r_beat, after_sent, b_fault, burst_to_send, r_fault}
 use Rattle.bridge_core.specs.Requests.{BridgedRequest, after_read, after_response, after_sending, flights_of, holds, is_numbered, may_send, outline_in, settled, value_found}
 use Rattle.bridge_core.specs.Sending.{Sending, burst_of_piece, next_sending}
-use Rattle.bridge_core.proofs.AnswerLinks.{answered_reader, answered_writer, holder_known}
+use Rattle.bridge_core.proofs.AnswerLinks.{answered_reader, answered_writer}
 use Rattle.bridge_core.proofs.NextSending.{map_some, next_found}
+use Rattle.bridge_core.proofs.ResponseLinks.{not_so}
 use Rattle.bridge_core.proofs.SentLinks.{found_by_number}
 use Rattle.responses.specs.Gathered.{Gathering, after_b, after_r}
 use Rattle.subordinate.specs.FreeMemory.{Pending, after_b_of, after_r_of, answers_left, b_of, beat_at, has_serial, ids_with_b, ids_with_r, r_of, transfers_in, waiting_beats, with_burst, with_performed}
@@ -51,25 +51,18 @@ first_dropped [] k x there = absurd (cc (there))
 first_dropped {X = X} (y ∷ ys) zero x there = ap (λ (z : X). z ∷ ys) (same_Some y x there)
 first_dropped (y ∷ ys) (suc k) x there = first_dropped ys k x there
 
-in_whole_course : (b : Bool) (reads writes : List Piece) (k : ℕ) (burst : Bool × Piece) → slice_get (course reads (if b then writes else [])) k ≡ Some burst → slice_get (course reads writes) k ≡ Some burst
-in_whole_course true reads writes k burst there = there
-in_whole_course false [] writes k burst there = absurd (cc (there))
-in_whole_course false (r ∷ reads) writes zero burst there = there
-in_whole_course false (r ∷ reads) writes (suc k) burst there = in_whole_course false reads writes k burst there
-
--- the next burst's own work is no longer unsent
-next_in_course : (flight : LiveRequest) (burst : Bool × Piece) → next_burst flight ≡ Some burst → slice_get (whole_course flight) flight.sent ≡ Some burst
-next_in_course flight burst is = in_whole_course (not (is_atomic flight) || flight.writing) (read_pieces flight) (write_pieces flight) flight.sent burst is
-
 work_first : (burst : Bool × Piece) (bursts : List (Bool × Piece)) → work_of_bursts (burst ∷ bursts) ≡ 1 + (beats_of_burst burst + answers_of_burst burst) + work_of_bursts bursts
 work_first burst bursts = omega (arith, sum_by-cons beats_of_burst burst bursts, sum_by-cons answers_of_burst burst bursts)
 
 unsent-sent : (flight : LiveRequest) (id : ℕ) (burst : Bool × Piece) → flight.done ≡ false → next_burst flight ≡ Some burst
     → unsent_work flight ≡ 1 + (beats_of_burst burst + answers_of_burst burst) + unsent_work (with_sent id flight)
 unsent-sent flight id burst live is =
-    let first = first_dropped (whole_course flight) flight.sent burst (next_in_course flight burst is) in
+    let first = first_dropped (planned flight) flight.sent burst is in
     let next : flight.sent + 1 ≡ suc flight.sent = omega arith in
-    rw (live, next) (ap work_of_bursts first ∙ work_first burst (drop (suc flight.sent) (whole_course flight)))
+    let one : work_of_bursts (drop flight.sent (planned flight)) ≡ 1 + (beats_of_burst burst + answers_of_burst burst) + work_of_bursts (drop (suc flight.sent) (planned flight)) =
+    ap work_of_bursts first ∙ work_first burst (drop (suc flight.sent) (planned flight))
+    in
+    rw (live, next) (omega (arith, one))
 
 -- the memory gets it
 burst_work : (id : ℕ) (request : BridgedRequest) (range : PlannedRange) (burst : Bool × Piece)
@@ -128,11 +121,7 @@ pub record IsSettled (old new : LiveRequest) : Type 0 where
 
 -- what isn't done has spared nothing
 live_spared : (flight : LiveRequest) → flight.done ≡ false → spared_work flight ≡ 0
-live_spared flight live = rw live (by_test (is_atomic flight))
-  where
-    by_test : (b : Bool) → (if b && false && not flight.writing then work_of_bursts (map (λ piece. (true, piece)) (write_pieces flight)) else 0) ≡ 0
-    by_test true = refl
-    by_test false = refl
+live_spared flight live = rw live refl
 
 drop_all : (bursts : List (Bool × Piece)) (k : ℕ) → length bursts ≤ k → drop k bursts ≡ []
 drop_all [] zero past = refl
@@ -140,67 +129,58 @@ drop_all [] (suc k) past = refl
 drop_all (b ∷ bursts) zero past = absurd (omega (arith, past))
 drop_all (b ∷ bursts) (suc k) past = drop_all bursts k (omega (arith, past))
 
--- once all reads of a course were sent, and nothing else, its writes are left
-writes_left : (reads writes : List Piece) (k : ℕ) → k ≡ length reads → drop k (course reads writes) ≡ map (λ piece. (true, piece)) writes
-writes_left [] writes zero all = refl
-writes_left [] writes (suc k) all = absurd (omega (arith, all))
-writes_left (r ∷ reads) writes zero all = absurd (omega (arith, all))
-writes_left (r ∷ reads) writes (suc k) all = writes_left reads writes k (omega (arith, all))
-
--- what is left unsent when all that is planned was answered: the write of an atomic that isn't planned
-finished_work : (atomic writing : Bool) (reads writes : List Piece) (sent : ℕ) → length (course reads (if not atomic || writing then writes else [])) ≤ sent
-    → sent ≤ length (course reads (if not atomic || writing then writes else []))
-    → work_of_bursts (drop sent (course reads writes)) ≡ (if atomic && true && not writing then work_of_bursts (map (λ piece. (true, piece)) writes) else 0)
-finished_work true true reads writes sent all most = ap work_of_bursts (drop_all (course reads writes) sent all)
-finished_work true false reads writes sent all most =
-    ap work_of_bursts (writes_left reads writes sent (omega (arith, all, most, length_course reads [])))
-finished_work false writing reads writes sent all most = ap work_of_bursts (drop_all (course reads writes) sent all)
-
-finished_settles : (flight : LiveRequest) → flight.done ≡ false → is_settled flight ≡ true → flight.answered ≤ flight.sent → flight.sent ≤ length (planned flight) → IsSettled flight (finished flight)
-finished_settles flight live settles later most =
+-- once all of a phase was answered, what is left is what comes after it
+phase_over : (flight : LiveRequest) → flight.done ≡ false → is_settled flight ≡ true → flight.answered ≤ flight.sent → unsent_work flight ≡ later_work flight
+phase_over flight live settles later =
     let all = leb-true (length (planned flight)) flight.answered settles in
-    let left : unsent_work flight ≡ spared_work (finished flight) =
-    rw live (finished_work (is_atomic flight) flight.writing (read_pieces flight) (write_pieces flight) flight.sent (omega (arith, all, later)) most) in
+    rw (live, drop_all (planned flight) flight.sent (omega (arith, all, later))) (omega arith)
+
+finished_settles : (flight : LiveRequest) → flight.done ≡ false → is_settled flight ≡ true → flight.answered ≤ flight.sent → IsSettled flight (finished flight)
+finished_settles flight live settles later =
+    let left = phase_over flight live settles later in
     record { work = omega (arith, left, live_spared flight live); spared = omega (arith, live_spared flight live) }
 
-write_settles : (flight : LiveRequest) → flight.done ≡ false → IsSettled flight (with_write flight)
-write_settles flight live = record { work = omega (arith, live_spared flight live, live_spared (with_write flight) live); spared = omega (arith, live_spared flight live) }
+write_settles : (flight : LiveRequest) → flight.done ≡ false → flight.writing ≡ false → is_settled flight ≡ true → flight.answered ≤ flight.sent → IsSettled flight (with_write flight)
+write_settles flight live reads settles later =
+    let left = phase_over flight live settles later in
+    let next : later_work flight ≡ unsent_work (with_write flight) = rw (live, reads) (omega arith) in
+    record { work = omega (arith, left, next, live_spared flight live, live_spared (with_write flight) live); spared = omega (arith, live_spared flight live) }
 
-settles : (request : BridgedRequest) → request.flight.done ≡ false → request.flight.answered ≤ request.flight.sent → request.flight.sent ≤ length (planned request.flight)
-    → IsSettled request.flight (settled request).flight
-settles request live later most = by_flag (is_settled request.flight) refl
+settles : (request : BridgedRequest) → request.flight.done ≡ false → request.flight.answered ≤ request.flight.sent → IsSettled request.flight (settled request).flight
+settles request live later = by_flag (is_settled request.flight) refl
   where
-    by_value : (b : Bool) → is_settled request.flight ≡ true → IsSettled request.flight (if b then with_write request.flight else finished request.flight)
-    by_value true is = write_settles request.flight live
-    by_value false is = finished_settles request.flight live is later most
+    by_value : (b : Bool) → (not request.flight.writing && is_some (value_found request)) ≡ b → is_settled request.flight ≡ true → IsSettled request.flight (if b then with_write request.flight else finished request.flight)
+    by_value true found is =
+        write_settles request.flight live (not_so request.flight.writing (and_parts (not request.flight.writing) (is_some (value_found request)) found).0) is later
+    by_value false found is = finished_settles request.flight live is later
 
     by_flag : (b : Bool) → is_settled request.flight ≡ b
         → IsSettled request.flight
         (if b
         then record request { flight = if not request.flight.writing && is_some (value_found request) then with_write request.flight else finished request.flight }
         else request).flight
-    by_flag true is = by_value (not request.flight.writing && is_some (value_found request)) is
+    by_flag true is = by_value (not request.flight.writing && is_some (value_found request)) refl is
     by_flag false is = record { work = refl; spared = omega arith }
 
-response_settles : (resp : Resp) (request : BridgedRequest) → request.flight.done ≡ false → request.flight.answered < request.flight.sent → request.flight.sent ≤ length (planned request.flight)
+response_settles : (resp : Resp) (request : BridgedRequest) → request.flight.done ≡ false → request.flight.answered < request.flight.sent
     → IsSettled request.flight (after_response resp request).flight
-response_settles resp request live within most =
-    let counted = settles (record request { flight = with_answered request.flight; gathering = after_b resp request.gathering }) live (omega (arith, within)) most in
+response_settles resp request live within =
+    let counted = settles (record request { flight = with_answered request.flight; gathering = after_b resp request.gathering }) live (omega (arith, within)) in
     record { work = counted.work; spared = counted.spared }
 
-read_settles : (bus_bytes : ℕ) (r : RBeat) (request : BridgedRequest) → request.flight.done ≡ false → request.flight.answered < request.flight.sent → request.flight.sent ≤ length (planned request.flight)
+read_settles : (bus_bytes : ℕ) (r : RBeat) (request : BridgedRequest) → request.flight.done ≡ false → request.flight.answered < request.flight.sent
     → IsSettled request.flight (after_read bus_bytes r request).flight
-read_settles bus_bytes r request live within most = by_last r.last
+read_settles bus_bytes r request live within = by_last r.last
   where
     gathers : Gathering
     gathers = after_r bus_bytes (outline_in request) r request.gathering.came request.gathering
 
     by_last : (b : Bool) → IsSettled request.flight (settled (record request { flight = if b then with_answered request.flight else request.flight; gathering = gathers })).flight
     by_last true =
-        let counted = settles (record request { flight = with_answered request.flight; gathering = gathers }) live (omega (arith, within)) most in
+        let counted = settles (record request { flight = with_answered request.flight; gathering = gathers }) live (omega (arith, within)) in
         record { work = counted.work; spared = counted.spared }
     by_last false =
-        let counted = settles (record request { gathering = gathers }) live (omega (arith, within)) most in
+        let counted = settles (record request { gathering = gathers }) live (omega (arith, within)) in
         record { work = counted.work; spared = counted.spared }
 
 -- ---- an answer comes
@@ -210,8 +190,7 @@ b_takes : (state : WorldState) (id : ℕ) (b : BBeat) → IsSoundWorld state →
 b_takes state id b sound is none =
     let table = state.bridge.requests in
     let writer = answered_writer state.bridge b sound.bridge_laws none in
-    let known = holder_known table b.id writer.request sound.bridge_laws.requests writer.held in
-    let settling = response_settles b.resp writer.request writer.live writer.sent known.sound.sent in
+    let settling = response_settles b.resp writer.request writer.live writer.sent in
     let unsent = sum_between unsent_of (holds b.id) (after_response b.resp) table.live writer.request writer.held in
     let spared = sum_between spared_of (holds b.id) (after_response b.resp) table.live writer.request writer.held in
     let memory = work_open-b state.memory id b is in
@@ -233,8 +212,7 @@ r_takes : (state : WorldState) (id : ℕ) (r : RBeat) → IsSoundWorld state →
 r_takes state id r sound is none =
     let table = state.bridge.requests in
     let reader = answered_reader state.bridge r sound.bridge_laws none in
-    let known = holder_known table r.id reader.request sound.bridge_laws.requests reader.held in
-    let settling = read_settles table.config.axi_bytes r reader.request reader.live reader.sent known.sound.sent in
+    let settling = read_settles table.config.axi_bytes r reader.request reader.live reader.sent in
     let unsent = sum_between unsent_of (holds r.id) (after_read table.config.axi_bytes r) table.live reader.request reader.held in
     let spared = sum_between spared_of (holds r.id) (after_read table.config.axi_bytes r) table.live reader.request reader.held in
     let memory = work_open-r state.memory id r sound.memory_laws is in

@@ -1,7 +1,7 @@
 -- What holds after every list of events, and why the order of acceptance is kept: the memory, what its open bursts captured, and what the
 -- bridge gathered are those of the requests carried out one at a time. It is told of single bytes. It knows bridge, memory and the requests
 -- one at a time; what an event does is hidden from it, and replies are left to those who read what was gathered.
-use Rattle.std.specs.Prelude.{ℕ, ◌≡◌, ◌+◌, ◌*◌, ◌%◌, ◌^◌, ◌<◌, ◌≤◌, Bool, true, false, ◌&&◌, ◌||◌, min, List, [], ◌∷◌, length, filter, find, Option, Some, None, nat_lt, slice_get, unwrap_or, All, ⊤}
+use Rattle.std.specs.Prelude.{ℕ, ◌≡◌, ◌+◌, ◌*◌, ◌%◌, ◌^◌, ◌<◌, ◌≤◌, Bool, true, false, ◌&&◌, ◌||◌, min, List, [], ◌∷◌, length, filter, find, Option, Some, None, is_some, nat_lt, slice_get, unwrap_or, All, ⊤, if◌then◌else◌}
 use Rattle.std.specs.List.{AllByRecursion, enumerate_from}
 use Rattle.bus_words.specs.Lanes.{has_lane, lane_byte}
 use Rattle.tl_messages.specs.Requests.{request_of}
@@ -18,7 +18,7 @@ use Rattle.flight_table.specs.LiveRequests.{is_atomic, planned}
 use Rattle.responses.specs.Answers.{IsReadAt, gathering_after}
 use Rattle.responses.specs.Gathered.{gathering_of}
 use Rattle.bridge_core.specs.Bridge.{BridgeState, message_with}
-use Rattle.bridge_core.specs.Laws.{answered_pieces, outstanding}
+use Rattle.bridge_core.specs.Laws.{outstanding}
 use Rattle.bridge_core.specs.Requests.{BridgedRequest, RequestTable, address_of, holder, is_numbered, outline_in}
 use Rattle.subordinate.specs.Faults.{is_good, read_response, standing_at, write_response}
 use Rattle.subordinate.specs.FreeMemory.{Pending, is_read_of, is_waiting, is_write_of}
@@ -64,10 +64,10 @@ pub record HoldsBack (writing touching : ℕ → ℕ → Bool) (started finished
 
 -- ---- as the bridge's live requests tell: a number that isn't live any more is finished
 
--- it sent a burst, or is done
+-- it sent a burst, and so holds an ID, or is done
 abbrev pub has_begun : Option BridgedRequest → Bool
 has_begun None = true
-has_begun (Some request) = nat_lt 0 request.flight.sent || request.flight.done
+has_begun (Some request) = is_some request.flight.id || request.flight.done
 
 -- it is done
 abbrev pub is_over : Option BridgedRequest → Bool
@@ -175,27 +175,27 @@ pub record HasGathered (order : Order) (bus_bytes : ℕ) (request : BridgedReque
   pub responses : List Resp
   -- what was gathered is what reads and responses make of it, each read at the place where it came
   pub gathered : request.gathering ≡ gathering_after bus_bytes (outline_in request) (record { reads = enumerate_from 0 reads; writes = responses })
-  -- they are all that came: whole reads, some of the next, and one response for each write that was answered
+  -- they are all that came: its reads, and one response for each write that was answered
   pub came : length reads ≡ request.gathering.came
-  pub answered : length (answered_pieces request.flight) + length responses ≡ request.flight.answered
+  pub answered : length responses ≡ (if request.flight.writing then request.flight.answered else 0)
   -- each read tells what the request finds, each response tells of the page, which is one for the whole request
   pub tell : (place : ℕ) (r : RBeat) → slice_get reads place ≡ Some r → TellsAt order bus_bytes request address place r
   pub responded : All (λ resp. resp ≡ write_response (standing_at order.faults address)) responses
   -- an atomic that writes could read: neither an error page nor a bad word
-  pub readable : request.flight.writing ≡ true → is_okay (read_response order.faults address) ≡ true
+  pub readable : is_atomic request.flight ≡ true → request.flight.writing ≡ true → is_okay (read_response order.faults address) ≡ true
 
 -- what a request has gathered, at its AXI address; one without an address is denied and gathers nothing
 abbrev pub IsGathered : Order → ℕ → BridgedRequest → Option ℕ → Type 0
 IsGathered order bus_bytes request None = request.gathering ≡ gathering_of (outline_in request) true
 IsGathered order bus_bytes request (Some address) = HasGathered order bus_bytes request address
 
--- a live request: it is the one of its number; what its answered writes put is written, and nothing is of a write that isn't sent, or of an atomic
--- whose write isn't planned; and what it has gathered is what it finds
+-- a live request: it is the one of its number; what its answered writes put is written, and nothing is of a write that isn't sent, or of a
+-- request that reads; and what it has gathered is what it finds
 pub record IsInOrder (order : Order) (bus_bytes : ℕ) (wrote : ℕ → ℕ → Bool) (request : BridgedRequest) : Type 0 where
   -- its message spells the request of its number
   pub asked : asked order request.flight.number ≡ Some (request_of request.message)
-  -- an atomic that still reads has written nothing, so its reads find what the requests before it leave
-  pub unwritten : is_atomic request.flight ≡ true → request.flight.writing ≡ false → (x : ℕ) → wrote request.flight.number x ≡ false
+  -- a request that reads has written nothing, so its reads find what the requests before it leave
+  pub unwritten : request.flight.writing ≡ false → (x : ℕ) → wrote request.flight.number x ≡ false
   -- of a write that isn't sent nothing is written
   pub unsent :
       (k n x : ℕ) (piece : Piece) → request.flight.sent ≤ k → slice_get (planned request.flight) k ≡ Some (true, piece) → n ≤ piece.len

@@ -3,6 +3,7 @@
 use Rattle.std.specs.Prelude.{ℕ, ◌≡◌, ◌+◌, ◌-◌, ◌*◌, ◌≤◌, ◌^◌, List, [], ◌∷◌, length, None, IfSome, sum_by}
 use Rattle.axi_beats.specs.Bursts.{Burst, IsLegal}
 use Rattle.axi_checker.specs.Rules.{burst_fault}
+use Rattle.flight_table.specs.LiveRequests.{all_sent}
 use Rattle.flight_table.specs.Work.{spared_work}
 use Rattle.bridge_core.specs.Bridge.{BridgeState, burst_to_send, b_fault, r_fault}
 use Rattle.bridge_core.specs.Configs.{axi_port_of}
@@ -14,7 +15,7 @@ use Rattle.world_run.specs.declared.Step.{Step}
 
 -- how many bursts the live requests have sent
 abbrev pub bursts_sent : BridgeState → ℕ
-bursts_sent bridge = sum_by (λ request. request.flight.sent) bridge.requests.live
+bursts_sent bridge = sum_by (λ request. all_sent request.flight) bridge.requests.live
 
 -- serials don't run out: a request sends at most 2,048 bursts, of which those that are live know how many they sent
 pub record HasSerials (bridge : BridgeState) (memory : FreeMemory) : Type 0 where

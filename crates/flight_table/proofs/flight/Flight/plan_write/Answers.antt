@@ -1,9 +1,10 @@
 use Rattle.std.proofs.Common.{ap, refl}
+use Rattle.std.specs.Prelude.{IsTrue}
 use Rattle.bus_words.specs.Places.{change_first}
 use Rattle.flight_table.specs.Inside.{keyed_of}
-use Rattle.flight_table.specs.LiveRequests.{LiveRequest, with_write}
+use Rattle.flight_table.specs.LiveRequests.{LiveRequest, awaits_write, with_write}
 use Rattle.flight_table.specs.Tables.{KeyedTable, change_entry, has_key, requests_of, table_of}
-use Rattle.flight_table.proofs.Steps.{IsChanged, keeps_name, write_progress, change_is, known, progresses, step_write}
+use Rattle.flight_table.proofs.Steps.{IsChanged, awaits_parts, keeps_name, write_progress, change_is, known, needs, progresses, step_write}
 use Rattle.flight_table.proofs.flight.Flight.plan_write.Goals as goal
 
 pub set-requires-clause-progress : goal.set-requires-clause-progress
@@ -21,7 +22,7 @@ made c =
     let facts = known old c.args.key r c.self.invariant c.get-request.ensures.request in
     rw c.set.ensures.table
     (change_is old c.args.self.now c.args.key with_write r c.with_write.result (change_first (has_key c.args.key) (change_entry (λ o. c.with_write.result)) old.entries) c.self.view_is c.self.invariant c.get-request.ensures.request c.with_write.ensures refl (rw c.set.ensures.table at c.set.ensures.keys)
-    (step_write (table_of old) r facts.0 facts.1))
+    (step_write (table_of old) r facts.0 facts.1 (awaits_parts r (needs (λ t q. IsTrue (awaits_write q)) old c.args.self.now c.args.key r c.self.view_is c.get-request.ensures.request c.requires))))
 
 pub invariant_of-self : goal.invariant_of-self
 invariant_of-self c = (made c).laws

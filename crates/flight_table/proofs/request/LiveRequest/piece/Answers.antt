@@ -1,6 +1,6 @@
 use Rattle.std.proofs.Common.{◌∙◌, ap, sym}
 use Rattle.flight_table.specs.LiveRequests.{LiveRequest}
-use Rattle.flight_table.proofs.CourseLaws.{alike}
+use Rattle.flight_table.proofs.PhaseLaws.{alike}
 use Rattle.flight_table.proofs.request.LiveRequest.piece.Goals as goal
 
 pub returns-clause-alike : goal.returns-clause-alike

@@ -1,6 +1,6 @@
 use Rattle.std.proofs.Common.{◌∙◌, sym}
 use Rattle.flight_table.specs.LiveRequests.{pieces_planned}
-use Rattle.flight_table.proofs.CourseLaws.{alike-none}
+use Rattle.flight_table.proofs.PhaseLaws.{alike-none}
 use Rattle.flight_table.proofs.request.LiveRequest.piece_beats.Goals as goal
 
 pub returns-then-pieces-eq0-clause-count : goal.returns-then-pieces-eq0-clause-count
