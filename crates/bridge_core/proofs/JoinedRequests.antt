@@ -12,7 +12,7 @@ use Rattle.burst_plan.specs.declared.Region.{Region}
 use Rattle.flight_table.specs.Laws.{AreLimits, IsSound, IsSoundTable}
 use Rattle.flight_table.specs.LiveRequests.{LiveRequest, flight_for}
 use Rattle.flight_table.specs.Tables.{FlightTable, KeyedTable, has_room, is_busy, requests_of, table_of, with_request}
-use Rattle.flight_table.proofs.NewRequests.{at_most_64, nothing_sent, sound_new}
+use Rattle.flight_table.proofs.NewRequests.{at_most_64, is_new, sound_new}
 use Rattle.responses.specs.Gathered.{gathering_of, outline_of}
 use Rattle.bridge_core.specs.Configs.{is_valid, port_of, table_limits_of}
 use Rattle.bridge_core.specs.Inside.{HeldRequest, IsKept, bridged, numbers_held, numbers_of, table_kept, together}
@@ -45,8 +45,7 @@ live_below : (table : RequestTable) (client : ℕ) (message : HeldMessage) → I
 live_below table client message sound room =
     let seen = flight_table_of table in
     let one = flight_for table.accepted client message None in
-    let more =
-    sound_new seen one sound.flights (record { number = refl; client = room.there; room = room.room; source = room.free; sent = refl; all = nothing_sent table.accepted client message None; answered = refl; id = refl; no_plan = λ none. rw none refl }) in
+    let more = sound_new seen one sound.flights (is_new seen client message None room.there room.room room.free) in
     omega (arith, at_most_64 (with_request one seen) (limits_made table.config sound.config) more, length-append seen.live (one ∷ []))
 
 pub spare_left : (config : Config) (regions : List Region) (flight : KeyedTable) (helds spare : List HeldRequest) (client : ℕ) (whole : Option HeldMessage) → IsKept config flight helds spare

@@ -90,7 +90,6 @@ pub record IsCounted (config : Config) (regions : List Region) (request : Bridge
   pub message : IsSound (port_of config request.message.client) request.message
   pub flight : IsOfMessage config regions request
   pub live : request.flight.done ≡ false
-  pub reading : request.flight.writing ≡ false → reply_has_data request.flight.operation ≡ true
   pub found : is_atomic request.flight ≡ true → request.flight.writing ≡ true → is_settled request.flight ≡ false → IsSome (value_found request)
   pub came : beats_in (answered_pieces request.flight) ≤ request.gathering.came
   pub next : IsPartWay (came_of_next request) (outstanding request.flight)
@@ -109,7 +108,6 @@ going_on config regions request counted going =
       message = counted.message;
       flight = counted.flight;
       done = counted.live ∙ sym going;
-      reading = counted.reading;
       found = λ atomic writing live. counted.found atomic writing going;
       failed = λ atomic isnt past.
           let open_ones = leb-false (length (planned request.flight)) request.flight.answered going in
@@ -134,7 +132,6 @@ to_write config regions request valid counted settles test =
       message = counted.message;
       flight = record { client = counted.flight.client; source = counted.flight.source; operation = counted.flight.operation; plan = counted.flight.plan };
       done = counted.live ∙ sym (lt-leb (length (planned (with_write request.flight))) 0 some);
-      reading = λ reads. absurd (cc (reads));
       found = λ atomic is live. parts.1;
       failed = λ atomic isnt past. absurd (cc (isnt));
       came = subst (λ (parts : List Piece). beats_in parts ≤ request.gathering.came) whole counted.came;
@@ -149,7 +146,6 @@ to_end config regions request counted settles test =
       message = counted.message;
       flight = record { client = counted.flight.client; source = counted.flight.source; operation = counted.flight.operation; plan = counted.flight.plan };
       done = sym settles;
-      reading = counted.reading;
       found = λ atomic writing live. absurd (cc (live));
       failed = λ atomic isnt past. no_value request.flight.writing (value_found request) isnt test;
       came = counted.came;
@@ -198,11 +194,7 @@ none_planned true carries = refl
 none_planned false true = refl
 none_planned false false = refl
 
--- what doesn't write at first has data in its reply, and an atomic reads at first
-reads_first : (replies : Bool) → not replies ≡ false → replies ≡ true
-reads_first true reads = refl
-reads_first false reads = absurd (cc (reads))
-
+-- an atomic reads at first
 pub atomic_first : (replies carries : Bool) → (replies && carries) ≡ true → not replies ≡ true → ⊥
 atomic_first true carries atomic writes = absurd (cc (writes))
 atomic_first false carries atomic writes = absurd (cc (atomic))
@@ -237,7 +229,6 @@ served_new table message valid pages sound =
       message = sound;
       flight = record { client = refl; source = refl; operation = refl; plan = refl };
       done = done_by plan refl;
-      reading = λ reads. reads_first (reply_has_data message.operation) reads;
       found = λ atomic is live. absurd (atomic_first (reply_has_data message.operation) (has_data message.operation) atomic is);
       failed = λ atomic isnt past. failed_by atomic past plan refl;
       came = omega (arith, none_read (reply_has_data message.operation) (pieces_planned plan));
@@ -302,7 +293,6 @@ served_sent config regions id request served =
       message = served.message;
       flight = record { client = served.flight.client; source = served.flight.source; operation = served.flight.operation; plan = served.flight.plan };
       done = served.done;
-      reading = served.reading;
       found = served.found;
       failed = served.failed;
       came = served.came;
@@ -331,7 +321,6 @@ response_counted config regions limits accepted resp request piece valid pages s
       message = served.message;
       flight = record { client = served.flight.client; source = served.flight.source; operation = served.flight.operation; plan = served.flight.plan };
       live = live;
-      reading = served.reading;
       found = λ atomic is going.
           let plan = atomic_plan config regions request valid served.message served.flight has atomic in
           let open_ones = leb-false (length (planned flight)) (flight.answered + 1) going in
@@ -383,7 +372,6 @@ last_counted config regions limits accepted r request piece count valid pages se
       message = served.message;
       flight = record { client = served.flight.client; source = served.flight.source; operation = served.flight.operation; plan = served.flight.plan };
       live = reading.live;
-      reading = served.reading;
       found = λ atomic is going. absurd (cc (read.0, is));
       came = omega (arith, all);
       next = subst (λ n. IsPartWay n (outstanding answered.flight)) (sym none) (part_way-zero (outstanding answered.flight));
@@ -407,7 +395,6 @@ more_counted config regions limits accepted r request piece count valid pages se
       message = served.message;
       flight = record { client = served.flight.client; source = served.flight.source; operation = served.flight.operation; plan = served.flight.plan };
       live = reading.live;
-      reading = served.reading;
       found = λ atomic is going. absurd (cc ((read_at flight flight.answered piece reading.burst).0, is));
       came = omega (arith, counted);
       next = subst (IsPartWay (came_of_next answered)) (sym begins.is) below;

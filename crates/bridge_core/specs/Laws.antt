@@ -1,7 +1,6 @@
 -- What is true of every bridge that the calls make (this project's profile).
 use Rattle.std.specs.Prelude.{ℕ, ◌≡◌, ◌+◌, ◌-◌, ◌≤◌, Bool, true, false, List, [], ◌∷◌, length, drop, take, filter, Option, Some, None, IfSome, IsSome, sum_by, if◌then◌else◌}
 use Rattle.std.specs.List.{AllByRecursion}
-use Rattle.tl_messages.specs.Operations.{reply_has_data}
 use Rattle.tl_messages.specs.Requests.{HeldMessage, request_of}
 use Rattle.tl_checker.specs.Sound.{IsSound}
 use Rattle.axi_checker.specs.OpenBursts.{OpenBursts, OpenRead, OpenWrite, read_of_id, write_of_id, write_to_fill}
@@ -46,14 +45,13 @@ pub record IsOfMessage (config : Config) (regions : List Region) (request : Brid
   pub plan : request.flight.plan ≡ plan_for request.message.operation (range_of config regions (request_of request.message))
 
 -- a live request: it was accepted over a page map, and its message is one that its client's port takes; it is done exactly when all its
--- planned answers came; what reads has data in its reply; an atomic goes on to write exactly where its whole read was answered and found the old
+-- planned answers came; an atomic goes on to write exactly where its whole read was answered and found the old
 -- value; and the reads that came are those of the bursts that were answered, and of the next one some, but not all
 pub record IsServed (config : Config) (regions : List Region) (request : BridgedRequest) : Type 0 where
   pub pages : IsPageMap regions
   pub message : IsSound (port_of config request.message.client) request.message
   pub flight : IsOfMessage config regions request
   pub done : request.flight.done ≡ is_settled request.flight
-  pub reading : request.flight.writing ≡ false → reply_has_data request.flight.operation ≡ true
   pub found : is_atomic request.flight ≡ true → request.flight.writing ≡ true → request.flight.done ≡ false → IsSome (value_found request)
   pub failed :
       is_atomic request.flight ≡ true → request.flight.writing ≡ false → length (read_pieces request.flight) ≤ request.flight.answered → value_found request ≡ None

@@ -1,5 +1,5 @@
 -- One more request keeps the laws of the table, and how many there can be.
-use Rattle.std.proofs.Common.{◌≡◌, ℕ, suc, zero, ◌+◌, ◌*◌, ◌==◌, ◌<◌, ◌≤◌, Bool, true, false, not, nat_lt, List, [], ◌∷◌, ◌++◌, map, length, Option, Some, None, refl, ap, sym, ◌∙◌, arith, length-append, subst}
+use Rattle.std.proofs.Common.{◌≡◌, ℕ, suc, zero, ◌+◌, ◌*◌, ◌==◌, ◌<◌, ◌≤◌, Bool, true, false, not, nat_lt, List, [], ◌∷◌, ◌++◌, map, length, Option, Some, None, is_none, refl, ap, sym, ◌∙◌, arith, length-append, subst}
 use Rattle.std.specs.Prelude.{if◌then◌else◌}
 use Rattle.std.specs.List.{AllByRecursion, filter, list_any}
 use Rattle.std.proofs.Math.Nat.{mul-le-mul_right}
@@ -9,7 +9,9 @@ use Rattle.bus_words.proofs.PlaceChanges.{all-append}
 use Rattle.flight_table.specs.Laws.{AreLimits, AreRising, HaveOwnKeys, IsSound, IsSoundRequest, IsSoundTable}
 use Rattle.flight_table.specs.LiveRequests.{LiveRequest, all_sent, flight_for, pieces_planned, plan_for}
 use Rattle.burst_plan.specs.declared.Piece.{Piece}
-use Rattle.tl_messages.specs.Operations.{reply_has_data}
+use Rattle.tl_messages.specs.Operations.{has_data, reply_has_data}
+use Rattle.tl_messages.specs.declared.Operation.{Operation}
+use Rattle.tl_messages.specs.declared.Operation.TheVariants.{PutFull, PutPartial, Atomic, Get, Intent}
 use Rattle.burst_plan.specs.Pieces.{PlannedRange}
 use Rattle.tl_messages.specs.Requests.{HeldMessage}
 use Rattle.bus_words.specs.Places.{without_first}
@@ -31,6 +33,8 @@ pub record IsNew (table : FlightTable) (r : LiveRequest) : Type 0 where
   pub client : r.client < table.limits.clients
   pub room : has_room table r.client ≡ true
   pub source : is_busy table r.client r.source ≡ false
+  pub reads : r.writing ≡ false → reply_has_data r.operation ≡ true
+  pub writes : r.writing ≡ true → r.done ≡ false → has_data r.operation ≡ true
   pub sent : r.sent ≡ 0
   pub all : all_sent r ≡ 0
   pub answered : r.answered ≡ 0
@@ -76,6 +80,8 @@ sound_new table r sound new =
         record {
           number = omega (arith, s.number);
           client = s.client;
+          reads = s.reads;
+          writes = s.writes;
           sent = s.sent;
           answered = s.answered;
           depth = s.depth;
@@ -91,6 +97,8 @@ sound_new table r sound new =
         record {
           number = omega (arith, new.number);
           client = new.client;
+          reads = new.reads;
+          writes = new.writes;
           sent = omega (arith, new.sent);
           answered = omega (arith, new.answered);
           depth = omega (arith, new.sent);
@@ -192,14 +200,40 @@ none_sent : (replies : Bool) (parts : List Piece) → (if not replies then lengt
 none_sent true parts = refl
 none_sent false parts = refl
 
-pub nothing_sent : (number client : ℕ) (held : HeldMessage) (plan : Option PlannedRange) → all_sent (flight_for number client held plan) ≡ 0
-nothing_sent number client held plan = none_sent (reply_has_data held.operation) (pieces_planned (plan_for held.operation plan))
+-- it reads first, where it reads at all
+reads_first : (replies : Bool) → not replies ≡ false → replies ≡ true
+reads_first true reads = refl
+reads_first false reads = absurd (cc (reads))
+
+writes_first : (operation : Operation) (plan : Option PlannedRange) → not (reply_has_data operation) ≡ true → is_none (plan_for operation plan) ≡ false → has_data operation ≡ true
+writes_first PutFull plan writes some = refl
+writes_first PutPartial plan writes some = refl
+writes_first (Atomic op) plan writes some = absurd (cc (writes))
+writes_first Get plan writes some = absurd (cc (writes))
+writes_first (Intent write) plan writes some = absurd (cc (some))
+
+pub is_new : (table : FlightTable) (client : ℕ) (held : HeldMessage) (plan : Option PlannedRange) → client < table.limits.clients → has_room table client ≡ true → is_busy table client held.source ≡ false
+    → IsNew table (flight_for table.accepted client held plan)
+is_new table client held plan there room free =
+    record {
+      number = refl;
+      client = there;
+      room = room;
+      source = free;
+      reads = reads_first (reply_has_data held.operation);
+      writes = writes_first held.operation plan;
+      sent = refl;
+      all = none_sent (reply_has_data held.operation) (pieces_planned (plan_for held.operation plan));
+      answered = refl;
+      id = refl;
+      no_plan = λ none. rw none refl;
+    }
 
 new_table : (keyed : KeyedTable) (client : ℕ) (held : HeldMessage) (plan : Option PlannedRange) → IsSound keyed → MayAccept keyed client held.source
     → IsSoundTable (with_request (flight_for keyed.accepted client held plan) (table_of keyed))
 new_table keyed client held plan sound may =
     sound_new (table_of keyed) (flight_for keyed.accepted client held plan) sound.table
-    (record { number = refl; client = may.there; room = may.room; source = may.free; sent = refl; all = nothing_sent keyed.accepted client held plan; answered = refl; id = refl; no_plan = λ none. rw none refl })
+    (is_new (table_of keyed) client held plan may.there may.room may.free)
 
 before : (old now : KeyedTable) (client source : ℕ) → old ≡ now → MayAccept now client source → MayAccept old client source
 before old now client source same may = subst (λ t. MayAccept t client source) (sym same) may

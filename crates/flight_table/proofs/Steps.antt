@@ -7,6 +7,7 @@ use Rattle.std.specs.Option.{option_or}
 use Rattle.std.proofs.lemmas.Bool.{and_parts, eqb-true, leb-true, ltb-true}
 use Rattle.bus_words.proofs.PlaceChanges.{find-passes}
 use Rattle.bus_words.specs.Places.{change_first}
+use Rattle.tl_messages.specs.Operations.{has_data, reply_has_data}
 use Rattle.flight_table.specs.Inside.{HasOneHolder, IsProgress, MayName}
 use Rattle.flight_table.specs.Laws.{HaveOwnKeys, IsSound, IsSoundRequest, IsSoundTable}
 use Rattle.flight_table.specs.LiveRequests.{LiveRequest, all_sent, awaits_write, finished, is_atomic, is_settled, next_burst, planned, read_pieces, unanswered, with_answered, with_sent, with_write}
@@ -95,6 +96,8 @@ step_sent table r id sound ready is =
           record {
             number = sound.number;
             client = sound.client;
+            reads = sound.reads;
+            writes = sound.writes;
             sent = omega (arith, parts.more);
             answered = omega (arith, sound.answered);
             depth = omega (arith, parts.depth, sound.answered);
@@ -122,6 +125,8 @@ step_answered table r sound order one =
           record {
             number = sound.number;
             client = sound.client;
+            reads = sound.reads;
+            writes = sound.writes;
             sent = sound.sent;
             answered = omega (arith, one);
             depth = omega (arith, sound.depth);
@@ -140,6 +145,7 @@ step_answered table r sound order one =
 
 -- an atomic that awaits its write: it isn't done, reads, and all of that is answered
 pub record AwaitsWrite (r : LiveRequest) : Type 0 where
+  pub carries : has_data r.operation ≡ true
   pub undone : r.done ≡ false
   pub reads : r.writing ≡ false
   pub settled : is_settled r ≡ true
@@ -149,7 +155,12 @@ awaits_parts r awaits =
     let all = and_parts (is_atomic r && not r.done && not r.writing) (is_settled r) awaits in
     let three = and_parts (is_atomic r && not r.done) (not r.writing) all.0 in
     let two = and_parts (is_atomic r) (not r.done) three.0 in
-    record { undone = not_false r.done two.1; reads = not_false r.writing three.1; settled = all.1 }
+    record {
+      carries = (and_parts (reply_has_data r.operation) (has_data r.operation) two.0).1;
+      undone = not_false r.done two.1;
+      reads = not_false r.writing three.1;
+      settled = all.1;
+    }
 
 -- it has sent what it sent before
 pub sent_before : (r : LiveRequest) → AwaitsWrite r → r.answered ≤ r.sent → r.sent ≤ length (planned r) → all_sent (with_write r) ≡ all_sent r
@@ -168,6 +179,8 @@ step_write table r sound order awaits =
           record {
             number = sound.number;
             client = sound.client;
+            reads = λ reads. absurd (cc (reads));
+            writes = λ writes live. awaits.carries;
             sent = omega arith;
             answered = omega arith;
             depth = omega arith;
@@ -200,6 +213,8 @@ step_finished table r sound =
           record {
             number = sound.number;
             client = sound.client;
+            reads = sound.reads;
+            writes = λ writes live. absurd (cc (live));
             sent = sound.sent;
             answered = sound.answered;
             depth = sound.depth;

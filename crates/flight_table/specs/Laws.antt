@@ -1,6 +1,7 @@
 -- What is true of every table that the calls make (this project's profile).
 use Rattle.std.specs.Prelude.{ℕ, ◌≡◌, ◌≢◌, ◌+◌, ◌<◌, ◌≤◌, true, false, List, [], ◌∷◌, length, map, filter, None, IfSome, IsSome, ⊤}
 use Rattle.std.specs.List.{AllByRecursion}
+use Rattle.tl_messages.specs.Operations.{has_data, reply_has_data}
 use Rattle.flight_table.specs.LiveRequests.{LiveRequest, all_sent, planned}
 use Rattle.flight_table.specs.Order.{holds_id, is_held}
 use Rattle.flight_table.specs.Tables.{FlightTable, KeyedRequest, KeyedTable, has_source, live_of, table_of}
@@ -17,10 +18,13 @@ pub record AreLimits (limits : TableLimits) : Type 0 where
   pub some_depth : 1 ≤ limits.depth
   pub most_depth : limits.depth ≤ 4
 
--- a request keeps to the limits; one that isn't done holds an ID once it sent a burst and not before, and one that is done holds none
+-- a request keeps to the limits; one that reads has data in its reply, and one that writes has data of its own; one that isn't done holds an ID
+-- once it sent a burst and not before, and one that is done holds none
 pub record IsSoundRequest (limits : TableLimits) (accepted : ℕ) (request : LiveRequest) : Type 0 where
   pub number : request.number < accepted
   pub client : request.client < limits.clients
+  pub reads : request.writing ≡ false → reply_has_data request.operation ≡ true
+  pub writes : request.writing ≡ true → request.done ≡ false → has_data request.operation ≡ true
   pub sent : request.sent ≤ length (planned request)
   pub answered : request.answered ≤ request.sent
   pub depth : request.sent ≤ request.answered + limits.depth

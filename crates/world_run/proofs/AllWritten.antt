@@ -103,9 +103,10 @@ failed_atomic order config request range x at served is_asked atomic isnt came f
 -- a live request that is done has written all that it writes: its planned writes are all answered
 pub all_written_done : (order : Order) (config : Config) (bus_bytes : ℕ) (wrote : ℕ → ℕ → Bool) (request : BridgedRequest) → is_valid config ≡ true → IsPageMap order.regions
     → IsServed config order.regions request → IsInOrder order bus_bytes wrote request → request.flight.done ≡ true
+    → (request.flight.writing ≡ false → reply_has_data request.flight.operation ≡ true)
     → ((range : PlannedRange) → request.flight.plan ≡ Some range → is_atomic request.flight ≡ true → request.flight.writing ≡ false → FindsSerially order request range.address)
     → (x : ℕ) → writes order request.flight.number x ≡ true → wrote request.flight.number x ≡ true
-all_written_done order config bus_bytes wrote request valid pages served of is_done finds x written = by_plan request.flight.plan refl
+all_written_done order config bus_bytes wrote request valid pages served of is_done reads finds x written = by_plan request.flight.plan refl
   where
     settled : length (planned request.flight) ≤ request.flight.answered
     settled = leb-true (length (planned request.flight)) request.flight.answered (sym served.done ∙ is_done)
@@ -122,7 +123,7 @@ all_written_done order config bus_bytes wrote request valid pages served of is_d
         → request.flight.writing ≡ writing → wrote request.flight.number x ≡ true
     by_writes range plan at true true carries writing = whole range at writing (rw (carries, plan) refl)
     by_writes range plan at true false carries isnt =
-        let atomic : is_atomic request.flight ≡ true = rw (served.reading isnt, carries) refl in
+        let atomic : is_atomic request.flight ≡ true = rw (reads isnt, carries) refl in
         absurd (failed_atomic order config request range x at served of.asked atomic isnt (omega (arith, settled, length_reading request.flight isnt)) (finds range plan atomic isnt) written)
     by_writes range plan at false writing none is =
         absurd (cc (written, no_data_written order request.flight.number (request_of request.message) x of.asked (ap has_data (sym served.flight.operation) ∙ none)))

@@ -184,7 +184,7 @@ all_came order config limits accepted request address valid served sound done at
         by_side true writes =
             let responded : length told.responses ≡ request.flight.answered = told.answered ∙ rw writes refl in
             omega (arith, responded, answered, length_writing request.flight writes, all, some)
-        by_side false reads = absurd (cc (served.reading reads, sides.0))
+        by_side false reads = absurd (cc (sound.reads reads, sides.0))
 
     either : is_put request.message.operation ≡ true → (reply_has_data request.message.operation || is_put request.message.operation) ≡ true
     either put = by_data (reply_has_data request.message.operation)

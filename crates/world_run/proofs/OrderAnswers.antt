@@ -39,7 +39,7 @@ done_has_written order table wrote test request sound regions found of done =
     let was = all-find (IsServed table.config table.regions) test table.live request sound.served found in
     let served = subst (λ (map : List Region). IsServed table.config map request) regions was in
     let each = all-find (λ (r : BridgedRequest). IsSoundRequest (table_limits_of table.config) table.accepted r.flight) test table.live request (sound_requests table sound) found in
-    all_written_done order table.config table.config.axi_bytes wrote request sound.config served.pages served of done
+    all_written_done order table.config table.config.axi_bytes wrote request sound.config served.pages served of done each.reads
     (λ range plan atomic isnt. finds_unplanned order table.config (table_limits_of table.config) table.accepted request range.address sound.config served each done atomic isnt
     (planned_at table.config order.regions request range sound.config served.pages served plan).address of.gathered)
 

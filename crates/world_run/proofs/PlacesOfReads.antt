@@ -13,7 +13,7 @@ use Rattle.burst_plan.specs.PlannedTransfers.{beat_bytes, burst_beats, burst_byt
 use Rattle.burst_plan.specs.declared.Piece.{Piece}
 use Rattle.burst_plan.proofs.PieceLaws.{DividesEvenly, burst_count, divides_evenly, piece_at, piece_listed, slice_get-pieces}
 use Rattle.burst_plan.proofs.TransferPlaces.{transfer_end-at, transfer_start-at}
-use Rattle.flight_table.specs.LiveRequests.{read_pieces}
+use Rattle.flight_table.specs.LiveRequests.{pieces_planned, read_pieces}
 use Rattle.flight_table.proofs.PhaseLaws.{read_at}
 use Rattle.bridge_core.specs.Configs.{is_valid}
 use Rattle.bridge_core.specs.Laws.{IsServed, answered_pieces, beats_in}
@@ -85,6 +85,10 @@ transfer_at range even k n =
 
 -- ---- a read of a request
 
+read_has : (has : Bool) (parts : List Piece) (k : ℕ) (piece : Piece) → slice_get (if has then parts else []) k ≡ Some piece → has ≡ true
+read_has true parts k piece found = refl
+read_has false parts k piece found = absurd (cc (found))
+
 -- the next beat of a read, as one of the transfers of the request's range
 transfer_of_read : (order : Order) (config : Config) (request : BridgedRequest) (address : ℕ) (piece : Piece) (n : ℕ) → is_valid config ≡ true → IsServed config order.regions request
     → address_of order.regions (request_of request.message) ≡ Some address → IsReading request piece n
@@ -103,7 +107,7 @@ transfer_of_read order config request address piece n valid served at reading =
     read = read_at request.flight k piece reading.burst
 
     has : reply_has_data request.flight.operation ≡ true
-    has = served.reading read.0
+    has = read_has (reply_has_data request.flight.operation) (pieces_planned request.flight.plan) k piece read.1
 
     sends : reply_has_data request.message.operation ≡ true
     sends = ap reply_has_data (sym served.flight.operation) ∙ has
