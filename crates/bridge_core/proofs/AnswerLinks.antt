@@ -82,7 +82,6 @@ pub record IsHolder (table : RequestTable) (id : ℕ) (request : BridgedRequest)
   pub sound : IsSoundRequest (table_limits_of table.config) table.accepted request.flight
   pub has_id : request.flight.id ≡ Some id
   pub live : request.flight.done ≡ false
-  pub one_side : AreOf request.flight.writing (outstanding request.flight)
 
 id_held : (own : Option ℕ) (id : ℕ) → is_id id own ≡ true → own ≡ Some id
 id_held None id holds = absurd (cc (holds))
@@ -108,7 +107,6 @@ holder_known table id request sound held =
       sound = flight_sound;
       has_id = holds_it;
       live = undone request.flight id holds_it flight_sound.freed;
-      one_side = one_side request.flight;
     }
 
 -- ---- a B
@@ -131,7 +129,7 @@ finds_writer state b sound none =
     by_holder None write writes is listed = absurd (cc (listed))
     by_holder (Some request) write writes is listed =
         let known = holder_known state.requests b.id request sound.requests is in
-        record { request = request; holder = known; next = next_write b.id request.flight.writing (outstanding request.flight) known.one_side write writes listed }
+        record { request = request; holder = known; next = next_write b.id request.flight.writing (outstanding request.flight) (one_side request.flight) write writes listed }
 
 -- what a B that breaks no rule tells of the live request that holds its ID: the oldest of its bursts that aren't answered is a write
 pub record AnsweredWriter (state : BridgeState) (b : BBeat) : Type 0 where
@@ -250,7 +248,7 @@ finds_reader state r sound none =
     by_holder None read reads is listed found last = absurd (cc (listed))
     by_holder (Some request) read reads is listed found last =
         let known = holder_known state.requests r.id request sound.requests is in
-        let next = next_read r.id (came_of_next request) request.flight.writing (outstanding request.flight) known.one_side read reads listed in
+        let next = next_read r.id (came_of_next request) request.flight.writing (outstanding request.flight) (one_side request.flight) read reads listed in
         let opened = ap (open_reads r.id (came_of_next request)) (sym next.is) ∙ listed in
         let same : open_read r.id (came_of_next request) next.piece ≡ read = cc (opened) in
         let flag : r.last ≡ (came_of_next request == next.piece.len) = last ∙ ap (λ (o : OpenRead). o.came == o.ar.len) (sym same) in

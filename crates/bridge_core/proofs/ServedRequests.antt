@@ -109,9 +109,7 @@ going_on config regions request counted going =
       flight = counted.flight;
       done = counted.live ∙ sym going;
       found = λ atomic writing live. counted.found atomic writing going;
-      failed = λ atomic isnt past.
-          let open_ones = leb-false (length (planned request.flight)) request.flight.answered going in
-          absurd (omega (arith, past, open_ones, length_reading request.flight isnt));
+      failed = λ atomic isnt over. absurd (cc (over, counted.live));
       came = counted.came;
       next = counted.next;
     }
@@ -133,7 +131,7 @@ to_write config regions request valid counted settles test =
       flight = record { client = counted.flight.client; source = counted.flight.source; operation = counted.flight.operation; plan = counted.flight.plan };
       done = counted.live ∙ sym (lt-leb (length (planned (with_write request.flight))) 0 some);
       found = λ atomic is live. parts.1;
-      failed = λ atomic isnt past. absurd (cc (isnt));
+      failed = λ atomic isnt over. absurd (cc (isnt));
       came = subst (λ (parts : List Piece). beats_in parts ≤ request.gathering.came) whole counted.came;
       next = subst (λ (parts : List Piece). request.gathering.came - beats_in parts ≡ 0) whole none;
     }
@@ -147,7 +145,7 @@ to_end config regions request counted settles test =
       flight = record { client = counted.flight.client; source = counted.flight.source; operation = counted.flight.operation; plan = counted.flight.plan };
       done = sym settles;
       found = λ atomic writing live. absurd (cc (live));
-      failed = λ atomic isnt past. no_value request.flight.writing (value_found request) isnt test;
+      failed = λ atomic isnt over. no_value request.flight.writing (value_found request) isnt test;
       came = counted.came;
       next = counted.next;
     }
@@ -230,7 +228,7 @@ served_new table message valid pages sound =
       flight = record { client = refl; source = refl; operation = refl; plan = refl };
       done = done_by plan refl;
       found = λ atomic is live. absurd (atomic_first (reply_has_data message.operation) (has_data message.operation) atomic is);
-      failed = λ atomic isnt past. failed_by atomic past plan refl;
+      failed = λ atomic isnt over. failed_by atomic over plan refl;
       came = omega (arith, none_read (reply_has_data message.operation) (pieces_planned plan));
       next = omega arith;
     }
@@ -249,14 +247,11 @@ served_new table message valid pages sound =
     done_by (Some range) is =
         sym (lt-leb _ 0 (some_planned (reply_has_data message.operation) (has_data message.operation) (pieces range) (has_course message.operation (range_of table.config table.regions (request_of message)) range is) (some range is)))
 
-    failed_by : is_atomic fresh ≡ true → length (read_pieces fresh) ≤ 0 → (p : Option PlannedRange) → plan ≡ p → value_found (newly_live table message) ≡ None
-    failed_by atomic past None is =
+    failed_by : is_atomic fresh ≡ true → is_none plan ≡ true → (p : Option PlannedRange) → plan ≡ p → value_found (newly_live table message) ≡ None
+    failed_by atomic over None is =
         let none : is_none (address_of table.regions (request_of message)) ≡ true = no_address _ _ (sym (atomic_planned message.operation (range_of table.config table.regions (request_of message)) atomic) ∙ is) in
         denied_value _ _ _ _ none
-    failed_by atomic past (Some range) is =
-        let both = and_parts (reply_has_data message.operation) (has_data message.operation) atomic in
-        let reads : read_pieces fresh ≡ pieces range = rw (both.0, is) refl in
-        absurd (omega (arith, past, ap (λ (parts : List Piece). length parts) reads, some range is))
+    failed_by atomic over (Some range) is = absurd (cc (over, ap (λ (p : Option PlannedRange). is_none p) is))
 
 -- ---- a burst was sent
 

@@ -53,8 +53,7 @@ pub record IsServed (config : Config) (regions : List Region) (request : Bridged
   pub flight : IsOfMessage config regions request
   pub done : request.flight.done ≡ is_settled request.flight
   pub found : is_atomic request.flight ≡ true → request.flight.writing ≡ true → request.flight.done ≡ false → IsSome (value_found request)
-  pub failed :
-      is_atomic request.flight ≡ true → request.flight.writing ≡ false → length (read_pieces request.flight) ≤ request.flight.answered → value_found request ≡ None
+  pub failed : is_atomic request.flight ≡ true → request.flight.writing ≡ false → request.flight.done ≡ true → value_found request ≡ None
   pub came : beats_in (answered_pieces request.flight) ≤ request.gathering.came
   pub next : IsPartWay (came_of_next request) (outstanding request.flight)
 

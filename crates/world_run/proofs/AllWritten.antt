@@ -16,7 +16,7 @@ use Rattle.burst_plan.specs.PlannedTransfers.{HasAddress, HoldsEachByteOnce, pie
 use Rattle.burst_plan.specs.declared.Piece.{Piece}
 use Rattle.burst_plan.proofs.TransferPlaces.{holds_each_byte_once}
 use Rattle.flight_table.specs.LiveRequests.{is_atomic, plan_for, planned, read_pieces, write_pieces}
-use Rattle.flight_table.proofs.PhaseLaws.{length_reading, write_planned}
+use Rattle.flight_table.proofs.PhaseLaws.{write_planned}
 use Rattle.bridge_core.specs.Configs.{is_valid}
 use Rattle.bridge_core.specs.Laws.{IsServed}
 use Rattle.bridge_core.specs.Requests.{BridgedRequest, address_of, range_at, range_of}
@@ -88,17 +88,17 @@ atomic_fine faults q address x (Atomic op) atomic gives = isnt (is_bad faults ad
 atomic_fine faults q address x Get atomic gives = absurd (cc (atomic))
 atomic_fine faults q address x (Intent write) atomic gives = absurd (cc (atomic))
 
--- an atomic whose read came and that plans no write found no old value, so it writes nothing
+-- an atomic that is done and only read found no old value, so it writes nothing
 failed_atomic : (order : Order) (config : Config) (request : BridgedRequest) (range : PlannedRange) (x : ℕ) → IsPlannedAt config order.regions request range → IsServed config order.regions request
-    → asked order request.flight.number ≡ Some (request_of request.message) → is_atomic request.flight ≡ true → request.flight.writing ≡ false → length (read_pieces request.flight) ≤ request.flight.answered
+    → asked order request.flight.number ≡ Some (request_of request.message) → is_atomic request.flight ≡ true → request.flight.writing ≡ false → request.flight.done ≡ true
     → FindsSerially order request range.address → writes order request.flight.number x ≡ true → ⊥
-failed_atomic order config request range x at served is_asked atomic isnt came finds written =
+failed_atomic order config request range x at served is_asked atomic isnt over finds written =
     let q = request_of request.message in
     let place = writes_is order request.flight.number q range.address x is_asked at.address in
     let both = and_parts (is_good (standing_at order.faults range.address)) (gives_byte order.faults q range.address q.operation x) (sym place ∙ written) in
     let is_number = ap (λ (o : Operation). reply_has_data o && has_data o) (sym served.flight.operation) ∙ atomic in
     let found = finds.found both.0 (atomic_fine order.faults q range.address x q.operation is_number both.1) in
-    absurd (cc (found, served.failed atomic isnt came))
+    absurd (cc (found, served.failed atomic isnt over))
 
 -- a live request that is done has written all that it writes: its planned writes are all answered
 pub all_written_done : (order : Order) (config : Config) (bus_bytes : ℕ) (wrote : ℕ → ℕ → Bool) (request : BridgedRequest) → is_valid config ≡ true → IsPageMap order.regions
@@ -124,7 +124,7 @@ all_written_done order config bus_bytes wrote request valid pages served of is_d
     by_writes range plan at true true carries writing = whole range at writing (rw (carries, plan) refl)
     by_writes range plan at true false carries isnt =
         let atomic : is_atomic request.flight ≡ true = rw (reads isnt, carries) refl in
-        absurd (failed_atomic order config request range x at served of.asked atomic isnt (omega (arith, settled, length_reading request.flight isnt)) (finds range plan atomic isnt) written)
+        absurd (failed_atomic order config request range x at served of.asked atomic isnt is_done (finds range plan atomic isnt) written)
     by_writes range plan at false writing none is =
         absurd (cc (written, no_data_written order request.flight.number (request_of request.message) x of.asked (ap has_data (sym served.flight.operation) ∙ none)))
 

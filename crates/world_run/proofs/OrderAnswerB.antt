@@ -19,6 +19,7 @@ use Rattle.bridge_core.specs.Bridge.{after_b_beat}
 use Rattle.bridge_core.specs.Configs.{table_limits_of}
 use Rattle.bridge_core.specs.Laws.{IsServed, outstanding}
 use Rattle.bridge_core.specs.Requests.{BridgedRequest, RequestTable, address_of, after_response, holds}
+use Rattle.bridge_core.proofs.AnswerLinks.{one_side}
 use Rattle.bridge_core.proofs.HolderChanges.{IsNextOf, filter-without-other, part-next}
 use Rattle.bridge_core.proofs.ResponseLinks.{settled-other}
 use Rattle.subordinate.specs.Faults.{Faults, standing_at, write_response}
@@ -84,7 +85,7 @@ module _ (order : Order) (state : WorldState) (id : ℕ) (pending : Pending) (so
   abbrev first : IsFirstOf order state.memory.bus_bytes keeps.wrote request.flight.number true mine (outstanding request.flight) pending
   first =
       first_on order state.memory.bus_bytes keeps.wrote request.flight.number id true request.flight.writing mine (outstanding request.flight) pending (all_kept (is_of_id id) state.memory.pending)
-      has.known.one_side has.are found_mine
+      (one_side request.flight) has.are found_mine
 
   next : IsNextOf (planned request.flight) request.flight.answered request.flight.sent (true, first.piece) first.rest
   next = part-next (planned request.flight) request.flight.answered request.flight.sent (true, first.piece) first.rest first.outstanding

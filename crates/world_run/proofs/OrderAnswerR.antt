@@ -21,7 +21,7 @@ use Rattle.bridge_core.specs.Bridge.{after_r_beat}
 use Rattle.bridge_core.specs.Configs.{table_limits_of}
 use Rattle.bridge_core.specs.Laws.{IsServed, came_of, came_of_next, open_read, open_reads, outstanding, outstanding_of}
 use Rattle.bridge_core.specs.Requests.{BridgedRequest, RequestTable, address_of, after_read, holds, settled}
-use Rattle.bridge_core.proofs.AnswerLinks.{AreOf, IsReader, reader_known}
+use Rattle.bridge_core.proofs.AnswerLinks.{AreOf, IsReader, one_side, reader_known}
 use Rattle.bridge_core.proofs.HolderChanges.{filter-found, filter-without-other}
 use Rattle.bridge_core.proofs.ReadLinks.{after_read-last, after_read-more, after_read-other, closed_by, counted_by}
 use Rattle.bridge_core.proofs.ServedRequests.{IsReading}
@@ -123,7 +123,7 @@ module _ (order : Order) (state : WorldState) (id : ℕ) (pending : Pending) (pa
   abbrev first : IsFirstOf order state.memory.bus_bytes keeps.wrote request.flight.number false mine (outstanding request.flight) pending
   first =
       first_on order state.memory.bus_bytes keeps.wrote request.flight.number id false request.flight.writing mine (outstanding request.flight) pending (all_kept (is_of_id id) state.memory.pending)
-      has.known.one_side has.are found_mine
+      (one_side request.flight) has.are found_mine
 
   abbrev open_one : OpenRead
   open_one = record { ar = first.is.ar; came = pending.answered }
@@ -153,7 +153,7 @@ module _ (order : Order) (state : WorldState) (id : ℕ) (pending : Pending) (pa
 
   alike : AreOf false first.rest
   alike =
-      let sides = subst (λ (bursts : List (Bool × Piece)). AreOf request.flight.writing bursts) first.outstanding has.known.one_side in
+      let sides = subst (λ (bursts : List (Bool × Piece)). AreOf request.flight.writing bursts) first.outstanding (one_side request.flight) in
       subst (λ (side : Bool). AreOf side first.rest) (sym sides.0) sides.1
 
   reader : IsReader state.bridge r request first.piece first.rest
