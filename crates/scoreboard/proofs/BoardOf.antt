@@ -1,31 +1,28 @@
 -- What a scoreboard holds, by what was observed: at the start, and what one client's part and the memory become by a request.
-use Rattle.std.proofs.Common.{◌≡◌, ℕ, ◌+◌, ◌<◌, ◌≤◌, zero, suc, ◌==◌, Bool, true, false, ◌&&◌, ◌||◌, List, [], ◌∷◌, ◌++◌, map, length, zip, Option, Some, None, Result, Ok, Err, if◌then◌else◌, refl, sym, ◌∙◌, ap, subst, arith}
-use Rattle.std.specs.Prelude.{◌≢◌, option_map, replicate, slice_get, slice_index_or, slice_set, unwrap_or}
-use Rattle.std.specs.List.{AllByRecursion, range_with_len}
+use Rattle.std.proofs.Common.{◌≡◌, ℕ, ◌+◌, ◌<◌, zero, suc, Bool, true, false, ◌||◌, List, [], ◌∷◌, ◌++◌, map, length, Some, if◌then◌else◌, refl, sym, ◌∙◌, ap, subst, arith}
+use Rattle.std.specs.Prelude.{replicate, slice_get, slice_index_or}
+use Rattle.std.specs.List.{range_with_len}
 use Rattle.std.proofs.Math.Path.{fun_ext}
 use Rattle.std.proofs.lemmas.List.FromFn.{length-map-range_with_len}
 use Rattle.bus_words.specs.Lanes.{given_at, payload_of}
-use Rattle.tl_messages.specs.Requests.{HeldMessage, WholeRequest, held_of, request_of}
+use Rattle.tl_messages.specs.Requests.{WholeRequest, held_of}
 use Rattle.tl_messages.specs.Operations.{beats_of, reply_has_data}
-use Rattle.tl_messages.specs.declared.ABeat.{ABeat}
 use Rattle.tl_messages.specs.declared.DBeat.{DBeat}
-use Rattle.tl_checker.specs.Requests.{IsFront, TlPortLimits}
 use Rattle.tl_checker.proofs.Fronts.{none_front}
 use Rattle.axi_checker.specs.OpenBursts.{nothing_open}
 use Rattle.axi_checker.specs.Rules.{open_after_all}
 use Rattle.responses.specs.Shown.{Reply, address_in_word, beat_of_word, beat_without_data, lacks_a_byte, shown}
 use Rattle.bridge_core.specs.Configs.{axi_port_of, port_of}
 use Rattle.world_run.specs.Headline.{bytes_of_all, replies_of}
-use Rattle.world_run.specs.Meaning.{Bytes, bytes_after_all, meaning, zeros}
-use Rattle.world_run.specs.Runs.{AcceptedMessage}
+use Rattle.world_run.specs.Meaning.{meaning, zeros}
 use Rattle.world_run.specs.Setups.{SetupLists, faults_of}
 use Rattle.world_run.proofs.OrderOpens.{zero_byte}
-use Rattle.scoreboard.specs.Boards.{Board, ClientBoard, opening_board, opening_client, opening_due, due_of}
+use Rattle.scoreboard.specs.Boards.{Board, ClientBoard, opening_board, opening_client, opening_due}
 use Rattle.scoreboard.specs.InsideSerial.{bytes_in}
 use Rattle.scoreboard.specs.Observed.{Observed, nothing_observed, requests_in}
-use Rattle.scoreboard.specs.Right.{IsRightNow, IsTold, is_of, replies_to, shown_to}
+use Rattle.scoreboard.specs.Right.{IsRightNow, is_of, replies_to, shown_to}
 use Rattle.scoreboard.specs.SerialMemory.{IsCarriedOut, SerialState, meaning_now}
-use Rattle.scoreboard.proofs.Owed.{AreDues, AreOf, IsOwed, eqb_other, eqb_same}
+use Rattle.scoreboard.proofs.Owed.{AreDues, AreOf, IsOwed, eqb_same}
 use Rattle.scoreboard.proofs.SeenLists.{bytes_after_all-append, replies-append, replies-count, shown_to-append, shown_to-other}
 use Rattle.scoreboard.proofs.Told.{told_nothing}
 

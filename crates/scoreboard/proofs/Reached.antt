@@ -2,7 +2,6 @@
 -- where what was observed with it isn't.
 use Rattle.std.proofs.Common.{◌≡◌, ℕ, zero, suc, ◌<◌, List, [], ◌∷◌, ◌++◌, length, arith, Option, Some, None, ◌⊎◌, inl, inr, refl, sym, ◌∙◌, ap, subst}
 use Rattle.std.specs.Prelude.{◌↔◌, slice_get}
-use Rattle.std.specs.List.{AllByRecursion}
 use Rattle.std.proofs.lemmas.List.{append-nil, append_assoc}
 use Rattle.std.proofs.lemmas.Option.{slice_get_within}
 use Rattle.bus_words.proofs.PlaceChanges.{all-append}
@@ -14,11 +13,10 @@ use Rattle.world_run.specs.Setups.{SetupLists}
 use Rattle.scoreboard.specs.Boards.{Board, ClientBoard, IsAfter, IsAfterA, IsReached, a_wrong, after_d, answer_to, d_wrong, opening_board, wrong_at}
 use Rattle.scoreboard.specs.InsideBoards.{HasSource}
 use Rattle.scoreboard.specs.InsideSerial.{bytes_in}
-use Rattle.scoreboard.specs.Observed.{Observed, nothing_observed, observed_in, requests_in, with_reply_beat, with_request_beat, with_seen}
+use Rattle.scoreboard.specs.Observed.{Observed, nothing_observed, observed_in, requests_in, with_seen}
 use Rattle.scoreboard.specs.Right.{HasClient, IsContiguous, IsRight, IsRightNow}
 use Rattle.scoreboard.specs.declared.Seen.{Seen}
 use Rattle.scoreboard.specs.declared.Seen.TheVariants.{A, D, Aw, W, B, Ar, R, Drained}
-use Rattle.scoreboard.specs.declared.Wrong.{Wrong}
 use Rattle.scoreboard.proofs.BoardOf.{IsBoardOf, board_opens, right_opens}
 use Rattle.scoreboard.proofs.ReplySteps.{axi_right, next_contiguous, reply_right, step_axi, step_drained, step_reply}
 use Rattle.scoreboard.proofs.RequestSteps.{request_right, step_request}

@@ -1,19 +1,18 @@
 -- A beat on channel D, or on the AXI4 port, that isn't wrong: what is held then is what was observed then, and it is right.
-use Rattle.std.proofs.Common.{◌≡◌, ℕ, ◌+◌, ◌<◌, ◌==◌, Bool, true, false, ◌&&◌, List, [], ◌∷◌, ◌++◌, length, Option, Some, None, if◌then◌else◌, ◌⊎◌, inl, inr, refl, sym, ◌∙◌, ap, subst, arith}
-use Rattle.std.specs.Prelude.{◌≢◌, slice_get, slice_set}
+use Rattle.std.proofs.Common.{◌≡◌, ℕ, ◌<◌, ◌==◌, Bool, true, false, ◌&&◌, List, [], ◌∷◌, ◌++◌, length, Option, Some, None, ◌⊎◌, inl, inr, refl, sym, ◌∙◌, ap, subst, arith}
+use Rattle.std.specs.Prelude.{◌≢◌, slice_get}
 use Rattle.std.proofs.lemmas.List.{length-set}
 use Rattle.std.proofs.lemmas.Option.{slice_get_within}
 use Rattle.tl_messages.specs.declared.ABeat.{ABeat}
 use Rattle.tl_messages.specs.declared.DBeat.{DBeat}
 use Rattle.axi_checker.specs.OpenBursts.{AxiBeat, nothing_open}
-use Rattle.axi_checker.specs.Rules.{axi_fault, first_axi_fault, open_after_all}
+use Rattle.axi_checker.specs.Rules.{axi_fault, first_axi_fault}
 use Rattle.axi_checker.specs.declared.AxiRule.{AxiRule}
 use Rattle.world_run.specs.Setups.{SetupLists}
 use Rattle.bridge_core.specs.Configs.{axi_port_of}
 use Rattle.scoreboard.specs.Boards.{Board, ClientBoard, after_axi, after_reply_beat, axi_wrong, has_source, next_reply, with_client, wrong_axi, wrong_reply}
 use Rattle.scoreboard.specs.Observed.{Observed, with_axi_beat, with_reply_beat}
 use Rattle.scoreboard.specs.Right.{IsFree, IsPartly, IsRightNow, IsTold, left_of, replies_to}
-use Rattle.scoreboard.specs.declared.Wrong.{Wrong}
 use Rattle.scoreboard.proofs.BoardOf.{IsBoardOf, IsClientOf}
 use Rattle.scoreboard.proofs.Owed.{AreDues, Comes, IsOwed, eqb_other, eqb_same, eqb_true, next_right, partly_begun, right_comes, same_or_not}
 use Rattle.scoreboard.proofs.RequestSteps.{clients_with}

@@ -1,11 +1,11 @@
 -- A beat on channel A after those of the message that has begun: what its answer says of them all.
-use Rattle.std.proofs.Common.{◌≡◌, ℕ, ◌<◌, ◌==◌, Bool, true, false, not, List, [], ◌∷◌, ◌++◌, length, Option, Some, None, Result, Ok, Err, refl, sym, ◌∙◌, ap, arith}
+use Rattle.std.proofs.Common.{◌≡◌, ℕ, ◌<◌, ◌==◌, Bool, true, false, not, List, [], ◌∷◌, ◌++◌, length, Some, Result, Ok, refl, ◌∙◌, ap, arith}
 use Rattle.std.specs.Prelude.{option_map}
 use Rattle.std.proofs.lemmas.Bool.{not-true}
-use Rattle.tl_messages.specs.Requests.{HeldMessage, WholeRequest, held_of, request_of}
+use Rattle.tl_messages.specs.Requests.{WholeRequest, held_of, request_of}
 use Rattle.tl_messages.specs.Operations.{beats_of, opcode_has_data}
 use Rattle.tl_messages.specs.declared.ABeat.{ABeat}
-use Rattle.tl_checker.specs.Ports.{ReadsAs, is_free, joined, judged}
+use Rattle.tl_checker.specs.Ports.{is_free, joined, judged}
 use Rattle.tl_checker.specs.Requests.{IsFront, Spells, TlPortLimits}
 use Rattle.tl_checker.specs.declared.Progress.{Progress}
 use Rattle.tl_checker.specs.declared.Progress.TheVariants.{More, Whole}

@@ -1,5 +1,5 @@
 -- A beat on channel A that isn't wrong: what is held then is what was observed then, and it is right.
-use Rattle.std.proofs.Common.{◌≡◌, ℕ, zero, suc, ◌+◌, ◌<◌, ◌≤◌, ◌==◌, Bool, true, false, ◌&&◌, List, [], ◌∷◌, ◌++◌, length, zip, Option, Some, None, Result, Ok, Err, if◌then◌else◌, ◌⊎◌, inl, inr, refl, sym, ◌∙◌, ap, subst, arith}
+use Rattle.std.proofs.Common.{◌≡◌, ℕ, ◌<◌, ◌≤◌, ◌==◌, Bool, true, false, ◌&&◌, List, [], ◌∷◌, ◌++◌, length, zip, Option, Some, None, Result, Ok, Err, if◌then◌else◌, ◌⊎◌, inl, inr, refl, sym, ◌∙◌, ap, subst, arith}
 use Rattle.std.specs.Prelude.{◌≢◌, option_map, slice_get, slice_set}
 use Rattle.std.specs.List.{AllByRecursion}
 use Rattle.std.proofs.lemmas.Bool.Decides.{eqb_tells}
@@ -8,7 +8,6 @@ use Rattle.std.proofs.lemmas.Option.{slice_get_within}
 use Rattle.bus_words.proofs.PlaceChanges.{all-append}
 use Rattle.tl_messages.specs.Requests.{HeldMessage, WholeRequest, held_of, message_of, request_of}
 use Rattle.tl_messages.specs.declared.ABeat.{ABeat}
-use Rattle.tl_messages.specs.declared.DBeat.{DBeat}
 use Rattle.tl_checker.specs.Ports.{joined, judged}
 use Rattle.tl_checker.specs.Requests.{IsFront, Spells, TlPortLimits}
 use Rattle.tl_checker.specs.declared.Progress.{Progress}
@@ -20,7 +19,7 @@ use Rattle.bridge_core.specs.Configs.{port_of}
 use Rattle.bridge_core.proofs.PortPlaces.{get_set, get_set-other}
 use Rattle.world_run.specs.Headline.{IsSpelled, bytes_of_all}
 use Rattle.world_run.specs.Meaning.{Effect, meaning}
-use Rattle.world_run.specs.Runs.{AcceptedMessage, request_in}
+use Rattle.world_run.specs.Runs.{AcceptedMessage}
 use Rattle.world_run.specs.Setups.{SetupLists, faults_of}
 use Rattle.scoreboard.specs.Boards.{Board, ClientBoard, IsAfterRequest, IsAnswered, answer_to, has_source, is_busy, with_client, with_due, wrong_request}
 use Rattle.scoreboard.specs.Observed.{Observed, is_complete, requests_in, with_begun, with_message, with_request_beat}
@@ -426,6 +425,6 @@ request_right setup observed number client beat of before after = by_complete (i
         let last = all_of_last (IsSpelled setup) (zip observed.messages (requests_in observed)) (accepted, request_of message) (subst (AllByRecursion (IsSpelled setup)) paired pairs) in
         not_wrong Whole (may_end limits begun beat busy (request_of message) (before.begun number) last.spells
         (λ empty.
-            let source = alone limits begun beat empty in
-            busy_by (subst (λ n. n < 256 → left_of (replies_to setup observed number n) (observed.told number n) ≡ []) source
-            (left_before setup observed number beats message held (client_of number begun beat message held) before now))))
+        let source = alone limits begun beat empty in
+        busy_by (subst (λ n. n < 256 → left_of (replies_to setup observed number n) (observed.told number n) ≡ []) source
+        (left_before setup observed number beats message held (client_of number begun beat message held) before now))))

@@ -1,8 +1,8 @@
 -- What a client was told of the replies to one of its sources: with a beat more, and with a reply more.
-use Rattle.std.proofs.Common.{◌≡◌, ℕ, ◌+◌, ◌<◌, ◌≤◌, List, [], ◌∷◌, ◌++◌, length, refl, sym, ◌∙◌, ap, arith}
+use Rattle.std.proofs.Common.{◌≡◌, ◌≤◌, List, [], ◌∷◌, ◌++◌, length, refl, sym, ◌∙◌, ap, arith}
 use Rattle.std.proofs.lemmas.List.{append-nil, append_assoc, length-append}
 use Rattle.tl_messages.specs.declared.DBeat.{DBeat}
-use Rattle.scoreboard.specs.Right.{IsTold, all_beats, last_of, left_of}
+use Rattle.scoreboard.specs.Right.{IsTold, all_beats, left_of}
 use Rattle.scoreboard.proofs.SeenLists.{all_beats-append, last_of-append, left_is}
 
 none_of : (beats : List DBeat) → length beats ≤ 0 → beats ≡ []

@@ -1,6 +1,6 @@
 -- When what was observed is right, said of whole lists: the requests on each channel A are spelled, the AXI4 beats break no rule, and the
 -- replies are those of the accepted requests, carried out whole, one at a time, in order of acceptance. No state of a scoreboard plays a part.
-use Rattle.std.specs.Prelude.{ℕ, ◌≡◌, ◌==◌, ◌<◌, ◌≤◌, Bool, ◌&&◌, List, [], ◌∷◌, ◌++◌, length, zip, drop, flat_map, Option, None, ⊤, if◌then◌else◌}
+use Rattle.std.specs.Prelude.{ℕ, ◌≡◌, ◌==◌, ◌<◌, ◌≤◌, Bool, ◌&&◌, List, [], ◌∷◌, ◌++◌, length, zip, drop, flat_map, None, ⊤, if◌then◌else◌}
 use Rattle.std.specs.List.{AllByRecursion}
 use Rattle.tl_messages.specs.Requests.{WholeRequest}
 use Rattle.tl_messages.specs.declared.ABeat.{ABeat}
@@ -14,7 +14,7 @@ use Rattle.world_run.specs.Headline.{IsSpelled, replies_of}
 use Rattle.world_run.specs.Setups.{SetupLists}
 use Rattle.scoreboard.specs.Observed.{Observed, observed_in, requests_in}
 use Rattle.scoreboard.specs.declared.Seen.{Seen}
-use Rattle.scoreboard.specs.declared.Seen.TheVariants.{A, D, Aw, W, B, Ar, R, Drained}
+use Rattle.scoreboard.specs.declared.Seen.TheVariants.{A, D}
 
 -- an observed TileLink beat is of a client that is there
 abbrev pub HasClient : ℕ → Seen → Type 0

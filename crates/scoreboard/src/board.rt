@@ -126,7 +126,7 @@ impl Scoreboard {
         ensures state { IsAfter self.old seen.now self.new }
         ensures right { (setup : SetupLists) (before : List Seen) → IsReached (opening_board setup) before self.old → (result ≡ None) ↔ IsRight setup (before ++ seen.now ∷ []) }
         ensures memory { (setup : SetupLists) (before : List Seen) → IsReached (opening_board setup) before self.old
-          → bytes_in self.old.serial.pages ≡ bytes_of_all setup (requests_in (observed_in before)) }
+            → bytes_in self.old.serial.pages ≡ bytes_of_all setup (requests_in (observed_in before)) }
     {
         self.judge_by_board(seen)
     }

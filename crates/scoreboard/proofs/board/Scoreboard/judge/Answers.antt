@@ -1,5 +1,5 @@
 -- What the board says of the next beat is what the definition says of all that was observed.
-use Rattle.std.proofs.Common.{◌≡◌, None, ap, sym, ◌∙◌}
+use Rattle.std.proofs.Common.{sym, ◌∙◌}
 use Rattle.scoreboard.proofs.Reached.{memory_reached, right_exactly}
 use Rattle.scoreboard.proofs.board.Scoreboard.judge.Goals as goal
 
