@@ -1,13 +1,12 @@
 -- The burst that goes next is legal, and breaks no rule of the port.
-use Rattle.std.proofs.Common.{◌≡◌, ℕ, zero, suc, ◌-◌, ◌^◌, ◌<◌, ◌≤◌, Bool, true, false, List, [], ◌∷◌, map, length, take, Option, Some, None, refl, ap, sym, ◌∙◌, arith, subst, inl, inr, ◌⊎◌, length-drop, length-take, lit<}
+use Rattle.std.proofs.Common.{◌≡◌, ℕ, ◌-◌, ◌^◌, ◌<◌, ◌≤◌, Bool, true, false, List, [], ◌∷◌, map, length, take, Option, Some, None, refl, ap, sym, ◌∙◌, arith, subst, length-drop, length-take, lit<}
 use Rattle.std.specs.Prelude.{if◌then◌else◌, unwrap_or, IfSome, slice_index_or}
 use Rattle.std.specs.List.{range_with_len, slice_get}
 use Rattle.std.specs.Option.{option_and_then}
 use Rattle.std.proofs.lemmas.List.Elements.{All-map}
-use Rattle.std.proofs.lemmas.Option.{same_Some}
 use Rattle.bus_words.specs.Lanes.{has_lane, lane_byte}
 use Rattle.bus_words.proofs.PlaceChanges.{all-find}
-use Rattle.tl_messages.specs.Operations.{has_data, reply_has_data}
+use Rattle.tl_messages.specs.Operations.{has_data}
 use Rattle.tl_messages.specs.Requests.{HeldMessage, byte_given, bytes_given, given_in, request_of}
 use Rattle.tl_messages.specs.declared.MaskedWord.{MaskedWord}
 use Rattle.tl_messages.specs.declared.Operation.{Operation}

@@ -1,5 +1,5 @@
 -- The bursts of a request's phase, by their places, and the work that they are.
-use Rattle.std.proofs.Common.{◌≡◌, ℕ, zero, suc, ◌+◌, ◌-◌, ◌*◌, ◌<◌, ◌≤◌, Bool, true, false, List, [], ◌∷◌, map, length, drop, Some, refl, ap, sym, ◌∙◌, arith, length-drop}
+use Rattle.std.proofs.Common.{◌≡◌, ℕ, zero, suc, ◌+◌, ◌-◌, ◌*◌, ◌<◌, Bool, true, false, List, [], ◌∷◌, map, length, drop, Some, refl, ap, sym, ◌∙◌, arith, length-drop}
 use Rattle.std.proofs.lemmas.List.{length-map}
 use Rattle.std.specs.Prelude.{option_map, if◌then◌else◌}
 use Rattle.std.specs.List.{AllByRecursion, range_with_len, slice_get, sum_by}
@@ -10,7 +10,7 @@ use Rattle.burst_plan.specs.PlannedTransfers.{burst_beats}
 use Rattle.burst_plan.specs.declared.Piece.{Piece}
 use Rattle.burst_plan.proofs.PieceLaws.{burst_count, divides_evenly, piece_at, piece_listed, pieces_are}
 use Rattle.flight_table.specs.LiveRequests.{LiveRequest, bursts_of, phase_pieces, pieces_planned, planned, read_pieces, write_pieces}
-use Rattle.flight_table.specs.Work.{answers_of_burst, beats_of_burst, later_work, work_of_bursts}
+use Rattle.flight_table.specs.Work.{answers_of_burst, beats_of_burst, later_work}
 use Rattle.tl_messages.specs.Operations.{has_data, reply_has_data}
 
 -- ---- bursts of one side

@@ -1,5 +1,5 @@
 -- What each call makes of a request keeps the laws of the table.
-use Rattle.std.proofs.Common.{◌≡◌, ℕ, suc, zero, ◌+◌, ◌-◌, ◌==◌, ◌<◌, ◌≤◌, Bool, true, false, not, ◌&&◌, ◌||◌, is_some, nat_lt, List, [], ◌∷◌, length, Option, Some, None, refl, ap, sym, ◌∙◌, arith, inl, inr, ◌⊎◌, subst, IsTrue}
+use Rattle.std.proofs.Common.{◌≡◌, ℕ, suc, zero, ◌+◌, ◌-◌, ◌==◌, ◌<◌, ◌≤◌, Bool, true, false, not, ◌&&◌, is_some, nat_lt, List, [], ◌∷◌, length, Option, Some, None, refl, ap, sym, ◌∙◌, arith, inl, inr, ◌⊎◌, subst, IsTrue}
 use Rattle.std.specs.Prelude.{IfSome, IsSomeAnd, if◌then◌else◌}
 use Rattle.std.proofs.lemmas.Bool.{cases_lt}
 use Rattle.std.specs.List.{AllByRecursion, find, list_any, range_with_len, slice_get}
@@ -10,7 +10,7 @@ use Rattle.bus_words.specs.Places.{change_first}
 use Rattle.tl_messages.specs.Operations.{has_data, reply_has_data}
 use Rattle.flight_table.specs.Inside.{HasOneHolder, IsProgress, MayName}
 use Rattle.flight_table.specs.Laws.{HaveOwnKeys, IsSound, IsSoundRequest, IsSoundTable}
-use Rattle.flight_table.specs.LiveRequests.{LiveRequest, all_sent, awaits_write, finished, is_atomic, is_settled, next_burst, planned, read_pieces, unanswered, with_answered, with_sent, with_write}
+use Rattle.flight_table.specs.LiveRequests.{LiveRequest, all_sent, awaits_write, finished, is_atomic, is_settled, next_burst, planned, unanswered, with_answered, with_sent, with_write}
 use Rattle.flight_table.specs.Order.{conflict, free_id, holds_back, holds_id, id_for, is_free, is_held, is_id, is_ready}
 use Rattle.flight_table.specs.Tables.{FlightTable, KeyedRequest, KeyedTable, change_entry, change_key, change_number, has_key, has_number, key_in, request_at, request_in, requests_of, table_of}
 use Rattle.flight_table.specs.declared.TableLimits.{TableLimits}

@@ -1,5 +1,5 @@
 -- A live request: it was accepted, and its reply wasn't taken yet (this project's profile).
-use Rattle.std.specs.Prelude.{ℕ, ◌+◌, ◌-◌, Bool, true, false, ◌&&◌, not, List, [], map, length, Option, Some, None, is_none, if◌then◌else◌, slice_get, nat_le}
+use Rattle.std.specs.Prelude.{ℕ, ◌+◌, ◌-◌, Bool, true, ◌&&◌, not, List, [], map, length, Option, Some, None, is_none, if◌then◌else◌, slice_get, nat_le}
 use Rattle.tl_messages.specs.Operations.{has_data, reply_has_data}
 use Rattle.tl_messages.specs.Requests.{HeldMessage}
 use Rattle.tl_messages.specs.declared.Operation.{Operation}
@@ -56,13 +56,15 @@ pieces_planned (Some range) = pieces range
 abbrev pub is_atomic : LiveRequest → Bool
 is_atomic request = reply_has_data request.operation && has_data request.operation
 
--- the pieces that it reads, as a Get and an atomic do, those that it writes, as a Put and an atomic do, and those of its phase
+-- the pieces that it reads, as a Get and an atomic do
 abbrev pub read_pieces : LiveRequest → List Piece
 read_pieces request = if reply_has_data request.operation then pieces_planned request.plan else []
 
+-- those that it writes, as a Put and an atomic do
 abbrev pub write_pieces : LiveRequest → List Piece
 write_pieces request = if has_data request.operation then pieces_planned request.plan else []
 
+-- those of its phase
 abbrev pub phase_pieces : LiveRequest → List Piece
 phase_pieces request = if request.writing then write_pieces request else read_pieces request
 

@@ -327,6 +327,9 @@ impl LiveRequest {
         if self.writing {
             return 0;
         }
+        if !self.operation.has_data() {
+            return 0;
+        }
         u64::from(self.writes()) * (self.piece_beats() + 2)
     }
 

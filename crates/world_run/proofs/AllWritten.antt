@@ -15,7 +15,7 @@ use Rattle.burst_plan.specs.Pieces.{PlannedRange, pieces}
 use Rattle.burst_plan.specs.PlannedTransfers.{HasAddress, HoldsEachByteOnce, piece_of, transfer_of}
 use Rattle.burst_plan.specs.declared.Piece.{Piece}
 use Rattle.burst_plan.proofs.TransferPlaces.{holds_each_byte_once}
-use Rattle.flight_table.specs.LiveRequests.{is_atomic, plan_for, planned, read_pieces, write_pieces}
+use Rattle.flight_table.specs.LiveRequests.{is_atomic, plan_for, planned, write_pieces}
 use Rattle.flight_table.proofs.PhaseLaws.{write_planned}
 use Rattle.bridge_core.specs.Configs.{is_valid}
 use Rattle.bridge_core.specs.Laws.{IsServed}

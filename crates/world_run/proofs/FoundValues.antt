@@ -1,10 +1,9 @@
 -- The old value that an atomic found is the one that it finds one at a time. It knows what one live atomic has gathered; how it was
 -- gathered is hidden.
-use Rattle.std.proofs.Common.{◌≡◌, ℕ, ◌+◌, ◌^◌, Bool, true, false, ◌&&◌, not, List, [], length, Option, Some, None, refl, ap, sym, ◌∙◌, subst, arith}
+use Rattle.std.proofs.Common.{◌≡◌, ℕ, ◌^◌, Bool, true, false, ◌&&◌, not, length, Option, Some, None, refl, ap, sym, ◌∙◌, subst, arith}
 use Rattle.std.specs.Prelude.{if◌then◌else◌, IsSome}
 use Rattle.std.proofs.lemmas.Bool.{and_parts, leb-true}
 use Rattle.axi_beats.specs.Responses.{is_okay}
-use Rattle.burst_plan.specs.declared.Piece.{Piece}
 use Rattle.data_unit.specs.Words.{value}
 use Rattle.flight_table.specs.Laws.{IsSoundRequest}
 use Rattle.flight_table.specs.LiveRequests.{is_atomic, planned, read_pieces}

@@ -1,6 +1,6 @@
 -- Each event lets requests go on, so that the later ones still wait for those that they conflict with. It knows what each event makes of
 -- the live requests; the memory is hidden.
-use Rattle.std.proofs.Common.{◌≡◌, ◌≢◌, ℕ, ◌+◌, ◌==◌, ◌<◌, ◌≤◌, nat_lt, Bool, true, false, ◌&&◌, ◌||◌, not, List, [], ◌∷◌, ◌++◌, map, ◌⊎◌, inl, inr, Option, Some, None, refl, sym, subst, ◌∙◌, ap, arith}
+use Rattle.std.proofs.Common.{◌≡◌, ◌≢◌, ℕ, ◌+◌, ◌==◌, ◌<◌, nat_lt, Bool, true, false, ◌&&◌, not, List, [], ◌∷◌, ◌++◌, map, ◌⊎◌, inl, inr, Option, Some, None, refl, sym, subst, ◌∙◌, ap, arith}
 use Rattle.std.specs.Prelude.{is_none, is_some, if◌then◌else◌}
 use Rattle.std.specs.List.{AllByRecursion, find}
 use Rattle.std.specs.Option.{option_or}
@@ -20,7 +20,7 @@ use Rattle.flight_table.specs.LiveRequests.{LiveRequest, is_settled, plan_for, w
 use Rattle.flight_table.specs.Order.{is_id}
 use Rattle.bridge_core.specs.Bridge.{message_with}
 use Rattle.bridge_core.specs.Configs.{table_limits_of}
-use Rattle.bridge_core.specs.Laws.{IsServed, IsSoundRequestTable}
+use Rattle.bridge_core.specs.Laws.{IsSoundRequestTable}
 use Rattle.bridge_core.specs.Requests.{BridgedRequest, RequestTable, after_read, after_response, after_sending, flights_of, holds, is_done_for, is_numbered, newly_live, outline_in, range_of, settled, value_found, with_read, with_request, with_response, with_sent_burst, without_done}
 use Rattle.bridge_core.proofs.HolderChanges.{all-mapped}
 use Rattle.world_run.specs.InOrder.{HoldsBack, IsForeseen, IsForeseenBy, IsInOrder, KeepsOrder, finished, has_begun, is_over, started}

@@ -1,18 +1,15 @@
 -- A beat that is performed keeps the order: a write's bytes are those that its request leaves, a read captures what its request finds. It
 -- knows that the request of the beat stands at a cut; what the beat does to single bytes comes from PerformedBytes.
-use Rattle.std.proofs.Common.{◌≡◌, ◌≢◌, ℕ, ◌+◌, ◌==◌, ◌≤◌, Bool, true, false, ◌&&◌, ◌||◌, List, [], Option, Some, None, refl, ap, sym, ◌∙◌, subst, arith, inl, inr}
-use Rattle.std.specs.Prelude.{if◌then◌else◌, unwrap_or, IfSome}
+use Rattle.std.proofs.Common.{◌≡◌, ◌≢◌, ℕ, ◌+◌, ◌==◌, ◌≤◌, Bool, true, false, ◌&&◌, ◌||◌, List, Option, Some, None, refl, ap, sym, ◌∙◌, subst, arith, inl, inr}
+use Rattle.std.specs.Prelude.{unwrap_or, IfSome}
 use Rattle.std.specs.List.{AllByRecursion, filter, find, slice_get}
-use Rattle.std.proofs.lemmas.Bool.{and_parts, and_right, cases_eq, cases_Bool, eq-eqb, eqb-true, ne_eqb}
-use Rattle.std.proofs.lemmas.Option.{slice_get_within}
+use Rattle.std.proofs.lemmas.Bool.{and_parts, and_right, cases_eq, eq-eqb, eqb-true, ne_eqb}
 use Rattle.bus_words.specs.Places.{change_first}
 use Rattle.bus_words.proofs.PlaceChanges.{all-find, find-passes}
 use Rattle.axi_beats.specs.Bursts.{Burst, ReadBurst, WriteBurst}
 use Rattle.axi_beats.specs.Transfers.{transfer_has}
 use Rattle.axi_checker.specs.Rules.{id_of}
 use Rattle.burst_plan.specs.declared.Piece.{Piece}
-use Rattle.tl_messages.specs.Operations.{has_data, reply_has_data}
-use Rattle.tl_messages.specs.Requests.{request_of}
 use Rattle.flight_table.specs.LiveRequests.{planned}
 use Rattle.flight_table.proofs.PhaseLaws.{read_at, write_at}
 use Rattle.flight_table.specs.Order.{is_id}
@@ -29,7 +26,6 @@ use Rattle.world_run.specs.Laws.{IsSoundWorld}
 use Rattle.world_run.specs.Serial.{Order, byte_left, bytes_before, touches, writes}
 use Rattle.world_run.specs.World.{WorldState, changed}
 use Rattle.world_run.specs.declared.Answer.TheVariants.{Done}
-use Rattle.world_run.proofs.AllWritten.{no_data_written}
 use Rattle.world_run.proofs.ApartWrites.{same_transfer}
 use Rattle.world_run.proofs.BurstBytes.{writes_in_range}
 use Rattle.world_run.proofs.History.{found_here, history_stores, store_adds, store_keeps, with_written}

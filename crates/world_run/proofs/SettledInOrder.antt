@@ -1,11 +1,10 @@
 -- A request is settled after an answer: it goes on, plans its write, or is finished. What it has written is as before. It knows one live
 -- request; the answer and the memory are hidden.
-use Rattle.std.proofs.Common.{◌≡◌, ℕ, suc, ◌+◌, ◌<◌, ◌≤◌, Bool, true, false, not, ◌||◌, List, [], ◌∷◌, length, Some, refl, ap, sym, ◌∙◌, subst, arith, inl, inr, ◌⊎◌}
-use Rattle.std.specs.Prelude.{if◌then◌else◌}
+use Rattle.std.proofs.Common.{◌≡◌, ℕ, ◌+◌, ◌<◌, ◌≤◌, Bool, true, false, Some, refl, ap, sym, ◌∙◌, subst, arith, inl, inr, ◌⊎◌}
 use Rattle.std.specs.List.{slice_get}
 use Rattle.axi_beats.specs.Transfers.{transfer_has}
 use Rattle.burst_plan.specs.declared.Piece.{Piece}
-use Rattle.flight_table.specs.LiveRequests.{is_settled, planned}
+use Rattle.flight_table.specs.LiveRequests.{planned}
 use Rattle.tl_messages.specs.Requests.{request_of}
 use Rattle.bridge_core.specs.Requests.{BridgedRequest, address_of, settled}
 use Rattle.bridge_core.proofs.ResponseLinks.{finished_one, settled_as, with_its_write}
