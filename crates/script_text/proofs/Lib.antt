@@ -1,11 +1,11 @@
 mod Endings
 pub mod LineRooms
-mod Numbers
+mod NumberLaws
 pub mod PageLists
 mod Parts
-mod PlainLines
 mod Progress
 mod ScriptLines
 pub mod StageSteps
 pub mod TraceTexts
 mod WordParts
+mod WordPlaces

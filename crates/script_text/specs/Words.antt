@@ -1,7 +1,6 @@
 -- Lines, words and numbers of a script (this project's profile). A text is the list of its bytes.
-use Rattle.std.specs.Prelude.{ℕ, ◌-◌, ◌==◌, Bool, true, ◌&&◌, not, List, [], ◌∷◌, map, filter, length, if◌then◌else◌, nat_le, nat_lt, nat_eq, Option, Some, None, codes, slice_get, unwrap_or}
+use Rattle.std.specs.Prelude.{◌≡◌, ◌≤◌, ◌<◌, ℕ, ◌-◌, ◌==◌, Bool, true, ◌&&◌, not, List, [], ◌∷◌, map, filter, length, if◌then◌else◌, nat_le, nat_lt, nat_eq, Option, Some, None, codes, slice_get, slice_index, slice_range, unwrap_or}
 use Rattle.std.specs.List.{slice_split, list_all, starts_with}
-use Rattle.std.specs.Borrow.{Bor}
 use Rattle.std.specs.Char.{is_digit}
 use Rattle.std.specs.Str.Lines.{strip_carriage_return}
 use Rattle.std.specs.Str.Parse.{digits_value}
@@ -42,10 +41,6 @@ is_plain_line line = nat_le (length line) 128 && list_all is_plain_byte line
 
 -- ---- words
 
--- borrowed texts as bytes
-abbrev pub texts_of : List (Bor (List ℕ)) → List (List ℕ)
-texts_of texts = map (λ text. text.now) texts
-
 abbrev pub is_word : List ℕ → Bool
 is_word part = not (length part == 0)
 
@@ -56,6 +51,18 @@ words_of line = filter is_word (slice_split (λ byte. byte == 32) line)
 -- word number n of a line, from 1; empty where there is none
 abbrev pub word_at : List (List ℕ) → ℕ → List ℕ
 word_at words n = unwrap_or (slice_get words (n - 1)) []
+
+-- where word k of a line, from 0, stands in it
+abbrev pub IsPlace : List ℕ → List ℕ → List ℕ → ℕ → Type 0
+IsPlace line starts ends k =
+    (slice_index starts k ≤ slice_index ends k) × (slice_index ends k ≤ length line)
+    × (slice_get (words_of line) k ≡ Some (slice_range line (slice_index starts k) (slice_index ends k)))
+
+-- where each word of a line stands in it
+pub record ArePlaces (line starts ends : List ℕ) (count : ℕ) : Type 0 where
+  pub places : (k : ℕ) → k < count → IsPlace line starts ends k
+  pub counted : count ≡ length (words_of line)
+  pub few : count ≤ 64
 
 -- whether a line is skipped: it has no words, or its first begins with `#`
 abbrev pub is_skipped : List (List ℕ) → Bool

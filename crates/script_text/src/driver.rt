@@ -9,7 +9,7 @@ ghost use Rattle.script_text.specs.Steps.{TakesStep, TakesRest};
 
 use crate::faults::ScriptFault;
 use crate::reader::{Block, Ending, Line};
-use crate::words::Words;
+use crate::words::{Words, is_comment};
 use std::alloc::Global;
 use std::io::{Read, Write};
 
@@ -61,20 +61,18 @@ pub trait Script {
 fn are_plain(bytes: &[u8]) -> bool
     ensures { result ≡ list_all is_plain_byte bytes.now }
 {
-    bytes.iter().all(|byte| 0x20 <= *byte && *byte <= 0x7e)
+    let mut plain = true;
+    for byte in bytes {
+        plain = plain & (0x20 <= *byte) & (*byte <= 0x7e);
+    }
+    plain
 }
 
-/// The text of a line that may stand: at most 128 bytes, each from 0x20 to 0x7e.
-fn plain(line: &[u8]) -> Option<&str>
-    ensures { MatchOption result (is_plain_line line.now ≡ false) (λ text. (is_plain_line line.now ≡ true) × (text.now ≡ line.now)) }
+/// Whether a line may stand: it has at most 128 bytes, each from 0x20 to 0x7e.
+fn may_stand(line: &[u8]) -> bool
+    ensures { result ≡ is_plain_line line.now }
 {
-    if line.len() > 128 || !are_plain(line) {
-        return None;
-    }
-    match str::from_utf8(line) {
-        Ok(text) => Some(text),
-        Err(_) => None,
-    }
+    line.len() <= 128 && are_plain(line)
 }
 
 /// A line without the carriage return at its end, if it has one.
@@ -96,12 +94,16 @@ fn take_line<S: Script, W: Write>(
     requires { number ≤ S.reading.most_lines }
     ensures { TakesStep S.reading (line_step S.reading (S.state script.old) number (strip_carriage_return line.now)) S.is_silent (S.state script.old) (S.state script.new) (W.contents writer.old) (W.contents writer.new) result }
 {
-    let Some(text) = plain(without_return(line)) else {
+    let text = without_return(line);
+    if !may_stand(text) {
         return Err(ScriptFault::Script {
             line: number,
             word: 0,
         });
-    };
+    }
+    if is_comment(text) {
+        return Ok(false);
+    }
     let words = Words::of(text);
     if words.are_skipped() {
         return Ok(false);

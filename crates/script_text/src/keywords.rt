@@ -39,25 +39,25 @@ pub enum Form {
 
 impl Form {
     /// The form of a line that begins with this word.
-    pub fn named(word: &str) -> Option<Form>
+    pub fn named(word: &[u8]) -> Option<Form>
         ensures { result ≡ form_of word.now }
     {
         match word {
-            "config" => Some(Form::Config),
-            "region" => Some(Form::Region),
-            "page" => Some(Form::Page),
-            "bad" => Some(Form::BadWord),
-            "a" => Some(Form::Offer),
-            "pump" => Some(Form::Pump),
-            "do" => Some(Form::Perform),
-            "b" => Some(Form::AnswerB),
-            "r" => Some(Form::AnswerR),
-            "take" => Some(Form::Take),
-            "drain" => Some(Form::Drain),
-            "mem" => Some(Form::Mem),
-            "work" => Some(Form::Work),
-            "free" => Some(Form::Free),
-            "word" => Some(Form::Word),
+            b"config" => Some(Form::Config),
+            b"region" => Some(Form::Region),
+            b"page" => Some(Form::Page),
+            b"bad" => Some(Form::BadWord),
+            b"a" => Some(Form::Offer),
+            b"pump" => Some(Form::Pump),
+            b"do" => Some(Form::Perform),
+            b"b" => Some(Form::AnswerB),
+            b"r" => Some(Form::AnswerR),
+            b"take" => Some(Form::Take),
+            b"drain" => Some(Form::Drain),
+            b"mem" => Some(Form::Mem),
+            b"work" => Some(Form::Work),
+            b"free" => Some(Form::Free),
+            b"word" => Some(Form::Word),
             _ => None,
         }
     }

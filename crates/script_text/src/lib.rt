@@ -4,6 +4,7 @@
 mod driver;
 mod faults;
 mod keywords;
+mod numbers;
 mod offer_parser;
 mod reader;
 mod setup_lines;

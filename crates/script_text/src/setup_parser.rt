@@ -45,7 +45,7 @@ fn are_levels(letters: &[u8]) -> bool
 fn levels(words: &Words<'_>, clients: u8) -> Result<[Level; 8], u32>
     ensures { Reads (levels_field clients (word_at words.now 8)) (levels_in (word_at words.now 8)) 8 result }
 {
-    let letters = words.at(8).as_bytes();
+    let letters = words.at(8);
     if letters.is_empty() || letters.len() > 8 || letters.len() != usize::from(clients) {
         return Err(8);
     }
@@ -103,7 +103,7 @@ pub fn config_line(words: &Words<'_>) -> Result<Config, u32>
 fn permissions(words: &Words<'_>) -> Result<[bool; 4], u32>
     ensures { Reads (permissions_field (word_at words.now 5)) (permissions_in (word_at words.now 5)) 5 result }
 {
-    let [get, put, atomic, hint] = words.at(5).as_bytes() else {
+    let [get, put, atomic, hint] = words.at(5) else {
         return Err(5);
     };
     Ok([
@@ -161,8 +161,8 @@ fn page_kind(words: &Words<'_>) -> Result<PageKind, u32>
     ensures { Reads (kind_field (word_at words.now 4)) (kind_in (word_at words.now 4)) 4 result }
 {
     match words.at(4) {
-        "good" => Ok(PageKind::Good),
-        "slverr" => Ok(PageKind::SlaveError),
+        b"good" => Ok(PageKind::Good),
+        b"slverr" => Ok(PageKind::SlaveError),
         _ => Err(4),
     }
 }

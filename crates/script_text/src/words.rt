@@ -1,97 +1,115 @@
-//! The words of a line, and the fields that they write.
-ghost use Rattle.std.specs.Prelude.{◌≡◌, ◌≤◌, ◌<◌, ◌-◌, ◌+◌, ◌++◌, ◌∷◌, [], true, false, filter, length, nat_le, MatchResult, IfOk};
-ghost use Rattle.arrayvec.specs.ArrayVec.{array_vec_len};
-ghost use Rattle.script_text.specs.Words.{texts_of, is_word, words_of, word_at, is_skipped, number_of, dec_at, hex_at, is_dec_to, is_hex_to};
+//! The words of a line, by their places in it, and the fields that they write.
+ghost use Rattle.std.specs.Prelude.{◌≡◌, ◌≢◌, ◌≤◌, ◌<◌, ◌+◌, ℕ, true, false, drop, length, nat_eq, nat_le, slice_index, codes, MatchResult, IfOk};
+ghost use Rattle.std.specs.List.{starts_with};
+ghost use Rattle.script_text.specs.Words.{words_of, word_at, is_skipped, dec_at, hex_at, is_dec_to, is_hex_to};
 ghost use Rattle.script_text.specs.Forms.{Reads, byte_field, short_field, long_field, address_field, flag_field, is_set};
 
-use arrayvec::ArrayVec;
+use crate::numbers::{decimal, hexadecimal};
 use std::marker::Model;
-
-/// The most digits of a decimal number.
-const DECIMAL_DIGITS: usize = 20;
-
-/// The most digits of a hexadecimal number.
-const HEXADECIMAL_DIGITS: usize = 16;
 
 /// The words of a line, parted by spaces. Words are counted from 1, and one that isn't there reads as empty.
 ///
 /// A field answers the number of its word where the word isn't as the field says.
 #[derive(Drop)]
 pub struct Words<'a> {
-    words: ArrayVec<&'a str, 64>,
+    line: &'a [u8],
+    starts: [u8; 64],
+    ends: [u8; 64],
+    count: usize,
 }
 
 impl<'a> Model for Words<'a> {
     ghost use Rattle.std.specs.Prelude.{ℕ, List};
-    ghost use Rattle.script_text.specs.Words.{texts_of};
+    ghost use Rattle.script_text.specs.Words.{ArePlaces, words_of};
 
     ghost Value = { List (List ℕ) };
 
-    ghost view = { λ w. texts_of w.words.items };
+    ghost view = { λ w. words_of w.line.now };
+
+    ghost invariant = { λ w. ArePlaces w.line.now w.starts w.ends w.count };
 }
 
-/// Appends a part of a line, if it is a word.
-fn push_word<'a>(words: &mut ArrayVec<&'a str, 64>, part: &'a str)
-    requires { is_word part.now ≡ true → array_vec_len words.old < 64 }
-    ensures { texts_of words.new.items ≡ texts_of words.old.items ++ filter is_word (part.now ∷ []) }
+/// Where the next word begins, or the line's end where there is none.
+fn word_from(line: &[u8], at: usize) -> usize
+    requires { at ≤ length line.now }
+    ensures within { (at ≤ result) × (result ≤ length line.now) }
+    ensures same { words_of (drop at line.now) ≡ words_of (drop result line.now) }
+    ensures found { result < length line.now → slice_index line.now result ≢ 32 }
 {
-    if !part.is_empty() {
-        words.push(part);
+    for place in at..line.len() {
+        if line[place] != b' ' {
+            return place;
+        }
     }
+    line.len()
 }
 
-fn number(word: &str, radix: u32, most: usize) -> Option<u64>
-    requires least { 2 ≤ radix }
-    requires largest { radix ≤ 36 }
-    ensures { result ≡ number_of radix most word.now }
+/// Where the next space stands, or the line's end where there is none.
+fn space_from(line: &[u8], at: usize) -> usize
+    requires { at ≤ length line.now }
+    ensures within { (at ≤ result) × (result ≤ length line.now) }
+    ensures before { (k : ℕ) → at ≤ k → k < result → slice_index line.now k ≢ 32 }
+    ensures found { result < length line.now → slice_index line.now result ≡ 32 }
 {
-    if word.len() > most {
-        return None;
+    for place in at..line.len() {
+        if line[place] == b' ' {
+            return place;
+        }
     }
-    if word.starts_with('+') {
-        return None;
-    }
-    match u64::from_str_radix(word, radix) {
-        Ok(value) => Some(value),
-        Err(_) => None,
-    }
+    line.len()
+}
+
+/// Whether a text begins with `#`.
+pub(crate) fn is_comment(text: &[u8]) -> bool
+    ensures { result ≡ starts_with nat_eq text.now (codes "#") }
+{
+    text.starts_with(b"#")
 }
 
 impl<'a> Words<'a> {
     /// The words of a line of at most 128 bytes.
-    pub fn of(line: &'a str) -> Words<'a>
+    pub fn of(line: &'a [u8]) -> Words<'a>
         requires { length line.now ≤ 128 }
         ensures { result ≡ words_of line.now }
     {
-        let mut words = ArrayVec::new();
-        let mut rest = line;
-        while let Some((part, after)) = rest.split_once(' ') {
-            push_word(&mut words, part);
-            rest = after;
+        let mut starts = [0; 64];
+        let mut ends = [0; 64];
+        let mut count = 0;
+        let mut start = word_from(line, 0);
+        while start < line.len() {
+            let end = space_from(line, start);
+            starts[count] = start as u8;
+            ends[count] = end as u8;
+            count += 1;
+            start = word_from(line, end);
         }
-        push_word(&mut words, rest);
-        Words { words }
+        Words {
+            line,
+            starts,
+            ends,
+            count,
+        }
     }
 
     /// Whether a line of these words is skipped: it has none, or its first begins with `#`.
     pub fn are_skipped(&self) -> bool
         ensures { result ≡ is_skipped self.now }
     {
-        match self.words.first() {
-            Some(word) => word.starts_with('#'),
-            None => true,
-        }
+        self.count == 0 || is_comment(self.at(1))
     }
 
     /// Word `n`.
-    pub fn at(&self, n: u32) -> &'a str
+    pub fn at(&self, n: u32) -> &'a [u8]
         requires { 0 < n }
         ensures { result.now ≡ word_at self.now n }
     {
-        match self.words.get(n as usize - 1) {
-            Some(word) => word,
-            None => "",
+        let place = n as usize - 1;
+        if place >= self.count {
+            return &[];
         }
+        let start = usize::from(self.starts[place]);
+        let end = usize::from(self.ends[place]);
+        &self.line[start..end]
     }
 
     /// That word `n` is the last.
@@ -99,7 +117,7 @@ impl<'a> Words<'a> {
         requires { n < 64 }
         ensures { MatchResult result (λ _. nat_le (n + 1) (length self.now) ≡ false) (λ e. (nat_le (n + 1) (length self.now) ≡ true) × (e ≡ n + 1)) }
     {
-        if self.words.len() > n as usize {
+        if self.count > n as usize {
             return Err(n + 1);
         }
         Ok(())
@@ -111,7 +129,7 @@ impl<'a> Words<'a> {
         ensures reads { Reads (is_dec_to limit (word_at self.now n)) (dec_at self.now n) n result }
         ensures small { IfOk result (λ v. v ≤ limit) }
     {
-        match number(self.at(n), 10, DECIMAL_DIGITS) {
+        match decimal(self.at(n)) {
             Some(value) if value <= limit => Ok(value),
             _ => Err(n),
         }
@@ -123,7 +141,7 @@ impl<'a> Words<'a> {
         ensures reads { Reads (is_hex_to limit (word_at self.now n)) (hex_at self.now n) n result }
         ensures small { IfOk result (λ v. v ≤ limit) }
     {
-        match number(self.at(n), 16, HEXADECIMAL_DIGITS) {
+        match hexadecimal(self.at(n)) {
             Some(value) if value <= limit => Ok(value),
             _ => Err(n),
         }
@@ -175,8 +193,8 @@ impl<'a> Words<'a> {
         ensures { Reads (flag_field (word_at self.now n)) (is_set (word_at self.now n)) n result }
     {
         match self.at(n) {
-            "0" => Ok(false),
-            "1" => Ok(true),
+            b"0" => Ok(false),
+            b"1" => Ok(true),
             _ => Err(n),
         }
     }

@@ -1,11 +1,18 @@
-use Rattle.std.proofs.Common.{◌≡◌, ◌++◌, length}
-use Rattle.script_text.specs.Words.{texts_of, words_of}
+use Rattle.std.proofs.Common.{◌≡◌, ◌≢◌, ◌≤◌, ◌<◌, ◌-◌, ℕ, drop, get_or, length}
+use Rattle.script_text.specs.Words.{IsPlace, words_of}
 use Rattle.script_text.proofs.words.Words.of.Given as goal
-use denote.Shadow.{shadow}
-use denote.Text.{Utf8}
 
-abbrev pub decreases-loop-part : goal.decreases-loop-part
-decreases-loop-part l = length l.rest
+abbrev pub decreases-loop-start : goal.decreases-loop-start
+decreases-loop-start l = length l.line - l.start
 
-abbrev pub invariant-loop-part : goal.invariant-loop-part
-invariant-loop-part l = shadow (Utf8 l.rest) × (texts_of l.words.items ++ words_of l.rest ≡ words_of l.fn.line)
+abbrev pub invariant-loop-start : goal.invariant-loop-start
+invariant-loop-start l =
+    record {
+      room_s : length l.starts ≡ 64;
+      room_e : length l.ends ≡ 64;
+      within : l.start ≤ length l.line;
+      found : l.start < length l.line → get_or l.line l.start 0 ≢ 32;
+      places : (k : ℕ) → k < l.count → IsPlace l.line l.starts l.ends k;
+      rest : drop l.count (words_of l.line) ≡ words_of (drop l.start l.line);
+      counted : l.count ≤ length (words_of l.line);
+    }
