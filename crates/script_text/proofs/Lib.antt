@@ -1,3 +1,4 @@
+mod Blocks
 mod Endings
 pub mod LineRooms
 mod NumberLaws

@@ -1,6 +1,7 @@
 -- A list that is cut at a byte, part by part.
-use Rattle.std.proofs.Common.{◌≡◌, ◌≢◌, ◌<◌, ◌==◌, ℕ, zero, suc, ◌+◌, List, [], ◌∷◌, ◌++◌, length, Bool, true, false, get_or, refl, arith}
+use Rattle.std.proofs.Common.{◌≡◌, ◌≢◌, ◌<◌, ◌==◌, ℕ, zero, suc, ◌+◌, List, [], ◌∷◌, ◌++◌, length, length-append, Bool, true, false, get_or, nat_lt, ◌-◌, ◌≤◌, refl, arith}
 use Rattle.std.proofs.lemmas.Bool.Decides.{nat_tests}
+use Rattle.std.proofs.lemmas.List.{get_or_append_left, get_or-append_right}
 use Rattle.std.proofs.lemmas.Grind.{common_steps}
 use Rattle.std.specs.List.{slice_split}
 
@@ -19,6 +20,15 @@ Lacks-push c [] x lacks other zero within = other
 Lacks-push c [] x lacks other (suc i) within = absurd (omega (arith, within))
 Lacks-push c (y ∷ xs) x lacks other zero within = lacks 0 (grind (arith, common_steps))
 Lacks-push c (y ∷ xs) x lacks other (suc i) within = Lacks-push c xs x (Lacks-tail c y xs lacks) other i (omega (arith, within))
+
+pub Lacks-append : (c : ℕ) (xs ys : List ℕ) → Lacks c xs → Lacks c ys → Lacks c (xs ++ ys)
+Lacks-append c xs ys first second i within = by_place (nat_lt i (length xs)) refl
+  where
+    by_place : (test : Bool) → nat_lt i (length xs) ≡ test → get_or (xs ++ ys) i 0 ≢ c
+    by_place true is = let below : i < length xs = grind (arith, nat_tests, is) in rw get_or_append_left (first i below)
+    by_place false other =
+        let over : length xs ≤ i = grind (arith, nat_tests, other) in
+        rw (get_or-append_right xs ys (length xs) i 0 refl over) (second (i - length xs) (omega (arith, within, length-append xs ys)))
 
 same_test : (c : ℕ) → (c == c) ≡ true
 same_test c = grind (arith, nat_tests)

@@ -1,5 +1,5 @@
 -- How the input is read: by blocks, and of these by lines.
-use Rattle.std.specs.Prelude.{◌≡◌, ◌≢◌, ◌<◌, ◌≤◌, ◌+◌, ℕ, Bool, true, false, List, [], ◌∷◌, ◌++◌, length, slice_index_or, Option, Some, None, Result, Ok, Err}
+use Rattle.std.specs.Prelude.{◌≡◌, ◌≢◌, ◌<◌, ◌≤◌, ◌+◌, ℕ, Bool, true, false, List, [], ◌∷◌, ◌++◌, length, take, slice_index_or, Option, Some, None, Result, Ok, Err}
 use Rattle.std.specs.Io.KnownBytes.{Consumes, IsAtEnd, prepend_known}
 use Rattle.script_text.specs.declared.faults.ScriptFault.{ScriptFault}
 use Rattle.script_text.specs.declared.faults.ScriptFault.TheVariants.{Script, Setup, Read, Write, NoMemory}
@@ -46,11 +46,41 @@ TakesByte old new input rest (Err (Script line word)) = ⊥
 TakesByte old new input rest (Err (Setup fault)) = ⊥
 TakesByte old new input rest (Err NoMemory) = ⊥
 
+-- whether anything is left, once the next block was read where nothing was: nothing is at the input's end
+abbrev pub Refills : BlockState → BlockState → Option (List ℕ) → Option (List ℕ) → Result Bool ScriptFault → Type 0
+Refills old new input rest (Ok some) = Takes old new input rest [] × (some ≡ true → new.ahead ≢ []) × (some ≡ false → (new.ahead ≡ []) × IsAtEnd rest)
+Refills old new input rest (Err Read) = Takes old new input rest [] × (new.ahead ≡ [])
+Refills old new input rest (Err Write) = Takes old new input rest [] × (new.ahead ≡ []) × (new.has_text ≡ true)
+Refills old new input rest (Err (Script line word)) = ⊥
+Refills old new input rest (Err (Setup fault)) = ⊥
+Refills old new input rest (Err NoMemory) = ⊥
+
 -- ---- lines
 
 -- no byte is a line feed
 abbrev pub IsOneLine : List ℕ → Type 0
 IsOneLine bytes = (i : ℕ) → i < length bytes → slice_index_or bytes i 0 ≢ 10
+
+-- a front of the bytes ahead that a line has room for, and what ends it behind them
+abbrev pub IsPart : List ℕ → ℕ → ℕ → Option Ending → Type 0
+IsPart ahead room count None = (count ≡ length ahead) × (count ≤ room) × IsOneLine ahead
+IsPart ahead room count (Some LineFeed) = (count < length ahead) × (count ≤ room) × IsOneLine (take count ahead) × (slice_index_or ahead count 0 ≡ 10)
+IsPart ahead room count (Some Room) = (count < length ahead) × (count ≡ room) × IsOneLine (take (count + 1) ahead)
+IsPart ahead room count (Some Input) = ⊥
+
+-- bytes of the block were taken
+pub record Passes (old new : BlockState) (bytes : List ℕ) : Type 0 where
+  pub front : old.ahead ≡ bytes ++ new.ahead
+  pub counted : new.taken ≡ old.taken + length bytes
+  pub same_text : new.has_text ≡ old.has_text
+
+-- a part of a line was taken, and what ended it, or all that was left of the block
+abbrev pub TakesPart : BlockState → BlockState → List ℕ → List ℕ → Option Ending → Type 0
+TakesPart old new before after None = (after ≡ before ++ old.ahead) × (length after ≤ 129) × IsOneLine old.ahead × (new.ahead ≡ []) × Passes old new old.ahead
+TakesPart old new before after (Some LineFeed) = (part : List ℕ) × (after ≡ before ++ part) × (length after ≤ 129) × IsOneLine part × Passes old new (part ++ 10 ∷ [])
+TakesPart old new before after (Some Room) =
+    (part : List ℕ) × (byte : ℕ) × (after ≡ before ++ part) × (length after ≡ 129) × IsOneLine part × (byte ≢ 10) × Passes old new (part ++ byte ∷ [])
+TakesPart old new before after (Some Input) = ⊥
 
 -- what was taken where a line ended so
 abbrev pub Ends : BlockState → BlockState → Option (List ℕ) → Option (List ℕ) → List ℕ → Ending → Type 0

@@ -1,7 +1,8 @@
 //! The input as it is read: by blocks, and of these by lines. A read that fails, an interrupted one too, is a fault.
-ghost use Rattle.std.specs.Prelude.{◌≡◌, [], true, false, IfOk};
+ghost use Rattle.std.specs.Prelude.{◌≡◌, ◌≢◌, ◌≤◌, [], true, false, IfOk};
 ghost use Rattle.std.specs.Io.KnownBytes.{Keeps};
-ghost use Rattle.script_text.specs.Reads.{Fills, IsSmall, ReadsLine, TakesByte};
+ghost use Rattle.arrayvec.specs.ArrayVec.{array_vec_len};
+ghost use Rattle.script_text.specs.Reads.{Fills, IsPart, IsSmall, ReadsLine, Refills, TakesByte, TakesPart};
 
 use crate::faults::ScriptFault;
 use arrayvec::ArrayVec;
@@ -15,8 +16,8 @@ const BLOCK_BYTES: usize = 65_536;
 /// A line's bytes without its line feed: at most 128 and a carriage return.
 pub type Line = ArrayVec<u8, 129>;
 
-/// The most bytes of a line with its line feed.
-const MOST_BYTES: usize = 130;
+/// The most bytes of a line without its line feed.
+const LINE_BYTES: usize = 129;
 
 /// What ended a line.
 #[derive(Clone, Copy, Debug, PartialEq, Eq)]
@@ -27,6 +28,27 @@ pub enum Ending {
     Input,
     /// A byte more than there is room for: the line is at fault whatever follows.
     Room,
+}
+
+/// How many of the bytes ahead are of a line that has room for so many more, and what ends it behind them, if anything does.
+fn part_of(ahead: &[u8], room: usize) -> (usize, Option<Ending>)
+    requires { room ≤ 129 }
+    ensures { IsPart ahead.now room result.0 result.1 }
+{
+    let most = if ahead.len() > room {
+        room + 1
+    } else {
+        ahead.len()
+    };
+    for count in 0..most {
+        if ahead[count] == b'\n' {
+            return (count, Some(Ending::LineFeed));
+        }
+    }
+    if most > room {
+        return (room, Some(Ending::Room));
+    }
+    (most, None)
 }
 
 /// The block of the input that was read last, at most 65,536 bytes.
@@ -95,6 +117,24 @@ impl Block {
         }
     }
 
+    /// Reads the next block where nothing is left of this one. The answer is whether anything is left then: nothing is at the
+    /// input's end.
+    fn refill<R: Read, W: Write>(
+        &mut self,
+        reader: &mut R,
+        writer: &mut W,
+    ) -> Result<bool, ScriptFault>
+        ensures input { Refills self.old self.new (R.remaining reader.old) (R.remaining reader.new) result }
+        ensures small { IsSmall self.new }
+        ensures output { Keeps (W.contents writer.old) (W.contents writer.new) }
+    {
+        if self.taken < self.filled {
+            return Ok(true);
+        }
+        self.fill(reader, writer)?;
+        Ok(self.taken < self.filled)
+    }
+
     /// Takes the next byte; none at the input's end.
     pub fn next_byte<R: Read, W: Write>(
         &mut self,
@@ -105,15 +145,25 @@ impl Block {
         ensures small { IsSmall self.new }
         ensures output { Keeps (W.contents writer.old) (W.contents writer.new) }
     {
-        if self.taken == self.filled {
-            self.fill(reader, writer)?;
-            if self.taken == self.filled {
-                return Ok(None);
-            }
+        if !self.refill(reader, writer)? {
+            return Ok(None);
         }
         let byte = self.bytes[self.taken];
         self.taken += 1;
         Ok(Some(byte))
+    }
+
+    /// Takes of what is left of the block what a line has room for, up to a line feed and it too. The answer is what ended
+    /// the line, if anything did.
+    fn take_part(&mut self, line: &mut Line) -> Option<Ending>
+        requires { array_vec_len line.old ≤ 129 }
+        ensures { TakesPart self.old self.new line.old.items line.new.items result }
+    {
+        let ahead = &self.bytes[self.taken..self.filled];
+        let (count, ending) = part_of(ahead, LINE_BYTES - line.len());
+        line.try_extend_from_slice(&ahead[..count]).unwrap();
+        self.taken += count + usize::from(ending.is_some());
+        ending
     }
 
     /// Takes the bytes up to the next line feed, and it too.
@@ -128,15 +178,12 @@ impl Block {
         ensures output { Keeps (W.contents writer.old) (W.contents writer.new) }
     {
         line.clear();
-        for _ in 0..MOST_BYTES {
-            let Some(byte) = self.next_byte(reader, writer)? else {
+        for _ in 0..=LINE_BYTES {
+            if !self.refill(reader, writer)? {
                 return Ok(Ending::Input);
-            };
-            if byte == b'\n' {
-                return Ok(Ending::LineFeed);
             }
-            if line.try_push(byte).is_err() {
-                return Ok(Ending::Room);
+            if let Some(ending) = self.take_part(line) {
+                return Ok(ending);
             }
         }
         Ok(Ending::Room)
