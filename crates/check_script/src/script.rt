@@ -8,11 +8,12 @@ ghost use Rattle.check_script.specs.ClientPorts.{check_text, table_after, verdic
 
 use crate::client_ports::{ClientPorts, Verdict};
 use crate::lines::{CheckCommand, check_command};
-use script_text::{Form, Kind, ScriptFault, StagedScript, Words, read_script, refused_line};
+use script_text::{
+    Form, Kind, ScriptFault, StagedScript, Words, a_line, read_script, refused_line, write_text,
+};
 use std::alloc::Global;
 use std::io;
 use std::io::{Read, Write};
-use tl_messages::a_line;
 use world_run::{Setup, SetupFault};
 
 /// A script of `tlbridge check`.
@@ -24,12 +25,12 @@ fn verdict_line<W: Write>(verdict: Verdict, writer: &mut W) -> io::Result<()>
     ensures { OnOk result (Appends (W.contents writer.old) (W.contents writer.new) (verdict_text verdict)) }
 {
     match verdict {
-        Verdict::More => writeln!(writer, "= more"),
-        Verdict::Whole => writeln!(writer, "= whole"),
+        Verdict::More => write_text(b"= more\n", writer),
+        Verdict::Whole => write_text(b"= whole\n", writer),
         Verdict::Refused(rule) => refused_line(rule, writer),
-        Verdict::NoClient => writeln!(writer, "= noclient"),
-        Verdict::Freed => writeln!(writer, "= freed"),
-        Verdict::NotBusy => writeln!(writer, "= notbusy"),
+        Verdict::NoClient => write_text(b"= noclient\n", writer),
+        Verdict::Freed => write_text(b"= freed\n", writer),
+        Verdict::NotBusy => write_text(b"= notbusy\n", writer),
     }
 }
 

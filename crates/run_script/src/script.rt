@@ -8,13 +8,13 @@ ghost use Rattle.run_script.specs.Run.{before_answer, commanded, event_text, run
 
 use crate::lines::{Command, command_of};
 use script_text::{
-    Form, Kind, ScriptFault, StagedScript, Words, answer_line, burst_lines, drained_line, mem_line,
-    read_script, reply_lines, work_line,
+    Form, Kind, ScriptFault, StagedScript, Words, a_line, answer_line, burst_lines, drained_line,
+    mem_line, read_script, reply_lines, work_line,
 };
 use std::alloc::Global;
 use std::io;
 use std::io::{Read, Write};
-use tl_messages::{ReplyBox, a_line};
+use tl_messages::ReplyBox;
 use world_run::{Answer, Setup, SetupFault, Step, World};
 
 /// A script of `tlbridge run`.

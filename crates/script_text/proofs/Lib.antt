@@ -1,5 +1,6 @@
 mod Blocks
 mod Endings
+mod HexLaws
 pub mod LineRooms
 mod NumberLaws
 pub mod PageLists

@@ -7,3 +7,4 @@ pub mod SetupLines
 pub mod Stages
 pub mod Steps
 pub mod Words
+pub mod Writing

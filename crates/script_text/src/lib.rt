@@ -1,9 +1,11 @@
 //! The text of scripts and traces: how lines are read, parsed, carried out one after another, and written.
 #![tactic(auto)]
 
+mod beat_lines;
 mod driver;
 mod faults;
 mod keywords;
+mod line_text;
 mod numbers;
 mod offer_parser;
 mod reader;
@@ -12,7 +14,9 @@ mod setup_parser;
 mod stages;
 mod trace_writer;
 mod words;
+mod writing;
 
+pub use beat_lines::a_line;
 pub use driver::{Script, read_script};
 pub use faults::ScriptFault;
 pub use keywords::Form;
@@ -25,3 +29,4 @@ pub use trace_writer::{
     reply_line, reply_lines, work_line,
 };
 pub use words::Words;
+pub use writing::write_text;

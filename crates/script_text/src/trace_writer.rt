@@ -1,15 +1,18 @@
 //! The lines of a trace. A fault of the writer is answered as it is.
-ghost use Rattle.std.specs.Prelude.{OnOk, flat_map};
+ghost use Rattle.std.specs.Prelude.{◌≡◌, ◌≤◌, ◌∷◌, [], OnOk, decimal, flat_map, length};
 ghost use Rattle.std.specs.Io.KnownBytes.{Appends};
-ghost use Rattle.script_text.specs.Names.{answer_text, client_text, drained_text, held_text, mem_text, ok_text, refused_text, reply_line_text, reply_text, work_text};
+ghost use Rattle.script_text.specs.Names.{answer_line, answer_text, client_text, drained_text, held_text, mem_text, ok_text, refused_text, reply_line_text, reply_text, work_text};
 ghost use Rattle.axi_beats.specs.Boxes.{w_beats_of};
 ghost use Rattle.axi_beats.specs.Lines.{w_text};
 
-use axi_beats::{BurstBox, ar_line, aw_line, b_line, r_line, w_line};
+use crate::beat_lines::{ar_line, aw_line, b_line, d_line, r_line, w_line};
+use crate::line_text::LineText;
+use crate::writing::write_text;
+use axi_beats::BurstBox;
 use std::io;
 use std::io::Write;
 use tl_checker::TlRule;
-use tl_messages::{DBeat, d_line};
+use tl_messages::DBeat;
 use world_run::Answer;
 
 /// Writes the line of a refused beat.
@@ -21,18 +24,30 @@ pub fn refused_line<W: Write>(rule: TlRule, writer: &mut W) -> io::Result<()>
     writeln!(writer, "= refused {number} {name}")
 }
 
+/// `= WORD NUMBER`.
+fn number_text(word: &[u8], number: u64) -> LineText
+    requires { length word.now ≤ 8 }
+    ensures { result ≡ answer_line (word.now ∷ decimal number ∷ []) }
+{
+    let mut text = LineText::new();
+    text.put_decimal(number);
+    text.put_word(word);
+    text.put_word(b"=");
+    text
+}
+
 /// Writes the line of a reply, by its request's number.
 pub fn reply_line<W: Write>(number: u64, writer: &mut W) -> io::Result<()>
     ensures { OnOk result (Appends (W.contents writer.old) (W.contents writer.new) (reply_line_text number)) }
 {
-    writeln!(writer, "= reply {number}")
+    write_text(number_text(b"reply", number).as_slice(), writer)
 }
 
 /// Writes the line of a run that went well.
 pub fn ok_line<W: Write>(writer: &mut W) -> io::Result<()>
     ensures { OnOk result (Appends (W.contents writer.old) (W.contents writer.new) ok_text) }
 {
-    writeln!(writer, "= ok")
+    write_text(b"= ok\n", writer)
 }
 
 /// Writes the line that names a client, whose lines follow.
@@ -47,20 +62,22 @@ pub fn answer_line<W: Write>(answer: &Answer, writer: &mut W) -> io::Result<()>
     ensures { OnOk result (Appends (W.contents writer.old) (W.contents writer.new) (answer_text answer.now)) }
 {
     match *answer {
-        Answer::More => writeln!(writer, "= more"),
-        Answer::Accepted(number) => writeln!(writer, "= accepted {number}"),
-        Answer::NotReady => writeln!(writer, "= notready"),
-        Answer::Exhausted => writeln!(writer, "= exhausted"),
+        Answer::More => write_text(b"= more\n", writer),
+        Answer::Accepted(number) => {
+            write_text(number_text(b"accepted", number).as_slice(), writer)
+        }
+        Answer::NotReady => write_text(b"= notready\n", writer),
+        Answer::Exhausted => write_text(b"= exhausted\n", writer),
         Answer::Refused(rule) => refused_line(rule, writer),
-        Answer::NoClient => writeln!(writer, "= noclient"),
-        Answer::Sent(serial) => writeln!(writer, "= sent {serial}"),
-        Answer::Idle => writeln!(writer, "= idle"),
-        Answer::Done => writeln!(writer, "= done"),
-        Answer::NoSuch => writeln!(writer, "= nosuch"),
-        Answer::Already => writeln!(writer, "= already"),
+        Answer::NoClient => write_text(b"= noclient\n", writer),
+        Answer::Sent(serial) => write_text(number_text(b"sent", serial).as_slice(), writer),
+        Answer::Idle => write_text(b"= idle\n", writer),
+        Answer::Done => write_text(b"= done\n", writer),
+        Answer::NoSuch => write_text(b"= nosuch\n", writer),
+        Answer::Already => write_text(b"= already\n", writer),
         Answer::B(beat) => b_line(&beat, writer),
         Answer::R(beat) => r_line(&beat, writer),
-        Answer::Nothing => writeln!(writer, "= nothing"),
+        Answer::Nothing => write_text(b"= nothing\n", writer),
         Answer::Reply(number) => reply_line(number, writer),
     }
 }
@@ -99,13 +116,24 @@ pub fn reply_lines<W: Write>(client: u8, beats: &[DBeat], writer: &mut W) -> io:
     Ok(())
 }
 
+/// `= mem BYTE`.
+fn byte_text(byte: u8) -> LineText
+    ensures { result ≡ mem_text (Some byte) }
+{
+    let mut text = LineText::new();
+    text.put_digits(2, u64::from(byte));
+    text.put_word(b"mem");
+    text.put_word(b"=");
+    text
+}
+
 /// Writes the line of a byte of the memory.
 pub fn mem_line<W: Write>(byte: Option<u8>, writer: &mut W) -> io::Result<()>
     ensures { OnOk result (Appends (W.contents writer.old) (W.contents writer.new) (mem_text byte)) }
 {
     match byte {
-        Some(byte) => writeln!(writer, "= mem {byte:02x}"),
-        None => writeln!(writer, "= mem --"),
+        Some(byte) => write_text(byte_text(byte).as_slice(), writer),
+        None => write_text(b"= mem --\n", writer),
     }
 }
 
@@ -113,12 +141,12 @@ pub fn mem_line<W: Write>(byte: Option<u8>, writer: &mut W) -> io::Result<()>
 pub fn drained_line<W: Write>(steps: u64, writer: &mut W) -> io::Result<()>
     ensures { OnOk result (Appends (W.contents writer.old) (W.contents writer.new) (drained_text steps)) }
 {
-    writeln!(writer, "= drained {steps}")
+    write_text(number_text(b"drained", steps).as_slice(), writer)
 }
 
 /// Writes the line of the work left.
 pub fn work_line<W: Write>(work: u64, writer: &mut W) -> io::Result<()>
     ensures { OnOk result (Appends (W.contents writer.old) (W.contents writer.new) (work_text work)) }
 {
-    writeln!(writer, "= work {work}")
+    write_text(number_text(b"work", work).as_slice(), writer)
 }

@@ -1,0 +1,46 @@
+//! Writing a text, and what was written of it where the writer fails.
+ghost use Rattle.std.specs.Prelude.{◌≤◌, [], IfOk, OnErr, OnOk, length, take};
+ghost use Rattle.std.specs.Io.KnownBytes.{Appends};
+ghost use Rattle.script_text.specs.Writing.{StopsShort};
+
+use std::io;
+use std::io::{Error, ErrorKind, Write};
+
+/// Writes some of a text that isn't empty, none where the write was interrupted.
+#[inline(always)]
+fn write_some<W: Write>(text: &[u8], writer: &mut W) -> io::Result<usize>
+    ensures within { IfOk result (λ count. count ≤ length text.now) }
+    ensures ok { IfOk result (λ count. Appends (W.contents writer.old) (W.contents writer.new) (take count text.now)) }
+    ensures err { OnErr result (Appends (W.contents writer.old) (W.contents writer.new) []) }
+{
+    match writer.write(text) {
+        Ok(0) => Err(Error::from(ErrorKind::WriteZero)),
+        Ok(count) => Ok(count),
+        Err(fault) if fault.kind() == ErrorKind::Interrupted => Ok(0),
+        Err(fault) => Err(fault),
+    }
+}
+
+/// Writes a text. A write that was interrupted is tried again; where the writer fails, it took a front of the text that isn't
+/// all of it.
+#[inline]
+pub fn write_text<W: Write>(text: &[u8], writer: &mut W) -> io::Result<()>
+    ensures all { OnOk result (Appends (W.contents writer.old) (W.contents writer.new) text.now) }
+    ensures front { OnErr result (StopsShort text.now (W.contents writer.old) (W.contents writer.new)) }
+{
+    let mut rest = text;
+    for _ in 0..u64::MAX {
+        if rest.is_empty() {
+            return Ok(());
+        }
+        let count = match write_some(rest, writer) {
+            Ok(count) => count,
+            Err(fault) => return Err(fault),
+        };
+        rest = &rest[count..];
+    }
+    if rest.is_empty() {
+        return Ok(());
+    }
+    Err(Error::from(ErrorKind::TimedOut))
+}
