@@ -1,5 +1,8 @@
 -- The lines of one beat more, and texts that aren't empty.
-use Rattle.std.proofs.Common.{◌≡◌, ◌≢◌, ℕ, zero, suc, ◌+◌, List, [], ◌∷◌, ◌++◌, take, flat_map, Some, slice_get, length, length-append, refl, ap, sym, ◌∙◌, append_assoc, rules, arith}
+use Rattle.std.proofs.Common.{◌≡◌, ◌≢◌, ℕ, zero, suc, ◌+◌, ◌≤◌, List, [], ◌∷◌, ◌++◌, take, flat_map, Some, slice_get, length, length-append, refl, ap, sym, ◌∙◌, append_assoc, rules, arith}
+use Rattle.tl_checker.specs.Names.{name_of}
+use Rattle.tl_checker.specs.declared.TlRule.{TlRule}
+use Rattle.tl_checker.specs.declared.TlRule.TheVariants.{Opcode, Level, Size, AtomicSize, Align, Param, Mask, Corrupt, SourceBusy, BurstControl, DOpcode, DSize, DSource, DBeats, DDenied, DCorrupt}
 
 flat_map-take-suc : {X : Type 0} (f : X → List ℕ) (xs : List X) (k : ℕ) (x : X) → slice_get xs k ≡ Some x → flat_map f (take (suc k) xs) ≡ flat_map f (take k xs) ++ f x
 flat_map-take-suc f [] k x found = search rules
@@ -25,3 +28,22 @@ some_after (x ∷ xs) ys some none = search rules
 pub grows : (xs ys : List ℕ) → ys ≢ [] → xs ≢ xs ++ ys
 grows xs [] some same = some refl
 grows xs (y ∷ ys) some same = omega (arith, ap length same, length-append xs (y ∷ ys))
+
+-- a rule's name is short
+pub short_name : (r : TlRule) → length (name_of r) ≤ 13
+short_name Opcode = omega arith
+short_name Level = omega arith
+short_name Size = omega arith
+short_name AtomicSize = omega arith
+short_name Align = omega arith
+short_name Param = omega arith
+short_name Mask = omega arith
+short_name Corrupt = omega arith
+short_name SourceBusy = omega arith
+short_name BurstControl = omega arith
+short_name DOpcode = omega arith
+short_name DSize = omega arith
+short_name DSource = omega arith
+short_name DBeats = omega arith
+short_name DDenied = omega arith
+short_name DCorrupt = omega arith

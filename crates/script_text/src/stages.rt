@@ -159,7 +159,19 @@ impl<K: Kind> StagedScript<K> {
     }
 
     /// Makes what commands work on where there is none yet.
+    #[inline]
     fn open(&mut self, alloc: Global, number: u32) -> Result<(), ScriptFault>
+        ensures { OpensStage K.rules.asks (world_at K.rules self.old number) (nothing_written self.old) self.new result }
+    {
+        if let Stage::Running(_) = &self.stage {
+            return Ok(());
+        }
+        self.make(alloc, number)
+    }
+
+    /// Makes what commands work on. It is apart, since a function clears the room for its values at its entry.
+    #[inline(never)]
+    fn make(&mut self, alloc: Global, number: u32) -> Result<(), ScriptFault>
         ensures { OpensStage K.rules.asks (world_at K.rules self.old number) (nothing_written self.old) self.new result }
     {
         let setup = match &self.stage {

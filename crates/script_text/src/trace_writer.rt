@@ -15,13 +15,24 @@ use tl_checker::TlRule;
 use tl_messages::DBeat;
 use world_run::Answer;
 
+/// `= refused NUMBER NAME`.
+#[tactic(auto, using(crate::proofs::TraceTexts::short_name))]
+fn refused_text(rule: TlRule) -> LineText
+    ensures { result ≡ refused_text rule }
+{
+    let mut text = LineText::new();
+    text.put_text(rule.name().as_bytes());
+    text.put_byte(rule.number());
+    text.put_word(b"refused");
+    text.put_word(b"=");
+    text
+}
+
 /// Writes the line of a refused beat.
 pub fn refused_line<W: Write>(rule: TlRule, writer: &mut W) -> io::Result<()>
     ensures { OnOk result (Appends (W.contents writer.old) (W.contents writer.new) (refused_text rule)) }
 {
-    let number = rule.number();
-    let name = rule.name();
-    writeln!(writer, "= refused {number} {name}")
+    write_text(refused_text(rule).as_slice(), writer)
 }
 
 /// `= WORD NUMBER`.
