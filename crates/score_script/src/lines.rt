@@ -30,17 +30,17 @@ pub enum Channel {
 
 impl Channel {
     /// The channel whose lines begin with this word.
-    pub fn named(word: &str) -> Option<Channel>
+    pub fn named(word: &[u8]) -> Option<Channel>
         ensures { result ≡ channel_of word.now }
     {
         match word {
-            "A" => Some(Channel::A),
-            "D" => Some(Channel::D),
-            "AW" => Some(Channel::Aw),
-            "W" => Some(Channel::W),
-            "B" => Some(Channel::B),
-            "AR" => Some(Channel::Ar),
-            "R" => Some(Channel::R),
+            b"A" => Some(Channel::A),
+            b"D" => Some(Channel::D),
+            b"AW" => Some(Channel::Aw),
+            b"W" => Some(Channel::W),
+            b"B" => Some(Channel::B),
+            b"AR" => Some(Channel::Ar),
+            b"R" => Some(Channel::R),
             _ => None,
         }
     }
@@ -52,10 +52,10 @@ fn resp(words: &Words<'_>, n: u32) -> Result<Resp, u32>
     ensures { Reads (resp_field (word_at words.now n)) (resp_in (word_at words.now n)) n result }
 {
     match words.at(n) {
-        "OKAY" => Ok(Resp::Okay),
-        "EXOKAY" => Ok(Resp::ExOkay),
-        "SLVERR" => Ok(Resp::SlvErr),
-        "DECERR" => Ok(Resp::DecErr),
+        b"OKAY" => Ok(Resp::Okay),
+        b"EXOKAY" => Ok(Resp::ExOkay),
+        b"SLVERR" => Ok(Resp::SlvErr),
+        b"DECERR" => Ok(Resp::DecErr),
         _ => Err(n),
     }
 }
@@ -187,8 +187,11 @@ pub(crate) fn address_line(words: &Words<'_>) -> Result<u32, u32>
 }
 
 /// Whether an answer, by the word after `=`, says that the beat before it wasn't taken.
-pub fn is_withdrawal(word: &str) -> bool
+pub fn is_withdrawal(word: &[u8]) -> bool
     ensures { result ≡ is_withdrawal word.now }
 {
-    matches!(word, "noclient" | "refused" | "notready" | "exhausted")
+    word == b"noclient".as_slice()
+        || word == b"refused".as_slice()
+        || word == b"notready".as_slice()
+        || word == b"exhausted".as_slice()
 }

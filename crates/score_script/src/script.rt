@@ -137,7 +137,7 @@ impl ScoreScript {
         &mut self,
         alloc: Global,
         number: u32,
-        word: &str,
+        word: &[u8],
         writer: &mut W,
     ) -> Result<bool, ScriptFault>
         ensures { TakesStep score_reading (answer_step (state_of self.old) number word.now) nothing_written (state_of self.old) (state_of self.new) (W.contents writer.old) (W.contents writer.new) result }
@@ -145,7 +145,7 @@ impl ScoreScript {
         if is_withdrawal(word) {
             return self.carry_out(alloc, number, &Command::Withdrawal, writer);
         }
-        if word == "drained" {
+        if word == b"drained".as_slice() {
             return self.carry_out(alloc, number, &Command::Seen(Seen::Drained), writer);
         }
         Ok(false)
@@ -286,7 +286,7 @@ impl Script for ScoreScript {
         writer: &mut W,
     ) -> Result<bool, ScriptFault> {
         let first = words.at(1);
-        if first == "=" {
+        if first == b"=".as_slice() {
             return self.take_answer(alloc, number, words.at(2), writer);
         }
         match Channel::named(first) {
