@@ -27,7 +27,7 @@ const FIELDS: [(&str, Option<u8>, Option<u16>, Option<u32>, Option<bool>); 12] =
 #[test]
 fn fields(rt: HostRuntime) -> Result<(), Fail> {
     for (word, byte, short, address, flag) in FIELDS {
-        let words = Words::of(word);
+        let words = Words::of(word.as_bytes());
         assert_eq!(rt; words.byte(1).ok(), byte, "{word:?}");
         assert_eq!(rt; words.short(1).ok(), short, "{word:?}");
         assert_eq!(rt; words.address(1).ok(), address, "{word:?}");
@@ -38,15 +38,17 @@ fn fields(rt: HostRuntime) -> Result<(), Fail> {
 
 #[test]
 fn words_of_lines(rt: HostRuntime) -> Result<(), Fail> {
-    let words = Words::of("  take   7 ");
-    assert_eq!(rt; (words.at(1), words.at(2), words.at(3)), ("take", "7", ""));
+    let words = Words::of(b"  take   7 ");
+    assert_eq!(rt; words.at(1), b"take".as_slice());
+    assert_eq!(rt; words.at(2), b"7".as_slice());
+    assert_eq!(rt; words.at(3), b"".as_slice());
     assert_eq!(rt; (words.end(1), words.end(2)), (Err(2), Ok(())));
     assert!(rt; !words.are_skipped());
     for skipped in ["", "   ", "#", " # take 7", "#take"] {
-        assert!(rt; Words::of(skipped).are_skipped(), "{skipped:?}");
+        assert!(rt; Words::of(skipped.as_bytes()).are_skipped(), "{skipped:?}");
     }
     // The mask has a digit that is none.
-    let offered = offer_line(&Words::of("a 0 0 0 3 5 8 fg 0 0"));
+    let offered = offer_line(&Words::of(b"a 0 0 0 3 5 8 fg 0 0"));
     assert_eq!(rt; offered, Err(8));
     Ok(())
 }
