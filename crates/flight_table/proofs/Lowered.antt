@@ -104,6 +104,16 @@ lowered_next (mark ∷ row) zero r (x ∷ live) (count ∷ counts) d e byte with
 lowered_next (mark ∷ row) (suc place) r (x ∷ live) (count ∷ counts) d e byte within marked same many is =
     ap (λ ms. less_if (mark && holds_back x r) count ∷ ms) (lowered_next row place r live counts d e byte (omega (arith, within)) marked (omega (arith, same)) (omega (arith, many)) is)
 
+-- one that isn't held back
+pub lowered_same : (row : List Bool) (place : ℕ) (r : LiveRequest) (live : List LiveRequest) (counts : List ℕ) (d : LiveRequest) → place < length row → get_or row place false ≡ true
+    → length row ≡ length live → length counts ≡ length live → holds_back (get_or live place d) r ≡ false → lowered_in (set row place false) r live counts ≡ lowered_in row r live counts
+lowered_same [] place r live counts d within marked same many is = absurd (omega (arith, within))
+lowered_same (mark ∷ row) place r [] counts d within marked same many is = absurd (omega (arith, same))
+lowered_same (mark ∷ row) place r (x ∷ live) [] d within marked same many is = absurd (omega (arith, many))
+lowered_same (mark ∷ row) zero r (x ∷ live) (count ∷ counts) d within marked same many is = rw (marked, is) refl
+lowered_same (mark ∷ row) (suc place) r (x ∷ live) (count ∷ counts) d within marked same many is =
+    ap (λ ms. less_if (mark && holds_back x r) count ∷ ms) (lowered_same row place r live counts d (omega (arith, within)) marked (omega (arith, same)) (omega (arith, many)) is)
+
 pub lowered_none : (row : List Bool) (r : LiveRequest) (live : List LiveRequest) (counts : List ℕ) → AreUnmarked row → lowered_in row r live counts ≡ counts
 lowered_none [] r live counts none = refl
 lowered_none (mark ∷ row) r [] counts none = refl

@@ -10,7 +10,7 @@ use Rattle.burst_plan.specs.PlannedTransfers.{burst_beats}
 use Rattle.burst_plan.specs.declared.Piece.{Piece}
 use Rattle.burst_plan.proofs.PieceLaws.{burst_count, divides_evenly, piece_at, piece_listed, pieces_are}
 use Rattle.flight_table.specs.LiveRequests.{LiveRequest, bursts_of, phase_pieces, pieces_planned, planned, read_pieces, write_pieces}
-use Rattle.flight_table.specs.Work.{answers_of_burst, beats_of_burst, later_work}
+use Rattle.flight_table.specs.Work.{answers_of_burst, beats_of_burst, later_work, work_of_bursts}
 use Rattle.tl_messages.specs.Operations.{has_data, reply_has_data}
 
 -- ---- bursts of one side
@@ -130,21 +130,29 @@ left_of beats sent answered write parts same =
     ) refl
 
 -- the work that the code counts
-pub later_is : (request : LiveRequest) (writes beats : ℕ) → request.writing ≡ false → writes ≡ length (write_pieces request) → AreAlike beats (pieces_planned request.plan) → writes * (beats + 2) ≡ later_work request
-later_is request writes beats reads is same =
-    rw (reads, is)
-    (sym
-    (left_of beats 0 0 true (write_pieces request) (alike-if beats (has_data request.operation) (pieces_planned request.plan) same)
-    ∙ rw (minus_zero (length (write_pieces request))) (omega arith)))
+later_is : (request : LiveRequest) (later beats : ℕ) → later ≡ (if request.writing then 0 else length (write_pieces request)) → AreAlike beats (pieces_planned request.plan) → later * (beats + 2) ≡ later_work request
+later_is request later beats is same = by_side request.writing is
+  where
+    by_side : (b : Bool) → later ≡ (if b then 0 else length (write_pieces request)) → later * (beats + 2) ≡ (if b then 0 else work_of_bursts (bursts_of true (write_pieces request)))
+    by_side true none = rw none (omega arith)
+    by_side false all =
+        rw all
+        (sym
+        (left_of beats 0 0 true (write_pieces request) (alike-if beats (has_data request.operation) (pieces_planned request.plan) same)
+        ∙ rw (minus_zero (length (write_pieces request))) (omega arith)))
 
 pub work_is : (request : LiveRequest) (count beats answers sent answered later : ℕ) → count ≡ length (planned request) → AreAlike beats (pieces_planned request.plan)
-    → answers ≡ (if request.writing then 1 else beats) → later ≡ later_work request
-    → count - sent + (count - answered) * beats + (count - answered) * answers + later
+    → answers ≡ (if request.writing then 1 else beats) → later ≡ (if request.writing then 0 else length (write_pieces request))
+    → count - sent + (count - answered) * (beats + answers) + later * (beats + 2)
     ≡ length (drop sent (planned request)) + sum_by beats_of_burst (drop answered (planned request)) + sum_by answers_of_burst (drop answered (planned request)) + later_work request
-work_is request count beats answers sent answered later is same answers_is later_is =
-    rw (is, answers_is, later_is, length_bursts request.writing (phase_pieces request))
+work_is request count beats answers sent answered later is same answers_is later_so =
+    rw (later_is request later beats later_so same)
+    (both_sides (later_work request)
+    (rw (is, answers_is, length_bursts request.writing (phase_pieces request))
     (sym
-    (ap (λ n. n + later_work request)
     (left_of beats sent answered request.writing (phase_pieces request)
     (alike-either beats request.writing (write_pieces request) (read_pieces request) (alike-if beats (has_data request.operation) (pieces_planned request.plan) same)
-    (alike-if beats (reply_has_data request.operation) (pieces_planned request.plan) same)))))
+    (alike-if beats (reply_has_data request.operation) (pieces_planned request.plan) same))))))
+  where
+    both_sides : (more : ℕ) {left : ℕ} → count - sent + (count - answered) * beats + (count - answered) * answers ≡ left → count - sent + (count - answered) * (beats + answers) + more ≡ left + more
+    both_sides more same_sum = omega (arith, same_sum)

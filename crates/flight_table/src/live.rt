@@ -63,7 +63,7 @@ fn count_in(slots: &Slots, request: &LiveRequest, mut row: Marks) -> u8
 {
     let mut count = 0u8;
     while let Some(place) = row.take_first() {
-        count += u8::from(slots.at(place).holds_back(request));
+        count += u8::from(slots.holds(place, request));
     }
     count
 }
@@ -85,9 +85,12 @@ fn lower(
     ensures capacity { vec_capacity holders.new ≡ vec_capacity holders.old }
 {
     while let Some(place) = row.take_first() {
-        let held = request.holds_back(&slots.at(place));
-        holders[place] = holders[place].saturating_sub(u8::from(held));
-        unheld.put(place, holders[place] == 0);
+        if !slots.is_held(place, request) {
+            continue;
+        }
+        let count = holders[place].saturating_sub(1);
+        holders[place] = count;
+        unheld.put(place, count == 0);
     }
 }
 

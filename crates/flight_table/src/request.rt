@@ -1,5 +1,5 @@
 //! One live request.
-ghost use Rattle.std.specs.Prelude.{◌≡◌, ◌↔◌, ◌&&◌, ◌+◌, ◌<◌, ◌≤◌, IfSome, IsTrue, Some, drop, is_some, length, slice_get, sum_by};
+ghost use Rattle.std.specs.Prelude.{◌≡◌, ◌↔◌, ◌&&◌, ◌+◌, ◌<◌, ◌≤◌, IfSome, IsTrue, Some, drop, if◌then◌else◌, is_some, length, slice_get, sum_by};
 ghost use Rattle.flight_table.specs.LiveRequests.{awaits_write, finished, flight_for, is_atomic, is_settled, next_burst, pieces_planned, plan_for, planned, read_pieces, unanswered, with_answered, with_sent, with_write, write_pieces};
 ghost use Rattle.flight_table.specs.Inside.{is_open};
 ghost use Rattle.flight_table.specs.Order.{HaveCommonAddress, conflict, holds_back, share_bytes};
@@ -319,18 +319,15 @@ impl LiveRequest {
         u64::from(self.piece(0).len) + 1
     }
 
-    /// The work of what it has still to write once it has read.
-    fn later_work(&self) -> u64
-        ensures work { result ≡ later_work self.now }
-        ensures bound { result ≤ 40000000 }
+    /// How many bursts it has still to write with once it has read.
+    fn later(&self) -> u32
+        ensures count { result ≡ (if self.now.writing then 0 else length (write_pieces self.now)) }
+        ensures bound { result < 65536 }
     {
         if self.writing {
             return 0;
         }
-        if !self.operation.has_data() {
-            return 0;
-        }
-        u64::from(self.writes()) * (self.piece_beats() + 2)
+        self.writes()
     }
 
     /// The bursts to send and the beats and answers to come, where so many bursts of the phase were sent and so many
@@ -345,7 +342,7 @@ impl LiveRequest {
         let count = self.planned();
         let unsent = u64::from(count.saturating_sub(sent));
         let unanswered = u64::from(count.saturating_sub(answered));
-        unsent + unanswered * beats + unanswered * answers + self.later_work()
+        unsent + unanswered * (beats + answers) + u64::from(self.later()) * (beats + 2)
     }
 
     /// The bursts to send, beats to perform and answers to come, as though no beat of an unanswered burst was performed or
