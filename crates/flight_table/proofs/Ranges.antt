@@ -1,9 +1,13 @@
--- Ranges that meet have an address in common.
-use Rattle.std.proofs.Common.{◌≡◌, ◌↔◌, true, Option, Some, None, IsTrue, max, arith, nat_lt}
+-- Ranges that meet have an address in common, and spans tell which requests hold back which.
+use Rattle.std.proofs.Common.{◌≡◌, ◌↔◌, ℕ, Bool, true, false, ◌&&◌, not, Option, Some, None, IsTrue, refl, ap, max, arith, nat_lt}
 use Rattle.std.proofs.lemmas.Bool.{and_from, and_parts, lt-ltb, ltb-true}
 use Rattle.std.proofs.lemmas.Nat.{pow_pos}
 use Rattle.burst_plan.specs.Pieces.{PlannedRange, range_end}
-use Rattle.flight_table.specs.Order.{HaveCommonAddress, ranges_meet, share_bytes}
+use Rattle.flight_table.specs.Inside.{IsProgress}
+use Rattle.flight_table.specs.LiveRequests.{LiveRequest}
+use Rattle.flight_table.specs.Order.{HaveCommonAddress, holds_back, is_get, ranges_meet, share_bytes}
+use Rattle.flight_table.specs.Spans.{IsSpanOf, end_of, span_holds, span_of, spans_meet, start_of}
+use Rattle.flight_table.specs.declared.spans.Span.{Span}
 
 meet : (a b : PlannedRange) → ranges_meet a b ≡ true → HaveCommonAddress (Some a) (Some b)
 meet a b test =
@@ -17,7 +21,37 @@ back a b shared =
     let (x, in_a, in_b) = shared in
     and_from (nat_lt a.address (range_end b)) (nat_lt b.address (range_end a)) (lt-ltb a.address (range_end b) (omega (arith, in_a.first, in_b.last))) (lt-ltb b.address (range_end a) (omega (arith, in_b.first, in_a.last)))
 
-pub common_address : (a b : Option PlannedRange) → IsTrue (share_bytes a b) ↔ HaveCommonAddress a b
+common_address : (a b : Option PlannedRange) → IsTrue (share_bytes a b) ↔ HaveCommonAddress a b
 common_address None b = (λ test. absurd (cc (test)), λ none. absurd none)
 common_address (Some a) None = (λ test. absurd (cc (test)), λ none. absurd none)
 common_address (Some a) (Some b) = (meet a b, back a b)
+
+-- ---- spans
+
+none_below : (n : ℕ) → nat_lt n 0 ≡ false
+none_below n = by_test (nat_lt n 0) refl
+  where
+    by_test : (b : Bool) → nat_lt n 0 ≡ b → b ≡ false
+    by_test true less = absurd (omega (arith, ltb-true n 0 less))
+    by_test false more = refl
+
+and_false : (a : Bool) → (a && false) ≡ false
+and_false true = refl
+and_false false = refl
+
+ranges_share : (a b : Option PlannedRange) → (nat_lt (start_of a) (end_of b) && nat_lt (start_of b) (end_of a)) ≡ share_bytes a b
+ranges_share None b = rw (none_below (start_of b)) (and_false (nat_lt 0 (end_of b)))
+ranges_share (Some a) None = rw (none_below a.address) refl
+ranges_share (Some a) (Some b) = refl
+
+pub span_held : (later earlier : LiveRequest) → span_holds (span_of later) (span_of earlier) ≡ holds_back later earlier
+span_held later earlier =
+    ap (λ shared. nat_lt earlier.number later.number && not earlier.done && (shared && not (is_get earlier.operation && is_get later.operation)))
+    (ranges_share earlier.plan later.plan)
+
+pub span_met : (x y : Span) (a b : Option PlannedRange) → IsSpanOf a x → IsSpanOf b y → IsTrue (spans_meet x y) ↔ HaveCommonAddress a b
+span_met x y a b is_a is_b = rw (is_a.start, is_a.end, is_b.start, is_b.end, ranges_share a b) (common_address a b)
+
+-- sending and answering change nothing of it
+pub same_span : (old new : LiveRequest) → IsProgress old new → span_of new ≡ span_of old
+same_span old new progress = rw (progress.number, progress.plan, progress.done, progress.operation) refl

@@ -15,7 +15,9 @@ use Rattle.flight_table.specs.Marks.{marks_of, number_of, without_bit}
 use Rattle.flight_table.specs.Order.{conflict, holds_back, is_get, ranges_meet, share_bytes}
 use Rattle.flight_table.specs.Rows.{AreInRows, bits_in, bits_of, bits_on, cut, has_page, is_on, is_vacant, lies_in, page_of}
 use Rattle.flight_table.specs.declared.rows.Row.{Row}
-use Rattle.flight_table.specs.Inside.{count_holders, counted_in, lowered, lowered_in}
+use Rattle.flight_table.specs.Inside.{count_holders, lowered}
+use Rattle.flight_table.specs.Spans.{counted_in, lowered_in, span_of}
+use Rattle.flight_table.specs.declared.spans.Span.{Span}
 use Rattle.flight_table.proofs.Kept.{each}
 use Rattle.flight_table.proofs.Lowered.{counted_all, lowered_all}
 use Rattle.flight_table.proofs.MarkLaws.{as_marks, below, pushed, removed_is}
@@ -101,18 +103,19 @@ bits_absent page rows none = sym (no_bits page rows (find-none (has_page page) r
 
 -- ---- the walks over the row of a request
 
-pub row_counted : (r : LiveRequest) (live : List LiveRequest) (rows : List Row) (row : List Bool) (page : Option ℕ) (count : ℕ) → AreInRows live rows → HasPlan r → count ≡ length live → page ≡ page_of r.plan
-    → row ≡ marks_of count (bits_in page rows) → counted_in row r live ≡ count_holders live r
-row_counted r live rows row page count kept plan many own is =
-    rw (is, row_marks page count live rows kept many, own) (counted_all (page_of r.plan) r live (holders_on r live plan kept.ranges))
+pub row_counted : (r : LiveRequest) (live : List LiveRequest) (rows : List Row) (row : List Bool) (page : Option ℕ) (count : ℕ) (spans : List Span) → AreInRows live rows → HasPlan r → count ≡ length live → page ≡ page_of r.plan
+    → row ≡ marks_of count (bits_in page rows) → spans ≡ map span_of live → counted_in row (span_of r) spans ≡ count_holders live r
+row_counted r live rows row page count spans kept plan many own is are =
+    rw (are, is, row_marks page count live rows kept many, own) (counted_all (page_of r.plan) r live (holders_on r live plan kept.ranges))
 
-pub row_lowered : (r : LiveRequest) (live : List LiveRequest) (rows : List Row) (row : List Bool) (counts : List ℕ) (page : Option ℕ) (count : ℕ) → AreInRows live rows → HasPlan r → count ≡ length live
-    → length counts ≡ length live → page ≡ page_of r.plan → row ≡ marks_of count (bits_in page rows) → lowered_in row r live counts ≡ lowered r live counts
-row_lowered r live rows row counts page count kept plan many as_many own is =
-    rw (is, row_marks page count live rows kept many, own) (lowered_all (page_of r.plan) r live counts as_many (held_on r live plan kept.ranges))
+pub row_lowered : (r : LiveRequest) (live : List LiveRequest) (rows : List Row) (row : List Bool) (counts : List ℕ) (page : Option ℕ) (count : ℕ) (spans : List Span) → AreInRows live rows → HasPlan r
+    → count ≡ length live → length counts ≡ length live → page ≡ page_of r.plan → row ≡ marks_of count (bits_in page rows) → spans ≡ map span_of live → lowered_in row (span_of r) spans counts ≡ lowered r live counts
+row_lowered r live rows row counts page count spans kept plan many as_many own is are =
+    rw (are, is, row_marks page count live rows kept many, own) (lowered_all (page_of r.plan) r live counts as_many (held_on r live plan kept.ranges))
 
-pub length_row : (live : List LiveRequest) (rows : List Row) (row : List Bool) (page : Option ℕ) (count : ℕ) → AreInRows live rows → count ≡ length live → row ≡ marks_of count (bits_in page rows) → length row ≡ length live
-length_row live rows row page count kept many is = rw (is, row_marks page count live rows kept many) (length_map (is_on page) live)
+pub length_row : (live : List LiveRequest) (rows : List Row) (row : List Bool) (page : Option ℕ) (count : ℕ) (spans : List Span) → AreInRows live rows → count ≡ length live → row ≡ marks_of count (bits_in page rows)
+    → spans ≡ map span_of live → length row ≡ length spans
+length_row live rows row page count spans kept many is are = rw (are, is, row_marks page count live rows kept many) (length_map (is_on page) live ∙ sym (length_map span_of live))
 
 -- ---- one more
 
@@ -130,6 +133,9 @@ rows_add live r rows after kept plan more =
 
 -- ---- another with the same plan in its place
 
+pub unchanged : {X : Type 0} (q : LiveRequest → X) (live : List LiveRequest) (place : ℕ) (old new : LiveRequest) → get_or live place old ≡ old → q new ≡ q old → map q (set live place new) ≡ map q live
+unchanged q live place old new there is = map-set q live place new ∙ ap (set (map q live) place) is ∙ sym (map-set q live place old) ∙ ap (map q) (ap (set live place) (sym there) ∙ set-get_or live place old)
+
 pub rows_set : (live : List LiveRequest) (place : ℕ) (old new : LiveRequest) (rows : List Row) → AreInRows live rows → get_or live place old ≡ old → new.plan ≡ old.plan → HasPlan old → AreInRows (set live place new) rows
 rows_set live place old new rows kept there same plan =
     record {
@@ -138,7 +144,7 @@ rows_set live place old new rows kept there same plan =
     }
   where
     stays : (q : LiveRequest → Bool) → q new ≡ q old → map q (set live place new) ≡ map q live
-    stays q is = map-set q live place new ∙ ap (set (map q live) place) is ∙ sym (map-set q live place old) ∙ ap (map q) (ap (set live place) (sym there) ∙ set-get_or live place old)
+    stays q is = unchanged q live place old new there is
 
 -- ---- one less
 

@@ -1,5 +1,5 @@
 -- How the live requests lie in a slab, and the index of their keys.
-use Rattle.std.specs.Prelude.{◌≡◌, ℕ, ◌+◌, ◌<◌, ◌≤◌, ⊤, Option, Some, filter, slice_set, ◌-◌, ◌==◌, Bool, false, ◌&&◌, not, List, [], ◌∷◌, map, length, None, is_some, nat_lt, unwrap_or, if◌then◌else◌}
+use Rattle.std.specs.Prelude.{◌≡◌, ℕ, ◌<◌, ◌≤◌, ⊤, Option, Some, filter, slice_set, ◌-◌, ◌==◌, Bool, false, ◌&&◌, not, List, [], ◌∷◌, map, length, None, is_some, nat_lt, unwrap_or, if◌then◌else◌}
 use Rattle.std.specs.List.{AllByRecursion, list_any, range_with_len}
 use Rattle.slab.specs.Slab.{Slab, get, ContainsKey, slab_len}
 use Rattle.tl_messages.specs.declared.Operation.TheVariants.{Get}
@@ -77,20 +77,6 @@ abbrev pub lowered : LiveRequest → List LiveRequest → List ℕ → List ℕ
 lowered request [] counts = []
 lowered request (other ∷ live) [] = []
 lowered request (other ∷ live) (count ∷ counts) = (count - (if holds_back other request then 1 else 0)) ∷ lowered request live counts
-
--- how many of those at the marked places hold back a request
-abbrev pub counted_in : List Bool → LiveRequest → List LiveRequest → ℕ
-counted_in [] request live = 0
-counted_in (mark ∷ row) request [] = 0
-counted_in (mark ∷ row) request (other ∷ live) = (if mark && holds_back request other then 1 else 0) + counted_in row request live
-
--- the counts, of each at a marked place that this one holds back lowered by one
-abbrev pub lowered_in : List Bool → LiveRequest → List LiveRequest → List ℕ → List ℕ
-lowered_in [] request live counts = counts
-lowered_in (mark ∷ row) request [] counts = counts
-lowered_in (mark ∷ row) request (other ∷ live) [] = []
-lowered_in (mark ∷ row) request (other ∷ live) (count ∷ counts) =
-    (count - (if mark && holds_back other request then 1 else 0)) ∷ lowered_in row request live counts
 
 -- ---- what is kept by ID
 

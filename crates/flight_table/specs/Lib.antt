@@ -5,6 +5,7 @@ pub mod Order
 pub mod Work
 pub mod Sums
 pub mod Rows
+pub mod Spans
 pub mod Laws
 pub mod Inside
 pub mod Clients

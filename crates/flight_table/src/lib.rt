@@ -14,6 +14,7 @@ mod request;
 mod rows;
 mod scans;
 mod slots;
+mod spans;
 mod sums;
 #[cfg(test)]
 mod tests;

@@ -2,9 +2,8 @@
 ghost use Rattle.std.specs.Prelude.{◌≡◌, ◌==◌, ◌<◌, ◌≤◌, ◌^◌, [], ◌∷◌, ◌++◌, Some, None, IfOk, IfSome, IsSome, IsSomeAnd, IsTrue, length, filter, map, position, sum_by};
 ghost use Rattle.std.specs.List.{AllByRecursion, list_any};
 ghost use Rattle.std.specs.Option.{option_or};
-ghost use Rattle.std.specs.Vec.{vec_len, vec_capacity};
 ghost use Rattle.bus_words.specs.Places.{change_first, without_first};
-ghost use Rattle.flight_table.specs.Inside.{HasOneHolder, IsProgress, MayName, counted_in, lowered_in, with_entries};
+ghost use Rattle.flight_table.specs.Inside.{HasOneHolder, IsProgress, MayName, with_entries};
 ghost use Rattle.flight_table.specs.LiveRequests.{finished};
 ghost use Rattle.flight_table.specs.Order.{free_id, holds_back, holds_id, may_send};
 ghost use Rattle.flight_table.specs.Tables.{change_entry, has_key, has_number, has_source, is_done_of, is_of, is_undone, key_in, request_in, requests_of};
@@ -18,13 +17,14 @@ use crate::marks::Marks;
 use crate::request::LiveRequest;
 use crate::rows::Rows;
 use crate::slots::{Key, ROOM, Slots};
+use crate::spans::{Span, count_in, lower};
 use crate::sums::Sums;
 use std::alloc::{AllocError, Global};
 use std::marker::Model;
 
 /// The live requests by rising number. By its place in this order is kept of each: whether a burst of it is open, that is,
 /// planned, unsent and within the depth; whether it holds an ID besides; and how many others hold it back. By client is kept
-/// which live requests it has, and by AXI page which lie in it.
+/// which live requests it has, by AXI page which lie in it, and by place what tells whom each holds back.
 #[derive(Drop)]
 pub(crate) struct Live {
     pub(crate) limits: TableLimits,
@@ -37,14 +37,16 @@ pub(crate) struct Live {
     holders: Vec<u8>,
     unheld: Marks,
     rows: Rows,
+    spans: Vec<Span>,
 }
 
 impl Model for Live {
-    ghost use Rattle.std.specs.Prelude.{◌≡◌, ◌≤◌};
+    ghost use Rattle.std.specs.Prelude.{◌≡◌, ◌≤◌, map};
     ghost use Rattle.std.specs.Vec.{vec_capacity};
     ghost use Rattle.flight_table.specs.Clients.{AreOwned};
     ghost use Rattle.flight_table.specs.Inside.{IsKept, LiveEntries, holders_of_ids};
     ghost use Rattle.flight_table.specs.Rows.{AreInRows};
+    ghost use Rattle.flight_table.specs.Spans.{span_of};
     ghost use Rattle.flight_table.specs.Sums.{IsSummed};
     ghost use Rattle.flight_table.specs.Tables.{requests_of};
 
@@ -52,46 +54,7 @@ impl Model for Live {
 
     ghost view = { λ l. record { limits = l.limits; entries = l.slots } };
 
-    ghost invariant = { λ l. IsKept l.limits.depth (requests_of l.slots) l.able l.named l.holders.items l.unheld × (64 ≤ vec_capacity l.holders) × (l.ids ≡ holders_of_ids l.limits.ids l.slots) × IsSummed (requests_of l.slots) l.sums × AreOwned 8 l.slots l.clients × AreInRows (requests_of l.slots) l.rows };
-}
-
-/// How many of the requests at the marked places hold back this one.
-fn count_in(slots: &Slots, request: &LiveRequest, mut row: Marks) -> u8
-    requires places { length row ≡ length (requests_of slots.now) }
-    requires few { length (requests_of slots.now) ≤ 64 }
-    ensures { result ≡ counted_in row request.now (requests_of slots.now) }
-{
-    let mut count = 0u8;
-    while let Some(place) = row.take_first() {
-        count += u8::from(slots.holds(place, request));
-    }
-    count
-}
-
-/// Lowers the count of each request at a marked place that this one holds back, and marks those that nobody holds back any
-/// more.
-fn lower(
-    slots: &Slots,
-    request: &LiveRequest,
-    mut row: Marks,
-    holders: &mut Vec<u8>,
-    unheld: &mut Marks,
-)
-    requires places { length row ≡ length (requests_of slots.now) }
-    requires holders { vec_len holders.old ≡ length (requests_of slots.now) }
-    requires unheld { unheld.old ≡ map (λ count. count == 0) holders.old.items }
-    ensures holders { holders.new.items ≡ lowered_in row request.now (requests_of slots.now) holders.old.items }
-    ensures unheld { unheld.new ≡ map (λ count. count == 0) holders.new.items }
-    ensures capacity { vec_capacity holders.new ≡ vec_capacity holders.old }
-{
-    while let Some(place) = row.take_first() {
-        if !slots.is_held(place, request) {
-            continue;
-        }
-        let count = holders[place].saturating_sub(1);
-        holders[place] = count;
-        unheld.put(place, count == 0);
-    }
+    ghost invariant = { λ l. IsKept l.limits.depth (requests_of l.slots) l.able l.named l.holders.items l.unheld × (64 ≤ vec_capacity l.holders) × (l.ids ≡ holders_of_ids l.limits.ids l.slots) × IsSummed (requests_of l.slots) l.sums × AreOwned 8 l.slots l.clients × AreInRows (requests_of l.slots) l.rows × (l.spans.items ≡ map span_of (requests_of l.slots)) × (64 ≤ vec_capacity l.spans) };
 }
 
 impl Live {
@@ -105,6 +68,7 @@ impl Live {
         let ids = Ids::new(alloc, limits.ids)?;
         let holders = Vec::with_capacity(alloc, ROOM)?;
         let rows = Rows::new(alloc)?;
+        let spans = Vec::with_capacity(alloc, ROOM)?;
         Ok(Live {
             limits,
             slots,
@@ -116,6 +80,7 @@ impl Live {
             holders,
             unheld: Marks::new(),
             rows,
+            spans,
         })
     }
 
@@ -134,12 +99,14 @@ impl Live {
         let page = request.page();
         let place = self.slots.count();
         let row = self.rows.row(page, place);
-        let holders = count_in(&self.slots, &request, row);
+        let span = request.span();
+        let holders = count_in(&self.spans, &span, row);
         self.rows.add(page, place);
         self.able.push(able);
         self.named.push(request.is_named(able));
         self.holders.push_reserved(holders);
         self.unheld.push(holders == 0);
+        self.spans.push_reserved(span);
         self.sums = self.sums.with(&request);
         let key = self.slots.add(request);
         let own = OwnRequest {
@@ -190,8 +157,8 @@ impl Live {
         self.named.put(place, false);
         let row = self.rows.row(request.page(), self.slots.count());
         lower(
-            &self.slots,
-            &request,
+            &self.spans,
+            &request.span(),
             row,
             &mut self.holders,
             &mut self.unheld,
@@ -199,6 +166,7 @@ impl Live {
         self.ids.rename(key, request.id, None);
         self.sums = self.sums.without(&request).with(&done);
         self.clients.finish(request.client, key);
+        self.spans[place] = done.span();
         self.slots.set(key, done);
     }
 
@@ -217,6 +185,7 @@ impl Live {
         self.holders.remove(place);
         self.unheld.remove(place);
         self.rows.remove(place);
+        self.spans.remove(place);
         self.slots.remove(key);
         self.clients.remove(request.client, key);
     }

@@ -2,12 +2,13 @@
 ghost use Rattle.std.specs.Prelude.{◌≡◌, ◌↔◌, ◌&&◌, ◌+◌, ◌<◌, ◌≤◌, IfSome, IsTrue, Some, drop, if◌then◌else◌, is_some, length, slice_get, sum_by};
 ghost use Rattle.flight_table.specs.LiveRequests.{awaits_write, finished, flight_for, is_atomic, is_settled, next_burst, pieces_planned, plan_for, planned, read_pieces, unanswered, with_answered, with_sent, with_write, write_pieces};
 ghost use Rattle.flight_table.specs.Inside.{is_open};
-ghost use Rattle.flight_table.specs.Order.{HaveCommonAddress, conflict, holds_back, share_bytes};
 ghost use Rattle.std.specs.List.{AllByRecursion};
 ghost use Rattle.burst_plan.specs.Pieces.{IsPlannable, range_end};
 ghost use Rattle.flight_table.specs.Rows.{page_of};
+ghost use Rattle.flight_table.specs.Spans.{span_of};
 ghost use Rattle.flight_table.specs.Work.{answers_of_burst, beats_of_burst, later_work, unsent_work, work_of};
 
+use crate::spans::Span;
 use burst_plan::{Piece, Plan};
 use std::marker::Model;
 use tl_messages::{Operation, Request};
@@ -65,19 +66,6 @@ fn range_end(plan: &Plan) -> u64
     ensures { result ≡ range_end plan.now }
 {
     u64::from(plan.address()) + (1u64 << plan.size())
-}
-
-/// Whether two ranges of AXI addresses share a byte: each begins before the other ends.
-fn share_bytes(a: &Option<Plan>, b: &Option<Plan>) -> bool
-    ensures answer { result ≡ share_bytes a.now b.now }
-    ensures address { IsTrue result ↔ HaveCommonAddress a.now b.now }
-{
-    match (a, b) {
-        (Some(a), Some(b)) => {
-            u64::from(a.address()) < range_end(b) && u64::from(b.address()) < range_end(a)
-        }
-        _ => false,
-    }
 }
 
 /// The plan that a request of this operation has: an Intent sends nothing.
@@ -292,20 +280,21 @@ impl LiveRequest {
         able && self.id.is_some()
     }
 
-    /// Whether the request conflicts with another: their ranges share a byte, and at least one is no Get.
-    fn conflicts(&self, other: &LiveRequest) -> bool
-        ensures { result ≡ conflict self.now other.now }
+    /// What of it tells whom it holds back.
+    pub(crate) fn span(&self) -> Span
+        ensures { result ≡ span_of self.now }
     {
-        let gets = matches!(self.operation, Operation::Get)
-            && matches!(other.operation, Operation::Get);
-        share_bytes(&self.plan, &other.plan) && !gets
-    }
-
-    /// Whether the request holds back another: it was accepted earlier, isn't done, sent or waiting, and conflicts.
-    pub(crate) fn holds_back(&self, other: &LiveRequest) -> bool
-        ensures { result ≡ holds_back other.now self.now }
-    {
-        self.number < other.number && !self.done && self.conflicts(other)
+        let (start, end) = match &self.plan {
+            Some(plan) => (u64::from(plan.address()), range_end(plan)),
+            None => (0, 0),
+        };
+        Span {
+            number: self.number,
+            start,
+            end,
+            done: self.done,
+            get: matches!(self.operation, Operation::Get),
+        }
     }
 
     /// How many transfers each piece has.

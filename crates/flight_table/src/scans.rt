@@ -1,7 +1,6 @@
 //! Scans of the live requests in the order of their keys.
 ghost use Rattle.std.specs.Prelude.{◌≡◌, ℕ, ◌<◌, Bool, IfSome, position, find, length};
 ghost use Rattle.flight_table.specs.Inside.{stored};
-ghost use Rattle.flight_table.specs.Order.{holds_back};
 ghost use Rattle.flight_table.specs.Tables.{has_number};
 
 use crate::request::LiveRequest;
@@ -27,26 +26,6 @@ pub(crate) fn stored(requests: &Slab<LiveRequest>, key: Key) -> LiveRequest
             answered: 0,
             done: false,
         },
-    }
-}
-
-/// Whether the request of a key is held back by another.
-pub(crate) fn is_held(requests: &Slab<LiveRequest>, key: Key, holder: &LiveRequest) -> bool
-    ensures { result ≡ holds_back (stored requests.now key) holder.now }
-{
-    match requests.get(key.slot()) {
-        Some(request) => holder.holds_back(request),
-        None => false,
-    }
-}
-
-/// Whether the request of a key holds back another.
-pub(crate) fn holds(requests: &Slab<LiveRequest>, key: Key, held: &LiveRequest) -> bool
-    ensures { result ≡ holds_back held.now (stored requests.now key) }
-{
-    match requests.get(key.slot()) {
-        Some(request) => request.holds_back(held),
-        None => false,
     }
 }
 

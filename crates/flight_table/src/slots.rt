@@ -3,12 +3,11 @@ ghost use Rattle.std.specs.Prelude.{◌≡◌, ◌==◌, ◌<◌, ◌≤◌, Boo
 ghost use Rattle.flight_table.specs.LiveRequests.{LiveRequest};
 ghost use Rattle.std.specs.Vec.{vec_len, vec_capacity};
 ghost use Rattle.bus_words.specs.Places.{change_first, without_first};
-ghost use Rattle.flight_table.specs.Order.{holds_back};
 ghost use Rattle.flight_table.specs.Tables.{change_entry, has_key, has_number, key_in, request_in, requests_of};
 ghost use Rattle.flight_table.specs.Laws.{HaveOwnKeys};
 
 use crate::request::LiveRequest;
-use crate::scans::{holds, is_held, key_at, of_number, stored};
+use crate::scans::{key_at, of_number, stored};
 use slab::Slab;
 use std::alloc::{AllocError, Global};
 use std::marker::Model;
@@ -151,22 +150,6 @@ impl Slots {
         ensures { (d : LiveRequest) → result ≡ slice_index_or (requests_of self.now) place d }
     {
         stored(&self.requests, self.order[place])
-    }
-
-    /// Whether the request at a place is held back by another.
-    pub(crate) fn is_held(&self, place: usize, holder: &LiveRequest) -> bool
-        requires { place < length (requests_of self.now) }
-        ensures { (d : LiveRequest) → result ≡ holds_back (slice_index_or (requests_of self.now) place d) holder.now }
-    {
-        is_held(&self.requests, self.order[place], holder)
-    }
-
-    /// Whether the request at a place holds back another.
-    pub(crate) fn holds(&self, place: usize, held: &LiveRequest) -> bool
-        requires { place < length (requests_of self.now) }
-        ensures { (d : LiveRequest) → result ≡ holds_back held.now (slice_index_or (requests_of self.now) place d) }
-    {
-        holds(&self.requests, self.order[place], held)
     }
 
     /// The key at a place, where there is one.

@@ -1,4 +1,5 @@
 use Rattle.std.proofs.Common.{length-set, ◌≡◌, ◌<◌, ◌≤◌, ap, arith, ◌∙◌, refl, sym}
+use Rattle.std.proofs.lemmas.List.{map-set}
 use Rattle.std.specs.Prelude.{IfSome}
 use Rattle.std.specs.Vec.{vec_capacity}
 use Rattle.bus_words.specs.Places.{change_first}
@@ -9,7 +10,9 @@ use Rattle.flight_table.proofs.Index.{change-constant}
 use Rattle.flight_table.proofs.ClientLaws.{is_kept, is_listed, kept_finished}
 use Rattle.flight_table.proofs.KeyLaws.{request_listed}
 use Rattle.flight_table.proofs.HeldIds.{gives_back, ids_finish, length_holders}
+use Rattle.flight_table.specs.Spans.{lowered_in, span_of}
 use Rattle.flight_table.specs.Sums.{IsSmall}
+use Rattle.flight_table.specs.declared.spans.Span.{Span}
 use Rattle.flight_table.proofs.SumLaws.{all_set, are_part, are_small, less_small, sums_set}
 use Rattle.flight_table.proofs.Kept.{kept_finish, length_kept, named_with, placed, requests_changed}
 use Rattle.flight_table.proofs.RowLaws.{length_row, row_fits, row_lowered, rows_set}
@@ -19,7 +22,8 @@ pub row-row-requires-clause-fits : goal.row-row-requires-clause-fits
 row-row-requires-clause-fits c = row_fits c.page.result c.count.result (requests_of c.self.inside.slots) c.self.inside.rows c.self.invariant.5 c.count.ensures.count
 
 pub lower-requires-clause-places : goal.lower-requires-clause-places
-lower-requires-clause-places c = length_row (requests_of c.self.inside.slots) c.self.inside.rows c.row-row.result c.page.result c.count.result c.self.invariant.5 c.count.ensures.count c.row-row.ensures.row
+lower-requires-clause-places c =
+    length_row (requests_of c.self.inside.slots) c.self.inside.rows c.row-row.result c.page.result c.count.result c.deref.result.now c.self.invariant.5 c.count.ensures.count c.row-row.ensures.row (c.deref.ensures.value ∙ c.self.invariant.6)
 
 entries : (c : goal.After-set) → c.set.new.self ≡ change_first (has_key c.args.key) (change_entry finished) c.self.inside.slots
 entries c = c.set.ensures.entries ∙ change-constant finished c.args.key c.self.inside.slots c.get-request.result c.finished-done.result c.get-request.ensures.request c.finished-done.ensures
@@ -62,7 +66,9 @@ invariant_of-self c =
     let at = placed c.args.key i.slots place r c.place_of-place.ensures.place c.get-request.ensures.request in
     let after = ap requests_of c.set.ensures.entries ∙ requests_changed (λ o. c.finished-done.result) c.args.key i.slots place r at in
     let as_many = length_kept i.limits.depth (requests_of i.slots) i.able i.named i.holders.items i.unheld c.self.invariant.0 in
-    let less = row_lowered r (requests_of i.slots) i.rows c.row-row.result i.holders.items c.page.result c.count.result c.self.invariant.5 c.page.ensures.range c.count.ensures.count as_many c.page.ensures.page c.row-row.ensures.row in
+    let less =
+    ap (λ (s : Span). lowered_in c.row-row.result s c.deref.result.now i.holders.items) c.span.ensures
+    ∙ row_lowered r (requests_of i.slots) i.rows c.row-row.result i.holders.items c.page.result c.count.result c.deref.result.now c.self.invariant.5 c.page.ensures.range c.count.ensures.count as_many c.page.ensures.page c.row-row.ensures.row (c.deref.ensures.value ∙ c.self.invariant.6) in
     let room : 64 ≤ vec_capacity c.lower.new.holders = omega (arith, c.self.invariant.1, c.lower.ensures.capacity) in (
       rw (after, c.finished-done.ensures, c.put.ensures, c.put-2.ensures, c.lower.ensures.unheld)
           (kept_finish i.limits.depth (requests_of i.slots) place r i.able i.named i.holders.items i.unheld c.self.invariant.0 at.within (at.there r) c.lower.new.holders.items (c.lower.ensures.holders ∙ less)),
@@ -79,6 +85,8 @@ invariant_of-self c =
           (request_listed (λ q. q.client < 8) c.args.key i.slots r c.self.invariant.4.few c.get-request.ensures.request) (ap (λ (q : LiveRequest). q.client) c.request.view_is) c.finished-done.ensures c.set.ensures.entries
           c.finish.ensures,
       rw after (rows_set (requests_of i.slots) place r c.finished-done.result i.rows c.self.invariant.5 (at.there r) (ap (λ (q : LiveRequest). q.plan) c.finished-done.ensures) c.page.ensures.range),
+      rw (after, c.span-2.ensures, c.self.invariant.6) (sym (map-set span_of (requests_of i.slots) place c.finished-done.result)),
+      c.self.invariant.7,
     )
 
 pub returns-clause-table : goal.returns-clause-table

@@ -8,7 +8,9 @@ use Rattle.flight_table.specs.Sums.{IsSmall}
 use Rattle.flight_table.proofs.SumLaws.{all_set, are_part, are_small, less_small, sums_set}
 use Rattle.flight_table.proofs.KeyLaws.{request_listed}
 use Rattle.flight_table.proofs.Kept.{kept_set, named_with, placed, requests_changed}
-use Rattle.flight_table.proofs.RowLaws.{HasPlan, rows_set}
+use Rattle.flight_table.proofs.RowLaws.{HasPlan, rows_set, unchanged}
+use Rattle.flight_table.proofs.Ranges.{same_span}
+use Rattle.flight_table.specs.Spans.{span_of}
 use Rattle.flight_table.proofs.live.Live.set.Goals as goal
 
 pub rename-requires : goal.rename-requires
@@ -52,4 +54,6 @@ invariant_of-self c =
       kept_same 8 i.slots c.set.new.self i.clients c.args.key r c.args.request c.self.invariant.4 found progress.client progress.source progress.done
           (request_listed (λ q. q.client < 8) c.args.key i.slots r c.self.invariant.4.few found) c.set.ensures.entries,
       rw after (rows_set (requests_of i.slots) place r c.args.request i.rows c.self.invariant.5 (at.there r) progress.plan (request_listed HasPlan c.args.key i.slots r c.self.invariant.5.ranges found)),
+      rw after (c.self.invariant.6 ∙ sym (unchanged span_of (requests_of i.slots) place r c.args.request (at.there r) (same_span r c.args.request progress))),
+      c.self.invariant.7,
     )
