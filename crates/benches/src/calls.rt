@@ -1,0 +1,75 @@
+//! Single calls of a world in which requests are in flight.
+use crate::worlds::{Load, PUT, busy_world, made, offer_of, world_of};
+use std::alloc::Global;
+use tl_messages::ReplyBox;
+use world_run::Step;
+
+/// How often a step that changes nothing is answered so.
+fn repeated(alloc: Global, load: Load, step: Step) -> Option<u64> {
+    let mut reply = ReplyBox::new(alloc).ok()?;
+    let mut world = busy_world(alloc, &mut reply, load.size)?;
+    let mut kept = 0u64;
+    for _ in 0..load.times {
+        kept = kept.wrapping_add(u64::from(!made(&mut world, &mut reply, step)));
+    }
+    Some(kept)
+}
+
+/// Pumps where no request is ready.
+pub(crate) fn pump_idle(alloc: Global, load: Load) -> Option<u64> {
+    repeated(alloc, load, Step::Pump)
+}
+
+/// Offers a beat whose source is busy.
+pub(crate) fn offer_again(alloc: Global, load: Load) -> Option<u64> {
+    repeated(alloc, load, offer_of(0, PUT))
+}
+
+/// Takes where no request is done.
+pub(crate) fn take_nothing(alloc: Global, load: Load) -> Option<u64> {
+    repeated(alloc, load, Step::Take(0))
+}
+
+/// Asks how many requests are in flight.
+pub(crate) fn ask_in_flight(alloc: Global, load: Load) -> Option<u64> {
+    let mut reply = ReplyBox::new(alloc).ok()?;
+    let world = busy_world(alloc, &mut reply, load.size)?;
+    let mut sum = 0u64;
+    for _ in 0..load.times {
+        sum = sum.wrapping_add(u64::from(world.in_flight()));
+    }
+    Some(sum)
+}
+
+/// Asks for the work that is left.
+pub(crate) fn ask_work(alloc: Global, load: Load) -> Option<u64> {
+    let mut reply = ReplyBox::new(alloc).ok()?;
+    let world = busy_world(alloc, &mut reply, load.size)?;
+    let mut sum = 0u64;
+    for _ in 0..load.times {
+        sum = sum.wrapping_add(world.work_left());
+    }
+    Some(sum)
+}
+
+/// Asks how many steps bridge and memory can make by themselves.
+pub(crate) fn ask_choices(alloc: Global, load: Load) -> Option<u64> {
+    let mut reply = ReplyBox::new(alloc).ok()?;
+    let world = busy_world(alloc, &mut reply, load.size)?;
+    let mut sum = 0u64;
+    for _ in 0..load.times {
+        sum = sum.wrapping_add(u64::from(world.choices()));
+    }
+    Some(sum)
+}
+
+/// Asks for a byte of the last page.
+pub(crate) fn ask_byte(alloc: Global, load: Load) -> Option<u64> {
+    let world = world_of(alloc, load.size)?;
+    let address = (63 + load.size.min(64)) * 4096;
+    let mut found = 0u64;
+    for _ in 0..load.times {
+        found = found.wrapping_add(u64::from(world.byte(address).is_some()));
+    }
+    Some(found)
+}
