@@ -1,5 +1,5 @@
 -- The hexadecimal digits of a number, from the last on.
-use Rattle.std.proofs.Common.{◌≡◌, ◌≢◌, ◌≤◌, ◌<◌, ◌==◌, ℕ, zero, suc, ◌+◌, ◌-◌, ◌/◌, ◌%◌, ◌^◌, Bool, true, false, List, [], ◌∷◌, ◌++◌, length, length-append, length-drop, drop, replicate, refl, sym, ap, ◌∙◌, arith, if◌then◌else◌}
+use Rattle.std.proofs.Common.{◌≡◌, ◌≢◌, ◌≤◌, ◌<◌, ◌==◌, ℕ, zero, suc, ◌+◌, ◌-◌, ◌/◌, ◌%◌, ◌^◌, Bool, true, false, codes, get_or, List, [], ◌∷◌, ◌++◌, length, length-append, length-drop, drop, replicate, refl, sym, ap, ◌∙◌, arith, if◌then◌else◌}
 use Rattle.std.proofs.Math.Nat.{pow-suc}
 use Rattle.std.proofs.lemmas.Bool.Decides.{nat_tests}
 use Rattle.std.specs.Fmt.{digits, digits_onto, digit_glyph}
@@ -80,6 +80,26 @@ last_digits-hex count number text some enough small = last_digits-append count n
 pub last_digits-step : (left rest : ℕ) (text : List ℕ) → 0 < left → last_digits (left - 1) (rest / 16) (digit_glyph false (rest % 16) ∷ text) ≡ last_digits left rest text
 last_digits-step zero rest text some = absurd (omega arith)
 last_digits-step (suc left) rest text some = let one : suc left - 1 ≡ left = omega arith in rw one refl
+
+-- the letters of the digits
+pub glyph_of : (d : ℕ) → d < 16 → get_or (codes "0123456789abcdef") d 0 ≡ digit_glyph false d
+glyph_of zero small = refl
+glyph_of (suc zero) small = refl
+glyph_of (suc (suc zero)) small = refl
+glyph_of (suc (suc (suc zero))) small = refl
+glyph_of (suc (suc (suc (suc zero)))) small = refl
+glyph_of (suc (suc (suc (suc (suc zero))))) small = refl
+glyph_of (suc (suc (suc (suc (suc (suc zero)))))) small = refl
+glyph_of (suc (suc (suc (suc (suc (suc (suc zero))))))) small = refl
+glyph_of (suc (suc (suc (suc (suc (suc (suc (suc zero)))))))) small = refl
+glyph_of (suc (suc (suc (suc (suc (suc (suc (suc (suc zero))))))))) small = refl
+glyph_of (suc (suc (suc (suc (suc (suc (suc (suc (suc (suc zero)))))))))) small = refl
+glyph_of (suc (suc (suc (suc (suc (suc (suc (suc (suc (suc (suc zero))))))))))) small = refl
+glyph_of (suc (suc (suc (suc (suc (suc (suc (suc (suc (suc (suc (suc zero)))))))))))) small = refl
+glyph_of (suc (suc (suc (suc (suc (suc (suc (suc (suc (suc (suc (suc (suc zero))))))))))))) small = refl
+glyph_of (suc (suc (suc (suc (suc (suc (suc (suc (suc (suc (suc (suc (suc (suc zero)))))))))))))) small = refl
+glyph_of (suc (suc (suc (suc (suc (suc (suc (suc (suc (suc (suc (suc (suc (suc (suc zero))))))))))))))) small = refl
+glyph_of (suc (suc (suc (suc (suc (suc (suc (suc (suc (suc (suc (suc (suc (suc (suc (suc d)))))))))))))))) small = absurd (omega arith)
 
 -- what is left of 64 bytes
 pub room_in : (bytes view : List ℕ) (start : ℕ) → length bytes ≡ 64 → start ≤ 64 → drop start bytes ≡ view → start + length view ≡ 64

@@ -11,3 +11,4 @@ pub mod StageSteps
 pub mod TraceTexts
 mod WordParts
 mod WordPlaces
+mod Writings

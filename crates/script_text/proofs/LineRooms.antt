@@ -3,16 +3,14 @@ use Rattle.std.proofs.Common.{◌≡◌, ◌<◌, ◌≤◌, ℕ, ◌+◌, List,
 use Rattle.std.proofs.lemmas.Bool.Decides.{nat_tests}
 use Rattle.bridge_core.specs.declared.Config.{Config as Limits}
 use Rattle.world_run.specs.Setups.{SetupLists}
-use Rattle.script_text.specs.Forms.{first_wrong, form_of, read_as, unless_wrong, told_as, address_field, count_field, kind_field}
+use Rattle.script_text.specs.Forms.{first_wrong, read_as, unless_wrong, told_as, address_field, count_field, kind_field}
 use Rattle.script_text.specs.SetupLines.{config_in, config_fields, region_in, region_fields, page_fields, kind_in}
-use Rattle.script_text.specs.Stages.{HasRoomFor, Kind, MayStand, Opening, Running, SettingUp, Stage, has_no_room, is_misplaced, is_setup_form, line_as, line_in, line_of_form, setup_line}
+use Rattle.script_text.specs.Stages.{HasRoomFor, MayStand, Opening, Running, SettingUp, Stage, has_no_room, is_misplaced, is_setup_form, setup_line}
 use Rattle.script_text.specs.Words.{word_at, dec_at, hex_at}
 use Rattle.script_text.specs.declared.keywords.Form.{Form}
 use Rattle.script_text.specs.declared.keywords.Form.TheVariants as form
 use Rattle.script_text.specs.declared.setup_parser.SetupLine.{SetupLine}
 use Rattle.script_text.specs.declared.setup_parser.SetupLine.TheVariants.{Config, Region, Pages, BadWord}
-use Rattle.script_text.specs.declared.stages.LineOf.{LineOf}
-use Rattle.script_text.specs.declared.stages.LineOf.TheVariants.{Setup, Command}
 
 apart : false ≡ true → ⊥
 apart wrong = search rules
@@ -75,42 +73,6 @@ says form.Mem words line same = apart (ap went same)
 says form.Work words line same = apart (ap went same)
 says form.Free words line same = apart (ap went same)
 says form.Word words line same = apart (ap went same)
-
--- ---- what a line says
-
-abbrev is_setup : {C : Type 0} → Result (LineOf C) ℕ → Bool
-is_setup (Ok (Setup line)) = true
-is_setup (Ok (Command command)) = false
-is_setup (Err word) = false
-
-abbrev told_line : {C : Type 0} → SetupLine → Result (LineOf C) ℕ → SetupLine
-told_line other (Ok (Setup line)) = line
-told_line other (Ok (Command command)) = other
-told_line other (Err word) = other
-
--- a test that was passed
-passed : {C : Type 0} (test : Bool) (line : SetupLine) (other : Result (LineOf C) ℕ) → (if test then Err 1 else other) ≡ Ok (Setup line) → (test ≡ false) × (other ≡ Ok (Setup line))
-passed true line other same = absurd (apart (ap is_setup same))
-passed false line other same = (refl, same)
-
-abbrev as_set_up : {C : Type 0} → Result SetupLine ℕ → Result (LineOf C) ℕ
-as_set_up result = told_as Setup result
-
-set_up_said : {C : Type 0} (line : SetupLine) (result : Result SetupLine ℕ) → as_set_up {C = C} result ≡ Ok (Setup line) → result ≡ Ok line
-set_up_said line (Ok value) same = ap (λ l. Ok (told_line value l)) same
-set_up_said line (Err word) same = absurd (apart (ap is_setup same))
-
-command_never : {C : Type 0} (line : SetupLine) (result : Result C ℕ) → told_as Command result ≡ Ok (Setup line) → ⊥
-command_never line (Ok value) same = apart (ap is_setup same)
-command_never line (Err word) same = apart (ap is_setup same)
-
-line_said : {W C : Type 0} (kind : Kind W C) (f : Form) (words : List (List ℕ)) (line : SetupLine) → line_of_form kind f words ≡ Ok (Setup line) → setup_line f words ≡ Ok line
-line_said kind f words line same = by_test (is_setup_form f) (kind.takes f) same
-  where
-    by_test : (set_up takes : Bool) → (if set_up then (if takes then told_as Setup (setup_line f words) else Err 1) else told_as Command (kind.command_of f words)) ≡ Ok (Setup line) → setup_line f words ≡ Ok line
-    by_test true true is = set_up_said line (setup_line f words) is
-    by_test true false is = absurd (apart (ap is_setup is))
-    by_test false takes is = absurd (command_never line (kind.command_of f words) is)
 
 -- ---- room
 
@@ -194,12 +156,3 @@ room (Running world) f words line test is = running_room f words line test is
 -- a set-up line that was read may stand where one of its form may
 pub setup_line-stands : {W : Type 0} (stage : Stage W) (f : Form) (words : List (List ℕ)) (line : SetupLine) → is_misplaced stage f words ≡ false → setup_line f words ≡ Ok line → MayStand stage line
 setup_line-stands stage f words line test same = room stage f words line test (says f words line same)
-
-line_as-room : {W C : Type 0} (kind : Kind W C) (stage : Stage W) (words : List (List ℕ)) (f : Option Form) (line : SetupLine) → line_as kind stage words f ≡ Ok (Setup line) → MayStand stage line
-line_as-room kind stage words None line same = absurd (apart (ap is_setup same))
-line_as-room kind stage words (Some f) line same =
-    let parts = passed (is_misplaced stage f words) line (line_of_form kind f words) same in
-    room stage f words line parts.0 (says f words line (line_said kind f words line parts.1))
-
-pub line_in-room : {W C : Type 0} (kind : Kind W C) (stage : Stage W) (words : List (List ℕ)) (line : SetupLine) → line_in kind stage words ≡ Ok (Setup line) → MayStand stage line
-line_in-room kind stage words line same = line_as-room kind stage words (form_of (word_at words 1)) line same

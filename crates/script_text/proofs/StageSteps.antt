@@ -1,7 +1,12 @@
 -- What a command makes of a script, and what a refused opening does.
-use Rattle.std.proofs.Common.{◌≡◌, ◌≢◌, ◌++◌, ℕ, List, [], Bool, true, Option, Result, Ok, Err, IsOk, refl, sym, ap, ◌∙◌, rules}
-use Rattle.std.proofs.KnownBytes.{Keeps-refl}
-use Rattle.script_text.specs.Stages.{Kind, OpensStage, Opening, Running, SettingUp, Stage, Writes, command_step, nothing_written, reading_of, world_at}
+use Rattle.std.proofs.Common.{◌≡◌, ◌≢◌, ◌++◌, ℕ, List, [], Bool, true, false, Option, Some, Result, Ok, Err, IsOk, refl, sym, ap, ◌∙◌, rules}
+use Rattle.std.proofs.KnownBytes.{Appends-nil, Keeps-refl}
+use Rattle.script_text.specs.Forms.{form_of}
+use Rattle.script_text.specs.Scripts.{LineStep}
+use Rattle.script_text.specs.Stages.{Command, Kind, MayStand, OpensStage, Opening, Running, SettingUp, Setup as SetUp, Stage, Writes, command_step, is_misplaced, is_setup_form, line_in, line_of_form, nothing_written, reading_of, setup_line, with_setup_line, world_at}
+use Rattle.script_text.specs.Words.{word_at}
+use Rattle.script_text.specs.declared.keywords.Form.{Form}
+use Rattle.script_text.specs.declared.setup_parser.SetupLine.{SetupLine}
 use Rattle.script_text.specs.Steps.{GivesText, TakesStep}
 use Rattle.script_text.specs.declared.faults.ScriptFault.{ScriptFault}
 use Rattle.script_text.specs.declared.faults.ScriptFault.TheVariants.{Script, Setup, Read, Write, NoMemory}
@@ -61,3 +66,33 @@ world_in other (Running world) = world
 -- what was made is what a command works on
 pub opened_as : {W : Type 0} (opened : Result W ScriptFault) (next : Stage W) (world : W) → (made : W) × (opened ≡ Ok made) × (next ≡ Running made) → next ≡ Running world → opened ≡ Ok world
 opened_as opened next world (made, is, here) there = is ∙ ap (λ w. Ok (world_in made w)) (sym here ∙ there)
+
+-- ---- a line by its form
+
+-- what the words of a line say whose form may stand here
+pub line_in-form : {W C : Type 0} (kind : Kind W C) (stage : Stage W) (words : List (List ℕ)) (f : Form) → form_of (word_at words 1) ≡ Some f → is_misplaced stage f words ≡ false → line_in kind stage words ≡ line_of_form kind f words
+line_in-form kind stage words f named fits = rw (named, fits) refl
+
+pub line_of_form-command : {W C : Type 0} (kind : Kind W C) (f : Form) (words : List (List ℕ)) (command : C) → is_setup_form f ≡ false → kind.command_of f words ≡ Ok command → line_of_form kind f words ≡ Ok (Command command)
+line_of_form-command kind f words command other says = rw (other, says) refl
+
+pub line_of_form-set_up : {W C : Type 0} (kind : Kind W C) (f : Form) (words : List (List ℕ)) (line : SetupLine) → is_setup_form f ≡ true → kind.takes f ≡ true → setup_line f words ≡ Ok line → line_of_form kind f words ≡ Ok (SetUp line)
+line_of_form-set_up kind f words line set_up takes says = rw (set_up, takes, says) refl
+
+silent_before : {W : Type 0} (stage : Stage W) (line : SetupLine) → MayStand stage line → nothing_written stage ≡ true
+silent_before Opening line stands = refl
+silent_before (SettingUp setup) line stands = refl
+silent_before (Running world) line stands = absurd stands
+
+-- a set-up line has no text
+pub TakesStep-set_up : {W C : Type 0} (kind : Kind W C) (stage next : Stage W) (line : SetupLine) (step : LineStep (Stage W)) (writer : Option (List ℕ)) → step ≡ Ok ([], with_setup_line stage line) → next ≡ with_setup_line stage line
+    → MayStand stage line → TakesStep (reading_of kind) step nothing_written stage next writer writer (Ok false)
+TakesStep-set_up kind stage next line step writer is becomes stands =
+    record {
+      text = [];
+      step_is = is ∙ ap (λ s. Ok ([], s)) (sym becomes);
+      written = Appends-nil writer;
+      quiet = λ none. refl;
+      speaks = λ wrong. search rules;
+      silent = λ still. (silent_before stage line stands, refl);
+    }

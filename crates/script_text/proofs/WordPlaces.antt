@@ -1,10 +1,10 @@
 -- The words of a line, by where they stand in it.
-use Rattle.std.proofs.Common.{◌≡◌, ◌≢◌, ◌≤◌, ◌<◌, ◌==◌, ℕ, zero, suc, ◌+◌, ◌-◌, List, [], ◌∷◌, ◌++◌, length, drop, set, get_or, Bool, true, false, Some, slice_get, refl, sym, ap, ◌∙◌, append-nil, length-take, length-drop, arith, add-one, get_or-set_same, get_or-set_other, below_more, rules, take-append-drop}
+use Rattle.std.proofs.Common.{◌≡◌, ◌≢◌, ◌≤◌, ◌<◌, ◌==◌, ℕ, zero, suc, ◌+◌, ◌-◌, List, [], ◌∷◌, ◌++◌, length, drop, set, get_or, Bool, true, false, Some, nat_le, slice_get, refl, sym, ap, ◌∙◌, append-nil, length-take, length-drop, arith, add-one, get_or-set_same, get_or-set_other, below_more, rules, take-append-drop}
 use Rattle.std.proofs.lemmas.Bool.Decides.{nat_tests}
 use Rattle.std.proofs.lemmas.List.{drop-drop, drop_all, drop_more, get_or-drop, get_or-take}
 use Rattle.std.specs.List.{between}
 use Rattle.script_text.proofs.Parts.{Lacks}
-use Rattle.script_text.proofs.WordParts.{word_in, words_of-last, words_of-cut, words_of-few, is_word-cons}
+use Rattle.script_text.proofs.WordParts.{word_in, words_of-last, words_of-cut, is_word-cons}
 use Rattle.script_text.specs.Words.{IsPlace, words_of}
 
 -- a space in front is no word
@@ -71,26 +71,37 @@ places-more line starts ends count start end room_s room_e held order within is 
     (λ k below. let other : k ≢ count = omega arith in rw (get_or-set_other starts count k start 0 other, get_or-set_other ends count k end 0 other) (held k below))
     (rw (get_or-set_same starts count start 0 room_s, get_or-set_same ends count end 0 room_e) (order, within, is))
 
+-- the word that begins at a place
+pub word_here : (line : List ℕ) (start end : ℕ) → start < length line → get_or line start 0 ≢ 32 → (start ≤ end) × (end ≤ length line) → ((k : ℕ) → start ≤ k → k < end → get_or line k 0 ≢ 32)
+    → (end < length line → get_or line end 0 ≡ 32) → (start < end) × (words_of (drop start line) ≡ between start end line ∷ words_of (drop end line))
+word_here line start end inside byte (order, within) lacks found = let some : start < end = longer (start == end) refl in (some, words_of-word line start end some within lacks found)
+  where
+    longer : (test : Bool) → (start == end) ≡ test → start < end
+    longer true same = let e : end ≡ start = grind (arith, nat_tests, same) in absurd (byte (ap (λ k. get_or line k 0) (sym e) ∙ found (omega (arith, e, inside))))
+    longer false other = grind (arith, nat_tests, other, order)
+
 -- the word that begins at a place, behind those held so far
 pub record NextWord (line : List ℕ) (count start end : ℕ) : Type 0 where
   pub is : slice_get (words_of line) count ≡ Some (between start end line)
   pub rest : drop (count + 1) (words_of line) ≡ words_of (drop end line)
   pub counted : count < length (words_of line)
-  pub room : count < 64
 
-pub next_word : (line : List ℕ) (count start end : ℕ) → length line ≤ 128 → drop count (words_of line) ≡ words_of (drop start line) → start < length line → get_or line start 0 ≢ 32
+pub next_word : (line : List ℕ) (count start end : ℕ) → drop count (words_of line) ≡ words_of (drop start line) → start < length line → get_or line start 0 ≢ 32
     → (start ≤ end) × (end ≤ length line) → ((k : ℕ) → start ≤ k → k < end → get_or line k 0 ≢ 32) → (end < length line → get_or line end 0 ≡ 32) → NextWord line count start end
-next_word line count start end short held inside byte (order, within) lacks found =
-    let some : start < end = longer (start == end) refl in
-    let first = first_of (words_of line) (words_of (drop end line)) count (between start end line) (held ∙ words_of-word line start end some within lacks found) in
-    record { is = first.0; rest = rw add-one first.1; counted = first.2; room = omega (arith, first.2, words_of-few line, short) }
-  where
-    longer : (test : Bool) → (start == end) ≡ test → start < end
-    longer true same = let e : end ≡ start = grind (arith, nat_tests, same) in absurd (byte (ap (λ k. get_or line k 0) (sym e) ∙ found (omega (arith, e, inside))))
-    longer false other = grind (arith, nat_tests, other, order)
+next_word line count start end held inside byte ends lacks found =
+    let first = first_of (words_of line) (words_of (drop end line)) count (between start end line) (held ∙ (word_here line start end inside byte ends lacks found).1) in
+    record { is = first.0; rest = rw add-one first.1; counted = first.2 }
 
 -- no word is left behind the last
 pub all_counted : (line : List ℕ) (count start : ℕ) → drop count (words_of line) ≡ words_of (drop start line) → length line ≤ start → length (words_of line) ≤ count
 all_counted line count start held over =
     let none : drop count (words_of line) ≡ [] = held ∙ ap words_of (drop_all start line over) in
     omega (arith, length-drop count (words_of line), ap length none)
+
+-- a word is left before the last
+pub not_counted : (line : List ℕ) (count start : ℕ) → drop count (words_of line) ≡ words_of (drop start line) → count < length (words_of line) → start < length line
+not_counted line count start held under = by_end (nat_le (length line) start) refl
+  where
+    by_end : (test : Bool) → nat_le (length line) start ≡ test → start < length line
+    by_end true over = let over' : length line ≤ start = grind (arith, nat_tests, over) in absurd (omega (arith, under, all_counted line count start held over'))
+    by_end false within = grind (arith, nat_tests, within)

@@ -14,8 +14,6 @@ use Rattle.script_text.specs.declared.keywords.Form.{Form}
 use Rattle.script_text.specs.declared.keywords.Form.TheVariants as form
 use Rattle.script_text.specs.declared.setup_parser.SetupLine.{SetupLine}
 use Rattle.script_text.specs.declared.setup_parser.SetupLine.TheVariants.{Config, Region, Pages, BadWord}
-use Rattle.script_text.specs.declared.stages.LineOf.{LineOf}
-use Rattle.script_text.specs.declared.stages.LineOf.TheVariants.{Setup, Command}
 use Rattle.script_text.specs.declared.stages.Stage.{Stage as StageHeld}
 use Rattle.script_text.specs.declared.stages.Stage.TheVariants as held
 
@@ -44,6 +42,11 @@ nothing_written (SettingUp setup) = true
 nothing_written (Running world) = false
 
 -- ---- reading a line
+
+-- what a line says: a set-up line, or a command
+pub data LineOf (C : Type 0) : Type 0 where
+  Setup : SetupLine → LineOf C
+  Command : C → LineOf C
 
 -- whether a form is one of a set-up line
 abbrev pub is_setup_form : Form → Bool

@@ -58,11 +58,10 @@ IsPlace line starts ends k =
     (slice_index starts k ≤ slice_index ends k) × (slice_index ends k ≤ length line)
     × (slice_get (words_of line) k ≡ Some (slice_range line (slice_index starts k) (slice_index ends k)))
 
--- where each word of a line stands in it
+-- where each of the first 16 words of a line stands in it
 pub record ArePlaces (line starts ends : List ℕ) (count : ℕ) : Type 0 where
-  pub places : (k : ℕ) → k < count → IsPlace line starts ends k
+  pub places : (k : ℕ) → k < count → k < 16 → IsPlace line starts ends k
   pub counted : count ≡ length (words_of line)
-  pub few : count ≤ 64
 
 -- whether a line is skipped: it has no words, or its first begins with `#`
 abbrev pub is_skipped : List (List ℕ) → Bool

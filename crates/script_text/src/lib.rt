@@ -23,7 +23,7 @@ pub use keywords::Form;
 pub use offer_parser::offer_line;
 pub use setup_lines::{add_setup_line, has_no_room, is_setup_form, setup_line};
 pub use setup_parser::{SetupLine, bad_line, config_line, page_count, page_line, region_line};
-pub use stages::{Kind, LineOf, StagedScript};
+pub use stages::{Kind, StagedScript};
 pub use trace_writer::{
     answer_line, burst_lines, client_line, drained_line, mem_line, ok_line, refused_line,
     reply_line, reply_lines, work_line,

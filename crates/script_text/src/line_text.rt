@@ -6,17 +6,16 @@ ghost use Rattle.bus_words.specs.Text.{flag, hex};
 use itoa::write_digits;
 use std::marker::Model;
 
+/// The letters of the hexadecimal digits.
+const GLYPHS: &[u8; 16] = b"0123456789abcdef";
+
 /// The letter of a hexadecimal digit.
 #[inline(always)]
-fn glyph(digit: u8) -> u8
+fn glyph(digit: usize) -> u8
     requires { digit < 16 }
     ensures { result ≡ digit_glyph false digit }
 {
-    if digit < 10 {
-        b'0' + digit
-    } else {
-        b'a' - 10 + digit
-    }
+    GLYPHS[digit]
 }
 
 /// The last words of a line of at most 64 bytes, with a space between each two, and its line feed.
@@ -134,7 +133,7 @@ impl LineText {
     {
         let mut rest = number;
         for _ in 0..digits {
-            self.put(glyph((rest % 16) as u8));
+            self.put(glyph((rest % 16) as usize));
             rest /= 16;
         }
     }

@@ -1,7 +1,7 @@
 //! What every kind of script has in common: a `config` line, other set-up lines, and then commands.
-ghost use Rattle.std.specs.Prelude.{◌≡◌, ◌≢◌, ◌<◌, ◌++◌, [], true};
+ghost use Rattle.std.specs.Prelude.{◌≡◌, ◌≢◌, ◌<◌, ◌++◌, [], false, true};
 ghost use Rattle.world_run.specs.Setups.{lists_of};
-ghost use Rattle.script_text.specs.Stages.{MayStand, OpensAs, Opening, OpensStage, Writes, WritesEnd, command_step, is_misplaced, line_in, line_of_form, nothing_written, reading_of, stage_ending, with_setup_line, world_at};
+ghost use Rattle.script_text.specs.Stages.{MayStand, OpensAs, Opening, OpensStage, Writes, WritesEnd, command_step, is_misplaced, is_setup_form, line_of_form, nothing_written, reading_of, stage_ending, step_of_line, with_setup_line, world_at};
 ghost use Rattle.script_text.specs.Steps.{TakesRest, TakesStep};
 
 use crate::driver::Script;
@@ -64,15 +64,6 @@ pub trait Kind {
     ghost gives_text: { rules.asks ≡ true → (world : Self.World) (command : Self.Command) → (rules.commanded world command).0 ++ (rules.ending (rules.commanded world command).1).0 ≢ [] };
 }
 
-/// What a line says.
-#[derive(Clone, Copy, Debug, PartialEq, Eq)]
-pub enum LineOf<C> {
-    /// A set-up line.
-    Setup(SetupLine),
-    /// A command.
-    Command(C),
-}
-
 /// How far a script has come.
 #[derive(Drop)]
 enum Stage<W> {
@@ -99,18 +90,6 @@ impl<K: Kind> Model for StagedScript<K> {
     ghost view = { λ s. stage_of s.stage };
 }
 
-fn line_of_form<K: Kind>(form: Form, words: &Words<'_>) -> Result<LineOf<K::Command>, u32>
-    ensures { result ≡ line_of_form K.rules form words.now }
-{
-    if !is_setup_form(form) {
-        return Ok(LineOf::Command(K::command_of(form, words)?));
-    }
-    if !K::takes(form) {
-        return Err(1);
-    }
-    Ok(LineOf::Setup(setup_line(form, words)?))
-}
-
 impl<K: Kind> StagedScript<K> {
     /// A script of which no line was read.
     pub fn new(kind: K) -> StagedScript<K>
@@ -132,18 +111,6 @@ impl<K: Kind> StagedScript<K> {
         }
     }
 
-    fn line_in(&self, words: &Words<'_>) -> Result<LineOf<K::Command>, u32>
-        ensures { result ≡ line_in K.rules self.now words.now }
-    {
-        let Some(form) = Form::named(words.at(1)) else {
-            return Err(1);
-        };
-        if self.is_misplaced(form, words) {
-            return Err(1);
-        }
-        line_of_form::<K>(form, words)
-    }
-
     fn set_up(&mut self, line: SetupLine)
         requires { MayStand self.old line }
         ensures { self.new ≡ with_setup_line self.old line }
@@ -156,6 +123,33 @@ impl<K: Kind> StagedScript<K> {
             return;
         };
         add_setup_line(setup, line);
+    }
+
+    /// Takes a set-up line. It is apart, since a function clears the room for its values at its entry.
+    #[inline(never)]
+    fn take_setup_line<W: Write>(
+        &mut self,
+        number: u32,
+        form: Form,
+        words: &Words<'_>,
+        _writer: &mut W,
+    ) -> Result<bool, ScriptFault>
+        requires place { is_misplaced self.old form words.now ≡ false }
+        requires form { is_setup_form form ≡ true }
+        ensures { TakesStep (reading_of K.rules) (step_of_line K.rules self.old number (line_of_form K.rules form words.now)) nothing_written self.old self.new (W.contents _writer.old) (W.contents _writer.new) result }
+    {
+        if !K::takes(form) {
+            return Err(ScriptFault::Script {
+                line: number,
+                word: 1,
+            });
+        }
+        let line = match setup_line(form, words) {
+            Ok(line) => line,
+            Err(word) => return Err(ScriptFault::Script { line: number, word }),
+        };
+        self.set_up(line);
+        Ok(false)
     }
 
     /// Makes what commands work on where there is none yet.
@@ -255,13 +249,22 @@ impl<K: Kind + Drop> Script for StagedScript<K> {
         words: &Words<'_>,
         writer: &mut W,
     ) -> Result<bool, ScriptFault> {
-        match self.line_in(words) {
+        let wrong = ScriptFault::Script {
+            line: number,
+            word: 1,
+        };
+        let Some(form) = Form::named(words.at(1)) else {
+            return Err(wrong);
+        };
+        if self.is_misplaced(form, words) {
+            return Err(wrong);
+        }
+        if is_setup_form(form) {
+            return self.take_setup_line(number, form, words, writer);
+        }
+        match K::command_of(form, words) {
             Err(word) => Err(ScriptFault::Script { line: number, word }),
-            Ok(LineOf::Setup(line)) => {
-                self.set_up(line);
-                Ok(false)
-            }
-            Ok(LineOf::Command(command)) => self.carry_out(alloc, number, &command, writer),
+            Ok(command) => self.carry_out(alloc, number, &command, writer),
         }
     }
 

@@ -7,14 +7,17 @@ ghost use Rattle.script_text.specs.Forms.{Reads, byte_field, short_field, long_f
 use crate::numbers::{decimal, hexadecimal};
 use std::marker::Model;
 
+/// How many words have their places held. Those behind them are looked for.
+const HELD: usize = 16;
+
 /// The words of a line, parted by spaces. Words are counted from 1, and one that isn't there reads as empty.
 ///
 /// A field answers the number of its word where the word isn't as the field says.
 #[derive(Drop)]
 pub struct Words<'a> {
     line: &'a [u8],
-    starts: [u8; 64],
-    ends: [u8; 64],
+    starts: [u8; HELD],
+    ends: [u8; HELD],
     count: usize,
 }
 
@@ -59,6 +62,35 @@ fn space_from(line: &[u8], at: usize) -> usize
     line.len()
 }
 
+/// How many words there are from a place on, at which one begins if any does.
+fn words_from(line: &[u8], at: usize) -> usize
+    requires short { length line.now ≤ 128 }
+    requires within { at ≤ length line.now }
+    requires found { at < length line.now → slice_index line.now at ≢ 32 }
+    ensures { result ≡ length (words_of (drop at line.now)) }
+{
+    let mut count = 0;
+    let mut start = at;
+    while start < line.len() {
+        count += 1;
+        start = word_from(line, space_from(line, start));
+    }
+    count
+}
+
+/// The word behind so many others.
+#[inline(never)]
+fn word_behind(line: &[u8], others: usize) -> &[u8]
+    requires { others < length (words_of line.now) }
+    ensures { result.now ≡ word_at (words_of line.now) (others + 1) }
+{
+    let mut start = word_from(line, 0);
+    for _ in 0..others {
+        start = word_from(line, space_from(line, start));
+    }
+    &line[start..space_from(line, start)]
+}
+
 /// Whether a text begins with `#`.
 pub(crate) fn is_comment(text: &[u8]) -> bool
     ensures { result ≡ starts_with nat_eq text.now (codes "#") }
@@ -72,22 +104,28 @@ impl<'a> Words<'a> {
         requires { length line.now ≤ 128 }
         ensures { result ≡ words_of line.now }
     {
-        let mut starts = [0; 64];
-        let mut ends = [0; 64];
-        let mut count = 0;
+        let mut starts = [0; HELD];
+        let mut ends = [0; HELD];
         let mut start = word_from(line, 0);
-        while start < line.len() {
+        for count in 0..HELD {
+            if start >= line.len() {
+                return Words {
+                    line,
+                    starts,
+                    ends,
+                    count,
+                };
+            }
             let end = space_from(line, start);
             starts[count] = start as u8;
             ends[count] = end as u8;
-            count += 1;
             start = word_from(line, end);
         }
         Words {
             line,
             starts,
             ends,
-            count,
+            count: HELD + words_from(line, start),
         }
     }
 
@@ -106,6 +144,9 @@ impl<'a> Words<'a> {
         let place = n as usize - 1;
         if place >= self.count {
             return &[];
+        }
+        if place >= HELD {
+            return word_behind(self.line, place);
         }
         let start = usize::from(self.starts[place]);
         let end = usize::from(self.ends[place]);

@@ -21,10 +21,9 @@ fn write_some<W: Write>(text: &[u8], writer: &mut W) -> io::Result<usize>
     }
 }
 
-/// Writes a text. A write that was interrupted is tried again; where the writer fails, it took a front of the text that isn't
-/// all of it.
-#[inline]
-pub fn write_text<W: Write>(text: &[u8], writer: &mut W) -> io::Result<()>
+/// Writes what is left of a text, in as many writes as it takes.
+#[inline(never)]
+fn write_rest<W: Write>(text: &[u8], writer: &mut W) -> io::Result<()>
     ensures all { OnOk result (Appends (W.contents writer.old) (W.contents writer.new) text.now) }
     ensures front { OnErr result (StopsShort text.now (W.contents writer.old) (W.contents writer.new)) }
 {
@@ -43,4 +42,24 @@ pub fn write_text<W: Write>(text: &[u8], writer: &mut W) -> io::Result<()>
         return Ok(());
     }
     Err(Error::from(ErrorKind::TimedOut))
+}
+
+/// Writes a text. A write that was interrupted is tried again; where the writer fails, it took a front of the text that isn't
+/// all of it.
+#[inline]
+pub fn write_text<W: Write>(text: &[u8], writer: &mut W) -> io::Result<()>
+    ensures all { OnOk result (Appends (W.contents writer.old) (W.contents writer.new) text.now) }
+    ensures front { OnErr result (StopsShort text.now (W.contents writer.old) (W.contents writer.new)) }
+{
+    if text.is_empty() {
+        return Ok(());
+    }
+    let count = match write_some(text, writer) {
+        Ok(count) => count,
+        Err(fault) => return Err(fault),
+    };
+    if count == text.len() {
+        return Ok(());
+    }
+    write_rest(&text[count..], writer)
 }

@@ -1,15 +1,12 @@
-use Rattle.std.proofs.Common.{◌≡◌, ◌≢◌, ◌≤◌, ◌<◌, ◌-◌, ℕ, drop, get_or, length}
+use Rattle.std.proofs.Common.{◌≡◌, ◌≢◌, ◌≤◌, ◌<◌, ℕ, drop, get_or, length}
 use Rattle.script_text.specs.Words.{IsPlace, words_of}
 use Rattle.script_text.proofs.words.Words.of.Given as goal
 
-abbrev pub decreases-loop-start : goal.decreases-loop-start
-decreases-loop-start l = length l.line - l.start
-
-abbrev pub invariant-loop-start : goal.invariant-loop-start
-invariant-loop-start l =
+abbrev pub invariant-loop-count : goal.invariant-loop-count
+invariant-loop-count l =
     record {
-      room_s : length l.starts ≡ 64;
-      room_e : length l.ends ≡ 64;
+      room_s : length l.starts ≡ 16;
+      room_e : length l.ends ≡ 16;
       within : l.start ≤ length l.line;
       found : l.start < length l.line → get_or l.line l.start 0 ≢ 32;
       places : (k : ℕ) → k < l.count → IsPlace l.line l.starts l.ends k;
