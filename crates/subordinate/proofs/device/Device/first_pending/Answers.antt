@@ -13,8 +13,8 @@ loop-burst-init c = refl
 
 pub returns-then-waiting-gt0 : goal.returns-then-waiting-gt0
 returns-then-waiting-gt0 c =
-    let items = c.deref-burst-items.result.now in
-    let same : items ≡ c.args.self.now.memory.pending = c.deref-burst-items.ensures.value ∙ ap (λ (device : DeviceState). device.memory.pending) c.self.view_is in
+    let items = c.as_slice-burst-items.result.now in
+    let same : items ≡ c.args.self.now.memory.pending = c.as_slice-burst-items.ensures ∙ ap (λ (device : DeviceState). device.memory.pending) c.self.view_is in
     let inside : 0 < count_waiting c.burst-item.result.beats = omega (arith, c.if-waiting-gt0.true, c.waiting.ensures.count) in
     let here : slice_get (flat_map waiting_in items) 0 ≡ Some (c.serial.result, c.nth_waiting.result) =
     sym c.loop-burst.invariant ∙ waiting-here items c.loop-burst.burst-index 0 c.burst-item.result c.nth_waiting.result c.loop-burst-test.true c.burst-item.is inside c.nth_waiting.ensures
@@ -24,7 +24,7 @@ returns-then-waiting-gt0 c =
 
 pub loop-burst-preserved : goal.loop-burst-preserved
 loop-burst-preserved c =
-    let items = c.deref-burst-items.result.now in
+    let items = c.as_slice-burst-items.result.now in
     let none : count_waiting c.burst-item.result.beats ≤ 0 = omega (arith, c.if-waiting-gt0.false, c.waiting.ensures.count) in
     let rest : 0 - count_waiting c.burst-item.result.beats ≡ 0 = omega arith in
     ap (slice_get (flat_map waiting_in (drop (c.loop-burst.burst-index + 1) items))) (sym rest)
@@ -32,8 +32,8 @@ loop-burst-preserved c =
 
 pub returns : goal.returns
 returns c =
-    let items = c.deref-burst-items.result.now in
-    let same : items ≡ c.args.self.now.memory.pending = c.deref-burst-items.ensures.value ∙ ap (λ (device : DeviceState). device.memory.pending) c.self.view_is in
+    let items = c.as_slice-burst-items.result.now in
+    let same : items ≡ c.args.self.now.memory.pending = c.as_slice-burst-items.ensures ∙ ap (λ (device : DeviceState). device.memory.pending) c.self.view_is in
     let none : slice_get (flat_map waiting_in items) 0 ≡ None =
     sym c.loop-burst.invariant ∙ ap (λ (ps : List Pending). slice_get (flat_map waiting_in ps) 0) (drop_of_length-le items c.loop-burst-test.false)
     in
