@@ -2,6 +2,7 @@ mod Examples
 pub mod BeatStates
 pub mod BoxTransfers
 pub mod ByteLaws
+pub mod BurstCounts
 pub mod BurstIndex
 pub mod BytesRead
 pub mod BytesWritten

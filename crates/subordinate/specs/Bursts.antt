@@ -1,10 +1,10 @@
 -- What is kept beside the open bursts, so that none of it is looked for among them.
-use Rattle.std.specs.Prelude.{◌≡◌, ℕ, ◌%◌, ◌/◌, ◌<◌, ◌==◌, Bool, false, not, List, [], length, map, filter, find, Option, None, Some, is_some, if◌then◌else◌, slice_index_or}
-use Rattle.std.specs.List.{list_any}
+use Rattle.std.specs.Prelude.{◌≡◌, ℕ, ◌%◌, ◌/◌, ◌<◌, ◌≤◌, ◌==◌, Bool, false, not, List, [], length, map, filter, find, Option, None, Some, is_some, if◌then◌else◌, slice_index_or, sum_by, take}
+use Rattle.std.specs.List.{AllByRecursion, list_any}
 use Rattle.std.specs.Int.{bit_at}
 use Rattle.axi_beats.specs.Bursts.{Burst, ReadBurst, WriteBurst}
 use Rattle.subordinate.specs.FreeMemory.{Pending, beat_at, is_waiting}
-use Rattle.subordinate.specs.Inside.{captured_at}
+use Rattle.subordinate.specs.Inside.{captured_at, count_waiting}
 use Rattle.subordinate.specs.Laws.{RisesWithin, queue_of}
 use Rattle.subordinate.specs.declared.answers.Answers.{Answers}
 
@@ -49,6 +49,13 @@ pub record AreIndexed (bursts : List Pending) (queues : List (List ℕ)) (answer
   pub many : length queues ≡ 32
   pub row : (queue : ℕ) → slice_index_or queues queue [] ≡ serials_in bursts queue
   pub marks : (queue : ℕ) → queue < 32 → is_marked answers queue ≡ is_queue_ready bursts queue
+
+-- how many beats wait, and a place before which no burst has one that does
+pub record AreCounted (bursts : List Pending) (waiting first : ℕ) : Type 0 where
+  pub sum : waiting ≡ sum_by (λ pending. count_waiting pending.beats) bursts
+  pub each : AllByRecursion (λ pending. count_waiting pending.beats ≤ 256) bursts
+  pub within : first ≤ length bursts
+  pub before : AllByRecursion (λ pending. count_waiting pending.beats ≡ 0) (take first bursts)
 
 -- whether a serial is the first of a queue
 abbrev pub is_first : Option ℕ → ℕ → Bool

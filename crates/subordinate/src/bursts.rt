@@ -1,9 +1,9 @@
 //! The open bursts of a device, in the order sent, with what is kept so that none is looked for among them.
-ghost use Rattle.std.specs.Prelude.{◌≡◌, ◌≢◌, ℕ, ◌+◌, ◌<◌, ◌++◌, ◌*◌, [], ◌∷◌, false, IfOk, IfSome, IsSome, Some, filter, find, if◌then◌else◌, length, position, slice_get, slice_index_or, slice_set};
+ghost use Rattle.std.specs.Prelude.{◌≡◌, ◌≢◌, ℕ, ◌+◌, ◌-◌, ◌^◌, ◌<◌, ◌==◌, ◌&&◌, nat_lt, flat_map, sum_by, ◌++◌, ◌*◌, [], ◌∷◌, false, IfOk, IfSome, IsSome, Some, filter, find, if◌then◌else◌, length, position, slice_get, slice_index_or, slice_set};
 ghost use Rattle.std.specs.List.{range_with_len, remove};
 ghost use Rattle.subordinate.specs.Bursts.{Rise, is_first, is_in, is_marked, is_queue_ready, is_ready, serials_in};
-ghost use Rattle.subordinate.specs.FreeMemory.{Pending, beat_at, has_serial, is_waiting, with_beat};
-ghost use Rattle.subordinate.specs.Inside.{captured_at, with_answer};
+ghost use Rattle.subordinate.specs.FreeMemory.{Pending, beat_at, has_serial, is_waiting, waiting_in, with_beat};
+ghost use Rattle.subordinate.specs.Inside.{captured_at, count_waiting, with_answer};
 ghost use Rattle.subordinate.specs.Laws.{queue_of};
 ghost use Rattle.subordinate.specs.declared.BeatState.TheVariants.{Waiting};
 
@@ -24,19 +24,23 @@ pub(crate) struct Bursts {
     items: Vec<OpenBurst>,
     queues: Queues,
     answers: Answers,
+    /// How many beats wait.
+    waiting: u32,
+    /// No burst before this place has a beat that waits.
+    first: usize,
 }
 
 impl Model for Bursts {
     ghost use Rattle.std.specs.Prelude.{List, ◌≤◌};
     ghost use Rattle.std.specs.Vec.{vec_capacity, vec_len};
-    ghost use Rattle.subordinate.specs.Bursts.{AreIndexed};
+    ghost use Rattle.subordinate.specs.Bursts.{AreCounted, AreIndexed};
     ghost use Rattle.subordinate.specs.FreeMemory.{Pending};
 
     ghost Value = { List Pending };
 
     ghost view = { λ b. b.items.items };
 
-    ghost invariant = { λ b. AreIndexed b.items.items b.queues b.answers × (128 ≤ vec_capacity b.items) };
+    ghost invariant = { λ b. AreIndexed b.items.items b.queues b.answers × AreCounted b.items.items b.waiting b.first × (128 ≤ vec_capacity b.items) };
 }
 
 impl Bursts {
@@ -50,6 +54,8 @@ impl Bursts {
             items,
             queues,
             answers: Answers::new(),
+            waiting: 0,
+            first: 0,
         })
     }
 
@@ -124,6 +130,25 @@ impl Bursts {
         first_id(self.answers.r)
     }
 
+    /// How many beats wait.
+    pub(crate) fn waiting(&self) -> u32
+        ensures { result ≡ sum_by (λ p. count_waiting p.beats) self.now }
+    {
+        self.waiting
+    }
+
+    /// Serial and beat of the first beat that waits, by rising serial and beat.
+    pub(crate) fn first_waiting(&self) -> Option<(u64, u16)>
+        ensures { result ≡ slice_get (flat_map waiting_in self.now) 0 }
+    {
+        for burst in &self.items[self.first..] {
+            if burst.waiting() > 0 {
+                return Some((burst.serial(), burst.nth_waiting(0)));
+            }
+        }
+        None
+    }
+
     /// One more burst, which was just sent.
     pub(crate) fn push(&mut self, burst: OpenBurst)
         requires room { length self.old < 128 }
@@ -133,6 +158,7 @@ impl Bursts {
         ensures { self.new ≡ self.old ++ burst ∷ [] }
     {
         self.queues.push(burst.queue(), burst.serial());
+        self.waiting += u32::from(burst.waiting());
         self.items.push_reserved(burst);
     }
 
@@ -146,7 +172,10 @@ impl Bursts {
         ensures { (p : Pending) → slice_get self.old place ≡ Some p → self.new ≡ slice_set self.old place (with_beat beat state p) }
     {
         self.items[place].put(beat, state);
-        self.answers = noted(self.answers, &self.queues, &self.items[place]);
+        let burst = &self.items[place];
+        self.answers = noted(self.answers, &self.queues, burst);
+        self.first = past(self.first, place, burst.waiting());
+        self.waiting -= 1;
     }
 
     /// Counts an R beat of the open read at a place, whose next beat is performed.
@@ -170,11 +199,32 @@ impl Bursts {
         ensures rest { self.new ≡ remove self.old place }
     {
         let burst = self.items.remove(place);
+        self.waiting -= u32::from(burst.waiting());
+        self.first = moved(self.first, place);
         self.queues.pop(queue);
         let ready = is_ready_at(&self.items, self.queues.first(queue));
         self.answers = self.answers.with(queue, ready);
         burst
     }
+}
+
+/// Where no earlier burst has a beat that waits, once so many are left of the one at a place.
+fn past(first: usize, place: usize, left: u16) -> usize
+    requires { first < 2 ^ 63 }
+    ensures { result ≡ (if (place == first) && (left == 0) then first + 1 else first) }
+{
+    if place == first && left == 0 {
+        first + 1
+    } else {
+        first
+    }
+}
+
+/// Where no earlier burst has a beat that waits, once the one at a place is gone.
+fn moved(first: usize, place: usize) -> usize
+    ensures { result ≡ (if nat_lt place first then first - 1 else first) }
+{
+    if place < first { first - 1 } else { first }
 }
 
 /// The place of the burst with this serial.

@@ -170,11 +170,7 @@ impl Device {
     pub fn pending(&self) -> u32
         ensures { result ≡ length (waiting_beats self.now.memory) }
     {
-        let mut count = 0;
-        for burst in self.open.as_slice() {
-            count += u32::from(burst.waiting());
-        }
-        count
+        self.open.waiting()
     }
 
     /// The work left in open bursts: unperformed beats, and answers to come.
@@ -209,12 +205,7 @@ impl Device {
     pub fn first_pending(&self) -> Option<(u64, u16)>
         ensures { result ≡ slice_get (waiting_beats self.now.memory) 0 }
     {
-        for burst in self.open.as_slice() {
-            if burst.waiting() > 0 {
-                return Some((burst.serial(), burst.nth_waiting(0)));
-            }
-        }
-        None
+        self.open.first_waiting()
     }
 
     /// The byte at an address of a good page; none outside these.
