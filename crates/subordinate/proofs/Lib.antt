@@ -2,6 +2,8 @@ mod Examples
 pub mod BeatStates
 pub mod BoxTransfers
 pub mod ByteLaws
+pub mod BurstCounts
+pub mod BurstIndex
 pub mod BytesRead
 pub mod BytesWritten
 pub mod Changes
@@ -11,10 +13,12 @@ pub mod FirstReady
 pub mod GoodPages
 pub mod Monitors
 pub mod OpenBursts
+pub mod OpenQueues
 pub mod OrderLaws
 pub mod PageLaws
 pub mod PageWrites
 pub mod PagesOf
 pub mod PerformedBeats
+pub mod QueueRows
 pub mod SoundDevices
 pub mod TransferWords

@@ -58,7 +58,7 @@ rises-change_first low top test change (p ∷ ps) same rises = by_test (test p) 
 abbrev pub serial_at : List Pending → ℕ → ℕ
 serial_at pending k = (get_or pending k (newly_pending 0 no_burst)).serial
 
-rises-at : (low top : ℕ) (pending : List Pending) (k : ℕ) → RisesWithin low top pending → k < length pending → low ≤ serial_at pending k
+pub rises-at : (low top : ℕ) (pending : List Pending) (k : ℕ) → RisesWithin low top pending → k < length pending → low ≤ serial_at pending k
 rises-at low top [] k rises within = absurd (omega (arith, within))
 rises-at low top (p ∷ ps) zero rises within = rises.0
 rises-at low top (p ∷ ps) (suc k) rises within = omega (arith, rises.0, rises-at (p.serial + 1) top ps k rises.1 (omega (arith, within)))
@@ -146,10 +146,10 @@ reads_known id (p ∷ ps) = by_burst p.burst (reads_known id ps)
         [ true ↦ ap suc rest | false ↦ rest ]
 
 -- the bursts of a queue are the writes of an ID, or its reads
-queue_of_write : (id other : ℕ) → (2 * other == 2 * id) ≡ (other == id)
+pub queue_of_write : (id other : ℕ) → (2 * other == 2 * id) ≡ (other == id)
 queue_of_write id other = grind (arith, nat_tests)
 
-queue_of_read : (id other : ℕ) → (2 * other + 1 == 2 * id + 1) ≡ (other == id)
+pub queue_of_read : (id other : ℕ) → (2 * other + 1 == 2 * id + 1) ≡ (other == id)
 queue_of_read id other = grind (arith, nat_tests)
 
 pub in_queue : (burst : Burst) (p : Pending) → (queue_of p == queue_of_burst burst) ≡ is_beside burst p

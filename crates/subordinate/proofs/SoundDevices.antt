@@ -1,5 +1,5 @@
 -- What stays true of a device's open bursts when one is sent, performed, answered or closed.
-use Rattle.std.proofs.Common.{◌≡◌, ℕ, zero, suc, ◌+◌, ◌<◌, ◌≤◌, Bool, true, false, List, [], ◌∷◌, ◌++◌, length, get_or, replicate, refl, sym, ◌∙◌, ap, subst, arith}
+use Rattle.std.proofs.Common.{◌≡◌, ℕ, zero, suc, ◌+◌, ◌<◌, ◌≤◌, ◌==◌, Bool, true, false, List, [], ◌∷◌, ◌++◌, length, get_or, replicate, refl, sym, ◌∙◌, ap, subst, arith}
 use Rattle.std.proofs.Math.ListN.{set}
 use Rattle.std.proofs.lemmas.List.{append-nil, length-append, length-set, map-append}
 use Rattle.std.specs.List.{AllByRecursion, remove}
@@ -114,6 +114,10 @@ sound-newly bus_bytes serial burst legal =
 kept_pages : (memory : FreeMemory) (pending : List Pending) (sent : ℕ) → HasGoodPages memory → HasGoodPages (record memory { pending = pending; sent = sent })
 kept_pages memory pending sent pages = record { exactly = pages.exactly; whole = pages.whole }
 
+queue_below : (burst : Burst) → id_of burst < 16 → queue_of_burst burst < 32
+queue_below (WriteBurst aw ws) known = omega (arith, known)
+queue_below (ReadBurst ar) known = omega (arith, known)
+
 -- a burst that was sent
 pub sound-append : (memory : FreeMemory) (burst : Burst) → IsSoundMemory memory → IsLegal memory.bus_bytes burst → id_of burst < 16
     → length (filter (is_beside burst) memory.pending) < 4 → IsSoundMemory (with_burst memory burst)
@@ -125,10 +129,6 @@ sound-append memory burst sound legal known fewer =
       each = all-append (IsSoundPending memory.bus_bytes) memory.pending (newly_pending memory.sent burst) sound.each (sound-newly memory.bus_bytes memory.sent burst legal);
       pages = kept_pages memory _ _ sound.pages;
     }
-  where
-    queue_below : (burst : Burst) → id_of burst < 16 → queue_of_burst burst < 32
-    queue_below (WriteBurst aw ws) known = omega (arith, known)
-    queue_below (ReadBurst ar) known = omega (arith, known)
 
 -- there is room for one more
 room-append : (memory : FreeMemory) (burst : Burst) → IsSoundMemory memory → IsLegal memory.bus_bytes burst → id_of burst < 16
@@ -190,22 +190,28 @@ performing bus_bytes pages changed pending sent closed test k beat p state place
     rw (← new, found, becomes, changes) refl
 
 -- room for those that are open and closed after one closed
-pub room-close : (open_bursts closed spare open_after closed_after spare_after room_of_open room_of_closed room_of_spare new_open new_closed new_spare : ℕ) → HasRoom open_bursts closed spare room_of_open room_of_closed room_of_spare
-    → open_after + 1 ≡ open_bursts → closed_after ≡ closed + 1 → spare_after ≡ spare + 1 → room_of_open ≤ new_open → room_of_closed ≤ new_closed → room_of_spare ≤ new_spare
-    → HasRoom open_after closed_after spare_after new_open new_closed new_spare
-room-close open_bursts closed spare open_after closed_after spare_after room_of_open room_of_closed room_of_spare new_open new_closed new_spare room one_less one_more another more_open more_closed more_spare =
+pub room-close : (open_bursts closed spare open_after closed_after spare_after room_of_closed room_of_spare new_closed new_spare : ℕ) → HasRoom open_bursts closed spare room_of_closed room_of_spare
+    → open_after + 1 ≡ open_bursts → closed_after ≡ closed + 1 → spare_after ≡ spare + 1 → room_of_closed ≤ new_closed → room_of_spare ≤ new_spare → HasRoom open_after closed_after spare_after new_closed new_spare
+room-close open_bursts closed spare open_after closed_after spare_after room_of_closed room_of_spare new_closed new_spare room one_less one_more another more_closed more_spare =
     record {
       bursts = omega (arith, room.bursts, one_less, one_more);
       beats = omega (arith, room.beats, one_less, another);
-      for_open = omega (arith, room.for_open, more_open);
       for_closed = omega (arith, room.for_closed, more_closed);
       for_spare = omega (arith, room.for_spare, more_spare);
     }
+
+-- and where as many are open as before
+pub room_changed : (open_bursts closed spare room_of_closed room_of_spare : ℕ) {open_after : ℕ} → open_after ≡ open_bursts → HasRoom open_bursts closed spare room_of_closed room_of_spare
+    → HasRoom open_after closed spare room_of_closed room_of_spare
+room_changed open_bursts closed spare room_of_closed room_of_spare same room = subst (λ (n : ℕ). HasRoom n closed spare room_of_closed room_of_spare) (sym same) room
 
 -- a performed beat doesn't wait
 pub beat_after-performed : (memory : FreeMemory) (burst : Burst) (beat : ℕ) → is_waiting (beat_after memory burst beat) ≡ false
 beat_after-performed memory (WriteBurst aw ws) beat = refl
 beat_after-performed memory (ReadBurst ar) beat = refl
+
+pub beat_becomes-performed : (memory : FreeMemory) (burst : Burst) (beat : ℕ) (state : BeatState) → state ≡ beat_after memory burst beat → is_waiting state ≡ false
+beat_becomes-performed memory burst beat state is = ap is_waiting is ∙ beat_after-performed memory burst beat
 
 -- and is one of its burst
 pub beat_after-of : (memory : FreeMemory) (burst : Burst) (beat : ℕ) → IsBeatOf burst (beat_after memory burst beat)
@@ -264,23 +270,34 @@ performing-serial device serial beat p found waits =
     let same : p.serial ≡ serial = eqb-true p.serial serial (find-passes (has_serial serial) device.memory.pending p found) in
     rw (found, waits, same) refl
 
--- a burst that is sent: there is room for it, and it joins the others
+-- a burst that joins the others: there is room for it, among all and in its queue
+pub record CanJoin (memory : FreeMemory) (burst : Burst) : Type 0 where
+  pub room : length memory.pending < 128
+  pub known : queue_of_burst burst < 32
+  pub fewer : length (filter (λ (p : Pending). queue_of p == queue_of_burst burst) memory.pending) < 4
+  pub sound : IsSoundMemory (with_burst memory burst)
+
+-- a burst that is sent joins them
 pub sending : (memory : FreeMemory) (held : Option Burst) → IsSome held → IsSoundMemory memory → IfSome held (IsLegal memory.bus_bytes)
     → IfSome held (λ burst. (id_of burst < 16) × (outstanding_beside (open_bursts_of memory) burst < 4))
-    → (length memory.pending < 128) × IsSoundMemory (with_burst memory (burst_in held))
+    → CanJoin memory (burst_in held)
 sending memory None full sound legal room = absurd (cc)
 sending memory (Some burst) full sound legal room =
     let fewer : length (filter (is_beside burst) memory.pending) < 4 = omega (arith, known_beside memory burst, room.1) in
-    (room-append memory burst sound legal room.0 fewer, sound-append memory burst sound legal room.0 fewer)
+    record {
+      room = room-append memory burst sound legal room.0 fewer;
+      known = queue_below burst room.0;
+      fewer = omega (arith, count_in_queue burst memory.pending, fewer);
+      sound = sound-append memory burst sound legal room.0 fewer;
+    }
 
 -- room for those that are open and closed after one was sent
-pub room-send : (open_bursts closed spare open_after spare_after room_of_open room_of_closed room_of_spare new_open new_spare : ℕ) → HasRoom open_bursts closed spare room_of_open room_of_closed room_of_spare
-    → open_bursts < 128 → closed ≡ 0 → open_after ≡ open_bursts + 1 → spare_after + 1 ≡ spare → room_of_open ≤ new_open → room_of_spare ≤ new_spare → HasRoom open_after closed spare_after new_open room_of_closed new_spare
-room-send open_bursts closed spare open_after spare_after room_of_open room_of_closed room_of_spare new_open new_spare room fewer none one_more one_less more_open more_spare =
+pub room-send : (open_bursts closed spare open_after spare_after room_of_closed room_of_spare new_spare : ℕ) → HasRoom open_bursts closed spare room_of_closed room_of_spare
+    → open_bursts < 128 → closed ≡ 0 → open_after ≡ open_bursts + 1 → spare_after + 1 ≡ spare → room_of_spare ≤ new_spare → HasRoom open_after closed spare_after room_of_closed new_spare
+room-send open_bursts closed spare open_after spare_after room_of_closed room_of_spare new_spare room fewer none one_more one_less more_spare =
     record {
       bursts = omega (arith, fewer, none, one_more);
       beats = omega (arith, room.beats, one_more, one_less);
-      for_open = omega (arith, room.for_open, more_open);
       for_closed = room.for_closed;
       for_spare = omega (arith, room.for_spare, more_spare);
     }

@@ -1,5 +1,5 @@
 -- How the parts of a device make its state, and what stays true of their room.
-use Rattle.std.specs.Prelude.{◌≡◌, ℕ, ◌+◌, ◌≤◌, Bool, ◌&&◌, nat_lt, List, [], ◌∷◌, ◌++◌, length, map, filter, find, Option, None, Some, option_map, option_to_list, if◌then◌else◌}
+use Rattle.std.specs.Prelude.{◌≡◌, ℕ, ◌+◌, ◌≤◌, Bool, List, [], ◌∷◌, ◌++◌, length, map, filter, find, Option, None, Some, option_map, option_to_list, if◌then◌else◌}
 use Rattle.axi_beats.specs.Bursts.{Burst, ReadBurst, WriteBurst}
 use Rattle.bus_words.specs.Places.{change_first, without_first}
 use Rattle.subordinate.specs.Device.{DeviceState}
@@ -38,10 +38,9 @@ abbrev pub device_state : ℕ → PagesState → List Pending → ℕ → List (
 device_state bus_bytes pages pending sent closed = record { memory = memory_of bus_bytes pages pending sent; closed = map burst_in closed }
 
 -- the room of a device: 128 bursts may be open or closed, and the beats of those that aren't open are kept to be used again
-pub record HasRoom (open_bursts closed spare room_of_open room_of_closed room_of_spare : ℕ) : Type 0 where
+pub record HasRoom (open_bursts closed spare room_of_closed room_of_spare : ℕ) : Type 0 where
   pub bursts : open_bursts + closed ≤ 128
   pub beats : open_bursts + spare ≡ 128
-  pub for_open : 128 ≤ room_of_open
   pub for_closed : 128 ≤ room_of_closed
   pub for_spare : 128 ≤ room_of_spare
 
@@ -89,24 +88,3 @@ after_performing test beat device = record device { memory = performed_first dev
 -- the device after an R of the first open burst that passes a test, which was not its last
 abbrev pub after_counting : (Pending → Bool) → DeviceState → DeviceState
 after_counting test device = record device { memory = record device.memory { pending = change_first test with_answer device.memory.pending } }
-
--- ---- the smallest ID that may give an answer
-
--- the ID of an open write, and that of an open read
-abbrev pub write_id_in : Burst → Option ℕ
-write_id_in (WriteBurst aw data_beats) = Some aw.id
-write_id_in (ReadBurst ar) = None
-
-abbrev pub read_id_in : Burst → Option ℕ
-read_id_in (WriteBurst aw data_beats) = None
-read_id_in (ReadBurst ar) = Some ar.id
-
--- the smaller of an ID found and of one more, if that is ready
-abbrev pub smaller_ready : (ℕ → Bool) → Option ℕ → Option ℕ → Option ℕ
-smaller_ready ready first None = first
-smaller_ready ready None (Some id) = if ready id then Some id else None
-smaller_ready ready (Some best) (Some id) = if nat_lt id best && ready id then Some id else Some best
-
-abbrev pub smallest_ready : (ℕ → Bool) → Option ℕ → List (Option ℕ) → Option ℕ
-smallest_ready ready first [] = first
-smallest_ready ready first (id ∷ ids) = smallest_ready ready (smaller_ready ready first id) ids

@@ -1,3 +1,4 @@
+pub mod Bursts
 pub mod Device
 pub mod Effects
 pub mod Faults

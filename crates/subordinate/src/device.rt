@@ -6,12 +6,14 @@ ghost use Rattle.axi_beats.specs.Bursts.{IsLegal};
 ghost use Rattle.axi_beats.specs.Transfers.{IsBusWidth};
 ghost use Rattle.axi_checker.specs.OpenBursts.{OnB, OnR, nothing_open, open_after};
 ghost use Rattle.axi_checker.specs.Rules.{axi_fault, beats_sent, id_of, open_after_all, open_with_burst, outstanding_beside};
+ghost use Rattle.subordinate.specs.Bursts.{is_in};
 ghost use Rattle.subordinate.specs.FreeMemory.{Pending, beat_after, beat_at, device_port, has_serial, is_read_of, is_write_of, memory_after, open_bursts_of, transfers_in};
-ghost use Rattle.subordinate.specs.Inside.{after_closing, after_counting, after_performing, captured_at, is_beside, memory_over, smaller_ready};
+ghost use Rattle.subordinate.specs.Inside.{after_closing, after_counting, after_performing, captured_at, memory_over};
 ghost use Rattle.subordinate.specs.Laws.{IsSoundMemory, IsSoundPending};
 
 use crate::beats::Beats;
-use crate::open_burst::OpenBurst;
+use crate::bursts::{Bursts, MOST_OPEN};
+use crate::open_burst::{OpenBurst, queue_of};
 use crate::pages::Pages;
 use crate::{BeatState, DeviceFault, PageKind, Performed, SendRefused, device_fault};
 use axi_beats::{BBeat, BurstBox, RBeat};
@@ -25,20 +27,16 @@ const IDS: u8 = 16;
 /// How many open bursts of an ID it takes on each side (this project's profile).
 const DEPTH: u8 = 4;
 
-/// How many bursts may be open: those of all IDs on both sides.
-const MOST_OPEN: usize = 128;
-
 /// A memory at the end of an AXI4 port. It performs the beats of the bursts that it was sent in any order, and answers
 /// them as AXI4's ordering allows (AXI4, A5). A box moves in with `send_box`, and out with `take_closed` when its burst is
 /// answered. All room is taken by `new`; no other call takes memory.
 ///
-/// A burst is found by its serial in the order of serials, and the oldest of an ID among the open bursts, of which there
-/// are at most 128.
+/// A burst is found by its serial in the order of serials, and the oldest of an ID by the serials of that ID's.
 pub struct Device {
     bus_bytes: u8,
     pages: Pages,
     /// The open bursts in the order sent.
-    open: Vec<OpenBurst>,
+    open: Bursts,
     /// The beats of bursts that closed, to be used again.
     spare: Vec<Beats>,
     closed: Vec<BurstBox>,
@@ -46,7 +44,7 @@ pub struct Device {
 }
 
 impl Model for Device {
-    ghost use Rattle.std.specs.Prelude.{IsSome};
+    ghost use Rattle.std.specs.Prelude.{IsSome, length};
     ghost use Rattle.std.specs.List.{AllByRecursion};
     ghost use Rattle.std.specs.Vec.{vec_capacity, vec_len};
     ghost use Rattle.subordinate.specs.Device.{DeviceState};
@@ -55,10 +53,10 @@ impl Model for Device {
 
     ghost Value = { DeviceState };
 
-    ghost view = { λ d. device_state d.bus_bytes d.pages d.open.items d.sent d.closed.items };
+    ghost view = { λ d. device_state d.bus_bytes d.pages d.open d.sent d.closed.items };
 
-    ghost invariant = { λ d. IsSoundMemory (memory_of d.bus_bytes d.pages d.open.items d.sent)
-        × HasRoom (vec_len d.open) (vec_len d.closed) (vec_len d.spare) (vec_capacity d.open) (vec_capacity d.closed) (vec_capacity d.spare)
+    ghost invariant = { λ d. IsSoundMemory (memory_of d.bus_bytes d.pages d.open d.sent)
+        × HasRoom (length d.open) (vec_len d.closed) (vec_len d.spare) (vec_capacity d.closed) (vec_capacity d.spare)
         × AllByRecursion IsSome d.closed.items };
 }
 
@@ -130,7 +128,7 @@ impl Device {
         ensures laws { IfOk result (λ device. IsSoundMemory device.memory) }
     {
         let pages = Pages::new(alloc, pages, bad)?;
-        let open = Vec::with_capacity(alloc, MOST_OPEN)?;
+        let open = Bursts::new(alloc)?;
         let spare = spare_beats(alloc)?;
         let closed = Vec::with_capacity(alloc, MOST_OPEN)?;
         Ok(Device {
@@ -162,7 +160,7 @@ impl Device {
         ensures { result ≡ performed_waiting self.now.memory }
     {
         let mut count = 0;
-        for burst in self.open.iter() {
+        for burst in self.open.as_slice() {
             count += u64::from(burst.performed_waiting());
         }
         count
@@ -172,11 +170,7 @@ impl Device {
     pub fn pending(&self) -> u32
         ensures { result ≡ length (waiting_beats self.now.memory) }
     {
-        let mut count = 0;
-        for burst in self.open.iter() {
-            count += u32::from(burst.waiting());
-        }
-        count
+        self.open.waiting()
     }
 
     /// The work left in open bursts: unperformed beats, and answers to come.
@@ -185,7 +179,7 @@ impl Device {
         ensures most { result ≤ 65536 }
     {
         let mut work = 0;
-        for burst in self.open.iter() {
+        for burst in self.open.as_slice() {
             work += u64::from(burst.work_left());
         }
         work
@@ -197,7 +191,7 @@ impl Device {
         ensures { slice_get (waiting_beats self.now.memory) k ≡ Some result }
     {
         let mut left = k;
-        for burst in self.open.iter() {
+        for burst in self.open.as_slice() {
             let waiting = u32::from(burst.waiting());
             if left < waiting {
                 return (burst.serial(), burst.nth_waiting(left as u16));
@@ -211,12 +205,7 @@ impl Device {
     pub fn first_pending(&self) -> Option<(u64, u16)>
         ensures { result ≡ slice_get (waiting_beats self.now.memory) 0 }
     {
-        for burst in self.open.iter() {
-            if burst.waiting() > 0 {
-                return Some((burst.serial(), burst.nth_waiting(0)));
-            }
-        }
-        None
+        self.open.first_waiting()
     }
 
     /// The byte at an address of a good page; none outside these.
@@ -275,7 +264,7 @@ impl Device {
         }
         let serial = self.sent;
         let beats = self.spare.pop().unwrap();
-        push(&mut self.open, OpenBurst::new(serial, burst, beats));
+        self.open.push(OpenBurst::new(serial, burst, beats));
         self.sent = serial + 1;
         Ok(serial)
     }
@@ -328,7 +317,7 @@ impl Device {
             return None;
         }
         let resp = self.pages.write_response(self.open_at(place).start());
-        self.close(place);
+        self.close(2 * usize::from(id), place);
         Some(BBeat { id, resp })
     }
 
@@ -350,7 +339,7 @@ impl Device {
         let (payload, resp) = self.open_at(place).captured()?;
         let last = self.open_at(place).gives_last();
         if last {
-            self.close(place);
+            self.close(2 * usize::from(id) + 1, place);
         } else {
             self.count_answer(place);
         }
@@ -366,78 +355,28 @@ impl Device {
     pub fn can_b(&self, id: u8) -> bool
         ensures { result ≡ is_some (b_of self.now.memory id) }
     {
-        match self.oldest_write(id) {
-            Some(place) => self.open_at(place).all_performed(),
-            None => false,
-        }
+        id < IDS && self.open.can_b(id)
     }
 
     /// Whether `answer_r` would give an R.
     pub fn can_r(&self, id: u8) -> bool
         ensures { result ≡ is_some (r_of self.now.memory id) }
     {
-        match self.oldest_read(id) {
-            Some(place) => self.open_at(place).captured().is_some(),
-            None => false,
-        }
+        id < IDS && self.open.can_r(id)
     }
 
     /// The smallest ID for which `answer_b` would give a B.
     pub fn first_b(&self) -> Option<u8>
         ensures { result ≡ first_with_b self.now.memory }
     {
-        let mut first = None;
-        for burst in self.open.iter() {
-            first = self.smaller_b(first, burst.write_id());
-        }
-        first
+        self.open.first_b()
     }
 
     /// The smallest ID for which `answer_r` would give an R.
     pub fn first_r(&self) -> Option<u8>
         ensures { result ≡ first_with_r self.now.memory }
     {
-        let mut first = None;
-        for burst in self.open.iter() {
-            first = self.smaller_r(first, burst.read_id());
-        }
-        first
-    }
-
-    /// The smaller of an ID found and of one more, if that may give a B.
-    fn smaller_b(&self, first: Option<u8>, id: Option<u8>) -> Option<u8>
-        ensures { result ≡ smaller_ready (λ id. is_some (b_of self.now.memory id)) first id }
-    {
-        let Some(id) = id else {
-            return first;
-        };
-        let is_smaller = match first {
-            None => true,
-            Some(best) => id < best,
-        };
-        if is_smaller && self.can_b(id) {
-            Some(id)
-        } else {
-            first
-        }
-    }
-
-    /// The smaller of an ID found and of one more, if that may give an R.
-    fn smaller_r(&self, first: Option<u8>, id: Option<u8>) -> Option<u8>
-        ensures { result ≡ smaller_ready (λ id. is_some (r_of self.now.memory id)) first id }
-    {
-        let Some(id) = id else {
-            return first;
-        };
-        let is_smaller = match first {
-            None => true,
-            Some(best) => id < best,
-        };
-        if is_smaller && self.can_r(id) {
-            Some(id)
-        } else {
-            first
-        }
+        self.open.first_r()
     }
 
     /// The first rule that a burst would break, were it sent now.
@@ -449,7 +388,7 @@ impl Device {
     {
         PortLimits::new(self.bus_bytes, IDS, DEPTH).burst_fault(
             burst,
-            outstanding_beside(&self.open, burst),
+            self.open.count(queue_of(burst)),
         )
     }
 
@@ -458,9 +397,7 @@ impl Device {
         ensures place { result ≡ position (has_serial serial) self.now.memory.pending }
         ensures laws { IsSoundMemory self.now.memory }
     {
-        self.open
-            .binary_search_by_key(&serial, |burst| burst.serial())
-            .ok()
+        self.open.place_of(serial)
     }
 
     /// The place of the oldest open write of an ID.
@@ -468,7 +405,7 @@ impl Device {
         ensures place { result ≡ position (is_write_of id) self.now.memory.pending }
         ensures laws { IsSoundMemory self.now.memory }
     {
-        self.open.iter().position(|burst| burst.is_write_of(id))
+        self.open.oldest(2 * usize::from(id))
     }
 
     /// The place of the oldest open read of an ID.
@@ -476,7 +413,7 @@ impl Device {
         ensures place { result ≡ position (is_read_of id) self.now.memory.pending }
         ensures laws { IsSoundMemory self.now.memory }
     {
-        self.open.iter().position(|burst| burst.is_read_of(id))
+        self.open.oldest(2 * usize::from(id) + 1)
     }
 
     /// The open burst at a place.
@@ -486,7 +423,7 @@ impl Device {
         ensures here { slice_get self.now.memory.pending place ≡ Some result.now }
         ensures sound { IsSoundPending self.now.memory.bus_bytes result.now }
     {
-        &self.open[place]
+        self.open.at(place)
     }
 
     /// Performs a beat of the open burst at a place, which is the first that passes any test whose first place it is.
@@ -499,10 +436,10 @@ impl Device {
         let becomes = carried_out(
             &mut self.pages,
             self.bus_bytes,
-            self.open[place].burst(),
+            self.open.at(place).burst(),
             beat,
         );
-        self.open[place].put(beat, becomes);
+        self.open.put(place, beat, becomes);
     }
 
     /// Counts an R beat of the open read at a place, whose next beat is performed.
@@ -512,16 +449,17 @@ impl Device {
         ensures state { (test : Pending → Bool) → position test self.old.memory.pending ≡ Some place → self.new ≡ after_counting test self.old }
         ensures laws { IsSoundMemory self.new.memory }
     {
-        self.open[place].count_answer();
+        self.open.count_answer(place);
     }
 
-    /// Closes the open burst at a place: its box waits to be taken back.
-    fn close(&mut self, place: usize)
-        requires { place < length self.old.memory.pending }
+    /// Closes the oldest open burst of a queue, by its place: its box waits to be taken back.
+    fn close(&mut self, queue: usize, place: usize)
+        requires queue { queue < 32 }
+        requires oldest { position (is_in queue) self.old.memory.pending ≡ Some place }
         ensures state { (test : Pending → Bool) → position test self.old.memory.pending ≡ Some place → self.new ≡ after_closing test self.old }
         ensures laws { IsSoundMemory self.new.memory }
     {
-        let (burst, beats) = self.open.remove(place).into_parts();
+        let (burst, beats) = self.open.take_oldest(queue, place).into_parts();
         push(&mut self.spare, beats);
         push(&mut self.closed, burst);
     }
@@ -546,30 +484,6 @@ fn push<T>(items: &mut Vec<T>, item: T)
     ensures capacity { vec_capacity items.old ≤ vec_capacity items.new }
 {
     items.push(item).unwrap();
-}
-
-fn writes_of(open: &[OpenBurst], id: u8) -> usize
-    ensures { result ≡ length (filter (is_write_of id) open.now) }
-{
-    open.iter().filter(|burst| burst.is_write_of(id)).count()
-}
-
-fn reads_of(open: &[OpenBurst], id: u8) -> usize
-    ensures { result ≡ length (filter (is_read_of id) open.now) }
-{
-    open.iter().filter(|burst| burst.is_read_of(id)).count()
-}
-
-/// How many open bursts have the ID and the side of a burst.
-fn outstanding_beside(open: &[OpenBurst], burst: &BurstBox) -> usize
-    requires { IsSome burst.now }
-    ensures { IfSome burst.now (λ b. result ≡ length (filter (is_beside b) open.now)) }
-{
-    if burst.is_write() {
-        writes_of(open, burst.aw().id)
-    } else {
-        reads_of(open, burst.ar().id)
-    }
 }
 
 /// Performs a beat of a legal burst, and answers what became of it.

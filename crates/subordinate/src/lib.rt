@@ -1,11 +1,14 @@
 //! A memory that performs the beats of outstanding bursts in any order, and answers them as AXI4's ordering allows.
 #![tactic(auto)]
 
+mod answers;
 mod beats;
+mod bursts;
 mod device;
 mod faults;
 mod open_burst;
 mod pages;
+mod queues;
 
 use axi_beats::{BurstBox, Resp};
 use axi_checker::AxiRule;

@@ -1,9 +1,10 @@
 //! A burst that is open: sent, and not answered whole.
 ghost use Rattle.std.specs.Prelude.{◌≡◌, ◌+◌, ◌<◌, ◌≤◌, false, IsSome, Some, length, not, slice_get, take};
 ghost use Rattle.std.specs.List.{AllByRecursion, list_any};
-ghost use Rattle.subordinate.specs.FreeMemory.{answers_left, beat_at, gives_last, is_read_of, is_waiting, is_write_of, newly_pending, performed_waiting_in, start_of, transfers_in, with_beat, work_in};
-ghost use Rattle.subordinate.specs.Inside.{burst_in, captured_at, count_waiting, read_id_in, waiting_places, with_answer, write_id_in};
-ghost use Rattle.subordinate.specs.Laws.{IsPerformed};
+ghost use Rattle.subordinate.specs.FreeMemory.{answers_left, beat_at, gives_last, is_waiting, newly_pending, performed_waiting_in, start_of, transfers_in, with_beat, work_in};
+ghost use Rattle.subordinate.specs.Inside.{burst_in, captured_at, count_waiting, waiting_places, with_answer};
+ghost use Rattle.subordinate.specs.Bursts.{is_ready};
+ghost use Rattle.subordinate.specs.Laws.{IsPerformed, queue_of, queue_of_burst};
 ghost use Rattle.subordinate.specs.declared.BeatState.TheVariants.{Waiting};
 
 use crate::BeatState;
@@ -45,6 +46,18 @@ fn transfers(burst: &BurstBox) -> u16
     }
 }
 
+/// The queue of a box's burst: the writes of an ID `i` are queue `2 * i`, its reads queue `2 * i + 1`.
+pub(crate) fn queue_of(burst: &BurstBox) -> usize
+    requires { IsSome burst.now }
+    ensures { result ≡ queue_of_burst (burst_in burst.now) }
+{
+    if burst.is_write() {
+        2 * usize::from(burst.aw().id)
+    } else {
+        2 * usize::from(burst.ar().id) + 1
+    }
+}
+
 impl OpenBurst {
     /// A burst just sent, of which nothing is performed; the beats are used again.
     pub(crate) fn new(serial: u64, burst: BurstBox, mut beats: Beats) -> Self
@@ -79,38 +92,11 @@ impl OpenBurst {
         &self.burst
     }
 
-    pub(crate) fn is_write_of(&self, id: u8) -> bool
-        ensures { result ≡ is_write_of id self.now }
+    /// Its queue, by its ID and side.
+    pub(crate) fn queue(&self) -> usize
+        ensures { result ≡ queue_of self.now }
     {
-        self.burst.is_write() && self.burst.aw().id == id
-    }
-
-    pub(crate) fn is_read_of(&self, id: u8) -> bool
-        ensures { result ≡ is_read_of id self.now }
-    {
-        !self.burst.is_write() && self.burst.ar().id == id
-    }
-
-    /// The ID of a write.
-    pub(crate) fn write_id(&self) -> Option<u8>
-        ensures { result ≡ write_id_in self.now.burst }
-    {
-        if self.burst.is_write() {
-            Some(self.burst.aw().id)
-        } else {
-            None
-        }
-    }
-
-    /// The ID of a read.
-    pub(crate) fn read_id(&self) -> Option<u8>
-        ensures { result ≡ read_id_in self.now.burst }
-    {
-        if self.burst.is_write() {
-            None
-        } else {
-            Some(self.burst.ar().id)
-        }
+        queue_of(&self.burst)
     }
 
     /// The first address.
@@ -203,6 +189,17 @@ impl OpenBurst {
         }
     }
 
+    /// Whether it may be answered, were it the oldest of its queue: a write by its B, a read by its next R.
+    pub(crate) fn is_ready(&self) -> bool
+        ensures { result ≡ is_ready self.now }
+    {
+        if self.burst.is_write() {
+            self.all_performed()
+        } else {
+            self.captured().is_some()
+        }
+    }
+
     /// Whether the next R beat is the last.
     pub(crate) fn gives_last(&self) -> bool
         ensures { result ≡ gives_last self.now }
@@ -212,9 +209,11 @@ impl OpenBurst {
 
     /// Counts an R beat.
     pub(crate) fn count_answer(&mut self)
-        requires { self.old.answered < 256 }
+        requires { self.old.answered < length self.old.beats }
         ensures { self.new ≡ with_answer self.old }
     {
-        self.answered += 1;
+        if self.answered < self.beats.len() {
+            self.answered += 1;
+        }
     }
 }

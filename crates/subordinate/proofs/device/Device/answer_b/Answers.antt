@@ -1,5 +1,5 @@
 -- No write of the ID is open.
-use Rattle.std.proofs.Common.{ap, sym, subst, ◌∙◌}
+use Rattle.std.proofs.Common.{arith, ◌*◌, ap, sym, subst, ◌∙◌}
 use Rattle.subordinate.specs.Device.{DeviceState}
 use Rattle.subordinate.specs.Order.{AnswersOldestWrite}
 use Rattle.subordinate.proofs.OrderLaws.{answers_oldest_write}
@@ -9,7 +9,14 @@ use Rattle.subordinate.specs.Faults.{standing_at}
 use Rattle.subordinate.specs.FreeMemory.{is_write_of, open_bursts_of}
 use Rattle.subordinate.proofs.Monitors.{outstanding_after_b, takes_b}
 use Rattle.subordinate.proofs.OpenBursts.{found_none, no_b}
+use Rattle.subordinate.proofs.OpenQueues.{queue_known, write_place}
 use Rattle.subordinate.proofs.device.Device.answer_b.Goals as goal
+
+pub close-requires-clause-queue : goal.close-requires-clause-queue
+close-requires-clause-queue c =
+    let place = sym c.oldest_write.ensures.place ∙ c.in_ok-place.was in
+    let bursts = c.args.self.now.memory.pending in
+    omega (arith, c.from.ensures, queue_known bursts (2 * c.args.id) c.in_ok-place.place c.oldest_write.ensures.laws.few.known (write_place c.args.id bursts ∙ place))
 
 pub returns-in_err-place-clause-answer : goal.returns-in_err-place-clause-answer
 returns-in_err-place-clause-answer c =

@@ -1,5 +1,5 @@
 -- The oldest read of the ID is answered, if one is open.
-use Rattle.std.proofs.Common.{◌≡◌, ap, sym, subst, ◌∙◌, refl}
+use Rattle.std.proofs.Common.{arith, ◌*◌, ◌+◌, ◌≡◌, ap, sym, subst, ◌∙◌, refl}
 use Rattle.std.specs.Prelude.{Some}
 use Rattle.axi_beats.specs.declared.RBeat.{RBeat}
 use Rattle.subordinate.specs.Device.{DeviceState}
@@ -11,7 +11,14 @@ use Rattle.subordinate.specs.FreeMemory.{Pending, beat_at, gives_last, is_read_o
 use Rattle.subordinate.proofs.Monitors.{known_after_r, takes_r}
 use Rattle.subordinate.proofs.OpenBursts.{found_none, no_r}
 use Rattle.subordinate.proofs.SoundDevices.{answering-last, answering-more}
+use Rattle.subordinate.proofs.OpenQueues.{queue_known, read_place}
 use Rattle.subordinate.proofs.device.Device.answer_r.Goals as goal
+
+pub close-requires-clause-queue : goal.close-requires-clause-queue
+close-requires-clause-queue c =
+    let place = sym c.oldest_read.ensures.place ∙ c.in_ok-place.was in
+    let bursts = c.args.self.now.memory.pending in
+    omega (arith, c.from.ensures, queue_known bursts (2 * c.args.id + 1) c.in_ok-place.place c.oldest_read.ensures.laws.few.known (read_place c.args.id bursts ∙ place))
 
 pub returns-in_err-place-clause-answer : goal.returns-in_err-place-clause-answer
 returns-in_err-place-clause-answer c =

@@ -1,13 +1,17 @@
--- The oldest write of the ID decides.
-use Rattle.std.proofs.Common.{sym, ◌∙◌, refl}
-use Rattle.subordinate.specs.FreeMemory.{is_write_of}
-use Rattle.subordinate.proofs.OpenBursts.{can_b_found, found_none}
+-- There are 16 IDs.
+use Rattle.std.proofs.Common.{◌*◌, sym, ap, subst, ◌∙◌, arith}
+use Rattle.std.proofs.lemmas.Bool.{le-ltb}
+use Rattle.subordinate.specs.Bursts.{is_queue_ready}
+use Rattle.subordinate.specs.Device.{DeviceState}
+use Rattle.subordinate.specs.Laws.{IsSoundMemory}
+use Rattle.subordinate.proofs.OpenQueues.{not_ready, ready_b}
 use Rattle.subordinate.proofs.device.Device.can_b.Goals as goal
 
-pub returns-in-Some : goal.returns-in-Some
-returns-in-Some c =
-    can_b_found c.args.self.now.memory c.args.id c.open_at.result.now c.all_performed.result
-    (c.open_at.ensures.found (is_write_of c.args.id) (sym c.oldest_write.ensures.place ∙ c.in-Some.is)) c.all_performed.ensures
+pub returns-then-id-lt-IDS : goal.returns-then-id-lt-IDS
+returns-then-id-lt-IDS c =
+    c.can_b.ensures ∙ ap (λ (device : DeviceState). is_queue_ready device.memory.pending (2 * c.args.id)) c.self.view_is ∙ ready_b c.args.self.now.memory c.args.id
 
-pub returns-in-None : goal.returns-in-None
-returns-in-None c = rw (found_none (is_write_of c.args.id) c.args.self.now.memory.pending (sym c.oldest_write.ensures.place ∙ c.in-None.is)) refl
+pub returns-else-id-lt-IDS : goal.returns-else-id-lt-IDS
+returns-else-id-lt-IDS c =
+    le-ltb c.args.id 16 (omega (arith, c.if-id-lt-IDS.false)) ∙ sym (sym (ready_b c.args.self.now.memory c.args.id)
+    ∙ not_ready c.args.self.now.memory (2 * c.args.id) (subst (λ (device : DeviceState). IsSoundMemory device.memory) c.self.view_is c.self.invariant.0) (omega (arith, c.if-id-lt-IDS.false)))

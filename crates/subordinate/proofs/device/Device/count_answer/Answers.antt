@@ -1,31 +1,50 @@
 -- One more R beat of the read at the place came.
-use Rattle.std.proofs.Common.{◌≡◌, ◌<◌, length, sym, ap, subst, ◌∙◌}
+use Rattle.std.proofs.Common.{◌≡◌, ◌<◌, List, length, sym, ap, subst, ◌∙◌}
+use Rattle.std.proofs.lemmas.List.{length-set}
 use Rattle.std.specs.Prelude.{Some, IfSome, IsSome, position, slice_get, slice_set}
 use Rattle.subordinate.specs.Device.{DeviceState}
-use Rattle.subordinate.specs.FreeMemory.{beat_at}
-use Rattle.subordinate.specs.Inside.{after_counting, captured_at, memory_of}
+use Rattle.subordinate.specs.FreeMemory.{Pending, beat_at}
+use Rattle.subordinate.specs.Inside.{after_counting, captured_at, device_state, memory_of, with_answer}
 use Rattle.subordinate.specs.Laws.{IsSoundMemory}
-use Rattle.subordinate.proofs.SoundDevices.{counting, sound-answered}
+use Rattle.subordinate.proofs.BurstIndex.{burst_at}
+use Rattle.subordinate.proofs.OpenQueues.{at_place, known_at, some_at}
+use Rattle.subordinate.proofs.SoundDevices.{counting, room_changed, sound-answered}
 use Rattle.subordinate.proofs.device.Device.count_answer.Goals as goal
 
-sound : (c : goal.After-self-1) → IsSoundMemory (memory_of c.self.inside.bus_bytes c.self.inside.pages (slice_set c.self.inside.«open».items c.args.place c.count_answer.new.self) c.self.inside.sent)
+pub count_answer-requires-clause-rising : goal.count_answer-requires-clause-rising
+count_answer-requires-clause-rising c = (c.self.inside.sent, c.self.invariant.0.rising)
+
+pub count_answer-requires-clause-known : goal.count_answer-requires-clause-known
+count_answer-requires-clause-known c = known_at c.self.inside.«open» c.args.place (subst (λ (device : DeviceState). c.args.place < length device.memory.pending) (sym c.self.view_is) c.requires.here) c.self.invariant.0.few.known
+
+-- the place is one of them, and what is there after the count
+within : (c : goal.After-count_answer) → c.args.place < length c.self.inside.«open»
+within c = subst (λ (device : DeviceState). c.args.place < length device.memory.pending) (sym c.self.view_is) c.requires.here
+
+becomes : (c : goal.After-count_answer) → c.count_answer.new.self ≡ slice_set c.self.inside.«open» c.args.place (with_answer (burst_at c.self.inside.«open» c.args.place))
+becomes c = c.count_answer.ensures (burst_at c.self.inside.«open» c.args.place) (some_at c.self.inside.«open» c.args.place (within c))
+
+sound : (c : goal.After-count_answer) → IsSoundMemory (memory_of c.self.inside.bus_bytes c.self.inside.pages c.count_answer.new.self c.self.inside.sent)
 sound c =
     let inside = c.self.inside in
-    let within : c.args.place < length inside.«open».items = subst (λ (device : DeviceState). c.args.place < length device.memory.pending) (sym c.self.view_is) c.requires.here in
-    let captured : IfSome (slice_get inside.«open».items c.args.place) (λ q. IsSome (captured_at (beat_at q q.answered))) =
+    let captured : IfSome (slice_get inside.«open» c.args.place) (λ q. IsSome (captured_at (beat_at q q.answered))) =
     subst (λ (device : DeviceState). IfSome (slice_get device.memory.pending c.args.place) (λ q. IsSome (captured_at (beat_at q q.answered)))) (sym c.self.view_is) c.requires.captured
     in
-    rw c.count_answer.ensures (sound-answered (memory_of inside.bus_bytes inside.pages inside.«open».items inside.sent) c.args.place c.index_mut.result.now c.self.invariant.0 within c.index_mut.ensures.value captured)
+    subst (λ (bursts : List Pending). IsSoundMemory (memory_of inside.bus_bytes inside.pages bursts inside.sent)) (sym (becomes c))
+    (sound-answered (memory_of inside.bus_bytes inside.pages inside.«open» inside.sent) c.args.place (burst_at inside.«open» c.args.place) c.self.invariant.0 (within c)
+    (at_place inside.«open» c.args.place (burst_at inside.«open» c.args.place) (within c) (some_at inside.«open» c.args.place (within c))) captured)
 
 pub returns-clause-laws : goal.returns-clause-laws
 returns-clause-laws c = sound c
 
 pub invariant_of-self : goal.invariant_of-self
-invariant_of-self c = (sound c, c.self.invariant.1, c.self.invariant.2)
+invariant_of-self c = (sound c, room_changed _ _ _ _ _ (ap (λ (bursts : List Pending). length bursts) (becomes c) ∙ length-set c.self.inside.«open» c.args.place _) c.self.invariant.1, c.self.invariant.2)
 
 pub returns-clause-state : goal.returns-clause-state
 returns-clause-state c = λ test place.
-    let first : position test c.self.inside.«open».items ≡ Some c.args.place = subst (λ (device : DeviceState). position test device.memory.pending ≡ Some c.args.place) (sym c.self.view_is) place in
-    rw c.count_answer.ensures
-    (counting c.self.inside.bus_bytes c.self.inside.pages c.self.inside.«open».items c.self.inside.sent c.self.inside.closed.items test c.args.place c.index_mut.result.now first c.index_mut.ensures.value
-    ∙ ap (after_counting test) c.self.view_is)
+    let inside = c.self.inside in
+    let first : position test inside.«open» ≡ Some c.args.place = subst (λ (device : DeviceState). position test device.memory.pending ≡ Some c.args.place) (sym c.self.view_is) place in
+    ap (λ (bursts : List Pending). device_state inside.bus_bytes inside.pages bursts inside.sent inside.closed.items) (becomes c)
+    ∙ counting inside.bus_bytes inside.pages inside.«open» inside.sent inside.closed.items test c.args.place (burst_at inside.«open» c.args.place) first
+    (at_place inside.«open» c.args.place (burst_at inside.«open» c.args.place) (within c) (some_at inside.«open» c.args.place (within c)))
+    ∙ ap (after_counting test) c.self.view_is

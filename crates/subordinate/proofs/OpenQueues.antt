@@ -1,0 +1,142 @@
+-- The queues of a memory's open bursts are the writes, and the reads, of its IDs; and what a device may ask of them.
+use Rattle.std.proofs.Common.{◌≡◌, ℕ, zero, suc, ◌+◌, ◌*◌, ◌<◌, ◌≤◌, ◌==◌, Bool, true, false, List, [], ◌∷◌, length, get_or, refl, sym, ◌∙◌, ap, subst, arith}
+use Rattle.std.proofs.lemmas.Bool.{eqb-true, ne_eqb}
+use Rattle.std.proofs.lemmas.List.{get_or_default}
+use Rattle.std.proofs.lemmas.List.Folds.{find_at}
+use Rattle.std.proofs.lemmas.Option.{same_Some, slice_get-get_or}
+use Rattle.std.specs.List.{AllByRecursion, list_any, position_or_len}
+use Rattle.std.specs.Prelude.{Option, Some, None, IfSome, IsSome, filter, find, if◌then◌else◌, is_some, position, slice_get}
+use Rattle.axi_beats.specs.Bursts.{Burst, ReadBurst, WriteBurst}
+use Rattle.axi_beats.specs.declared.BBeat.{BBeat}
+use Rattle.bus_words.proofs.FirstPlaces.{first-passes, position_is_first}
+use Rattle.bus_words.proofs.PlaceChanges.{find-passes}
+use Rattle.subordinate.specs.Bursts.{can_answer, is_found_ready, is_in, is_queue_ready, is_ready}
+use Rattle.subordinate.specs.Faults.{standing_at, write_response}
+use Rattle.subordinate.specs.FreeMemory.{FreeMemory, Pending, b_from, b_of, is_read_of, is_waiting, is_write_of, newly_pending, r_from, r_of, reads_as, start_of, writes_as}
+use Rattle.subordinate.specs.Inside.{burst_in, captured_at, is_beside, no_burst}
+use Rattle.subordinate.specs.Laws.{IsSoundMemory, queue_of, queue_of_burst}
+use Rattle.subordinate.specs.declared.BeatState.{BeatState}
+use Rattle.subordinate.proofs.BurstIndex.{burst_at}
+use Rattle.subordinate.proofs.OpenBursts.{all-at, can_r_found, count_in_queue, queue_of_read, queue_of_write}
+
+-- ---- tests that agree
+
+find_agree : {X : Type 0} (p q : X → Bool) (xs : List X) → ((x : X) → p x ≡ q x) → find p xs ≡ find q xs
+find_agree p q [] same = refl
+find_agree p q (x ∷ xs) same = rw (same x, find_agree p q xs same) refl
+
+place_agree : {X : Type 0} (p q : X → Bool) (xs : List X) → ((x : X) → p x ≡ q x) → position_or_len p xs ≡ position_or_len q xs
+place_agree p q [] same = refl
+place_agree p q (x ∷ xs) same = rw (same x, place_agree p q xs same) refl
+
+write_in : (id : ℕ) (p : Pending) → is_in (2 * id) p ≡ is_write_of id p
+write_in id p = by_burst p.burst
+  where
+    by_burst : (held : Burst) → (queue_of_burst held == 2 * id) ≡ writes_as id held
+    by_burst (WriteBurst aw ws) = queue_of_write id aw.id
+    by_burst (ReadBurst ar) = ne_eqb (2 * ar.id + 1) (2 * id) (λ same. omega (arith, same))
+
+read_in : (id : ℕ) (p : Pending) → is_in (2 * id + 1) p ≡ is_read_of id p
+read_in id p = by_burst p.burst
+  where
+    by_burst : (held : Burst) → (queue_of_burst held == 2 * id + 1) ≡ reads_as id held
+    by_burst (WriteBurst aw ws) = ne_eqb (2 * aw.id) (2 * id + 1) (λ same. omega (arith, same))
+    by_burst (ReadBurst ar) = queue_of_read id ar.id
+
+pub write_place : (id : ℕ) (bursts : List Pending) → position (is_in (2 * id)) bursts ≡ position (is_write_of id) bursts
+write_place id bursts = rw (place_agree (is_in (2 * id)) (is_write_of id) bursts (write_in id)) refl
+
+pub read_place : (id : ℕ) (bursts : List Pending) → position (is_in (2 * id + 1)) bursts ≡ position (is_read_of id) bursts
+read_place id bursts = rw (place_agree (is_in (2 * id + 1)) (is_read_of id) bursts (read_in id)) refl
+
+-- ---- which IDs may answer
+
+pub ready_b : (memory : FreeMemory) (id : ℕ) → is_queue_ready memory.pending (2 * id) ≡ is_some (b_of memory id)
+ready_b memory id = ap is_found_ready (find_agree (is_in (2 * id)) (is_write_of id) memory.pending (write_in id)) ∙ by_found (find (is_write_of id) memory.pending) refl
+  where
+    by_burst : (p : Pending) (held : Burst) → writes_as id held ≡ true
+        → can_answer held p ≡ is_some {T = BBeat} (if list_any is_waiting p.beats then None else Some (record { id = id; resp = write_response (standing_at memory.faults (start_of p.burst)) }))
+    by_burst p (ReadBurst ar) passes = absurd (cc (passes))
+    by_burst p (WriteBurst aw ws) passes = by_test (list_any is_waiting p.beats) refl
+      where
+        by_test : (b : Bool) → list_any is_waiting p.beats ≡ b
+            → can_answer (WriteBurst aw ws) p ≡ is_some {T = BBeat} (if list_any is_waiting p.beats then None else Some (record { id = id; resp = write_response (standing_at memory.faults (start_of p.burst)) }))
+        by_test true is = rw is refl
+        by_test false is = rw is refl
+
+    by_found : (found : Option Pending) → find (is_write_of id) memory.pending ≡ found → is_found_ready found ≡ is_some (b_from memory.faults id found)
+    by_found None none = refl
+    by_found (Some p) found = by_burst p p.burst (find-passes (is_write_of id) memory.pending p found)
+
+pub ready_r : (memory : FreeMemory) (id : ℕ) → is_queue_ready memory.pending (2 * id + 1) ≡ is_some (r_of memory id)
+ready_r memory id = by_found (find (is_read_of id) memory.pending) refl
+  where
+    by_burst : (p : Pending) (held : Burst) → reads_as id held ≡ true → can_answer held p ≡ can_answer (ReadBurst (record { id = 0; address = 0; len = 0; size = 0; burst = 1 })) p
+    by_burst p (ReadBurst ar) passes = refl
+    by_burst p (WriteBurst aw ws) passes = absurd (cc (passes))
+
+    by_found : (found : Option Pending) → find (is_read_of id) memory.pending ≡ found → is_queue_ready memory.pending (2 * id + 1) ≡ is_some (r_of memory id)
+    by_found None none =
+        let missing : find (is_in (2 * id + 1)) memory.pending ≡ None = find_agree (is_in (2 * id + 1)) (is_read_of id) memory.pending (read_in id) ∙ none in
+        ap is_found_ready missing ∙ sym (ap (λ (found : Option Pending). is_some (r_from id found)) none)
+    by_found (Some p) found =
+        let here : find (is_in (2 * id + 1)) memory.pending ≡ Some p = find_agree (is_in (2 * id + 1)) (is_read_of id) memory.pending (read_in id) ∙ found in
+        ap is_found_ready here ∙ by_burst p p.burst (find-passes (is_read_of id) memory.pending p found) ∙ sym (can_r_found memory id p found)
+
+pub first_ready_b : (memory : FreeMemory) (ids : List ℕ) → find (λ id. is_queue_ready memory.pending (2 * id)) ids ≡ find (λ id. is_some (b_of memory id)) ids
+first_ready_b memory ids = find_agree _ _ ids (ready_b memory)
+
+pub first_ready_r : (memory : FreeMemory) (ids : List ℕ) → find (λ id. is_queue_ready memory.pending (2 * id + 1)) ids ≡ find (λ id. is_some (r_of memory id)) ids
+first_ready_r memory ids = find_agree _ _ ids (ready_r memory)
+
+-- ---- no burst has an ID past the most
+
+none_beyond : (queue : ℕ) (bursts : List Pending) → AllByRecursion (λ p. queue_of p < 32) bursts → 32 ≤ queue → find (is_in queue) bursts ≡ None
+none_beyond queue [] known beyond = refl
+none_beyond queue (p ∷ ps) known beyond = rw (ne_eqb (queue_of p) queue (λ same. omega (arith, same, known.0, beyond))) (none_beyond queue ps known.1 beyond)
+
+pub not_ready : (memory : FreeMemory) (queue : ℕ) → IsSoundMemory memory → 32 ≤ queue → is_queue_ready memory.pending queue ≡ false
+not_ready memory queue sound beyond = ap is_found_ready (none_beyond queue memory.pending sound.few.known beyond)
+
+here : (bursts : List Pending) (k : ℕ) → k < length bursts → burst_at bursts k ≡ get_or bursts k (burst_at bursts k)
+here bursts k within = get_or_default bursts k (newly_pending 0 no_burst) (burst_at bursts k) within
+
+pub queue_known : (bursts : List Pending) (queue k : ℕ) → AllByRecursion (λ p. queue_of p < 32) bursts → position (is_in queue) bursts ≡ Some k → queue < 32
+queue_known bursts queue k known place =
+    let at = position_is_first (is_in queue) bursts k place in
+    let same : queue_of (burst_at bursts k) ≡ queue = eqb-true _ queue (first-passes (is_in queue) bursts k _ at) in
+    subst (λ n. n < 32) same (all-at (λ p. queue_of p < 32) bursts k (burst_at bursts k) known at.within (here bursts k at.within))
+
+-- ---- the burst at a place
+
+pub at_place : (bursts : List Pending) (k : ℕ) (p : Pending) → k < length bursts → slice_get bursts k ≡ Some p → p ≡ get_or bursts k p
+at_place bursts k p within here = same_Some p (get_or bursts k p) (sym here ∙ slice_get-get_or bursts k p within)
+
+pub found_here : (test : Pending → Bool) (bursts : List Pending) (k : ℕ) (p : Pending) → position test bursts ≡ Some k → slice_get bursts k ≡ Some p → find test bursts ≡ Some p
+found_here test bursts k p place here = find_at test bursts ∙ ap (slice_get bursts) (position_is_first test bursts k place).first ∙ here
+
+pub some_at : (bursts : List Pending) (k : ℕ) → k < length bursts → slice_get bursts k ≡ Some (burst_at bursts k)
+some_at bursts k within = slice_get-get_or bursts k _ within
+
+pub known_at : (bursts : List Pending) (k : ℕ) → k < length bursts → AllByRecursion (λ p. queue_of p < 32) bursts → IfSome (slice_get bursts k) (λ p. queue_of p < 32)
+known_at bursts k within known =
+    subst (λ (found : Option Pending). IfSome found (λ p. queue_of p < 32)) (sym (some_at bursts k within)) (all-at (λ p. queue_of p < 32) bursts k (burst_at bursts k) known within (here bursts k within))
+
+-- a beat that captured is one of its burst
+pub captured_within : (beats : List BeatState) (n : ℕ) → IsSome (captured_at (slice_get beats n)) → n < length beats
+captured_within [] n some = absurd (cc (some))
+captured_within (beat ∷ beats) zero some = omega arith
+captured_within (beat ∷ beats) (suc n) some = omega (arith, captured_within beats n some)
+
+-- ---- a burst that is sent
+
+-- how many are beside a box's burst
+pub counted_beside : (held : Option Burst) (queue n : ℕ) (bursts : List Pending) → queue ≡ queue_of_burst (burst_in held) → n ≡ length (filter (is_in queue) bursts)
+    → IfSome held (λ burst. n ≡ length (filter (is_beside burst) bursts))
+counted_beside None queue n bursts is count = tt
+counted_beside (Some burst) queue n bursts is count = count ∙ ap (λ q. length (filter (is_in q) bursts)) is ∙ count_in_queue burst bursts
+
+-- it waits
+pub newly_waits : (serial : ℕ) (burst : Burst) → is_ready (newly_pending serial burst) ≡ false
+newly_waits serial (WriteBurst aw ws) = let more : aw.len + 1 ≡ suc aw.len = omega arith in rw more refl
+newly_waits serial (ReadBurst ar) = let more : ar.len + 1 ≡ suc ar.len = omega arith in rw more refl

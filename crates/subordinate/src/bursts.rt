@@ -1,0 +1,271 @@
+//! The open bursts of a device, in the order sent, with what is kept so that none is looked for among them.
+ghost use Rattle.std.specs.Prelude.{◌≡◌, ◌≢◌, ℕ, ◌+◌, ◌-◌, ◌^◌, ◌<◌, ◌==◌, ◌&&◌, nat_lt, flat_map, sum_by, ◌++◌, ◌*◌, [], ◌∷◌, false, IfOk, IfSome, IsSome, Some, filter, find, if◌then◌else◌, length, position, slice_get, slice_index_or, slice_set};
+ghost use Rattle.std.specs.List.{range_with_len, remove};
+ghost use Rattle.subordinate.specs.Bursts.{Rise, is_first, is_in, is_marked, is_queue_ready, is_ready, serials_in};
+ghost use Rattle.subordinate.specs.FreeMemory.{Pending, beat_at, has_serial, is_waiting, waiting_in, with_beat};
+ghost use Rattle.subordinate.specs.Inside.{captured_at, count_waiting, with_answer};
+ghost use Rattle.subordinate.specs.Laws.{queue_of};
+ghost use Rattle.subordinate.specs.declared.BeatState.TheVariants.{Waiting};
+
+use crate::BeatState;
+use crate::answers::{Answers, first_id, has_id};
+use crate::open_burst::OpenBurst;
+use crate::queues::Queues;
+use std::alloc::{AllocError, Global};
+use std::marker::Model;
+
+/// How many bursts may be open: those of all IDs on both sides.
+pub(crate) const MOST_OPEN: usize = 128;
+
+/// The open bursts in the order sent, at most 128. Beside them stand the serials of each ID's, and marks of the IDs that may
+/// give an answer.
+#[derive(Drop)]
+pub(crate) struct Bursts {
+    items: Vec<OpenBurst>,
+    queues: Queues,
+    answers: Answers,
+    /// How many beats wait.
+    waiting: u32,
+    /// No burst before this place has a beat that waits.
+    first: usize,
+}
+
+impl Model for Bursts {
+    ghost use Rattle.std.specs.Prelude.{List, ◌≤◌};
+    ghost use Rattle.std.specs.Vec.{vec_capacity, vec_len};
+    ghost use Rattle.subordinate.specs.Bursts.{AreCounted, AreIndexed};
+    ghost use Rattle.subordinate.specs.FreeMemory.{Pending};
+
+    ghost Value = { List Pending };
+
+    ghost view = { λ b. b.items.items };
+
+    ghost invariant = { λ b. AreIndexed b.items.items b.queues b.answers × AreCounted b.items.items b.waiting b.first × (128 ≤ vec_capacity b.items) };
+}
+
+impl Bursts {
+    /// No open bursts, with room for 128.
+    pub(crate) fn new(alloc: Global) -> Result<Self, AllocError>
+        ensures { IfOk result (λ bursts. bursts ≡ []) }
+    {
+        let items = Vec::with_capacity(alloc, MOST_OPEN)?;
+        let queues = Queues::new(alloc)?;
+        Ok(Bursts {
+            items,
+            queues,
+            answers: Answers::new(),
+            waiting: 0,
+            first: 0,
+        })
+    }
+
+    /// All of them.
+    pub(crate) fn as_slice(&self) -> &[OpenBurst]
+        ensures { result.now ≡ self.now }
+    {
+        self.items.as_slice()
+    }
+
+    /// The open burst at a place.
+    pub(crate) fn at(&self, place: usize) -> &OpenBurst
+        requires { place < length self.now }
+        ensures { slice_get self.now place ≡ Some result.now }
+    {
+        &self.items[place]
+    }
+
+    /// The place of the open burst with this serial.
+    pub(crate) fn place_of(&self, serial: u64) -> Option<usize>
+        requires { Rise self.now }
+        ensures { result ≡ position (has_serial serial) self.now }
+    {
+        place_of(&self.items, serial)
+    }
+
+    /// The place of the oldest burst of a queue.
+    pub(crate) fn oldest(&self, queue: usize) -> Option<usize>
+        requires { Rise self.now }
+        ensures { result ≡ position (is_in queue) self.now }
+    {
+        match self.queues.first(queue) {
+            Some(serial) => place_of(&self.items, serial),
+            None => None,
+        }
+    }
+
+    /// How many bursts of a queue are open.
+    pub(crate) fn count(&self, queue: usize) -> usize
+        ensures { result ≡ length (filter (is_in queue) self.now) }
+    {
+        self.queues.count(queue)
+    }
+
+    /// Whether the oldest write of an ID may be answered.
+    pub(crate) fn can_b(&self, id: u8) -> bool
+        requires { id < 16 }
+        ensures { result ≡ is_queue_ready self.now (2 * id) }
+    {
+        has_id(self.answers.b, id)
+    }
+
+    /// Whether the oldest read of an ID may be answered.
+    pub(crate) fn can_r(&self, id: u8) -> bool
+        requires { id < 16 }
+        ensures { result ≡ is_queue_ready self.now (2 * id + 1) }
+    {
+        has_id(self.answers.r, id)
+    }
+
+    /// The smallest ID whose oldest write may be answered.
+    pub(crate) fn first_b(&self) -> Option<u8>
+        ensures { result ≡ find (λ id. is_queue_ready self.now (2 * id)) (range_with_len 0 16) }
+    {
+        first_id(self.answers.b)
+    }
+
+    /// The smallest ID whose oldest read may be answered.
+    pub(crate) fn first_r(&self) -> Option<u8>
+        ensures { result ≡ find (λ id. is_queue_ready self.now (2 * id + 1)) (range_with_len 0 16) }
+    {
+        first_id(self.answers.r)
+    }
+
+    /// How many beats wait.
+    pub(crate) fn waiting(&self) -> u32
+        ensures { result ≡ sum_by (λ p. count_waiting p.beats) self.now }
+    {
+        self.waiting
+    }
+
+    /// Serial and beat of the first beat that waits, by rising serial and beat.
+    pub(crate) fn first_waiting(&self) -> Option<(u64, u16)>
+        ensures { result ≡ slice_get (flat_map waiting_in self.now) 0 }
+    {
+        for burst in &self.items[self.first..] {
+            if burst.waiting() > 0 {
+                return Some((burst.serial(), burst.nth_waiting(0)));
+            }
+        }
+        None
+    }
+
+    /// One more burst, which was just sent.
+    pub(crate) fn push(&mut self, burst: OpenBurst)
+        requires room { length self.old < 128 }
+        requires queue { queue_of burst < 32 }
+        requires fewer { length (filter (is_in (queue_of burst)) self.old) < 4 }
+        requires waits { is_ready burst ≡ false }
+        ensures { self.new ≡ self.old ++ burst ∷ [] }
+    {
+        self.queues.push(burst.queue(), burst.serial());
+        self.waiting += u32::from(burst.waiting());
+        self.items.push_reserved(burst);
+    }
+
+    /// Puts down what became of a beat of the burst at a place, which was waiting.
+    pub(crate) fn put(&mut self, place: usize, beat: u16, state: BeatState)
+        requires rising { Rise self.old }
+        requires here { place < length self.old }
+        requires waits { IfSome (slice_get self.old place) (λ p. beat_at p beat ≡ Some Waiting) }
+        requires performed { is_waiting state ≡ false }
+        requires known { IfSome (slice_get self.old place) (λ p. queue_of p < 32) }
+        ensures { (p : Pending) → slice_get self.old place ≡ Some p → self.new ≡ slice_set self.old place (with_beat beat state p) }
+    {
+        self.items[place].put(beat, state);
+        let burst = &self.items[place];
+        self.answers = noted(self.answers, &self.queues, burst);
+        self.first = past(self.first, place, burst.waiting());
+        self.waiting -= 1;
+    }
+
+    /// Counts an R beat of the open read at a place, whose next beat is performed.
+    pub(crate) fn count_answer(&mut self, place: usize)
+        requires rising { Rise self.old }
+        requires here { place < length self.old }
+        requires captured { IfSome (slice_get self.old place) (λ p. IsSome (captured_at (beat_at p p.answered))) }
+        requires known { IfSome (slice_get self.old place) (λ p. queue_of p < 32) }
+        ensures { (p : Pending) → slice_get self.old place ≡ Some p → self.new ≡ slice_set self.old place (with_answer p) }
+    {
+        self.items[place].count_answer();
+        self.answers = noted(self.answers, &self.queues, &self.items[place]);
+    }
+
+    /// Takes the oldest burst of a queue out, by its place.
+    pub(crate) fn take_oldest(&mut self, queue: usize, place: usize) -> OpenBurst
+        requires rising { Rise self.old }
+        requires queue { queue < 32 }
+        requires oldest { position (is_in queue) self.old ≡ Some place }
+        ensures burst { slice_get self.old place ≡ Some result }
+        ensures rest { self.new ≡ remove self.old place }
+    {
+        let burst = self.items.remove(place);
+        self.waiting -= u32::from(burst.waiting());
+        self.first = moved(self.first, place);
+        self.queues.pop(queue);
+        let ready = is_ready_at(&self.items, self.queues.first(queue));
+        self.answers = self.answers.with(queue, ready);
+        burst
+    }
+}
+
+/// Where no earlier burst has a beat that waits, once so many are left of the one at a place.
+fn past(first: usize, place: usize, left: u16) -> usize
+    requires { first < 2 ^ 63 }
+    ensures { result ≡ (if (place == first) && (left == 0) then first + 1 else first) }
+{
+    if place == first && left == 0 {
+        first + 1
+    } else {
+        first
+    }
+}
+
+/// Where no earlier burst has a beat that waits, once the one at a place is gone.
+fn moved(first: usize, place: usize) -> usize
+    ensures { result ≡ (if nat_lt place first then first - 1 else first) }
+{
+    if place < first { first - 1 } else { first }
+}
+
+/// The place of the burst with this serial.
+fn place_of(bursts: &[OpenBurst], serial: u64) -> Option<usize>
+    requires { Rise bursts.now }
+    ensures { result ≡ position (has_serial serial) bursts.now }
+{
+    bursts
+        .binary_search_by_key(&serial, |burst| burst.serial())
+        .ok()
+}
+
+/// Whether the burst with a queue's first serial may be answered.
+fn is_ready_at(bursts: &[OpenBurst], first: Option<u64>) -> bool
+    requires { Rise bursts.now }
+    ensures { (queue : ℕ) → first ≡ slice_get (serials_in bursts.now queue) 0 → result ≡ is_queue_ready bursts.now queue }
+{
+    let Some(serial) = first else {
+        return false;
+    };
+    match place_of(bursts, serial) {
+        Some(place) => bursts[place].is_ready(),
+        None => false,
+    }
+}
+
+/// The marks after a burst changed: that of its queue changes where it is the oldest.
+fn noted(answers: Answers, queues: &Queues, burst: &OpenBurst) -> Answers
+    requires { queue_of burst.now < 32 }
+    ensures here { is_marked result (queue_of burst.now)
+        ≡ (if is_first (slice_get (slice_index_or queues.now (queue_of burst.now) []) 0) burst.now.serial then is_ready burst.now else is_marked answers (queue_of burst.now)) }
+    ensures others { (queue : ℕ) → queue < 32 → queue ≢ queue_of burst.now → is_marked result queue ≡ is_marked answers queue }
+{
+    let queue = burst.queue();
+    let is_first = match queues.first(queue) {
+        Some(serial) => serial == burst.serial(),
+        None => false,
+    };
+    if is_first {
+        answers.with(queue, burst.is_ready())
+    } else {
+        answers
+    }
+}
