@@ -23,7 +23,7 @@ use Rattle.bridge_core.specs.Laws.{IsServed, IsSoundRequestTable}
 use Rattle.bridge_core.specs.Requests.{BridgedRequest, RequestTable, after_sending, flight_table_of, flights_of, may_send, with_sent_burst}
 use Rattle.bridge_core.specs.Sending.{burst_of_piece, next_sending}
 use Rattle.bridge_core.specs.declared.Config.{Config}
-use Rattle.bridge_core.proofs.NextSending.{sends}
+use Rattle.bridge_core.proofs.NextSending.{next_sending-none, sends}
 use Rattle.bridge_core.proofs.SentBursts.{IsRangeOf, piece_of_plan, range_is}
 use Rattle.bridge_core.proofs.ServedRequests.{served_sent}
 use Rattle.bridge_core.proofs.TableSteps.{IsChanged, changed_table, rising, table_seen}
@@ -31,18 +31,20 @@ use Rattle.bridge_core.proofs.Together.{found_together, held_there, none_togethe
 
 -- ---- whether a request is ready
 
-pub some_ready : (config : Config) (regions : List Region) (flight : KeyedTable) (helds spare : List HeldRequest) → IsKept config flight helds spare
-    → IsSome (find (may_send (table_kept config regions flight helds)) (table_kept config regions flight helds).live) → IsSome (find (is_ready (table_of flight)) (requests_of flight.entries))
-some_ready config regions flight helds spare kept there =
-    by_found (find (is_ready (table_of flight)) (requests_of flight.entries)) refl
-    (subst (λ (t : FlightTable). IsSome (find (λ (b : BridgedRequest). is_ready t b.flight) (together (requests_of flight.entries) helds))) (sym (table_seen config regions flight helds spare kept)) there)
-  where
-    by_found : (o : Option LiveRequest) → find (is_ready (table_of flight)) (requests_of flight.entries) ≡ o
-        → IsSome (find (λ (b : BridgedRequest). is_ready (table_of flight) b.flight) (together (requests_of flight.entries) helds)) → IsSome o
-    by_found None is some =
-        let nothing : IsSome {T = BridgedRequest} None = rw (none_together (is_ready (table_of flight)) (requests_of flight.entries) helds kept.numbers is) at some in
-        absurd (cc (nothing))
-    by_found (Some r) is some = refl
+pub none_ready : (config : Config) (regions : List Region) (flight : KeyedTable) (helds spare : List HeldRequest) (table : RequestTable) → table_kept config regions flight helds ≡ table → IsKept config flight helds spare
+    → find (is_ready (table_of flight)) (requests_of flight.entries) ≡ None → next_sending table ≡ None
+none_ready config regions flight helds spare table view kept none =
+    let unsent = subst (λ (t : FlightTable). find (λ (b : BridgedRequest). is_ready t b.flight) (together (requests_of flight.entries) helds) ≡ None) (table_seen config regions flight helds spare kept)
+    (none_together (is_ready (table_of flight)) (requests_of flight.entries) helds kept.numbers none) in
+    subst (λ (t : RequestTable). next_sending t ≡ None) view (next_sending-none (table_kept config regions flight helds) unsent)
+
+pub some_ready : (config : Config) (regions : List Region) (flight : KeyedTable) (helds spare : List HeldRequest) (table : RequestTable) (key number : ℕ) → table_kept config regions flight helds ≡ table → IsKept config flight helds spare
+    → IsFirstAt (is_ready (table_of flight)) flight key number → IsSome (find (may_send table) table.live)
+some_ready config regions flight helds spare table key number view kept at =
+    let beside = held_there (is_ready (table_of flight)) (requests_of flight.entries) helds at.request (rising flight at.laws) kept.numbers at.first in
+    let found = found_together (is_ready (table_of flight)) (requests_of flight.entries) helds at.request beside.0 (rising flight at.laws) kept.numbers at.first beside.1 in
+    subst (λ (t : RequestTable). IsSome (find (may_send t) t.live)) view
+    (subst (λ (t : FlightTable). IsSome (find (λ (b : BridgedRequest). is_ready t b.flight) (together (requests_of flight.entries) helds))) (table_seen config regions flight helds spare kept) (rw found refl))
 
 -- what a search found at a key passes the test
 pub passes_at : (test : LiveRequest → Bool) (flight : KeyedTable) (key number : ℕ) → IsFirstAt test flight key number → IsSomeAnd (request_at key flight) (λ r. test r ≡ true)

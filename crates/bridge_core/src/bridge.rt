@@ -161,10 +161,9 @@ impl Bridge {
         ensures unbroken { IfSome (burst_to_send self.old.state) (λ burst. burst_fault (axi_port_of self.old.state.requests.config) self.old.state.open_bursts burst ≡ None) }
         ensures laws { IsSoundBridge self.new.state }
     {
-        if !self.can_pump() {
+        let Some(burst) = self.requests.send(&mut self.stock) else {
             return None;
-        }
-        let burst = self.requests.send(self.stock.pop().unwrap());
+        };
         self.monitor.take_burst(&burst);
         Some(burst)
     }

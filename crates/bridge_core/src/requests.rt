@@ -123,14 +123,19 @@ impl RequestTable {
         number
     }
 
-    /// Puts the next burst of the ready request of the smallest number into a box.
-    pub(crate) fn send(&mut self, mut burst: BurstBox) -> BurstBox
-        requires { IsSome (find (may_send self.old) self.old.live) }
-        ensures burst { result ≡ option_map (λ sending. sending.burst) (next_sending self.old) }
+    /// Puts the next burst of the ready request of the smallest number into a box from stock; none, and nothing changed,
+    /// where no request is ready.
+    pub(crate) fn send(&mut self, stock: &mut Vec<BurstBox>) -> Option<BurstBox>
+        requires { IsSome (find (may_send self.old) self.old.live) → 0 < vec_len stock.old }
+        ensures burst { result ≡ option_map (λ sending. Some sending.burst) (next_sending self.old) }
         ensures table { IfSome (next_sending self.old) (λ sending. self.new ≡ with_sent_burst sending.request.flight.number sending.id self.old) }
+        ensures stock { IsSome result → vec_len stock.old ≡ vec_len stock.new + 1 }
+        ensures capacity { vec_capacity stock.old ≤ vec_capacity stock.new }
+        ensures kept { result ≡ None → (self.new ≡ self.old) × (stock.new ≡ stock.old) }
         ensures laws { IsSoundRequestTable self.new }
     {
-        let (key, number) = sending(&self.flight);
+        let (key, number) = sending(&self.flight)?;
+        let mut burst = stock.pop().unwrap();
         let piece = self.flight.next_piece(key);
         let is_write = self.flight.next_is_write(key);
         let plan = self.flight.plan(key).unwrap();
@@ -140,7 +145,7 @@ impl RequestTable {
         } else {
             set_read(&mut burst, id, piece);
         }
-        burst
+        Some(burst)
     }
 
     /// Takes the response to the first unanswered write of the request that holds its ID.
@@ -321,12 +326,12 @@ fn serving(flight: &Flight, id: u8) -> (Key, u64)
 }
 
 /// The key and the number of the live request that sends next.
-fn sending(flight: &Flight) -> (Key, u64)
-    requires { IsSome (find (is_ready (table_of flight.now)) (requests_of flight.now.entries)) }
-    ensures { IsFirstAt (is_ready (table_of flight.now)) flight.now result.0 result.1 }
+fn sending(flight: &Flight) -> Option<(Key, u64)>
+    ensures some { IfSome result (λ found. IsFirstAt (is_ready (table_of flight.now)) flight.now found.0 found.1) }
+    ensures none { result ≡ None → find (is_ready (table_of flight.now)) (requests_of flight.now.entries) ≡ None }
 {
-    let key = flight.next_ready().unwrap();
-    (key, flight.number(key))
+    let key = flight.next_ready()?;
+    Some((key, flight.number(key)))
 }
 
 /// The key and the number of the first live request of a client that is done.

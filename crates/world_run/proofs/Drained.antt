@@ -1,8 +1,8 @@
 -- A drain makes the first step that is enabled until none is. It knows that each step takes one from the work; what the steps do is hidden.
-use Rattle.std.proofs.Common.{◌≡◌, ℕ, zero, suc, ◌+◌, ◌^◌, ◌<◌, ◌≤◌, List, [], ◌∷◌, drop, Some, None, refl, ap, sym, ◌∙◌, subst, arith, ◌⊎◌, inl, inr}
+use Rattle.std.proofs.Common.{◌≡◌, ℕ, zero, suc, ◌+◌, ◌^◌, ◌<◌, ◌≤◌, List, [], ◌∷◌, drop, Some, refl, ap, sym, ◌∙◌, subst, arith}
 use Rattle.std.specs.Prelude.{slice_get}
-use Rattle.std.proofs.lemmas.Bool.{cases_lt}
 use Rattle.std.proofs.lemmas.Option.{same_Some}
+use Rattle.world_run.specs.Choices.{LeadsTo}
 use Rattle.world_run.specs.Laws.{IsDrained, IsSoundWorld, work_spared}
 use Rattle.world_run.specs.World.{Drains, WorldState, drained, drained_within, enabled, next, one_more, work_left}
 use Rattle.world_run.specs.declared.Step.{Step}
@@ -20,79 +20,72 @@ drains_within (suc n) (suc most) old new (step, rest, is, drains) fits =
     let more : n + 1 ≡ suc n = omega arith in
     rw (is, drained_within) (ap one_more (drains_within n most (next old step).state new drains (omega (arith, fits))) ∙ ap (λ (m : ℕ). (m, new)) more)
 
+pub drained_is : (old new : WorldState) (n : ℕ) → IsDrained old n new → drained old ≡ (n, new)
+drained_is old new n done = drains_within n (work_left old) old new done.steps (omega (arith, done.count))
+
 -- ---- a drain begins, goes on and ends
 
--- from old to now by so many steps, each the first that was enabled and one less of the work: what drains now drains old, and the work that was
--- left at the start is a number of 63 bits
-pub record IsDraining (old : WorldState) (made : ℕ) (now : WorldState) : Type 0 where
-  pub leads : (more : ℕ) (end : WorldState) → Drains now more end → Drains old (made + more) end
-  pub work : work_left old + work_spared old ≡ made + (work_left now + work_spared now)
-  pub spared : work_spared old ≤ work_spared now
-  pub begins : made ≡ 0 → now ≡ old
-  pub few : 0 < made → work_left old < 2 ^ 63
+-- the events of one part of a drain and those of the next
+pub led_on : (n m : ℕ) (old mid new : WorldState) → LeadsTo old n mid → LeadsTo mid m new → LeadsTo old (n + m) new
+led_on zero m old mid new same more =
+    let none : m ≡ 0 + m = omega arith in
+    subst (λ (k : ℕ). LeadsTo old k new) none (subst (λ (state : WorldState). LeadsTo state m new) same more)
+led_on (suc n) m old mid new (step, sound, first, rest) more =
+    let one : suc (n + m) ≡ suc n + m = omega arith in
+    subst (λ (k : ℕ). LeadsTo old k new) one (step, sound, first, led_on n m (next old step).state mid new rest more)
 
-pub draining_begins : (old : WorldState) → IsDraining old 0 old
-draining_begins old =
-    record {
-      leads = λ more end drains. let all : more ≡ 0 + more = omega arith in subst (λ (n : ℕ). Drains old n end) all drains;
-      work = omega arith;
-      spared = omega arith;
-      begins = λ none. refl;
-      few = λ some. absurd (omega (arith, some));
-    }
+-- and one event more
+pub led_step : (old now : WorldState) (made : ℕ) (step : Step) → LeadsTo old made now → IsSoundWorld now → slice_get (enabled now) 0 ≡ Some step → LeadsTo old (made + 1) (next now step).state
+led_step old now made step led sound first = led_on made 1 old now (next now step).state led (step, sound, first, refl)
+
+-- each of n events takes one from the work
+record TakesSome (old : WorldState) (n : ℕ) (new : WorldState) : Type 0 where
+  work : work_left old + work_spared old ≡ n + (work_left new + work_spared new)
+  spared : work_spared old ≤ work_spared new
+
+led_takes : (n : ℕ) (old new : WorldState) → LeadsTo old n new → TakesSome old n new
+led_takes zero old new same = subst (λ (state : WorldState). TakesSome old 0 state) (sym same) (record { work = omega arith; spared = omega arith })
+led_takes (suc n) old new (step, sound, first, rest) =
+    let takes = enabled_takes old 0 step sound first in
+    let later = led_takes n (next old step).state new rest in
+    record { work = omega (arith, takes.work, later.work); spared = omega (arith, takes.spared, later.spared) }
+
+-- there is less work after some
+pub led_less : (n : ℕ) (old new : WorldState) → LeadsTo old n new → 0 < n → work_left new < work_left old
+led_less n old new led some = let takes = led_takes n old new led in omega (arith, takes.work, takes.spared, some)
+
+pub step_less : (now : WorldState) (step : Step) → IsSoundWorld now → slice_get (enabled now) 0 ≡ Some step → work_left (next now step).state < work_left now
+step_less now step sound first = led_less 1 now (next now step).state (step, sound, first, refl) (omega arith)
+
+-- the count fits a word
+pub led_few : (n : ℕ) (old new : WorldState) → LeadsTo old n new → n < 2 ^ 63
+led_few zero old new led = omega arith
+led_few (suc n) old new (step, sound, first, rest) =
+    let takes = led_takes (suc n) old new (step, sound, first, rest) in
+    omega (arith, takes.work, takes.spared, few_work old sound)
 
 first_and_rest : {X : Type 0} (xs : List X) (x : X) → slice_get xs 0 ≡ Some x → xs ≡ x ∷ drop 1 xs
 first_and_rest [] x first = absurd (cc (first))
 first_and_rest (y ∷ ys) x first = ap (λ z. z ∷ ys) (same_Some y x first)
 
-pub draining_goes_on : (old now : WorldState) (made : ℕ) (step : Step) → IsDraining old made now → IsSoundWorld now → slice_get (enabled now) 0 ≡ Some step
-    → IsDraining old (made + 1) (next now step).state
-draining_goes_on old now made step draining sound first =
-    let takes = enabled_takes now 0 step sound first in
+led_drains : (n : ℕ) (old new : WorldState) → LeadsTo old n new → enabled new ≡ [] → Drains old n new
+led_drains zero old new same none = (subst (λ (state : WorldState). enabled state ≡ []) same none, same)
+led_drains (suc n) old new (step, sound, first, rest) none = (step, drop 1 (enabled old), first_and_rest (enabled old) step first, led_drains n (next old step).state new rest none)
+
+led_ends : (n : ℕ) (old new : WorldState) → LeadsTo old n new → IsSoundWorld new → enabled new ≡ [] → IsDrained old n new
+led_ends n old new led sound none =
+    let ended = nothing_enabled new sound none in
+    let takes = led_takes n old new led in
     record {
-      leads = λ more end drains.
-          let one : made + suc more ≡ made + 1 + more = omega arith in
-          subst (λ (n : ℕ). Drains old n end) one (draining.leads (suc more) end (step, drop 1 (enabled now), first_and_rest (enabled now) step first, drains));
-      work = omega (arith, draining.work, takes.work);
-      spared = omega (arith, draining.spared, takes.spared);
-      begins = λ none. absurd (omega (arith, none));
-      few = λ some. few_by (cases_lt 0 made);
-    }
-  where
-    few_by : (0 < made) ⊎ (made ≤ 0) → work_left old < 2 ^ 63
-    few_by (inl some) = draining.few some
-    few_by (inr none) =
-        let same : now ≡ old = draining.begins (omega (arith, none)) in
-        subst (λ (state : WorldState). work_left state < 2 ^ 63) same (few_work now sound)
-
--- there is less work after each step
-pub draining_less : (now : WorldState) (step : Step) → IsSoundWorld now → slice_get (enabled now) 0 ≡ Some step → work_left (next now step).state < work_left now
-draining_less now step sound first = let takes = enabled_takes now 0 step sound first in omega (arith, takes.work, takes.spared)
-
--- the count fits a word
-pub draining_few : (old now : WorldState) (made : ℕ) → IsDraining old made now → made < 2 ^ 63
-draining_few old now made draining = few_by (cases_lt 0 made)
-  where
-    few_by : (0 < made) ⊎ (made ≤ 0) → made < 2 ^ 63
-    few_by (inl some) = omega (arith, draining.work, draining.spared, draining.few some)
-    few_by (inr none) = omega (arith, none)
-
-none_at : {X : Type 0} (xs : List X) → slice_get xs 0 ≡ None → xs ≡ []
-none_at [] none = refl
-none_at (x ∷ xs) none = absurd (cc (none))
-
-pub draining_ends : (old now : WorldState) (made : ℕ) → IsDraining old made now → IsSoundWorld now → slice_get (enabled now) 0 ≡ None → IsDrained old made now
-draining_ends old now made draining sound none =
-    let empty = none_at (enabled now) none in
-    let ended = nothing_enabled now sound empty in
-    let all : made + 0 ≡ made = omega arith in
-    record {
-      steps = subst (λ (n : ℕ). Drains old n now) all (draining.leads 0 now (empty, refl));
-      count = omega (arith, draining.work, draining.spared, ended.1);
-      spared = draining.spared;
+      steps = led_drains n old new led none;
+      count = omega (arith, takes.work, takes.spared, ended.1);
+      spared = takes.spared;
       nothing_left = ended.1;
       quiet = ended.0;
     }
 
-pub drained_is : (old new : WorldState) (n : ℕ) → IsDrained old n new → drained old ≡ (n, new)
-drained_is old new n done = drains_within n (work_left old) old new done.steps (omega (arith, done.count))
+-- and where no step is made any more, that is all
+pub led_done : (made more : ℕ) (old now new : WorldState) → LeadsTo old made now → LeadsTo now more new → more ≡ 0 → IsSoundWorld new → enabled new ≡ [] → IsDrained old made new
+led_done made more old now new led rest none sound ends =
+    let all : made + more ≡ made = omega (arith, none) in
+    led_ends made old new (subst (λ (k : ℕ). LeadsTo old k new) all (led_on made more old now new led rest)) sound ends

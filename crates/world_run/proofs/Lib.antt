@@ -17,6 +17,7 @@ pub mod CountsAgree
 pub mod Drained
 pub mod EnabledSteps
 pub mod Events
+pub mod FirstSteps
 pub mod FoundValues
 pub mod GatheredAnswers
 pub mod GatheredInOrder

@@ -1,7 +1,7 @@
 //! What bridge and memory can do by themselves, and a drain.
-ghost use Rattle.std.specs.Prelude.{◌≡◌, ◌<◌, ◌≤◌, IfSome, Some, length, slice_get, true};
+ghost use Rattle.std.specs.Prelude.{◌≡◌, ◌<◌, ◌≤◌, [], None, Some, length, slice_get};
 ghost use Rattle.subordinate.specs.FreeMemory.{ids_with_b, ids_with_r};
-ghost use Rattle.world_run.specs.Choices.{answers_enabled, is_own};
+ghost use Rattle.world_run.specs.Choices.{answers_enabled, goes_on, is_sent};
 
 use crate::{Answer, Step, World};
 use subordinate::Device;
@@ -10,7 +10,10 @@ use subordinate::Device;
 const IDS: u8 = 16;
 
 impl World {
-    ghost use Rattle.world_run.specs.World.{drained, enabled, next};
+    ghost use Rattle.bridge_core.specs.Bridge.{burst_to_send};
+    ghost use Rattle.subordinate.specs.FreeMemory.{first_with_b, first_with_r, waiting_beats};
+    ghost use Rattle.world_run.specs.Choices.{IsPerformed, LeadsTo};
+    ghost use Rattle.world_run.specs.World.{drained, enabled};
     ghost use Rattle.world_run.specs.Laws.{IsDrained, IsSoundWorld};
 
     /// How many steps bridge and memory can make by themselves.
@@ -51,41 +54,125 @@ impl World {
         ensures drains { IsDrained self.old result self.new }
     {
         let mut made = 0;
-        while let Some(step) = self.first_choice() {
-            self.make(&step);
+        loop {
+            let more = self.make_round();
+            if more == 0 {
+                return made;
+            }
+            made += more;
+        }
+    }
+
+    /// Makes the first of these steps, each in its turn: all bursts that may go, all beats that wait, and answers as long as
+    /// none makes a request ready.
+    fn make_round(&mut self) -> u64
+        ensures leads { LeadsTo self.old result self.new }
+        ensures ends { result ≡ 0 → enabled self.new ≡ [] }
+        ensures laws { IsSoundWorld self.new }
+    {
+        let pumps = self.pump_all();
+        let performs = self.perform_all();
+        let answers = self.answer_some();
+        pumps + performs + answers
+    }
+
+    /// Makes a Pump as long as a request is ready.
+    fn pump_all(&mut self) -> u64
+        ensures leads { LeadsTo self.old result self.new }
+        ensures idle { burst_to_send self.new.bridge ≡ None }
+    {
+        let mut made = 0;
+        while is_sent(&self.pump()) {
             made += 1;
         }
         made
     }
 
-    /// The first of these steps, where there is one.
-    fn first_choice(&self) -> Option<Step>
-        ensures first { result ≡ slice_get (enabled self.now) 0 }
-        ensures own { IfSome result (λ step. is_own step ≡ true) }
-        ensures laws { IsSoundWorld self.now }
+    /// Performs all beats that wait, where no request is ready: none is after it.
+    fn perform_all(&mut self) -> u64
+        requires { burst_to_send self.old.bridge ≡ None }
+        ensures leads { LeadsTo self.old result self.new }
+        ensures performed { IsPerformed self.new }
     {
-        if self.bridge.can_pump() {
-            return Some(Step::Pump);
+        let mut made = 0;
+        while let Some((serial, beat)) = self.first_pending() {
+            self.perform(serial, beat);
+            made += 1;
         }
-        if let Some((serial, beat)) = self.device.first_pending() {
-            return Some(Step::Perform(serial, beat));
-        }
-        first_answer(&self.device)
+        made
     }
 
-    /// Makes a step that bridge and memory can make by themselves.
-    fn make(&mut self, step: &Step) -> Answer
-        requires { is_own step.now ≡ true }
-        ensures answer { result ≡ (next self.old step.now).answer }
-        ensures state { self.new ≡ (next self.old step.now).state }
+    /// Gives the first answer that may come; where that is an R, those after it too, up to the last of a burst.
+    fn answer_some(&mut self) -> u64
+        requires { IsPerformed self.old }
+        ensures leads { LeadsTo self.old result self.new }
+        ensures ends { result ≡ 0 → enabled self.new ≡ [] }
+        ensures laws { IsSoundWorld self.new }
     {
-        match *step {
-            Step::Pump => self.pump(),
-            Step::Perform(serial, beat) => self.perform(serial, beat),
-            Step::AnswerB(id) => self.answer_b(id),
-            Step::AnswerR(id) => self.answer_r(id),
-            Step::Offer(_, _) | Step::Take(_) => unreachable!(),
+        let Some(id) = self.first_b() else {
+            return self.read_on();
+        };
+        self.answer_b(id);
+        1
+    }
+
+    /// Gives R beats up to the last of a burst, where no other step is enabled: none is before that.
+    fn read_on(&mut self) -> u64
+        requires performed { IsPerformed self.old }
+        requires written { first_with_b self.old.memory ≡ None }
+        ensures leads { LeadsTo self.old result self.new }
+        ensures ends { result ≡ 0 → enabled self.new ≡ [] }
+        ensures laws { IsSoundWorld self.new }
+    {
+        let mut made = 0;
+        while let Some(id) = self.first_r() {
+            let answer = self.answer_r(id);
+            made += 1;
+            if !goes_on(&answer) {
+                return made;
+            }
         }
+        made
+    }
+
+    /// The first beat that waits.
+    fn first_pending(&self) -> Option<(u64, u16)>
+        ensures first { result ≡ slice_get (waiting_beats self.now.memory) 0 }
+        ensures laws { IsSoundWorld self.now }
+    {
+        self.device.first_pending()
+    }
+
+    /// The smallest ID that may give a B.
+    fn first_b(&self) -> Option<u8>
+        ensures { result ≡ first_with_b self.now.memory }
+    {
+        self.device.first_b()
+    }
+
+    /// The smallest ID that may give an R.
+    fn first_r(&self) -> Option<u8>
+        ensures first { result ≡ first_with_r self.now.memory }
+        ensures laws { IsSoundWorld self.now }
+    {
+        self.device.first_r()
+    }
+}
+
+/// Whether a burst went.
+fn is_sent(answer: &Answer) -> bool
+    ensures { result ≡ is_sent answer.now }
+{
+    matches!(answer, Answer::Sent(_))
+}
+
+/// Whether an R came of whose burst more come.
+fn goes_on(answer: &Answer) -> bool
+    ensures { result ≡ goes_on answer.now }
+{
+    match answer {
+        Answer::R(beat) => !beat.last,
+        _ => false,
     }
 }
 
@@ -149,18 +236,4 @@ fn id_with_r(device: &Device, k: u32) -> u8
         }
     }
     unreachable!()
-}
-
-/// The first answer that may come, where there is one.
-fn first_answer(device: &Device) -> Option<Step>
-    ensures own { IfSome result (λ step. is_own step ≡ true) }
-    ensures first { result ≡ slice_get (answers_enabled device.now.memory) 0 }
-{
-    if let Some(id) = device.first_b() {
-        return Some(Step::AnswerB(id));
-    }
-    match device.first_r() {
-        Some(id) => Some(Step::AnswerR(id)),
-        None => None,
-    }
 }

@@ -1,36 +1,34 @@
--- Each step takes one from the work, and where there is none all is done.
-use Rattle.std.proofs.Common.{◌≡◌, ℕ, ap, arith, sym, ◌∙◌}
-use Rattle.std.specs.Prelude.{Some, slice_get}
+-- Each round leads on, and where one makes no step all is done.
+use Rattle.std.proofs.Common.{◌+◌, ℕ, refl, ap, arith, sym}
 use Rattle.world_run.specs.Laws.{IsDrained}
-use Rattle.world_run.specs.World.{WorldState, enabled}
-use Rattle.world_run.proofs.Drained.{drained_is, draining_begins, draining_ends, draining_few, draining_goes_on, draining_less}
+use Rattle.world_run.specs.World.{WorldState}
+use Rattle.world_run.proofs.Drained.{drained_is, led_done, led_few, led_less, led_on}
 use Rattle.world_run.proofs.world.World.drain.Goals as goal
 
-pub loop-step-init : goal.loop-step-init
-loop-step-init c = draining_begins c.args.self.now
+pub loop-made-init : goal.loop-made-init
+loop-made-init c = refl
 
 pub overflow_add-made : goal.overflow_add-made
-overflow_add-made c = omega (arith, draining_few c.args.self.now c.loop-step.self c.loop-step.made c.loop-step.invariant)
+overflow_add-made c =
+    let led = led_on c.loop-made.made c.make_round-more.result c.args.self.now c.loop-made.self c.make_round-more.new.self c.loop-made.invariant c.make_round-more.ensures.leads in
+    omega (arith, led_few (c.loop-made.made + c.make_round-more.result) c.args.self.now c.make_round-more.new.self led)
 
-pub loop-step-smaller : goal.loop-step-smaller
-loop-step-smaller c =
-    let first : slice_get (enabled c.loop-step.self) 0 ≡ Some c.in-Some.step = sym c.first_choice.ensures.first ∙ c.in-Some.is in
-    rw c.make.ensures.state (draining_less c.loop-step.self c.in-Some.step c.first_choice.ensures.laws first)
+pub loop-made-smaller : goal.loop-made-smaller
+loop-made-smaller c = led_less c.make_round-more.result c.loop-made.self c.make_round-more.new.self c.make_round-more.ensures.leads (grind (arith, c.if-more-eq0.false))
 
-pub loop-step-preserved : goal.loop-step-preserved
-loop-step-preserved c =
-    let first : slice_get (enabled c.loop-step.self) 0 ≡ Some c.in-Some.step = sym c.first_choice.ensures.first ∙ c.in-Some.is in
-    rw c.make.ensures.state (draining_goes_on c.args.self.now c.loop-step.self c.loop-step.made c.in-Some.step c.loop-step.invariant c.first_choice.ensures.laws first)
+pub loop-made-preserved : goal.loop-made-preserved
+loop-made-preserved c = led_on c.loop-made.made c.make_round-more.result c.args.self.now c.loop-made.self c.make_round-more.new.self c.loop-made.invariant c.make_round-more.ensures.leads
 
-ended : (c : goal.In_default) → IsDrained c.args.self.now c.loop-step.made c.loop-step.self
-ended c =
-    draining_ends c.args.self.now c.loop-step.self c.loop-step.made c.loop-step.invariant c.first_choice.ensures.laws (sym c.first_choice.ensures.first ∙ c.in_default.is)
+done : (c : goal.Then-more-eq0) → IsDrained c.args.self.now c.loop-made.made c.make_round-more.new.self
+done c =
+    led_done c.loop-made.made c.make_round-more.result c.args.self.now c.loop-made.self c.make_round-more.new.self c.loop-made.invariant c.make_round-more.ensures.leads c.if-more-eq0.true c.make_round-more.ensures.laws
+    (c.make_round-more.ensures.ends c.if-more-eq0.true)
 
-pub returns-clause-answer : goal.returns-clause-answer
-returns-clause-answer c = ap (λ (drained : ℕ × WorldState). drained.0) (sym (drained_is c.args.self.now c.loop-step.self c.loop-step.made (ended c)))
+pub returns-then-more-eq0-clause-drains : goal.returns-then-more-eq0-clause-drains
+returns-then-more-eq0-clause-drains c = done c
 
-pub returns-clause-state : goal.returns-clause-state
-returns-clause-state c = ap (λ (drained : ℕ × WorldState). drained.1) (sym (drained_is c.args.self.now c.loop-step.self c.loop-step.made (ended c)))
+pub returns-then-more-eq0-clause-answer : goal.returns-then-more-eq0-clause-answer
+returns-then-more-eq0-clause-answer c = ap (λ (drained : ℕ × WorldState). drained.0) (sym (drained_is c.args.self.now c.make_round-more.new.self c.loop-made.made (done c)))
 
-pub returns-clause-drains : goal.returns-clause-drains
-returns-clause-drains c = ended c
+pub returns-then-more-eq0-clause-state : goal.returns-then-more-eq0-clause-state
+returns-then-more-eq0-clause-state c = ap (λ (drained : ℕ × WorldState). drained.1) (sym (drained_is c.args.self.now c.make_round-more.new.self c.loop-made.made (done c)))
