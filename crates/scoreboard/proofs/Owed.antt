@@ -3,7 +3,7 @@ use Rattle.std.proofs.Common.{◌≡◌, ℕ, ◌<◌, ◌≤◌, ◌==◌, nat_
 use Rattle.std.specs.Prelude.{◌≢◌, slice_index_or, slice_set}
 use Rattle.std.specs.Bool.{beq}
 use Rattle.std.specs.List.{AllByRecursion}
-use Rattle.std.proofs.lemmas.Bool.{and_parts, not-false}
+use Rattle.std.proofs.lemmas.Bool.{and_parts, eq-eqb, eqb-true, ne_eqb, not-false}
 use Rattle.std.proofs.lemmas.Bool.Decides.{eqb_tells, leb_tells}
 use Rattle.std.proofs.lemmas.List.{get_or-set_same, get_or-set_other, get_or_past, length-set}
 use Rattle.bus_words.specs.Tables.{first_broken}
@@ -45,25 +45,7 @@ order m n = by_test (leb_tells n m)
     by_test (inr (not_it, below)) = inl below
 
 pub eqb_same : (n : ℕ) → (n == n) ≡ true
-eqb_same n = by_test (eqb_tells n n)
-  where
-    by_test : (((n == n) ≡ true) × (n ≡ n)) ⊎ (((n == n) ≡ false) × (n ≢ n)) → (n == n) ≡ true
-    by_test (inl (is, same)) = is
-    by_test (inr (not_it, other)) = absurd (other refl)
-
-pub eqb_other : (n m : ℕ) → n ≢ m → (n == m) ≡ false
-eqb_other n m other = by_test (eqb_tells n m)
-  where
-    by_test : (((n == m) ≡ true) × (n ≡ m)) ⊎ (((n == m) ≡ false) × (n ≢ m)) → (n == m) ≡ false
-    by_test (inl (is, same)) = absurd (other same)
-    by_test (inr (not_it, differ)) = not_it
-
-pub eqb_true : (n m : ℕ) → (n == m) ≡ true → n ≡ m
-eqb_true n m yes_it = by_test (eqb_tells n m)
-  where
-    by_test : (((n == m) ≡ true) × (n ≡ m)) ⊎ (((n == m) ≡ false) × (n ≢ m)) → n ≡ m
-    by_test (inl (is, same)) = same
-    by_test (inr (not_it, differ)) = absurd (cc (yes_it, not_it))
+eqb_same n = eq-eqb n n refl
 
 nothing_left : (beats : List DBeat) → none_left beats ≡ true → beats ≡ []
 nothing_left [] none = refl
@@ -74,10 +56,10 @@ free_parts true false free = (refl, refl)
 free_parts true true free = absurd (cc (free))
 free_parts false b free = absurd (cc (free))
 
--- beats of one source have not_it other, and where they have not even that, there are none
+-- beats of one source have no other, and where they have not even that, there are none
 other_source : (beats : List DBeat) (one source : ℕ) → AreOf one beats → one ≢ source → has_source source beats ≡ false
 other_source [] one source are other = refl
-other_source (beat ∷ beats) one source are other = eqb_other beat.source source (λ same. other (sym are.0 ∙ same))
+other_source (beat ∷ beats) one source are other = ne_eqb beat.source source (λ same. other (sym are.0 ∙ same))
 
 none_without : (beats : List DBeat) (source : ℕ) → AreOf source beats → has_source source beats ≡ false → beats ≡ []
 none_without [] source are not_it = refl
@@ -85,7 +67,7 @@ none_without (beat ∷ beats) source are not_it = absurd (cc (not_it, are.0, eqb
 
 source_of : (beats : List DBeat) (one source : ℕ) → AreOf one beats → has_source source beats ≡ true → one ≡ source
 source_of [] one source are has = absurd (cc (has))
-source_of (beat ∷ beats) one source are has = sym are.0 ∙ eqb_true beat.source source has
+source_of (beat ∷ beats) one source are has = sym are.0 ∙ eqb-true beat.source source has
 
 -- nothing is due of what isn't a source
 pub none_of_past : (dues : DueBoard) (source : ℕ) → AreDues dues → 256 ≤ source → (due_of dues source ≡ []) × (has_source source dues.begun ≡ false)
@@ -148,8 +130,8 @@ no_difference due beat none =
     let corrupt = unbroken (not (beq beat.corrupt due.corrupt)) rule.Corrupt payload_row denied.1 in
     let payload = unbroken (not (beat.payload == due.payload)) rule.Payload [] corrupt.1 in
     let kinds = and_parts (beat.opcode == due.opcode) (beat.param == due.param) (not-false _ kind.0) in
-    same_beat beat due (eqb_true _ _ (not-false _ source.0)) (eqb_true _ _ kinds.0, eqb_true _ _ kinds.1) (eqb_true _ _ (not-false _ size.0))
-    (same_from_beq _ _ (not-false _ denied.0)) (same_from_beq _ _ (not-false _ corrupt.0)) (eqb_true _ _ (not-false _ payload.0))
+    same_beat beat due (eqb-true _ _ (not-false _ source.0)) (eqb-true _ _ kinds.0, eqb-true _ _ kinds.1) (eqb-true _ _ (not-false _ size.0))
+    (same_from_beq _ _ (not-false _ denied.0)) (same_from_beq _ _ (not-false _ corrupt.0)) (eqb-true _ _ (not-false _ payload.0))
 
 beq_same : (b : Bool) → beq b b ≡ true
 beq_same true = refl
@@ -220,7 +202,7 @@ comes due (b ∷ begun) beat rest are is =
       own = subst (λ n. AreOf n rest) same_source (subst (AreOf one) same_rest own.1);
       places = refl;
       none = are.apart beat.source (rw (same_first) (eqb_same beat.source));
-      others = λ source other. (refl, eqb_other beat.source source (λ same. other (sym same)));
+      others = λ source other. (refl, ne_eqb beat.source source (λ same. other (sym same)));
       was = λ replies told owed. (owed.runs (eqb_same beat.source)).0;
     })
 

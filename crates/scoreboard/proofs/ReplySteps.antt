@@ -1,5 +1,6 @@
 -- A beat on channel D, or on the AXI4 port, that isn't wrong: what is held then is what was observed then, and it is right.
 use Rattle.std.proofs.Common.{◌≡◌, ℕ, ◌<◌, ◌==◌, Bool, true, false, ◌&&◌, List, [], ◌∷◌, ◌++◌, length, Option, Some, None, ◌⊎◌, inl, inr, refl, sym, ◌∙◌, ap, subst, arith}
+use Rattle.std.proofs.lemmas.Bool.{ne_eqb, eqb-true}
 use Rattle.std.specs.Prelude.{◌≢◌, slice_get}
 use Rattle.std.proofs.lemmas.List.{length-set}
 use Rattle.std.proofs.lemmas.Option.{slice_get_within}
@@ -14,7 +15,7 @@ use Rattle.scoreboard.specs.Boards.{Board, ClientBoard, after_axi, after_reply_b
 use Rattle.scoreboard.specs.Observed.{Observed, with_axi_beat, with_reply_beat}
 use Rattle.scoreboard.specs.Right.{IsFree, IsPartly, IsRightNow, IsTold, left_of, replies_to}
 use Rattle.scoreboard.proofs.BoardOf.{IsBoardOf, IsClientOf}
-use Rattle.scoreboard.proofs.Owed.{AreDues, Comes, IsOwed, eqb_other, eqb_same, eqb_true, next_right, partly_begun, right_comes, same_or_not}
+use Rattle.scoreboard.proofs.Owed.{AreDues, Comes, IsOwed, eqb_same, next_right, partly_begun, right_comes, same_or_not}
 use Rattle.scoreboard.proofs.RequestSteps.{clients_with}
 use Rattle.scoreboard.proofs.SeenLists.{axi_fault-append, open_after_all-append}
 use Rattle.scoreboard.proofs.Told.{left-beat}
@@ -31,8 +32,8 @@ none_of false c not_it = refl
 
 -- of any other what it was told before
 told_other : (observed : Observed) (number : ℕ) (beat : DBeat) (client source : ℕ) → (client ≢ number) ⊎ (source ≢ beat.source) → (with_reply_beat number beat observed).told client source ≡ observed.told client source
-told_other observed number beat client source (inl differs) = rw (eqb_other client number differs) refl
-told_other observed number beat client source (inr differs) = rw (none_of (client == number) (source == beat.source) (eqb_other source beat.source differs)) refl
+told_other observed number beat client source (inl differs) = rw (ne_eqb client number differs) refl
+told_other observed number beat client source (inr differs) = rw (none_of (client == number) (source == beat.source) (ne_eqb source beat.source differs)) refl
 
 record ComesTo (setup : SetupLists) (observed : Observed) (number : ℕ) (client : ClientBoard) (beat : DBeat) : Type 0 where
   of : IsClientOf setup observed number client
@@ -123,7 +124,7 @@ next_contiguous setup observed number client beat of none source small partly =
   where
     begun_of : (due : List (List DBeat)) (begun rest : List DBeat) → has_source source begun ≡ true → next_reply (record { due = due; begun = begun }) beat.source ≡ beat ∷ rest → source ≡ beat.source
     begun_of due [] rest has is = absurd (cc (has))
-    begun_of due (b ∷ bs) rest has is = let first : b ≡ beat = cc (is) in sym (eqb_true b.source source has) ∙ ap (λ (c : DBeat). c.source) first
+    begun_of due (b ∷ bs) rest has is = let first : b ≡ beat = cc (is) in sym (eqb-true b.source source has) ∙ ap (λ (c : DBeat). c.source) first
 
 -- a beat that may come isn't wrong
 pub reply_right : (setup : SetupLists) (observed : Observed) (number : ℕ) (client : ClientBoard) (beat : DBeat) → IsClientOf setup observed number client → beat.source < 256

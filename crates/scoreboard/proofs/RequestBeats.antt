@@ -1,7 +1,7 @@
 -- A beat on channel A after those of the message that has begun: what its answer says of them all.
 use Rattle.std.proofs.Common.{◌≡◌, ℕ, ◌<◌, ◌==◌, Bool, true, false, not, List, [], ◌∷◌, ◌++◌, length, Some, Result, Ok, refl, ◌∙◌, ap, arith}
 use Rattle.std.specs.Prelude.{option_map}
-use Rattle.std.proofs.lemmas.Bool.{not-true}
+use Rattle.std.proofs.lemmas.Bool.{ne_eqb, not-true}
 use Rattle.tl_messages.specs.Requests.{WholeRequest, held_of, request_of}
 use Rattle.tl_messages.specs.Operations.{beats_of, opcode_has_data}
 use Rattle.tl_messages.specs.declared.ABeat.{ABeat}
@@ -13,13 +13,13 @@ use Rattle.tl_checker.specs.declared.TlRule.{TlRule}
 use Rattle.tl_checker.proofs.Taken.{front_exact, wanted_of}
 use Rattle.tl_checker.proofs.Taking.{reads, held-append, whole_by}
 use Rattle.scoreboard.specs.Observed.{is_complete}
-use Rattle.scoreboard.proofs.Owed.{eqb_other, eqb_same}
+use Rattle.scoreboard.proofs.Owed.{eqb_same}
 
 -- ---- how many beats there are
 
 front_lacks : (beats : List ABeat) → length beats < wanted_of beats → is_complete beats ≡ false
 front_lacks [] fewer = refl
-front_lacks (first ∷ rest) fewer = eqb_other _ _ (λ same. omega (arith, same, fewer))
+front_lacks (first ∷ rest) fewer = ne_eqb _ _ (λ same. omega (arith, same, fewer))
 
 spelling_complete : (limits : TlPortLimits) (beats : List ABeat) (q : WholeRequest) → Spells limits beats q → is_complete beats ≡ true
 spelling_complete limits [] q spells = absurd spells

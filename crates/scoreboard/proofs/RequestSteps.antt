@@ -1,5 +1,6 @@
 -- A beat on channel A that isn't wrong: what is held then is what was observed then, and it is right.
 use Rattle.std.proofs.Common.{◌≡◌, ℕ, ◌<◌, ◌≤◌, ◌==◌, Bool, true, false, ◌&&◌, List, [], ◌∷◌, ◌++◌, length, zip, Option, Some, None, Result, Ok, Err, if◌then◌else◌, ◌⊎◌, inl, inr, refl, sym, ◌∙◌, ap, subst, arith}
+use Rattle.std.proofs.lemmas.Bool.{ne_eqb}
 use Rattle.std.specs.Prelude.{◌≢◌, option_map, slice_get, slice_set}
 use Rattle.std.specs.List.{AllByRecursion}
 use Rattle.std.proofs.lemmas.Bool.Decides.{eqb_tells}
@@ -26,7 +27,7 @@ use Rattle.scoreboard.specs.Observed.{Observed, is_complete, requests_in, with_b
 use Rattle.scoreboard.specs.Right.{IsFree, IsRightNow, IsTold, is_of, left_of, replies_to}
 use Rattle.scoreboard.specs.SerialMemory.{IsCarriedOut, meaning_now}
 use Rattle.scoreboard.proofs.BoardOf.{IsBoardOf, IsClientOf, IsMemoryOf, IsWith, meaning_here, memory_after, replies_to-other, replies_to-own, shown_source}
-use Rattle.scoreboard.proofs.Owed.{IsOwed, dues_with, eqb_other, eqb_same, free-left, left-free, none_of_past, order, owed_other, owed_own, past-free, same_or_not}
+use Rattle.scoreboard.proofs.Owed.{IsOwed, dues_with, eqb_same, free-left, left-free, none_of_past, order, owed_other, owed_own, past-free, same_or_not}
 use Rattle.scoreboard.proofs.RequestBeats.{EndsHere, GoesOn, IsFreeFor, ends_here, goes_on, held_with, may_end, may_go_on}
 use Rattle.scoreboard.proofs.SeenLists.{all_of_last, requests_of-append, zip-append}
 use Rattle.scoreboard.proofs.Told.{left-nothing, told-reply}
@@ -100,7 +101,7 @@ client_more setup observed number client beat of =
 client_beside : (setup : SetupLists) (observed : Observed) (number : ℕ) (beats : List ABeat) (other : ℕ) (client : ClientBoard) → other ≢ number → IsClientOf setup observed other client
     → IsClientOf setup (with_begun number beats observed) other client
 client_beside setup observed number beats other client differs of =
-    record { limits = of.limits; front = rw (eqb_other other number differs) of.front; dues = of.dues; owed = of.owed }
+    record { limits = of.limits; front = rw (ne_eqb other number differs) of.front; dues = of.dues; owed = of.owed }
 
 board_more : (setup : SetupLists) (observed : Observed) (board : Board) (number : ℕ) (client : ClientBoard) (beat : ABeat) → IsBoardOf setup observed board → slice_get board.clients number ≡ Some client
     → GoesOn (port_of setup.config number) (observed.begun number) beat (is_busy client.replies beat.source)
@@ -185,8 +186,8 @@ other_replies setup observed number beats message reply client source done diffe
     none_of false c not_it = refl
 
     is_other : (client ≢ number) ⊎ (source ≢ message.source) → is_of client source (request_of message) ≡ false
-    is_other (inl other) = rw (eqb_other message.client client (λ same. other (sym same ∙ done.client))) refl
-    is_other (inr other) = none_of (message.client == client) (message.source == source) (eqb_other message.source source (λ same. other (sym same)))
+    is_other (inl other) = rw (ne_eqb message.client client (λ same. other (sym same ∙ done.client))) refl
+    is_other (inr other) = none_of (message.client == client) (message.source == source) (ne_eqb message.source source (λ same. other (sym same)))
 
 right_whole : (setup : SetupLists) (observed : Observed) (number : ℕ) (beats : List ABeat) (message : HeldMessage) (reply : Reply) → IsCompleted setup observed number beats message reply
     → IsRightNow setup observed → IsRightNow setup (with_whole number beats observed)
@@ -259,7 +260,7 @@ client_aside : (setup : SetupLists) (observed : Observed) (number : ℕ) (beats 
 client_aside setup observed number beats message reply other client done differs of =
     record {
       limits = of.limits;
-      front = rw (eqb_other other number differs) of.front;
+      front = rw (ne_eqb other number differs) of.front;
       dues = of.dues;
       owed = λ source small. rw (other_replies setup observed number beats message reply other source done (inl differs)) (of.owed source small);
     }
