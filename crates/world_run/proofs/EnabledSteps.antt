@@ -84,10 +84,6 @@ none_kept {X = X} p (x ∷ xs) none = by_test (p x) none (none_kept p xs)
 
 -- ---- the answers that may come
 
-pub none_at_first : {X : Type 0} (xs : List X) → slice_get xs 0 ≡ None → length xs ≤ 0
-none_at_first [] none = omega arith
-none_at_first (x ∷ xs) none = absurd (cc (none))
-
 pub first_is_b : (memory : FreeMemory) (id : ℕ) → first_with_b memory ≡ Some id → Some (AnswerB id) ≡ slice_get (answers_enabled memory) 0
 first_is_b memory id is =
     sym (at_before AnswerB (ids_with_b memory) (map AnswerR (ids_with_r memory)) 0 id (first_kept (λ i. is_some (b_of memory i)) (range_with_len 0 16) ∙ is))
