@@ -157,6 +157,6 @@ impl BurstBox {
         requires room { length (w_beats_of self.old) < 256 }
         ensures { self.new ≡ with_w_beat beat self.old }
     {
-        self.beats.push(beat).unwrap();
+        self.beats.push_reserved(beat);
     }
 }

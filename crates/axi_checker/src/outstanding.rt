@@ -145,7 +145,7 @@ pub(crate) fn open_write(writes: &mut Vec<OpenWrite>, aw: AwBeat)
     ensures items { writes.new.items ≡ writes.old.items ++ record { aw = aw; came = 0 } ∷ [] }
     ensures capacity { vec_capacity writes.old ≤ vec_capacity writes.new }
 {
-    writes.push(OpenWrite { aw, came: 0 }).unwrap();
+    writes.push_reserved(OpenWrite { aw, came: 0 });
 }
 
 /// Appends a write all of whose data came, for which there is room.
@@ -155,7 +155,7 @@ pub(crate) fn open_whole_write(writes: &mut Vec<OpenWrite>, aw: AwBeat)
     ensures capacity { vec_capacity writes.old ≤ vec_capacity writes.new }
 {
     let came = u16::from(aw.len) + 1;
-    writes.push(OpenWrite { aw, came }).unwrap();
+    writes.push_reserved(OpenWrite { aw, came });
 }
 
 /// Appends a read, for which there is room.
@@ -164,7 +164,7 @@ pub(crate) fn open_read(reads: &mut Vec<OpenRead>, ar: ArBeat)
     ensures items { reads.new.items ≡ reads.old.items ++ record { ar = ar; came = 0 } ∷ [] }
     ensures capacity { vec_capacity reads.old ≤ vec_capacity reads.new }
 {
-    reads.push(OpenRead { ar, came: 0 }).unwrap();
+    reads.push_reserved(OpenRead { ar, came: 0 });
 }
 
 /// Counts a W beat of the oldest write that lacks data, which is at `place`.

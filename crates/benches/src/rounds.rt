@@ -38,20 +38,21 @@ pub(crate) fn drains(alloc: Global, load: Load) -> Option<u64> {
     in_turns(alloc, load, GET)
 }
 
-/// A Get of eight bytes from its offer until its reply, while the others are open.
-fn read_beside(world: &mut World, reply: &mut ReplyBox) -> bool {
-    made(world, reply, offer_of(0, GET));
+/// A Get of eight bytes of the page of this number, from its offer until its reply.
+fn read_page(world: &mut World, reply: &mut ReplyBox, page: u32) -> bool {
+    made(world, reply, offer_of(page, GET));
     world.drain();
-    made(world, reply, Step::Take(0))
+    made(world, reply, Step::Take((page % 8) as u8))
 }
 
-/// A Get from its offer until its reply, in a world of so many pages.
+/// Gets of the last page, each from its offer until its reply, in a world of so many pages.
 pub(crate) fn reads(alloc: Global, load: Load) -> Option<u64> {
     let mut reply = ReplyBox::new(alloc).ok()?;
     let mut world = world_of(alloc, load.size)?;
+    let last = load.size.min(64).saturating_sub(1);
     let mut replies = 0u64;
     for _ in 0..load.times {
-        replies = replies.wrapping_add(u64::from(read_beside(&mut world, &mut reply)));
+        replies = replies.wrapping_add(u64::from(read_page(&mut world, &mut reply, last)));
     }
     Some(replies)
 }

@@ -173,7 +173,7 @@ impl Bridge {
         requires { self.old.stock < boxes_of self.old.state.requests.config }
         ensures { self.new ≡ record self.old { stock = self.old.stock + 1 } }
     {
-        self.stock.push(burst).unwrap();
+        self.stock.push_reserved(burst);
     }
 
     /// How many boxes stand in stock.

@@ -213,7 +213,7 @@ fn push<T>(items: &mut Vec<T>, item: T)
     ensures len { vec_len items.new ≡ vec_len items.old + 1 }
     ensures capacity { vec_capacity items.old ≤ vec_capacity items.new }
 {
-    items.push(item).unwrap();
+    items.push_reserved(item);
 }
 
 /// The range on the AXI side of a request that its port took, with the way it is cut into bursts; none where it is corrupt

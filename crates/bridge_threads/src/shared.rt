@@ -121,7 +121,7 @@ impl Shared {
         }
         let answer = self.world.step(step, reply);
         if !leaves_all(answer) {
-            self.steps.push(*step).unwrap();
+            self.steps.push_reserved(*step);
         }
         Ok(answer)
     }

@@ -66,7 +66,7 @@ fn put(order: &mut Vec<Key>, key: Key)
     ensures items { order.new.items ≡ order.old.items ++ key ∷ [] }
     ensures capacity { vec_capacity order.old ≤ vec_capacity order.new }
 {
-    order.push(key).unwrap();
+    order.push_reserved(key);
 }
 
 /// The place of a key.

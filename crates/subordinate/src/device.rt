@@ -483,7 +483,7 @@ fn push<T>(items: &mut Vec<T>, item: T)
     ensures len { vec_len items.new ≡ vec_len items.old + 1 }
     ensures capacity { vec_capacity items.old ≤ vec_capacity items.new }
 {
-    items.push(item).unwrap();
+    items.push_reserved(item);
 }
 
 /// Performs a beat of a legal burst, and answers what became of it.

@@ -37,7 +37,7 @@ impl Receipts {
         if self.beats.capacity() - self.beats.len() < usize::from(reply.beats()) {
             return false;
         }
-        self.heads.push((number, reply.beats())).unwrap();
+        self.heads.push_reserved((number, reply.beats()));
         self.beats.extend_from_slice(reply.as_slice()).unwrap();
         true
     }

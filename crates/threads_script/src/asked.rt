@@ -182,7 +182,7 @@ impl Asked {
         ensures { TakesLine (asked_with self.old form.Mem words.now) self.new result }
     {
         let address = address_line(words)?;
-        self.addresses.push(address).unwrap();
+        self.addresses.push_reserved(address);
         self.part = Part::InAddresses;
         Ok(())
     }

@@ -42,6 +42,6 @@ pub(crate) fn push_to<T: Copy>(lists: &mut Vec<Vec<T>>, place: usize, most: usiz
     ensures room { HaveRoom most lists.new.items }
 {
     if let Some(list) = lists.get_mut(place) {
-        list.push(item).unwrap();
+        list.push_reserved(item);
     }
 }

@@ -67,7 +67,7 @@ impl ReplyBox {
         requires { length self.old < 512 }
         ensures { self.new ≡ self.old ++ beat ∷ [] }
     {
-        self.beats.push(beat).unwrap();
+        self.beats.push_reserved(beat);
     }
 
     /// Leaves no beats.

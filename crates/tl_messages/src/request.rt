@@ -163,7 +163,7 @@ impl Request {
             corrupt: beat.corrupt,
         };
         self.beats.clear();
-        self.beats.push(masked_word(beat)).unwrap();
+        self.beats.push_reserved(masked_word(beat));
     }
 
     /// Appends a beat to a message that carries data, and of which a beat is still to come.
@@ -173,7 +173,7 @@ impl Request {
         ensures { self.new ≡ with_beat self.old beat.now }
     {
         self.head.corrupt |= beat.corrupt;
-        self.beats.push(masked_word(beat)).unwrap();
+        self.beats.push_reserved(masked_word(beat));
     }
 
     /// Becomes equal to another request.

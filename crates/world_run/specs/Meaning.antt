@@ -3,6 +3,7 @@
 use Rattle.std.specs.Prelude.{ℕ, ◌^◌, Bool, true, false, List, [], ◌∷◌, map, replicate, Option, Some, None, if◌then◌else◌, unwrap_or}
 use Rattle.std.specs.List.{range_with_len}
 use Rattle.bus_words.specs.Lanes.{given_at}
+use Rattle.tl_messages.specs.Operations.{reply_has_data}
 use Rattle.tl_messages.specs.Requests.{WholeRequest}
 use Rattle.tl_messages.specs.declared.AtomicOp.{AtomicOp}
 use Rattle.tl_messages.specs.declared.Operation.{Operation}
@@ -56,17 +57,13 @@ abbrev pub atomic_bytes : AtomicOp → Bytes → ℕ → ℕ → List (Option �
 atomic_bytes op m address n operand =
     map Some (bytes_of n (atomic_result op n (value (bytes_at m address n)) (value (map (λ byte. unwrap_or byte 0) operand))))
 
--- an operation on 2^size bytes at an AXI address whose page stands as given; `bad` says whether the address's word is bad
+-- an operation on 2^size bytes at an AXI address whose page stands as given; `bad` says whether the address's word is bad. What a row above
+-- says of every page, no row below says again
 abbrev pub effect : Faults → WholeRequest → Bytes → ℕ → Operation → Standing → Bool → Effect
 effect faults q m address (Intent write) standing bad = record { reply = acknowledged; after = m }
-effect faults q m address PutFull IsAbsent bad = record { reply = denied; after = m }
-effect faults q m address PutPartial IsAbsent bad = record { reply = denied; after = m }
-effect faults q m address Get IsAbsent bad = record { reply = denied; after = m }
-effect faults q m address (Atomic op) IsAbsent bad = record { reply = denied; after = m }
-effect faults q m address PutFull IsSlaveError bad = record { reply = denied; after = m }
-effect faults q m address PutPartial IsSlaveError bad = record { reply = denied; after = m }
-effect faults q m address Get IsSlaveError bad = record { reply = no_byte_given (2 ^ q.size); after = m }
-effect faults q m address (Atomic op) IsSlaveError bad = record { reply = no_byte_given (2 ^ q.size); after = m }
+effect faults q m address operation IsAbsent bad = record { reply = denied; after = m }
+effect faults q m address operation IsSlaveError bad =
+    record { reply = if reply_has_data operation then no_byte_given (2 ^ q.size) else denied; after = m }
 effect faults q m address PutFull IsGood bad = record { reply = acknowledged; after = with_bytes m address q.bytes }
 effect faults q m address PutPartial IsGood bad = record { reply = acknowledged; after = with_bytes m address q.bytes }
 effect faults q m address Get IsGood bad =

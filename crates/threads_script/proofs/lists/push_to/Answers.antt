@@ -14,9 +14,9 @@ returns-in-Some-clause-items g c =
     let list = c.in-Some.list.now in
     let within : c.args.place < length lists = search rules in
     let there : slice_get lists c.args.place ≡ Some list = slice_get_read lists (length lists) c.args.place list refl within c.in-Some.ensures.item.1 in
-    let grown : c.push.new.self.items ≡ list.items ++ c.args.item ∷ [] = rw c.unwrap.ensures at c.push.ensures.items in
+    let grown : c.push_reserved.new.self.items ≡ list.items ++ c.args.item ∷ [] = c.push_reserved.ensures.items in
     let found : slice_get (items_of lists) c.args.place ≡ Some list.items = slice_get-map (λ xs. xs.items) lists c.args.place ∙ ap (option_map (λ xs. xs.items)) there in
-    map-set (λ xs. xs.items) lists c.args.place c.push.new.self ∙ ap (slice_set (items_of lists) c.args.place) grown
+    map-set (λ xs. xs.items) lists c.args.place c.push_reserved.new.self ∙ ap (slice_set (items_of lists) c.args.place) grown
     ∙ sym (ap (with_item (items_of lists) c.args.place c.args.item) found)
 
 pub returns-in-Some-clause-room : goal.returns-in-Some-clause-room
@@ -26,4 +26,4 @@ returns-in-Some-clause-room g c =
     let within : c.args.place < length lists = search rules in
     let there : slice_get lists c.args.place ≡ Some list = slice_get_read lists (length lists) c.args.place list refl within c.in-Some.ensures.item.1 in
     let room = c.requires.room c.args.place list there in
-    each_set (λ xs. c.args.most ≤ vec_capacity xs) c.args.lists.now.items c.args.place c.push.new.self c.requires.room (omega (arith, room, c.push.ensures.capacity))
+    each_set (λ xs. c.args.most ≤ vec_capacity xs) c.args.lists.now.items c.args.place c.push_reserved.new.self c.requires.room (omega (arith, room, c.push_reserved.ensures.capacity))

@@ -9,8 +9,8 @@ use Rattle.bridge_threads.proofs.shared.Shared.turn.Goals as goal
 pub invariant_of-self : goal.invariant_of-self
 invariant_of-self c =
     let changed : leaves_all (next c.self.inside.world c.args.step.now).answer ≡ false = cc (c.if-not-leaves_all.true, c.leaves_all.ensures, c.step-answer.ensures.answer) in (
-      rw (c.push.ensures.items, c.unwrap.ensures, c.step-answer.ensures.state)
+      rw (c.push_reserved.ensures.items, c.step-answer.ensures.state)
           (history_goes_on (opening_world (lists_of c.self.inside.setup)) c.self.inside.steps.items c.self.inside.world c.args.step.now c.self.invariant.0 changed),
-      grind (arith, common_steps, c.push.ensures.upper_bound, c.if-len-self.false, c.len.ensures),
-      omega (arith, c.push.ensures.capacity, c.self.invariant.2),
+      grind (arith, common_steps, c.push_reserved.ensures.len, c.if-len-self.false, c.len.ensures),
+      omega (arith, c.push_reserved.ensures.capacity, c.self.invariant.2),
     )
