@@ -35,6 +35,7 @@ Numbers are natural numbers without a bound, lists are lists, and `Option` is Ru
 | perform | what the memory does with a single beat: it stores the bytes of a write, or captures those of a read; the answer is a step of its own, later |
 | capture | keep a read beat's bytes and response, as they are when it is performed, until its R |
 | gather | collect what the memory's answers say of one reply |
+| outline | what a reply needs of its request: what was asked, by which source, and of which bytes |
 | carried out | of a request: all of its effect at once, reply and bytes, atomically, as `meaning` of world_run has it; of a script's line: what it asks for is done, and its text is written |
 | box, stock | a box has the room for one burst, or one reply, and is made once; those that the bridge holds are its stock |
 | serial | the number of a burst among all that were sent, reads and writes together, from 0 |
