@@ -1,6 +1,6 @@
 """Tries the pages: each guarantee of README names a call and a clause that the source has, each page that it names is there,
-each crate has a page, each example of the library stands in a test as it stands on its page, and the pages that are written by
-docs/definitions.py are up to date.
+each crate has a page, each example of the library stands in a test as it stands on its page, the pages that are written by
+docs/definitions.py are up to date, and docs/TRUSTED.md lists each definition that a clause of its statements names.
 
     python3 .ci/page_cases.py
 """
@@ -11,9 +11,10 @@ import sys
 from pathlib import Path
 
 TOP = Path(__file__).resolve().parent.parent
-sys.path[:0] = [str(TOP / "tests")]
+sys.path[:0] = [str(TOP / "tests"), str(TOP / "docs")]
 sys.dont_write_bytecode = True
 
+import definitions  # noqa: E402
 from shim import told  # noqa: E402
 
 NAMED = re.compile(r"`(\w+)::(\w+)`,\s+`(\w+)`")
@@ -21,17 +22,57 @@ PAGE = re.compile(r"`((?:docs|examples|crates)/[\w./-]+)`")
 # An example of the library, and the tests that have each as it stands.
 EXAMPLE = re.compile(r"(?ms)^```rust\n(.*?)^```$")
 TESTED = TOP / "crates/world_tests/src/tests/pages.rt"
+# A call that a statement is of, and a clause of a function's head.
+CALL = re.compile(r"`(\w+)::(?:\w+::)*(\w+)`")
+CLAUSE = re.compile(r"(?ms)^ *ensures (?:(\w+) )?{(.*?)}$")
+NAME = re.compile(r"(?:\b(\w+)\.)?([A-Za-z_]\w*)")
 # A guarantee of the list, from its dash to its end.
 GUARANTEE = re.compile(r"(?m)^- .*(?:\n  .*)*")
 
 
+def heads(crate, call):
+    """The head of each public function of that name, which ends before its body, with the text of its file."""
+    for file in (TOP / "crates" / crate / "src").rglob("*.rt"):
+        text = file.read_text()
+        for head in re.findall(rf"(?ms)^ *pub(?:\(crate\))? fn {call}\b.*?^ *{{$", text):
+            yield head, text
+
+
 def has_clause(crate, call, clause):
     """Whether a function of the crate has a clause of that name before its body."""
-    for file in (TOP / "crates" / crate / "src").rglob("*.rt"):
-        for head in re.findall(rf"(?ms)^ *pub(?:\(crate\))? fn {call}\b.*?^ *{{$", file.read_text()):
-            if re.search(rf"(?m)^ *ensures {clause} {{", head):
-                return True
-    return False
+    return any(re.search(rf"(?m)^ *ensures {clause} {{", head) for head, _ in heads(crate, call))
+
+
+def named_in(files, clause, text):
+    """The definitions that a clause names, by what its file brings in."""
+    named, modules = {}, {}
+    for line in re.findall(r"(?m)^ *ghost (use .*);$", text):
+        definitions.brought_in(line, named, modules)
+    for module, name in NAME.findall(clause):
+        place = (modules[module], name) if module in modules else named.get(name)
+        found = place and definitions.found_at(files, *place)
+        if isinstance(found, definitions.Definition):
+            yield found
+
+
+def rests_on(files, statement):
+    """Each definition that the clauses of a statement name: of a call those that are named with it, and one without a name."""
+    wanted = ["", *re.findall(r"`(\w+)`", statement)]
+    for crate, call in CALL.findall(statement):
+        for head, text in heads(crate, call):
+            for clause, body in CLAUSE.findall(head):
+                if clause in wanted:
+                    yield from named_in(files, body, text)
+
+
+def trusted():
+    listed = (TOP / "docs" / "TRUSTED.md").read_text()
+    files = dict(definitions.all_files())
+    for title, statement, _ in definitions.STATEMENTS:
+        rows = {(it.name, f"| `{it.name}` | `{it.crate}/specs/{it.file}.antt` |") for it in rests_on(files, statement)}
+        missing = sorted(name for name, row in rows if row not in listed)
+        why = f"TRUSTED.md lacks {', '.join(missing)}" if missing else None if rows else "its clauses name no definition"
+        yield f"what is trusted for: {title}", why
 
 
 def without_space(text):
@@ -65,6 +106,7 @@ def cases():
         lines = len(own.read_text().splitlines()) if own.exists() else 0
         yield f"the page of {crate.name}", None if 20 <= lines <= 60 else f"it has {lines} lines"
     yield from examples()
+    yield from trusted()
     written = subprocess.run([sys.executable, TOP / "docs" / "definitions.py", "--check"], capture_output=True, text=True)
     why = written.stdout.strip() or written.stderr.strip()[-200:]
     yield "the pages that docs/definitions.py writes", None if written.returncode == 0 else why

@@ -35,25 +35,51 @@ Numbers are natural numbers without a bound, lists are lists, and `Option` is Ru
 | perform | what the memory does with a single beat: it stores the bytes of a write, or captures those of a read; the answer is a step of its own, later |
 | capture | keep a read beat's bytes and response, as they are when it is performed, until its R |
 | gather | collect what the memory's answers say of one reply |
+| outline | what a reply needs of its request: what was asked, by which source, and of which bytes |
 | carried out | of a request: all of its effect at once, reply and bytes, atomically, as `meaning` of world_run has it; of a script's line: what it asks for is done, and its text is written |
 | box, stock | a box has the room for one burst, or one reply, and is made once; those that the bridge holds are its stock |
 | serial | the number of a burst among all that were sent, reads and writes together, from 0 |
+| set-up, world, step | a set-up has the limits of the bridge, its regions, and the memory's pages and bad words; a world is a bridge and a memory that were made of one; a step, or event, is one thing that happens to a world |
+| region, page map | a region leads TileLink pages to as many AXI pages, for the operations that it permits; a page map is a list of regions |
+| plan, piece | a plan says as which bursts a request goes to the memory; a piece is one of these bursts |
+| outstanding, open, unanswered | of a burst: it was sent, and its B or its last R hasn't come; it is *owed* these answers |
+| side | reads, or writes, where the two are counted apart |
+| conflict, hold back | two requests conflict where they share a byte of AXI addresses and at least one is no Get; the earlier one then holds the later one back until it is done |
+| ready | of a request: its next burst may be sent now |
+| work | how many steps bridge and memory have left to make: bursts to send, beats to perform, answers to come |
+| due | of a reply, for the scoreboard: its request was accepted, and its whole reply wasn't observed |
+| word | the eight bytes of a payload, or those at an address that is a multiple of eight; in a script what stands between spaces; in `threads` also a number by which a memory thread chooses its next step |
+| worker, turn, gate | a worker is a client's thread or a memory thread; a turn is what it does while it holds the lock once; a gate is what a caller of `run_threads` gives, to hold workers up or let them pass |
+| history, receipt, report | a history is the steps that changed a world, in order; a receipt is a reply as a client's thread got it; a report is a history with the receipts that it gives |
+| handle | what a program needs to start threads or to wait, in Rattle; what has none can do neither |
+| worked value, worked row | an example whose result comes from outside, as from a standard |
 """
 
 TRUSTED_HEAD = """# What the statements rest on
 
 Whoever trusts a statement trusts that its definitions mean what they are taken for. This page lists, for each of the statements
-that a user relies on, the definitions that it reaches: the statement first, then what it names, then what these name, each
-once. What a later statement shares with one before it isn't listed again. Nothing else of the repository has to be read: the
-code, its contracts and the proofs are held to these by the prover. This page is written by `docs/definitions.py`.
+that a user relies on, the definitions that it reaches: those that its clauses name, then what these name, and so on, each once.
+What a later statement shares with one before it isn't listed again. Beside them read the clauses themselves, which stand above
+the call's body in `crates/NAME/src`: they say which values of a call go into the definitions. None of these calls has a condition.
+A value with private parts is its model in a clause, as ARCHITECTURE.md says. The rest, which is the bodies, all other contracts
+and the proofs, is held to these by the prover. This page is written by `docs/definitions.py`.
 
-Lines are counted without comments. Rust's own types that are reached stand at each statement's end; a plain struct or enum is its
-fields in a contract, and a type with private fields its model (ARCHITECTURE.md).
+Lines are counted without comments. The Rust types that are reached stand at each statement's end.
 """
 
 # The statements: what each is of, its words, and the definitions that its clauses name, as crate, file and name.
 STATEMENTS = (
-    ("The main theorem", "`world_run::run`, clause `one_at_a_time`.", (("world_run", "Headline", "IsOneAtATime"),)),
+    (
+        "The main theorem",
+        "`world_run::run`, clause `one_at_a_time`.",
+        (
+            ("world_run", "Headline", "IsOneAtATime"),
+            ("world_run", "Setups", "lists_of"),
+            ("world_run", "Runs", "handed_of"),
+            ("world_run", "World", "in_flight"),
+            ("world_run", "World", "byte_of"),
+        ),
+    ),
     ("What a run's record is", "`world_run::run`, clause `shows`.", (("world_run", "Runs", "IsRunOf"),)),
     ("What `drain` does", "`world_run::World::drain`, clause `drains`.", (("world_run", "Laws", "IsDrained"),)),
     (
@@ -72,6 +98,7 @@ STATEMENTS = (
         "`bridge_threads::run_threads`, clauses `report`, `one_at_a_time`, `refused`, `full` and `beat`.",
         (
             ("thread_reports", "Reports", "IsReport"),
+            ("thread_reports", "Reports", "items_of"),
             ("thread_reports", "Refusals", "is_refused"),
             ("thread_reports", "FullHistories", "IsFullHistory"),
             ("bridge_threads", "RefusedBeats", "IsRefusedBeat"),
