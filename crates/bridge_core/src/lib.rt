@@ -41,7 +41,7 @@ pub struct Config {
 /// Why there is no bridge.
 #[derive(Clone, Copy, Debug, PartialEq, Eq)]
 pub enum BridgeFault {
-    /// A limit isn't in its range.
+    /// A limit of the configuration isn't in its range (`Config` has the ranges).
     BadConfig,
     /// Memory was refused.
     NoMemory,

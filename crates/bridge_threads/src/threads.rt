@@ -504,7 +504,10 @@ fn met_full_history(faults: &[Option<WorkerFault>]) -> bool {
 }
 
 /// Runs a set-up in threads: one for each client, which offers its script and takes its replies, and one for each list of
-/// words, which makes the choices of bridge and memory by these words, over and over.
+/// words, 1 to 4, which makes the choices of bridge and memory by these words, over and over. Each thread asks the gate
+/// before each of its turns, so that a caller can hold it up, or end the run.
+///
+/// Where there is no report, `Fault` says why.
 pub fn run_threads<R: Threads + Wait + Sync, G: Gate + Sync>(
     rt: &R,
     alloc: Global,

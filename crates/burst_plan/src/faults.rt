@@ -52,7 +52,7 @@ fn fault_of_region(earlier: &[Region], i: u32, region: &Region) -> Option<MapFau
     None
 }
 
-/// Why these regions make no page map, but for want of memory; none where they make one. Of several faults it is that
+/// Why these regions make no page map, but where allocation fails; none where they make one. Of several faults it is that
 /// of the first region, and there that of the first rule: the region has pages, they are in range, and none of its
 /// TileLink pages is an earlier region's.
 pub fn region_fault(regions: &[Region]) -> Option<MapFault>

@@ -1,5 +1,5 @@
 //! One live request.
-ghost use Rattle.std.specs.Prelude.{◌≡◌, ◌↔◌, ◌&&◌, ◌+◌, ◌<◌, ◌≤◌, IfSome, IsTrue, Some, drop, if◌then◌else◌, is_some, length, slice_get, sum_by};
+ghost use Rattle.std.specs.Prelude.{◌≡◌, ℕ, ◌↔◌, ◌&&◌, ◌+◌, ◌-◌, ◌*◌, ◌<◌, ◌≤◌, IfSome, IsTrue, Some, drop, if◌then◌else◌, is_some, length, slice_get, sum_by};
 ghost use Rattle.flight_table.specs.LiveRequests.{awaits_write, finished, flight_for, is_atomic, is_settled, next_burst, pieces_planned, plan_for, planned, read_pieces, unanswered, with_answered, with_sent, with_write, write_pieces};
 ghost use Rattle.flight_table.specs.Inside.{is_open};
 ghost use Rattle.std.specs.List.{AllByRecursion};
@@ -9,9 +9,19 @@ ghost use Rattle.flight_table.specs.Spans.{span_of};
 ghost use Rattle.flight_table.specs.Work.{answers_of_burst, beats_of_burst, later_work, unsent_work, work_of};
 
 use crate::spans::Span;
+use crate::sums::Works;
 use burst_plan::{Piece, Plan};
 use std::marker::Model;
 use tl_messages::{Operation, Request};
+
+/// What a request's work is reckoned by: how many bursts its phase has, the beats of each with the answers to it, and the work
+/// of a write that isn't planned yet.
+#[derive(Drop)]
+struct Shape {
+    count: u64,
+    each: u64,
+    later: u64,
+}
 
 /// A live request: whose it is, what it sends, and how far it has come. It reads, as a Get and at first an atomic do, or
 /// writes, as a Put and then an atomic do; so many bursts of this phase were sent and answered; or it is done.
@@ -319,41 +329,42 @@ impl LiveRequest {
         self.writes()
     }
 
-    /// The bursts to send and the beats and answers to come, where so many bursts of the phase were sent and so many
-    /// answered; the write of an atomic counts from the start.
-    fn work_after(&self, sent: u32, answered: u32) -> u64
-        ensures work { result ≡ length (drop sent (planned self.now)) + sum_by beats_of_burst (drop answered (planned self.now))
+    /// What its work is reckoned by. Where so many bursts of the phase were sent and so many answered, the bursts to send and
+    /// the beats and answers to come are as said here; the write of an atomic counts from the start.
+    fn shape(&self) -> Shape
+        ensures work { (sent answered : ℕ) → result.count - sent + (result.count - answered) * result.each + result.later
+            ≡ length (drop sent (planned self.now)) + sum_by beats_of_burst (drop answered (planned self.now))
             + sum_by answers_of_burst (drop answered (planned self.now)) + later_work self.now }
-        ensures bound { result ≤ 100000000 }
+        ensures count { result.count < 65536 }
+        ensures each { result.each ≤ 512 }
+        ensures later { result.later ≤ 65536 * 258 }
     {
         let beats = self.piece_beats();
         let answers = if self.writing { 1 } else { beats };
-        let count = self.planned();
-        let unsent = u64::from(count.saturating_sub(sent));
-        let unanswered = u64::from(count.saturating_sub(answered));
-        unsent + unanswered * (beats + answers) + u64::from(self.later()) * (beats + 2)
+        Shape {
+            count: u64::from(self.planned()),
+            each: beats + answers,
+            later: u64::from(self.later()) * (beats + 2),
+        }
     }
 
     /// The bursts to send, beats to perform and answers to come, as though no beat of an unanswered burst was performed or
-    /// answered.
-    pub(crate) fn work(&self) -> u64
-        ensures work { result ≡ work_of self.now }
-        ensures bound { result ≤ 100000000 }
+    /// answered; and of that the work of the bursts that aren't sent.
+    pub(crate) fn works(&self) -> Works
+        ensures work { result.work ≡ work_of self.now }
+        ensures unsent { result.unsent ≡ unsent_work self.now }
+        ensures most_work { result.work ≤ 100000000 }
+        ensures most_unsent { result.unsent ≤ 100000000 }
     {
         if self.done {
-            return 0;
+            return Works { work: 0, unsent: 0 };
         }
-        self.work_after(self.sent, self.answered)
-    }
-
-    /// The work of the bursts that aren't sent.
-    pub(crate) fn unsent_work(&self) -> u64
-        ensures work { result ≡ unsent_work self.now }
-        ensures bound { result ≤ 100000000 }
-    {
-        if self.done {
-            return 0;
+        let shape = self.shape();
+        let unsent = shape.count.saturating_sub(u64::from(self.sent));
+        let unanswered = shape.count.saturating_sub(u64::from(self.answered));
+        Works {
+            work: unsent + unanswered * shape.each + shape.later,
+            unsent: unsent + unsent * shape.each + shape.later,
         }
-        self.work_after(self.sent, self.sent)
     }
 }

@@ -4,6 +4,13 @@ ghost use Rattle.flight_table.specs.Sums.{ArePart, AreSmall, IsSmall, no_sums, w
 
 use crate::request::LiveRequest;
 
+/// The work of a request, and of that the work of its unsent bursts.
+#[derive(Clone, Copy)]
+pub(crate) struct Works {
+    pub(crate) work: u64,
+    pub(crate) unsent: u64,
+}
+
 /// How many requests aren't done, their work, and the work of their unsent bursts.
 #[derive(Clone, Copy)]
 pub(crate) struct Sums {
@@ -30,10 +37,11 @@ impl Sums {
         ensures sums { result ≡ with_sums request.now self }
         ensures small { IsSmall request.now }
     {
+        let works = request.works();
         Sums {
             undone: self.undone + u64::from(!request.done),
-            work: self.work + request.work(),
-            unsent: self.unsent + request.unsent_work(),
+            work: self.work + works.work,
+            unsent: self.unsent + works.unsent,
         }
     }
 
@@ -42,10 +50,11 @@ impl Sums {
         requires { ArePart request.now self }
         ensures { with_sums request.now result ≡ self }
     {
+        let works = request.works();
         Sums {
             undone: self.undone - u64::from(!request.done),
-            work: self.work - request.work(),
-            unsent: self.unsent - request.unsent_work(),
+            work: self.work - works.work,
+            unsent: self.unsent - works.unsent,
         }
     }
 }

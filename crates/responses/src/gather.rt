@@ -201,8 +201,8 @@ impl Gather {
     ghost use Rattle.responses.specs.RightReplies.{ShowsReply};
     ghost use Rattle.responses.specs.Shown.{shown};
 
-    /// For a bus of `bus_bytes` bytes, 4 or 8, as after the start of a denied Put of one byte at address 0, source 0; with
-    /// the room for any reply.
+    /// For a bus of `bus_bytes` bytes, 4 or 8, with the room for any reply. Until `start` it stands as though begun with a
+    /// denied Put of one byte at address 0 of source 0.
     ///
     /// The one error is that memory was refused.
     pub fn new(alloc: Global, bus_bytes: u8) -> Result<Self, AllocError>

@@ -64,7 +64,7 @@ pub enum Wrong {
     NoClient,
     /// A beat on channel A breaks this rule.
     Request(TlRule),
-    /// A beat on channel D isn't the one that is due, which is told where there is one.
+    /// A beat on channel D breaks this rule; with it the beat that was due, where one was.
     Reply(ReplyRule, Option<DBeat>),
     /// A beat of the AXI4 port breaks this rule.
     Axi(AxiRule),

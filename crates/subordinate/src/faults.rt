@@ -9,7 +9,7 @@ use crate::{DeviceFault, PageKind};
 /// The highest page number: addresses have 32 bits, and pages 4,096 bytes.
 const LAST_PAGE: u32 = 1_048_575;
 
-/// Why `Device::new` refuses these pages and bad words, want of memory aside: the first rule broken, pages before words.
+/// Why `Device::new` refuses these pages and bad words, but where allocation fails: the first rule broken, pages before words.
 /// Each list has at most 64 entries.
 pub fn device_fault(pages: &[(u32, PageKind)], bad: &[u32]) -> Option<DeviceFault>
     requires pages { length pages.now ≤ 64 }

@@ -29,7 +29,7 @@ const MOST_THREADS: usize = 4;
 /// The most words of a memory thread, and the most addresses: as many as a script has lines.
 const MOST_LINES: usize = 65_536;
 
-/// Which lines may follow.
+/// How far a script of threads was read, which says which lines may follow.
 #[derive(Clone, Copy, Debug, PartialEq, Eq)]
 pub enum Part {
     /// Set-up lines, or any that come later.
@@ -230,7 +230,7 @@ impl Asked {
         self.setup.as_ref()
     }
 
-    /// The script of each of so many clients, by number.
+    /// The beats that each of so many clients offers, in order, by the client's number.
     pub fn scripts(&self, clients: u8) -> &[Vec<ABeat>]
         requires { clients ≤ 8 }
         ensures items { items_of result.now ≡ take clients self.now.scripts }

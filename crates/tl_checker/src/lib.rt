@@ -38,7 +38,7 @@ pub enum TlRule {
     Mask,
     /// A Get or an Intent is corrupt.
     Corrupt,
-    /// The source has a request in flight.
+    /// The source has a live request: one that was accepted and whose reply wasn't handed out.
     SourceBusy,
     /// A later beat's control fields aren't the first beat's.
     BurstControl,

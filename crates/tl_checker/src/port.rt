@@ -94,8 +94,8 @@ impl Port {
         }
     }
 
-    /// Takes a beat, on a port on which no whole request stands; `busy` says whether its source has a request in flight,
-    /// which is asked of a first beat alone. The answer is `Whole` where the beats since the last request now spell one, and
+    /// Takes a beat, on a port on which no whole request stands; `busy` says whether its source has a live request, which is
+    /// asked of a first beat alone. The answer is `Whole` where the beats since the last request now spell one, and
     /// `More` where they begin a spelling.
     ///
     /// The refusal is the first rule that the beat breaks: of 1 to 9 a first beat, of 10 and 7, in this order, a later one.

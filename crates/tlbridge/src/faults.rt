@@ -55,7 +55,7 @@ impl From<ScriptFault> for TextFault {
 }
 
 /// The exit status of a text call's result: 0 where all went well, 1 where `check` refused something, 2 for a fault of
-/// the script or its set-up, 3 for one of the reader or writer, 4 for want of memory, 5 for a fault of the threads.
+/// the script or its set-up, 3 for one of the reader or writer, 4 where allocation failed, 5 for a fault of the threads.
 pub fn status_of(ending: &Result<bool, TextFault>) -> u8
     ensures { result ≡ status_of ending.now }
 {

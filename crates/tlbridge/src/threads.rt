@@ -34,7 +34,7 @@ impl Gate for OpenGate {
     }
 }
 
-/// A fault of the threads; want of memory is told as such.
+/// A fault of the threads; failed allocation is told as such.
 fn run_fault(fault: Fault) -> TextFault
     requires { fault ≢ Fault.BadConfig }
     ensures told { result ≡ run_fault fault }

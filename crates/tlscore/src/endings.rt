@@ -34,7 +34,7 @@ pub(crate) fn scored<R: Read, W: Write + Drop>(
 }
 
 /// The exit status of a result: 0 where nothing is wrong, 1 where something is, 2 for a fault of the input or its set-up, 3
-/// for one of the reader or writer, 4 for want of memory.
+/// for one of the reader or writer, 4 where allocation failed.
 pub(crate) fn status_of(ending: &Result<bool, ScriptFault>) -> u8
     ensures { result ≡ status_of ending.now }
 {

@@ -73,7 +73,8 @@ pub enum Answer {
     More,
     /// Offer: the request is whole, and accepted with this number.
     Accepted(u64),
-    /// Offer: the beat isn't taken now.
+    /// Offer: the beat breaks no rule, but would complete a request while its client has as many live requests as it may
+    /// have. It may be offered again.
     NotReady,
     /// Offer: all numbers are used up.
     Exhausted,
@@ -95,7 +96,7 @@ pub enum Answer {
     B(BBeat),
     /// AnswerR: this beat came.
     R(RBeat),
-    /// AnswerB, AnswerR, Take: there is none.
+    /// AnswerB, AnswerR: no beat of this ID may be given now. Take: no request of this client is done.
     Nothing,
     /// Take: the reply to the request of this number was handed out.
     Reply(u64),

@@ -25,7 +25,7 @@ impl Setup {
     }
 }
 
-/// Why a set-up is refused, but for want of memory; none where it isn't. Of several faults it is the first: of the
+/// Why a set-up is refused, but where allocation fails; none where it isn't. Of several faults it is the first: of the
 /// limits, then of the regions, then of the pages and bad words (this project's profile).
 pub fn setup_fault(setup: &Setup) -> Option<SetupFault>
     ensures { result ≡ setup_fault (lists_of setup.now) }

@@ -146,7 +146,7 @@ impl World {
         }
     }
 
-    /// One event: the next state and the answer are those of the definition, and the box changes with a reply alone.
+    /// One event: the next state and the answer are those that `next` defines, and the box changes with a reply alone.
     pub fn step(&mut self, step: &Step, reply: &mut ReplyBox) -> Answer
         ensures answer { result ≡ (next self.old step.now).answer }
         ensures state { self.new ≡ (next self.old step.now).state }

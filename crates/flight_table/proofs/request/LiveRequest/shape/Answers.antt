@@ -1,0 +1,20 @@
+use Rattle.std.proofs.Common.{◌≡◌, ◌∙◌, ap, sym}
+use Rattle.std.specs.Prelude.{if◌then◌else◌}
+use Rattle.flight_table.specs.LiveRequests.{LiveRequest}
+use Rattle.flight_table.proofs.PhaseLaws.{work_is}
+use Rattle.flight_table.proofs.request.LiveRequest.shape.Goals as goal
+use Rattle.flight_table.proofs.request.LiveRequest.shape.Goals.{then-self, else-self}
+
+answers_are : (c : goal.After-from-2) → c.if-self.answers ≡ (if c.args.self.now.writing then 1 else c.piece_beats-beats.result)
+answers_are c =
+    let same = ap (λ (r : LiveRequest). r.writing) (sym c.self.view_is) in
+    elim c.if-self.branch [
+      | then-self w ↦ rw (same ∙ w.if-self.true) w.answers-is
+      | else-self w ↦ rw (same ∙ w.if-self.false) w.answers-is
+    ]
+
+pub returns-clause-work : goal.returns-clause-work
+returns-clause-work c = λ sent answered.
+    rw (c.from.ensures, c.from-2.ensures)
+    (work_is c.args.self.now c.planned.result c.piece_beats-beats.result c.if-self.answers sent answered c.later.result c.planned.ensures.count c.piece_beats-beats.ensures.count
+    (answers_are c) c.later.ensures.count)
