@@ -127,6 +127,15 @@ impl Live {
         self.slots.get(key)
     }
 
+    /// The place of the request of this number, where none between it and the first was taken out. What is found doesn't rest
+    /// on it.
+    fn guess(&self, number: u64) -> usize {
+        match self.spans.first() {
+            Some(first) => number.saturating_sub(first.number) as usize,
+            None => 0,
+        }
+    }
+
     /// Puts a request in the place of that of a key, of which it is what sending and answering make.
     pub(crate) fn set(&mut self, key: Key, request: LiveRequest)
         requires progress { IsSomeAnd (request_in key self.old.entries) (λ old. IsProgress old request) }
@@ -134,8 +143,9 @@ impl Live {
         ensures table { self.new ≡ with_entries (change_first (has_key key) (change_entry (λ r. request)) self.old.entries) self.old }
         ensures keys { HaveOwnKeys self.new.entries }
     {
-        let place = self.slots.place_of(key);
         let old = self.slots.get(key);
+        let guess = self.guess(old.number);
+        let place = self.slots.place_of(key, guess);
         let able = request.is_open(self.limits.depth);
         self.able.put(place, able);
         self.named.put(place, request.is_named(able));
@@ -150,8 +160,9 @@ impl Live {
         ensures table { self.new ≡ with_entries (change_first (has_key key) (change_entry finished) self.old.entries) self.old }
         ensures keys { HaveOwnKeys self.new.entries }
     {
-        let place = self.slots.place_of(key);
         let request = self.slots.get(key);
+        let guess = self.guess(request.number);
+        let place = self.slots.place_of(key, guess);
         let done = request.finished();
         self.able.put(place, false);
         self.named.put(place, false);
@@ -177,8 +188,9 @@ impl Live {
         ensures table { self.new ≡ with_entries (without_first (has_key key) self.old.entries) self.old }
         ensures keys { HaveOwnKeys self.new.entries }
     {
-        let place = self.slots.place_of(key);
         let request = self.slots.get(key);
+        let guess = self.guess(request.number);
+        let place = self.slots.place_of(key, guess);
         self.sums = self.sums.without(&request);
         self.able.remove(place);
         self.named.remove(place);
@@ -186,7 +198,7 @@ impl Live {
         self.unheld.remove(place);
         self.rows.remove(place);
         self.spans.remove(place);
-        self.slots.remove(key);
+        self.slots.remove(key, place);
         self.clients.remove(request.client, key);
     }
 
@@ -210,7 +222,8 @@ impl Live {
         requires { IsSome (request_in key self.now.entries) }
         ensures { IfSome (request_in key self.now.entries) (λ request. result ≡ length (filter (holds_back request) (requests_of self.now.entries))) }
     {
-        self.holders[self.slots.place_of(key)]
+        let guess = self.guess(self.slots.get(key).number);
+        self.holders[self.slots.place_of(key, guess)]
     }
 
     /// Whether a live request of a client has this source.

@@ -4,7 +4,7 @@ ghost use Rattle.flight_table.specs.LiveRequests.{LiveRequest};
 ghost use Rattle.std.specs.Vec.{vec_len, vec_capacity};
 ghost use Rattle.bus_words.specs.Places.{change_first, without_first};
 ghost use Rattle.flight_table.specs.Tables.{change_entry, has_key, has_number, key_in, request_in, requests_of};
-ghost use Rattle.flight_table.specs.Laws.{HaveOwnKeys};
+ghost use Rattle.flight_table.specs.Laws.{AreDistinct, HaveOwnKeys};
 
 use crate::request::LiveRequest;
 use crate::scans::{key_at, of_number, stored};
@@ -76,13 +76,25 @@ fn place_of(order: &[Key], key: Key) -> Option<usize>
     order.iter().position(|k| *k == key)
 }
 
-/// Takes the first key that is this one out.
-fn take_out(order: &mut Vec<Key>, key: Key)
-    requires { IsSome (position (λ k. k == key) order.old.items) }
+/// The place of a key, of which no two are the same; where it stands at `guess`, no other place is looked at.
+fn place_from(order: &[Key], key: Key, guess: usize) -> Option<usize>
+    requires { AreDistinct order.now }
+    ensures { result ≡ position (λ k. k == key) order.now }
+{
+    if guess < order.len() && order[guess] == key {
+        return Some(guess);
+    }
+    place_of(order, key)
+}
+
+/// Takes the first key that is this one out; no two are the same.
+fn take_out(order: &mut Vec<Key>, key: Key, guess: usize)
+    requires there { IsSome (position (λ k. k == key) order.old.items) }
+    requires distinct { AreDistinct order.old.items }
     ensures items { order.new.items ≡ without_first (λ k. k == key) order.old.items }
     ensures capacity { vec_capacity order.new ≡ vec_capacity order.old }
 {
-    let place = place_of(order, key).unwrap();
+    let place = place_from(order, key, guess).unwrap();
     order.remove(place);
 }
 
@@ -135,13 +147,13 @@ impl Slots {
         self.requests[key.slot] = request;
     }
 
-    /// The place of a key in the order of acceptance.
-    pub(crate) fn place_of(&self, key: Key) -> usize
+    /// The place of a key in the order of acceptance; where it stands at `guess`, no other place is looked at.
+    pub(crate) fn place_of(&self, key: Key, guess: usize) -> usize
         requires { IsSome (request_in key self.now) }
         ensures place { position (has_key key) self.now ≡ Some result }
         ensures within { result < length (requests_of self.now) }
     {
-        place_of(&self.order, key).unwrap()
+        place_from(&self.order, key, guess).unwrap()
     }
 
     /// The request at a place.
@@ -161,13 +173,13 @@ impl Slots {
         key_at(&self.order, place)
     }
 
-    /// Takes the request of a key out.
-    pub(crate) fn remove(&mut self, key: Key)
+    /// Takes the request of a key out; where it stands at `guess`, no other place is looked at.
+    pub(crate) fn remove(&mut self, key: Key, guess: usize)
         requires { IsSome (request_in key self.old) }
         ensures entries { self.new ≡ without_first (has_key key) self.old }
         ensures keys { HaveOwnKeys self.new }
     {
-        take_out(&mut self.order, key);
+        take_out(&mut self.order, key, guess);
         self.requests.try_remove(key.slot);
     }
 

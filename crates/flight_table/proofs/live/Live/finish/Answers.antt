@@ -32,7 +32,7 @@ pub rename-requires : goal.rename-requires
 rename-requires c =
     let i = c.self.inside in
     let r = c.get-request.result in
-    rw (c.self.invariant.2, length_holders i.limits.ids i.slots, ap (λ (q : LiveRequest). q.id) c.request.view_is)
+    rw (c.self.invariant.2, length_holders i.limits.ids i.slots, ap (λ (q : LiveRequest). q.id) c.request-2.view_is)
     (gives_back i.limits.ids (requests_of i.slots) r.id
     (named_with c.args.key i.slots r (λ old. IfSome old.id (HasOneHolder i.limits.ids (requests_of i.slots))) c.get-request.ensures.request (rw (← c.self.view_is) at c.requires)))
 
@@ -50,12 +50,12 @@ pub finish-requires-clause-client : goal.finish-requires-clause-client
 finish-requires-clause-client c =
     let i = c.self.inside in
     let r = c.get-request.result in
-    is_kept 8 _ r.client i.slots i.clients c.self.invariant.4 (ap (λ (q : LiveRequest). q.client) c.request.view_is) (request_listed (λ q. q.client < 8) c.args.key i.slots r c.self.invariant.4.few c.get-request.ensures.request)
+    is_kept 8 _ r.client i.slots i.clients c.self.invariant.4 (ap (λ (q : LiveRequest). q.client) c.request-2.view_is) (request_listed (λ q. q.client < 8) c.args.key i.slots r c.self.invariant.4.few c.get-request.ensures.request)
 
 pub finish-requires-clause-there : goal.finish-requires-clause-there
 finish-requires-clause-there c =
     let i = c.self.inside in
-    is_listed 8 _ c.args.key i.slots i.clients c.get-request.result c.self.invariant.4 c.get-request.ensures.request (ap (λ (q : LiveRequest). q.client) c.request.view_is)
+    is_listed 8 _ c.args.key i.slots i.clients c.get-request.result c.self.invariant.4 c.get-request.ensures.request (ap (λ (q : LiveRequest). q.client) c.request-2.view_is)
 
 pub invariant_of-self : goal.invariant_of-self
 invariant_of-self c =
@@ -73,7 +73,7 @@ invariant_of-self c =
       rw (after, c.finished-done.ensures, c.put.ensures, c.put-2.ensures, c.lower.ensures.unheld)
           (kept_finish i.limits.depth (requests_of i.slots) place r i.able i.named i.holders.items i.unheld c.self.invariant.0 at.within (at.there r) c.lower.new.holders.items (c.lower.ensures.holders ∙ less)),
       room,
-      rw (c.rename.ensures, c.self.invariant.2, c.set.ensures.entries, ap (λ (q : LiveRequest). q.id) c.request.view_is)
+      rw (c.rename.ensures, c.self.invariant.2, c.set.ensures.entries, ap (λ (q : LiveRequest). q.id) c.request-2.view_is)
           (sym (ids_finish i.limits.ids c.args.key place i.slots r c.finished-done.result r.id c.get-request.ensures.request at refl (ap (λ (q : LiveRequest). q.id) c.finished-done.ensures) one)),
       rw after
           (record {
@@ -82,7 +82,7 @@ invariant_of-self c =
             few = omega (arith, c.self.invariant.3.few, length-set (requests_of i.slots) place c.finished-done.result);
           }),
       kept_finished 8 _ i.slots c.set.new.self i.clients c.finish.new.self c.args.key r c.finished-done.result c.self.invariant.4 c.get-request.ensures.request
-          (request_listed (λ q. q.client < 8) c.args.key i.slots r c.self.invariant.4.few c.get-request.ensures.request) (ap (λ (q : LiveRequest). q.client) c.request.view_is) c.finished-done.ensures c.set.ensures.entries
+          (request_listed (λ q. q.client < 8) c.args.key i.slots r c.self.invariant.4.few c.get-request.ensures.request) (ap (λ (q : LiveRequest). q.client) c.request-2.view_is) c.finished-done.ensures c.set.ensures.entries
           c.finish.ensures,
       rw after (rows_set (requests_of i.slots) place r c.finished-done.result i.rows c.self.invariant.5 (at.there r) (ap (λ (q : LiveRequest). q.plan) c.finished-done.ensures) c.page.ensures.range),
       rw (after, c.span-2.ensures, c.self.invariant.6) (sym (map-set span_of (requests_of i.slots) place c.finished-done.result)),

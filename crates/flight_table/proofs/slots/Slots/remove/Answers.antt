@@ -5,8 +5,11 @@ use Rattle.flight_table.specs.Tables.{request_in}
 use Rattle.flight_table.proofs.Index.{distinct-without, entries-remove, index-remove, key_placed, keys_of, length-without}
 use Rattle.flight_table.proofs.slots.Slots.remove.Goals as goal
 
-pub take_out-requires : goal.take_out-requires
-take_out-requires c = key_placed c.self.inside.requests c.args.key c.self.inside.order.items (rw c.self.view_is c.requires)
+pub take_out-requires-clause-there : goal.take_out-requires-clause-there
+take_out-requires-clause-there c = key_placed c.self.inside.requests c.args.key c.self.inside.order.items (rw c.self.view_is c.requires)
+
+pub take_out-requires-clause-distinct : goal.take_out-requires-clause-distinct
+take_out-requires-clause-distinct c = c.self.invariant.0.distinct
 
 pub invariant_of-self : goal.invariant_of-self
 invariant_of-self c =
