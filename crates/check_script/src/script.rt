@@ -9,10 +9,10 @@ ghost use Rattle.check_script.specs.ClientPorts.{check_text, table_after, verdic
 use crate::client_ports::{ClientPorts, Verdict};
 use crate::lines::{CheckCommand, check_command};
 use script_text::{
-    Form, Kind, ScriptFault, StagedScript, Words, a_line, read_script, refused_line, write_text,
+    Form, Kind, ScriptFault, StagedScript, Words, WriteFault, a_line, read_script, refused_line,
+    write_text,
 };
 use std::alloc::Global;
-use std::io;
 use std::io::{Read, Write};
 use world_run::{Setup, SetupFault};
 
@@ -21,7 +21,7 @@ use world_run::{Setup, SetupFault};
 struct CheckScript;
 
 /// Writes the line of a verdict.
-fn verdict_line<W: Write>(verdict: Verdict, writer: &mut W) -> io::Result<()>
+fn verdict_line<W: Write>(verdict: Verdict, writer: &mut W) -> Result<(), WriteFault>
     ensures { OnOk result (Appends (W.contents writer.old) (W.contents writer.new) (verdict_text verdict)) }
 {
     match verdict {
@@ -39,7 +39,7 @@ fn judge<W: Write>(
     ports: &mut ClientPorts,
     command: &CheckCommand,
     writer: &mut W,
-) -> io::Result<()>
+) -> Result<(), WriteFault>
     ensures text { OnOk result (Appends (W.contents writer.old) (W.contents writer.new) (check_text ports.old command.now)) }
     ensures state { OnOk result (ports.new ≡ table_after ports.old command.now) }
 {
@@ -87,12 +87,12 @@ impl Kind for CheckScript {
         ports: &mut ClientPorts,
         command: &CheckCommand,
         writer: &mut W,
-    ) -> io::Result<bool> {
+    ) -> Result<bool, WriteFault> {
         judge(ports, command, writer)?;
         Ok(true)
     }
 
-    fn end<W: Write>(&mut self, ports: &ClientPorts, _writer: &mut W) -> io::Result<bool> {
+    fn end<W: Write>(&mut self, ports: &ClientPorts, _writer: &mut W) -> Result<bool, WriteFault> {
         Ok(ports.refused())
     }
 

@@ -8,11 +8,10 @@ ghost use Rattle.run_script.specs.Run.{before_answer, commanded, event_text, run
 
 use crate::lines::{Command, command_of};
 use script_text::{
-    Form, Kind, ScriptFault, StagedScript, Words, a_line, answer_line, burst_lines, drained_line,
-    mem_line, read_script, reply_lines, work_line,
+    Form, Kind, ScriptFault, StagedScript, Words, WriteFault, a_line, answer_line, burst_lines,
+    drained_line, mem_line, read_script, reply_lines, work_line,
 };
 use std::alloc::Global;
-use std::io;
 use std::io::{Read, Write};
 use tl_messages::ReplyBox;
 use world_run::{Answer, Setup, SetupFault, Step, World};
@@ -24,7 +23,7 @@ struct RunScript {
 }
 
 /// Writes what stands before an event's answer: the beat that was offered.
-fn offered_beat<W: Write>(step: &Step, writer: &mut W) -> io::Result<()>
+fn offered_beat<W: Write>(step: &Step, writer: &mut W) -> Result<(), WriteFault>
     ensures { OnOk result (Appends (W.contents writer.old) (W.contents writer.new) (before_answer step.now)) }
 {
     match step {
@@ -40,7 +39,7 @@ fn event<W: Write>(
     reply: &mut ReplyBox,
     step: &Step,
     writer: &mut W,
-) -> io::Result<()>
+) -> Result<(), WriteFault>
     ensures text { OnOk result (Appends (W.contents writer.old) (W.contents writer.new) (event_text step.now (next world.old step.now))) }
     ensures state { OnOk result (world.new ≡ (next world.old step.now).state) }
 {
@@ -60,7 +59,7 @@ fn command<W: Write>(
     reply: &mut ReplyBox,
     command: &Command,
     writer: &mut W,
-) -> io::Result<()>
+) -> Result<(), WriteFault>
     ensures text { OnOk result (Appends (W.contents writer.old) (W.contents writer.new) (commanded world.old command.now).0) }
     ensures state { OnOk result (world.new ≡ (commanded world.old command.now).1) }
 {
@@ -103,12 +102,12 @@ impl Kind for RunScript {
         world: &mut World,
         asked: &Command,
         writer: &mut W,
-    ) -> io::Result<bool> {
+    ) -> Result<bool, WriteFault> {
         command(world, &mut self.reply, asked, writer)?;
         Ok(true)
     }
 
-    fn end<W: Write>(&mut self, _world: &World, _writer: &mut W) -> io::Result<bool> {
+    fn end<W: Write>(&mut self, _world: &World, _writer: &mut W) -> Result<bool, WriteFault> {
         Ok(false)
     }
 

@@ -1,11 +1,10 @@
-//! The lines of what is wrong, and of what was found at the end. A fault of the writer is answered as it is.
+//! The lines of what is wrong, and of what was found at the end.
 ghost use Rattle.std.specs.Prelude.{◌++◌, OnOk};
 ghost use Rattle.std.specs.Io.KnownBytes.{Appends};
 ghost use Rattle.score_script.specs.FindingTexts.{WritesText, expected_text, finding_text, last_text, optional_text, wrong_text};
 
 use scoreboard::{ReplyRule, Wrong};
-use script_text::mem_line;
-use std::io;
+use script_text::{WriteFault, mem_line};
 use std::io::Write;
 use tl_messages::d_line;
 
@@ -26,48 +25,53 @@ pub(crate) struct Findings {
 }
 
 /// Writes the beginning of a wrong reply's line, behind which the beat that was due stands.
-fn expected<W: Write>(line: u32, rule: ReplyRule, writer: &mut W) -> io::Result<()>
+fn expected<W: Write>(line: u32, rule: ReplyRule, writer: &mut W) -> Result<(), WriteFault>
     ensures { OnOk result (Appends (W.contents writer.old) (W.contents writer.new) (expected_text line rule)) }
 {
     let number = rule.number();
     let name = rule.name();
-    write!(writer, "= wrong {line} reply {number} {name} expected ")
+    Ok(write!(writer, "= wrong {line} reply {number} {name} expected ")?)
 }
 
 /// Writes the line of a wrong beat.
-fn wrong_line<W: Write>(line: u32, client: u8, wrong: &Wrong, writer: &mut W) -> io::Result<()>
+fn wrong_line<W: Write>(
+    line: u32,
+    client: u8,
+    wrong: &Wrong,
+    writer: &mut W,
+) -> Result<(), WriteFault>
     ensures { OnOk result (Appends (W.contents writer.old) (W.contents writer.new) (wrong_text line client wrong.now)) }
 {
     match wrong {
         Wrong::NoClient => {
             let number = 1u8;
             let name = "NO_CLIENT";
-            writeln!(writer, "= wrong {line} client {number} {name}")
+            Ok(writeln!(writer, "= wrong {line} client {number} {name}")?)
         }
         Wrong::Request(rule) => {
             let number = rule.number();
             let name = rule.name();
-            writeln!(writer, "= wrong {line} request {number} {name}")
+            Ok(writeln!(writer, "= wrong {line} request {number} {name}")?)
         }
         Wrong::Reply(rule, None) => {
             let number = rule.number();
             let name = rule.name();
-            writeln!(writer, "= wrong {line} reply {number} {name}")
+            Ok(writeln!(writer, "= wrong {line} reply {number} {name}")?)
         }
         Wrong::Reply(rule, Some(due)) => {
             expected(line, *rule, writer)?;
-            d_line(client, due, writer)
+            Ok(d_line(client, due, writer)?)
         }
         Wrong::Axi(rule) => {
             let number = rule.number();
             let name = rule.name();
-            writeln!(writer, "= wrong {line} axi {number} {name}")
+            Ok(writeln!(writer, "= wrong {line} axi {number} {name}")?)
         }
     }
 }
 
 /// Writes the line of a finding.
-pub fn finding_line<W: Write>(finding: &Finding, writer: &mut W) -> io::Result<()>
+pub fn finding_line<W: Write>(finding: &Finding, writer: &mut W) -> Result<(), WriteFault>
     ensures { OnOk result (Appends (W.contents writer.old) (W.contents writer.new) (finding_text finding.now)) }
 {
     match finding {
@@ -77,7 +81,10 @@ pub fn finding_line<W: Write>(finding: &Finding, writer: &mut W) -> io::Result<(
 }
 
 /// Writes the line of a finding, if there is one.
-pub(crate) fn optional_line<W: Write>(finding: &Option<Finding>, writer: &mut W) -> io::Result<()>
+pub(crate) fn optional_line<W: Write>(
+    finding: &Option<Finding>,
+    writer: &mut W,
+) -> Result<(), WriteFault>
     ensures { OnOk result (Appends (W.contents writer.old) (W.contents writer.new) (optional_text finding.now)) }
 {
     match finding {
@@ -87,7 +94,10 @@ pub(crate) fn optional_line<W: Write>(finding: &Option<Finding>, writer: &mut W)
 }
 
 /// Writes the lines of what a line finds. The answer is whether there was any.
-pub(crate) fn findings_lines<W: Write>(findings: &Findings, writer: &mut W) -> io::Result<bool>
+pub(crate) fn findings_lines<W: Write>(
+    findings: &Findings,
+    writer: &mut W,
+) -> Result<bool, WriteFault>
     ensures { WritesText (optional_text findings.now.held ++ optional_text findings.now.own) (W.contents writer.old) (W.contents writer.new) result }
 {
     if findings.held.is_none() && findings.own.is_none() {
@@ -106,11 +116,12 @@ pub fn last_line<W: Write>(
     outstanding: u16,
     open_bursts: u8,
     writer: &mut W,
-) -> io::Result<()>
+) -> Result<(), WriteFault>
     ensures { OnOk result (Appends (W.contents writer.old) (W.contents writer.new) (last_text judged wrong outstanding open_bursts)) }
 {
     writeln!(
         writer,
         "= judged {judged} wrong {wrong} outstanding {outstanding} open {open_bursts}"
-    )
+    )?;
+    Ok(())
 }

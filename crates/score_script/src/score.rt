@@ -7,7 +7,7 @@ ghost use Rattle.score_script.specs.SeenBoards.{after_seen, byte_in, bursts_open
 
 use crate::findings::{Finding, Findings, last_line, optional_line};
 use scoreboard::{Scoreboard, Seen, Wrong};
-use std::io;
+use script_text::WriteFault;
 use std::io::Write;
 use tl_messages::ABeat;
 
@@ -208,7 +208,7 @@ impl Score {
     }
 
     /// Judges the beat that is held, and writes the last line. The answer is whether a beat is wrong.
-    pub(crate) fn close<W: Write>(&mut self, writer: &mut W) -> io::Result<bool>
+    pub(crate) fn close<W: Write>(&mut self, writer: &mut W) -> Result<bool, WriteFault>
         ensures { WritesEnd ((closing (settling (score_of self.old))).output, nat_lt 0 (settling (score_of self.old)).1.wrong) (W.contents writer.old) (W.contents writer.new) result }
     {
         let held = self.settle();

@@ -1,5 +1,10 @@
 -- The lines of one beat more, and texts that aren't empty.
-use Rattle.std.proofs.Common.{◌≡◌, ◌≢◌, ℕ, zero, suc, ◌+◌, ◌≤◌, List, [], ◌∷◌, ◌++◌, take, flat_map, Some, slice_get, length, length-append, refl, ap, sym, ◌∙◌, append_assoc, rules, arith}
+use Rattle.std.proofs.Common.{◌≡◌, ◌≢◌, ℕ, zero, suc, ◌+◌, ◌≤◌, List, [], ◌∷◌, ◌++◌, take, flat_map, Option, Some, None, slice_get, length, length-append, refl, ap, sym, ◌∙◌, append_assoc, rules, arith}
+use Rattle.axi_beats.specs.Boxes.{aw_of, w_beats_of}
+use Rattle.axi_beats.specs.Bursts.{Burst, WriteBurst, ReadBurst}
+use Rattle.axi_beats.specs.Lines.{aw_text, w_text}
+use Rattle.axi_beats.specs.declared.AwBeat.{AwBeat}
+use Rattle.script_text.specs.Names.{held_text}
 use Rattle.tl_checker.specs.Names.{name_of}
 use Rattle.tl_checker.specs.declared.TlRule.{TlRule}
 use Rattle.tl_checker.specs.declared.TlRule.TheVariants.{Opcode, Level, Size, AtomicSize, Align, Param, Mask, Corrupt, SourceBusy, BurstControl, DOpcode, DSize, DSource, DBeats, DDenied, DCorrupt}
@@ -14,6 +19,12 @@ pub flat_map-take : {X : Type 0} (f : X → List ℕ) (xs : List X) (k : ℕ) (x
 flat_map-take f xs k x found =
     let next : k + 1 ≡ suc k = omega arith in
     rw next (flat_map-take-suc f xs k x found)
+
+-- the text of a write
+pub held_text-write : (burst : Option Burst) (aw : AwBeat) → aw_of burst ≡ Some aw → held_text burst ≡ aw_text aw ++ flat_map w_text (w_beats_of burst)
+held_text-write None aw found = search rules
+held_text-write (Some (ReadBurst ar)) aw found = search rules
+held_text-write (Some (WriteBurst first beats)) aw found = let same : first ≡ aw = cc in ap (λ beat. aw_text beat ++ flat_map w_text beats) same
 
 -- a text with a part that isn't empty
 pub some_before : (xs ys : List ℕ) → xs ≢ [] → xs ++ ys ≢ []

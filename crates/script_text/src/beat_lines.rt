@@ -1,13 +1,14 @@
-//! The lines of beats in a trace. A fault of the writer is answered as it is.
-ghost use Rattle.std.specs.Prelude.{◌≡◌, ◌≤◌, OnOk, length};
+//! The lines of beats in a trace.
+ghost use Rattle.std.specs.Prelude.{◌≡◌, ◌≤◌, OnErr, OnOk, length};
 ghost use Rattle.std.specs.Io.KnownBytes.{Appends};
+ghost use Rattle.script_text.specs.Writing.{StopsShort};
 ghost use Rattle.tl_messages.specs.Lines.{a_text, d_text};
 ghost use Rattle.axi_beats.specs.Lines.{ar_text, aw_text, b_text, r_text, resp_text, w_text};
 
+use crate::faults::WriteFault;
 use crate::line_text::LineText;
 use crate::writing::write_text;
 use axi_beats::{ArBeat, AwBeat, BBeat, RBeat, Resp, WBeat};
-use std::io;
 use std::io::Write;
 use tl_messages::{ABeat, DBeat};
 
@@ -29,8 +30,9 @@ fn a_text(client: u8, beat: &ABeat) -> LineText
 }
 
 /// Writes the line of a beat that a client offers.
-pub fn a_line<W: Write>(client: u8, beat: &ABeat, writer: &mut W) -> io::Result<()>
-    ensures { OnOk result (Appends (W.contents writer.old) (W.contents writer.new) (a_text client beat.now)) }
+pub fn a_line<W: Write>(client: u8, beat: &ABeat, writer: &mut W) -> Result<(), WriteFault>
+    ensures all { OnOk result (Appends (W.contents writer.old) (W.contents writer.new) (a_text client beat.now)) }
+    ensures front { OnErr result (StopsShort (a_text client beat.now) (W.contents writer.old) (W.contents writer.new)) }
 {
     write_text(a_text(client, beat).as_slice(), writer)
 }
@@ -52,8 +54,9 @@ fn d_text(client: u8, beat: &DBeat) -> LineText
 }
 
 /// Writes the line of a beat of a reply.
-pub(crate) fn d_line<W: Write>(client: u8, beat: &DBeat, writer: &mut W) -> io::Result<()>
-    ensures { OnOk result (Appends (W.contents writer.old) (W.contents writer.new) (d_text client beat.now)) }
+pub(crate) fn d_line<W: Write>(client: u8, beat: &DBeat, writer: &mut W) -> Result<(), WriteFault>
+    ensures all { OnOk result (Appends (W.contents writer.old) (W.contents writer.new) (d_text client beat.now)) }
+    ensures front { OnErr result (StopsShort (d_text client beat.now) (W.contents writer.old) (W.contents writer.new)) }
 {
     write_text(d_text(client, beat).as_slice(), writer)
 }
@@ -86,8 +89,9 @@ fn aw_text(beat: &AwBeat) -> LineText
 }
 
 /// Writes the line of a write's address.
-pub(crate) fn aw_line<W: Write>(beat: &AwBeat, writer: &mut W) -> io::Result<()>
-    ensures { OnOk result (Appends (W.contents writer.old) (W.contents writer.new) (aw_text beat.now)) }
+pub(crate) fn aw_line<W: Write>(beat: &AwBeat, writer: &mut W) -> Result<(), WriteFault>
+    ensures all { OnOk result (Appends (W.contents writer.old) (W.contents writer.new) (aw_text beat.now)) }
+    ensures front { OnErr result (StopsShort (aw_text beat.now) (W.contents writer.old) (W.contents writer.new)) }
 {
     write_text(aw_text(beat).as_slice(), writer)
 }
@@ -107,8 +111,9 @@ fn ar_text(beat: &ArBeat) -> LineText
 }
 
 /// Writes the line of a read's address.
-pub(crate) fn ar_line<W: Write>(beat: &ArBeat, writer: &mut W) -> io::Result<()>
-    ensures { OnOk result (Appends (W.contents writer.old) (W.contents writer.new) (ar_text beat.now)) }
+pub(crate) fn ar_line<W: Write>(beat: &ArBeat, writer: &mut W) -> Result<(), WriteFault>
+    ensures all { OnOk result (Appends (W.contents writer.old) (W.contents writer.new) (ar_text beat.now)) }
+    ensures front { OnErr result (StopsShort (ar_text beat.now) (W.contents writer.old) (W.contents writer.new)) }
 {
     write_text(ar_text(beat).as_slice(), writer)
 }
@@ -125,8 +130,9 @@ fn w_text(beat: &WBeat) -> LineText
 }
 
 /// Writes the line of a write's data.
-pub(crate) fn w_line<W: Write>(beat: &WBeat, writer: &mut W) -> io::Result<()>
-    ensures { OnOk result (Appends (W.contents writer.old) (W.contents writer.new) (w_text beat.now)) }
+pub(crate) fn w_line<W: Write>(beat: &WBeat, writer: &mut W) -> Result<(), WriteFault>
+    ensures all { OnOk result (Appends (W.contents writer.old) (W.contents writer.new) (w_text beat.now)) }
+    ensures front { OnErr result (StopsShort (w_text beat.now) (W.contents writer.old) (W.contents writer.new)) }
 {
     write_text(w_text(beat).as_slice(), writer)
 }
@@ -143,8 +149,9 @@ fn b_text(beat: &BBeat) -> LineText
 }
 
 /// Writes the line of a write's response.
-pub(crate) fn b_line<W: Write>(beat: &BBeat, writer: &mut W) -> io::Result<()>
-    ensures { OnOk result (Appends (W.contents writer.old) (W.contents writer.new) (b_text beat.now)) }
+pub(crate) fn b_line<W: Write>(beat: &BBeat, writer: &mut W) -> Result<(), WriteFault>
+    ensures all { OnOk result (Appends (W.contents writer.old) (W.contents writer.new) (b_text beat.now)) }
+    ensures front { OnErr result (StopsShort (b_text beat.now) (W.contents writer.old) (W.contents writer.new)) }
 {
     write_text(b_text(beat).as_slice(), writer)
 }
@@ -162,8 +169,9 @@ fn r_text(beat: &RBeat) -> LineText
 }
 
 /// Writes the line of a read's data.
-pub(crate) fn r_line<W: Write>(beat: &RBeat, writer: &mut W) -> io::Result<()>
-    ensures { OnOk result (Appends (W.contents writer.old) (W.contents writer.new) (r_text beat.now)) }
+pub(crate) fn r_line<W: Write>(beat: &RBeat, writer: &mut W) -> Result<(), WriteFault>
+    ensures all { OnOk result (Appends (W.contents writer.old) (W.contents writer.new) (r_text beat.now)) }
+    ensures front { OnErr result (StopsShort (r_text beat.now) (W.contents writer.old) (W.contents writer.new)) }
 {
     write_text(r_text(beat).as_slice(), writer)
 }

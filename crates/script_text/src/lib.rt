@@ -18,7 +18,7 @@ mod writing;
 
 pub use beat_lines::a_line;
 pub use driver::{Script, read_script};
-pub use faults::ScriptFault;
+pub use faults::{ScriptFault, WriteFault};
 pub use keywords::Form;
 pub use offer_parser::offer_line;
 pub use setup_lines::{add_setup_line, has_no_room, is_setup_form, setup_line};

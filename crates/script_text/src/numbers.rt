@@ -43,7 +43,8 @@ fn value_of(word: &[u8], radix: u8) -> Option<u64>
     Some(value)
 }
 
-/// The number of a decimal word of so many digits that not each has one in 64 bits.
+/// The number of a decimal word of so many digits that not each has one in 64 bits. It is apart, since few words are so long.
+#[inline(never)]
 fn longest_decimal(word: &[u8]) -> Option<u64>
     requires { length word.now ≡ 20 }
     ensures { result ≡ number_of 10 20 word.now }

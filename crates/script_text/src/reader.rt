@@ -94,6 +94,7 @@ impl Block {
     }
 
     /// Reads the next block. Text that was written since the last one is flushed before the reader is asked.
+    #[inline(never)]
     fn fill<R: Read, W: Write>(&mut self, reader: &mut R, writer: &mut W) -> Result<(), ScriptFault>
         requires { self.old.ahead ≡ [] }
         ensures input { Fills self.old self.new (R.remaining reader.old) (R.remaining reader.new) result }
@@ -119,6 +120,7 @@ impl Block {
 
     /// Reads the next block where nothing is left of this one. The answer is whether anything is left then: nothing is at the
     /// input's end.
+    #[inline(always)]
     fn refill<R: Read, W: Write>(
         &mut self,
         reader: &mut R,

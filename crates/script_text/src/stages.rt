@@ -5,13 +5,12 @@ ghost use Rattle.script_text.specs.Stages.{MayStand, OpensAs, Opening, OpensStag
 ghost use Rattle.script_text.specs.Steps.{TakesRest, TakesStep};
 
 use crate::driver::Script;
-use crate::faults::ScriptFault;
+use crate::faults::{ScriptFault, WriteFault};
 use crate::keywords::Form;
 use crate::setup_lines::{add_setup_line, has_no_room, is_setup_form, setup_line};
 use crate::setup_parser::SetupLine;
 use crate::words::Words;
 use std::alloc::Global;
-use std::io;
 use std::io::Write;
 use std::marker::Model;
 use world_run::{Setup, SetupFault};
@@ -53,11 +52,11 @@ pub trait Kind {
         world: &mut Self::World,
         command: &Self::Command,
         writer: &mut W,
-    ) -> io::Result<bool>
+    ) -> Result<bool, WriteFault>
         ensures { Writes (rules.commanded world.old command.now) world.new (W.contents writer.old) (W.contents writer.new) result };
 
     /// Writes the text of the input's end. The answer is whether something was refused.
-    fn end<W: Write>(&mut self, world: &Self::World, writer: &mut W) -> io::Result<bool>
+    fn end<W: Write>(&mut self, world: &Self::World, writer: &mut W) -> Result<bool, WriteFault>
         ensures { WritesEnd (rules.ending world.now) (W.contents writer.old) (W.contents writer.new) result };
 
     /// Where memory is asked for, a command has text, or a script that ends after it.

@@ -1,15 +1,16 @@
-//! The lines of a trace. A fault of the writer is answered as it is.
-ghost use Rattle.std.specs.Prelude.{◌≡◌, ◌≤◌, ◌∷◌, [], OnOk, decimal, flat_map, length};
+//! The lines of a trace.
+ghost use Rattle.std.specs.Prelude.{◌≡◌, ◌≤◌, ◌∷◌, [], OnErr, OnOk, decimal, flat_map, length};
 ghost use Rattle.std.specs.Io.KnownBytes.{Appends};
+ghost use Rattle.script_text.specs.Writing.{StopsShort};
 ghost use Rattle.script_text.specs.Names.{answer_line, answer_text, client_text, drained_text, held_text, mem_text, ok_text, refused_text, reply_line_text, reply_text, work_text};
 ghost use Rattle.axi_beats.specs.Boxes.{w_beats_of};
 ghost use Rattle.axi_beats.specs.Lines.{w_text};
 
 use crate::beat_lines::{ar_line, aw_line, b_line, d_line, r_line, w_line};
+use crate::faults::WriteFault;
 use crate::line_text::LineText;
 use crate::writing::write_text;
 use axi_beats::BurstBox;
-use std::io;
 use std::io::Write;
 use tl_checker::TlRule;
 use tl_messages::DBeat;
@@ -29,8 +30,9 @@ fn refused_text(rule: TlRule) -> LineText
 }
 
 /// Writes the line of a refused beat.
-pub fn refused_line<W: Write>(rule: TlRule, writer: &mut W) -> io::Result<()>
-    ensures { OnOk result (Appends (W.contents writer.old) (W.contents writer.new) (refused_text rule)) }
+pub fn refused_line<W: Write>(rule: TlRule, writer: &mut W) -> Result<(), WriteFault>
+    ensures all { OnOk result (Appends (W.contents writer.old) (W.contents writer.new) (refused_text rule)) }
+    ensures front { OnErr result (StopsShort (refused_text rule) (W.contents writer.old) (W.contents writer.new)) }
 {
     write_text(refused_text(rule).as_slice(), writer)
 }
@@ -48,29 +50,43 @@ fn number_text(word: &[u8], number: u64) -> LineText
 }
 
 /// Writes the line of a reply, by its request's number.
-pub fn reply_line<W: Write>(number: u64, writer: &mut W) -> io::Result<()>
-    ensures { OnOk result (Appends (W.contents writer.old) (W.contents writer.new) (reply_line_text number)) }
+pub fn reply_line<W: Write>(number: u64, writer: &mut W) -> Result<(), WriteFault>
+    ensures all { OnOk result (Appends (W.contents writer.old) (W.contents writer.new) (reply_line_text number)) }
+    ensures front { OnErr result (StopsShort (reply_line_text number) (W.contents writer.old) (W.contents writer.new)) }
 {
     write_text(number_text(b"reply", number).as_slice(), writer)
 }
 
 /// Writes the line of a run that went well.
-pub fn ok_line<W: Write>(writer: &mut W) -> io::Result<()>
-    ensures { OnOk result (Appends (W.contents writer.old) (W.contents writer.new) ok_text) }
+pub fn ok_line<W: Write>(writer: &mut W) -> Result<(), WriteFault>
+    ensures all { OnOk result (Appends (W.contents writer.old) (W.contents writer.new) ok_text) }
+    ensures front { OnErr result (StopsShort ok_text (W.contents writer.old) (W.contents writer.new)) }
 {
     write_text(b"= ok\n", writer)
 }
 
-/// Writes the line that names a client, whose lines follow.
-pub fn client_line<W: Write>(client: u8, writer: &mut W) -> io::Result<()>
-    ensures { OnOk result (Appends (W.contents writer.old) (W.contents writer.new) (client_text client)) }
+/// `client NUMBER`.
+fn client_text(client: u8) -> LineText
+    ensures { result ≡ client_text client }
 {
-    writeln!(writer, "client {client}")
+    let mut text = LineText::new();
+    text.put_decimal(u64::from(client));
+    text.put_word(b"client");
+    text
+}
+
+/// Writes the line that names a client, whose lines follow.
+pub fn client_line<W: Write>(client: u8, writer: &mut W) -> Result<(), WriteFault>
+    ensures all { OnOk result (Appends (W.contents writer.old) (W.contents writer.new) (client_text client)) }
+    ensures front { OnErr result (StopsShort (client_text client) (W.contents writer.old) (W.contents writer.new)) }
+{
+    write_text(client_text(client).as_slice(), writer)
 }
 
 /// Writes the line of an answer.
-pub fn answer_line<W: Write>(answer: &Answer, writer: &mut W) -> io::Result<()>
-    ensures { OnOk result (Appends (W.contents writer.old) (W.contents writer.new) (answer_text answer.now)) }
+pub fn answer_line<W: Write>(answer: &Answer, writer: &mut W) -> Result<(), WriteFault>
+    ensures all { OnOk result (Appends (W.contents writer.old) (W.contents writer.new) (answer_text answer.now)) }
+    ensures front { OnErr result (StopsShort (answer_text answer.now) (W.contents writer.old) (W.contents writer.new)) }
 {
     match *answer {
         Answer::More => write_text(b"= more\n", writer),
@@ -94,8 +110,9 @@ pub fn answer_line<W: Write>(answer: &Answer, writer: &mut W) -> io::Result<()>
 }
 
 /// Writes the line of each W beat of a write.
-fn w_lines<W: Write>(burst: &BurstBox, writer: &mut W) -> io::Result<()>
-    ensures { OnOk result (Appends (W.contents writer.old) (W.contents writer.new) (flat_map w_text (w_beats_of burst.now))) }
+fn w_lines<W: Write>(burst: &BurstBox, writer: &mut W) -> Result<(), WriteFault>
+    ensures all { OnOk result (Appends (W.contents writer.old) (W.contents writer.new) (flat_map w_text (w_beats_of burst.now))) }
+    ensures front { OnErr result (StopsShort (flat_map w_text (w_beats_of burst.now)) (W.contents writer.old) (W.contents writer.new)) }
 {
     for k in 0..burst.w_beats() {
         w_line(&burst.w(k), writer)?;
@@ -104,8 +121,9 @@ fn w_lines<W: Write>(burst: &BurstBox, writer: &mut W) -> io::Result<()>
 }
 
 /// Writes the lines of a burst that was sent: its address, and the beats of a write.
-pub fn burst_lines<W: Write>(burst: &BurstBox, writer: &mut W) -> io::Result<()>
-    ensures { OnOk result (Appends (W.contents writer.old) (W.contents writer.new) (held_text burst.now)) }
+pub fn burst_lines<W: Write>(burst: &BurstBox, writer: &mut W) -> Result<(), WriteFault>
+    ensures all { OnOk result (Appends (W.contents writer.old) (W.contents writer.new) (held_text burst.now)) }
+    ensures front { OnErr result (StopsShort (held_text burst.now) (W.contents writer.old) (W.contents writer.new)) }
 {
     if burst.is_empty() {
         return Ok(());
@@ -118,8 +136,9 @@ pub fn burst_lines<W: Write>(burst: &BurstBox, writer: &mut W) -> io::Result<()>
 }
 
 /// Writes the lines of a reply's beats.
-pub fn reply_lines<W: Write>(client: u8, beats: &[DBeat], writer: &mut W) -> io::Result<()>
-    ensures { OnOk result (Appends (W.contents writer.old) (W.contents writer.new) (reply_text client beats.now)) }
+pub fn reply_lines<W: Write>(client: u8, beats: &[DBeat], writer: &mut W) -> Result<(), WriteFault>
+    ensures all { OnOk result (Appends (W.contents writer.old) (W.contents writer.new) (reply_text client beats.now)) }
+    ensures front { OnErr result (StopsShort (reply_text client beats.now) (W.contents writer.old) (W.contents writer.new)) }
 {
     for beat in beats {
         d_line(client, beat, writer)?;
@@ -139,8 +158,9 @@ fn byte_text(byte: u8) -> LineText
 }
 
 /// Writes the line of a byte of the memory.
-pub fn mem_line<W: Write>(byte: Option<u8>, writer: &mut W) -> io::Result<()>
-    ensures { OnOk result (Appends (W.contents writer.old) (W.contents writer.new) (mem_text byte)) }
+pub fn mem_line<W: Write>(byte: Option<u8>, writer: &mut W) -> Result<(), WriteFault>
+    ensures all { OnOk result (Appends (W.contents writer.old) (W.contents writer.new) (mem_text byte)) }
+    ensures front { OnErr result (StopsShort (mem_text byte) (W.contents writer.old) (W.contents writer.new)) }
 {
     match byte {
         Some(byte) => write_text(byte_text(byte).as_slice(), writer),
@@ -149,15 +169,17 @@ pub fn mem_line<W: Write>(byte: Option<u8>, writer: &mut W) -> io::Result<()>
 }
 
 /// Writes the line of a drain.
-pub fn drained_line<W: Write>(steps: u64, writer: &mut W) -> io::Result<()>
-    ensures { OnOk result (Appends (W.contents writer.old) (W.contents writer.new) (drained_text steps)) }
+pub fn drained_line<W: Write>(steps: u64, writer: &mut W) -> Result<(), WriteFault>
+    ensures all { OnOk result (Appends (W.contents writer.old) (W.contents writer.new) (drained_text steps)) }
+    ensures front { OnErr result (StopsShort (drained_text steps) (W.contents writer.old) (W.contents writer.new)) }
 {
     write_text(number_text(b"drained", steps).as_slice(), writer)
 }
 
 /// Writes the line of the work left.
-pub fn work_line<W: Write>(work: u64, writer: &mut W) -> io::Result<()>
-    ensures { OnOk result (Appends (W.contents writer.old) (W.contents writer.new) (work_text work)) }
+pub fn work_line<W: Write>(work: u64, writer: &mut W) -> Result<(), WriteFault>
+    ensures all { OnOk result (Appends (W.contents writer.old) (W.contents writer.new) (work_text work)) }
+    ensures front { OnErr result (StopsShort (work_text work) (W.contents writer.old) (W.contents writer.new)) }
 {
     write_text(number_text(b"work", work).as_slice(), writer)
 }

@@ -3,27 +3,27 @@ ghost use Rattle.std.specs.Prelude.{◌≤◌, [], IfOk, OnErr, OnOk, length, ta
 ghost use Rattle.std.specs.Io.KnownBytes.{Appends};
 ghost use Rattle.script_text.specs.Writing.{StopsShort};
 
-use std::io;
-use std::io::{Error, ErrorKind, Write};
+use crate::faults::WriteFault;
+use std::io::{ErrorKind, Write};
 
-/// Writes some of a text that isn't empty, none where the write was interrupted.
+/// Writes some of a text that isn't empty, none where the write was interrupted. The writer's error goes no further.
 #[inline(always)]
-fn write_some<W: Write>(text: &[u8], writer: &mut W) -> io::Result<usize>
+fn write_some<W: Write>(text: &[u8], writer: &mut W) -> Result<usize, WriteFault>
     ensures within { IfOk result (λ count. count ≤ length text.now) }
     ensures ok { IfOk result (λ count. Appends (W.contents writer.old) (W.contents writer.new) (take count text.now)) }
     ensures err { OnErr result (Appends (W.contents writer.old) (W.contents writer.new) []) }
 {
     match writer.write(text) {
-        Ok(0) => Err(Error::from(ErrorKind::WriteZero)),
+        Ok(0) => Err(WriteFault),
         Ok(count) => Ok(count),
-        Err(fault) if fault.kind() == ErrorKind::Interrupted => Ok(0),
-        Err(fault) => Err(fault),
+        Err(error) if error.kind() == ErrorKind::Interrupted => Ok(0),
+        Err(_) => Err(WriteFault),
     }
 }
 
 /// Writes what is left of a text, in as many writes as it takes.
 #[inline(never)]
-fn write_rest<W: Write>(text: &[u8], writer: &mut W) -> io::Result<()>
+fn write_rest<W: Write>(text: &[u8], writer: &mut W) -> Result<(), WriteFault>
     ensures all { OnOk result (Appends (W.contents writer.old) (W.contents writer.new) text.now) }
     ensures front { OnErr result (StopsShort text.now (W.contents writer.old) (W.contents writer.new)) }
 {
@@ -41,13 +41,13 @@ fn write_rest<W: Write>(text: &[u8], writer: &mut W) -> io::Result<()>
     if rest.is_empty() {
         return Ok(());
     }
-    Err(Error::from(ErrorKind::TimedOut))
+    Err(WriteFault)
 }
 
 /// Writes a text. A write that was interrupted is tried again; where the writer fails, it took a front of the text that isn't
 /// all of it.
 #[inline]
-pub fn write_text<W: Write>(text: &[u8], writer: &mut W) -> io::Result<()>
+pub fn write_text<W: Write>(text: &[u8], writer: &mut W) -> Result<(), WriteFault>
     ensures all { OnOk result (Appends (W.contents writer.old) (W.contents writer.new) text.now) }
     ensures front { OnErr result (StopsShort text.now (W.contents writer.old) (W.contents writer.new)) }
 {

@@ -11,14 +11,17 @@ ghost use Rattle.world_run.specs.declared.Step.{Step};
 ghost use Rattle.thread_reports.specs.Reports.{AreReceiptsOf, IsReport};
 ghost use Rattle.threads_script.specs.ReportTexts.{AreReceived, receipt_text, received_text, report_text};
 
-use script_text::{client_line, mem_line, ok_line, reply_line, reply_lines};
-use std::io;
+use script_text::{WriteFault, client_line, mem_line, ok_line, reply_line, reply_lines};
 use std::io::Write;
 use thread_reports::{Receipts, Report};
 use world_run::World;
 
 /// Writes the replies that a client received.
-fn receipt_lines<W: Write>(client: u8, receipts: &Receipts, writer: &mut W) -> io::Result<()>
+fn receipt_lines<W: Write>(
+    client: u8,
+    receipts: &Receipts,
+    writer: &mut W,
+) -> Result<(), WriteFault>
     requires { (replies : List HandedReply) × AreReceiptsOf receipts.now replies }
     ensures { (replies : List HandedReply) → AreReceiptsOf receipts.now replies → OnOk result (Appends (W.contents writer.old) (W.contents writer.new) (flat_map (receipt_text client) replies)) }
 {
@@ -34,7 +37,7 @@ fn receipt_lines<W: Write>(client: u8, receipts: &Receipts, writer: &mut W) -> i
 }
 
 /// Writes what each client received.
-fn received_lines<W: Write>(receipts: &[Receipts], writer: &mut W) -> io::Result<()>
+fn received_lines<W: Write>(receipts: &[Receipts], writer: &mut W) -> Result<(), WriteFault>
     requires few { length receipts.now ≤ 8 }
     requires received { (start : WorldState) × ((steps : List Step) × AreReceived start steps receipts.now) }
     ensures { (start : WorldState) (steps : List Step) → AreReceived start steps receipts.now → OnOk result (Appends (W.contents writer.old) (W.contents writer.new) (flat_map (received_text start steps) (range_with_len 0 (length receipts.now)))) }
@@ -48,7 +51,7 @@ fn received_lines<W: Write>(receipts: &[Receipts], writer: &mut W) -> io::Result
 }
 
 /// Writes the bytes at some addresses.
-fn byte_lines<W: Write>(world: &World, addresses: &[u32], writer: &mut W) -> io::Result<()>
+fn byte_lines<W: Write>(world: &World, addresses: &[u32], writer: &mut W) -> Result<(), WriteFault>
     ensures { OnOk result (Appends (W.contents writer.old) (W.contents writer.new) (flat_map (λ address. mem_text (byte_of world.now address)) addresses.now)) }
 {
     for address in addresses {
@@ -58,7 +61,11 @@ fn byte_lines<W: Write>(world: &World, addresses: &[u32], writer: &mut W) -> io:
 }
 
 /// Writes the text of a report: `= ok`, what each client received, and the bytes at these addresses.
-pub fn report_lines<W: Write>(report: &Report, addresses: &[u32], writer: &mut W) -> io::Result<()>
+pub fn report_lines<W: Write>(
+    report: &Report,
+    addresses: &[u32],
+    writer: &mut W,
+) -> Result<(), WriteFault>
     requires { (setup : SetupLists) × ((scripts : List (List ABeat)) × IsReport setup scripts report.now.steps.items report.now.receipts.items report.now.world) }
     ensures { (setup : SetupLists) (scripts : List (List ABeat)) → IsReport setup scripts report.now.steps.items report.now.receipts.items report.now.world → OnOk result (Appends (W.contents writer.old) (W.contents writer.new) (report_text (opening_world setup) report.now.steps.items report.now.world setup.config.clients addresses.now)) }
 {

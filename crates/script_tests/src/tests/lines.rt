@@ -1,6 +1,6 @@
 use script_text::{
-    Script, ScriptFault, Words, answer_line, client_line, drained_line, mem_line, offer_line,
-    ok_line, read_script, refused_line, reply_line, work_line,
+    Script, ScriptFault, Words, WriteFault, answer_line, client_line, drained_line, mem_line,
+    offer_line, ok_line, read_script, refused_line, reply_line, work_line,
 };
 use std::alloc::Global;
 use std::io::Write;
@@ -80,6 +80,7 @@ fn faults_as_text(rt: HostRuntime) -> Result<(), Fail> {
         fault.to_string(rt.alloc())?.as_str(),
         "script fault: line 5, word 8"
     );
+    assert_eq!(rt; WriteFault.to_string(rt.alloc())?.as_str(), "write fault");
     Ok(())
 }
 

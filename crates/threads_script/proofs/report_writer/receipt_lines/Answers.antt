@@ -24,8 +24,8 @@ loop-head-preserved g c replies are =
     let next = next_reply heads replies c.loop-head.head-index c.loop-head.rest.now (c.as_slice-head-items.ensures.value ∙ are.heads) within inv.0 in
     let count : c.from.result ≡ length next.reply.beats = c.from.ensures ∙ ap (λ head. head.1) next.head in
     let front : c.split_at.result.0.now ≡ next.reply.beats = c.split_at.ensures.front ∙ ap₂ take count next.cut ∙ take_at next.reply.beats _ (length next.reply.beats) refl in
-    let line = rw (ap (λ head. head.0) next.head) at c.in_ok-reply_line.ensures in
-    let lines = rw front at c.in_ok-reply_lines.ensures in (
+    let line = rw (ap (λ head. head.0) next.head) at c.in_ok-reply_line.ensures.all in
+    let lines = rw front at c.in_ok-reply_lines.ensures.all in (
       c.split_at.ensures.back ∙ ap₂ drop count next.cut ∙ drop_at next.reply.beats _ (length next.reply.beats) refl ∙ next.after_is,
       rw (flat_map-take (receipt_text c.args.client) replies c.loop-head.head-index next.reply next.there)
           (Appends-trans _ _ _ (flat_map (receipt_text c.args.client) (take c.loop-head.head-index replies)) (receipt_text c.args.client next.reply) inv.1 (Appends-trans _ _ _ _ _ line lines)),

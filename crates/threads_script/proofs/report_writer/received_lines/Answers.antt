@@ -17,4 +17,4 @@ loop-client-preserved g c start steps are =
     let replies = c.in_ok-receipt_lines.ensures (handed_to client start steps) (are client c.index-receipts-client.result here) in
     rw (one_more (received_text start steps) client)
     (Appends-trans _ _ _ (flat_map (received_text start steps) (range_with_len 0 client)) (received_text start steps client) (c.loop-client.invariant start steps are)
-    (Appends-trans _ _ _ _ _ c.in_ok-client_line.ensures replies))
+    (Appends-trans _ _ _ _ _ c.in_ok-client_line.ensures.all replies))

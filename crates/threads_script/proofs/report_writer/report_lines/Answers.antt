@@ -24,5 +24,5 @@ returns g c setup scripts is =
     let written = rw clients at (c.in_ok-received_lines.ensures start report.steps.items (rw c.as_slice.ensures.value received)) in
     on_ok c.byte_lines.result
     (λ bytes.
-    Appends-trans _ _ _ _ _ c.in_ok-ok_line.ensures
+    Appends-trans _ _ _ _ _ c.in_ok-ok_line.ensures.all
     (Appends-trans _ _ _ (flat_map (received_text start report.steps.items) (range_with_len 0 setup.config.clients)) _ written bytes)) c.byte_lines.ensures
