@@ -21,6 +21,7 @@ from pathlib import Path
 HERE = Path(__file__).resolve().parent
 SETUP = (HERE / "setup.lines").read_text()
 FILES = ("testbench.sv", "client.sv", "bridge.sv", "memory.sv", "monitor.sv")
+SIMULATORS = ("iverilog", "verilator")
 RIGHT = "NONE"
 BUGS = ("LANE_SWAPPED", "STROBE_LOST", "OTHER_SOURCE", "REPLY_TWICE", "WLAST_EARLY", "PAGE_CROSSED")
 WRONG = re.compile(r"^= wrong (\d+) (.*?)(?: expected .*)?$", re.MULTILINE)
@@ -42,18 +43,25 @@ def compiled(simulator, bug, folder):
         words = ["verilator", "--binary", "--timing", "-Wno-fatal", f"-DBUG={bug}", "--top-module", "testbench", "-Mdir", parts]
         words += ["-o", "testbench"]
         runs = [parts / "testbench"]
-    output_of([*words, *FILES], "")
+    simulated([*words, *FILES])
     return runs
 
 
-def output_of(words, given, allowed=(0,)):
-    """What a program prints on an input."""
+def simulated(words):
+    """Runs a simulator, which prints nothing that is looked at."""
+    ran = subprocess.run(words, cwd=HERE, stdout=subprocess.PIPE, stderr=subprocess.STDOUT, text=True, check=False)
+    if ran.returncode:
+        raise Cannot(f"{ran.stdout[-2000:]}{words[0]} ended with status {ran.returncode}")
+
+
+def judged(score, text):
+    """What the scoreboard prints of an observation. Its standard error, where it tells how its building goes, is ours."""
     try:
-        ran = subprocess.run(words, input=given, cwd=HERE, capture_output=True, text=True, check=False)
+        ran = subprocess.run([score], input=SETUP + text, stdout=subprocess.PIPE, text=True, check=False)
     except OSError as why:
-        raise Cannot(f"{words[0]}: {why.strerror}") from why
-    if ran.returncode not in allowed:
-        raise Cannot(f"{words[0]} ended with status {ran.returncode}: {(ran.stderr.strip() or ran.stdout.strip())[-2000:]}")
+        raise Cannot(f"{score}: {why.strerror}") from why
+    if ran.returncode > 1:
+        raise Cannot(f"{score} ended with status {ran.returncode}")
     return ran.stdout
 
 
@@ -71,7 +79,7 @@ class Variant:
         """Notes what the scoreboard prints of a run."""
         ended = ENDED.search(text)
         if not ended:
-            raise Cannot("the scoreboard's last line is missing")
+            raise Cannot(f"the scoreboard printed no last line of seed {seed}")
         judged, wrong, outstanding, still_open = map(int, ended.groups())
         self.runs += 1
         self.beats += judged
@@ -87,7 +95,8 @@ class Variant:
         return not self.first and not self.unfinished if self.bug == RIGHT else bool(self.first)
 
     def __str__(self):
-        counts = f"{self.bug:13} {len(self.first):5} of {self.runs} runs wrong"
+        name = "right" if self.bug == RIGHT else self.bug
+        counts = f"{name:13} {len(self.first):5} of {self.runs} runs wrong"
         if not self.first:
             return f"{counts}, {self.unfinished} unfinished; {self.beats} beats"
         times = f"first at beat {min(self.first)} to {max(self.first)}, half of them by {statistics.median_low(self.first)}"
@@ -98,8 +107,8 @@ def tried(bug, given, folder):
     """Runs a variant with each seed."""
     runs, variant, seen = compiled(given.simulator, bug, folder), Variant(bug), folder / "seen.lines"
     for seed in range(given.first, given.first + given.runs):
-        output_of([*runs, f"+seed={seed}", f"+observed={seen}"], "")
-        variant.take(seed, output_of([given.score], SETUP + seen.read_text(), allowed=(0, 1)))
+        simulated([*runs, f"+seed={seed}", f"+observed={seen}"])
+        variant.take(seed, judged(given.score, seen.read_text()))
     return variant
 
 
@@ -108,21 +117,22 @@ def words():
     asked = argparse.ArgumentParser(description="a bridge in SystemVerilog, right and with faults, judged by tlscore")
     asked.add_argument("--runs", type=int, default=20, help="how many runs of each (20)")
     asked.add_argument("--first", type=int, default=1, help="the seed of the first run, from 1; the others follow (1)")
-    asked.add_argument("--simulator", choices=("iverilog", "verilator"), help="the first of these that is there")
-    asked.add_argument("--score", default=os.environ.get("TLSCORE", HERE.parents[2] / "tlscore"), help="(TLSCORE, or ./tlscore)")
+    asked.add_argument("--simulator", choices=SIMULATORS, help="the first of these that is there")
+    score = os.environ.get("TLSCORE", HERE.parents[2] / "tlscore")
+    asked.add_argument("--score", default=score, help="the scoreboard (what TLSCORE names, else tlscore at the top)")
     given = asked.parse_args()
     if given.runs < 1 or given.first < 1:
         asked.error("runs and seeds are counted from 1")
     given.score = Path(given.score).resolve()
-    there = [it for it in (given.simulator, "iverilog", "verilator") if it and shutil.which(it)]
-    given.simulator = there[0] if there else None
     return given
 
 
 def main():
     given = words()
+    wanted = [given.simulator] if given.simulator else SIMULATORS
+    given.simulator = next(filter(shutil.which, wanted), None)
     if not given.simulator:
-        print("no simulator: neither iverilog nor verilator is on PATH", file=sys.stderr)
+        print(f"no simulator: {' or '.join(wanted)} has to be on PATH", file=sys.stderr)
         return 4
     print(f"{given.simulator}, seeds {given.first} to {given.first + given.runs - 1}", flush=True)
     variants = []
