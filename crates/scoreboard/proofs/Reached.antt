@@ -91,7 +91,7 @@ pub record Holds (setup : SetupLists) (before : List Seen) (board : Board) : Typ
   pub held : IsBoardOf setup (observed_in before) board
   pub right : IsRight setup before
 
-right_nothing : (setup : SetupLists) → IsRight setup []
+pub right_nothing : (setup : SetupLists) → IsRight setup []
 right_nothing setup =
     record {
       clients = tt;

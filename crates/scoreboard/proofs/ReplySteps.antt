@@ -23,7 +23,7 @@ use Rattle.scoreboard.proofs.Told.{left-beat}
 -- ---- channel D
 
 -- what a client was told with a beat more: of its source that too
-told_own : (observed : Observed) (number : ℕ) (beat : DBeat) → (with_reply_beat number beat observed).told number beat.source ≡ observed.told number beat.source ++ beat ∷ []
+pub told_own : (observed : Observed) (number : ℕ) (beat : DBeat) → (with_reply_beat number beat observed).told number beat.source ≡ observed.told number beat.source ++ beat ∷ []
 told_own observed number beat = rw (eqb_same number, eqb_same beat.source) refl
 
 none_of : (b c : Bool) → c ≡ false → (b && c) ≡ false
@@ -31,7 +31,7 @@ none_of true c not_it = not_it
 none_of false c not_it = refl
 
 -- of any other what it was told before
-told_other : (observed : Observed) (number : ℕ) (beat : DBeat) (client source : ℕ) → (client ≢ number) ⊎ (source ≢ beat.source) → (with_reply_beat number beat observed).told client source ≡ observed.told client source
+pub told_other : (observed : Observed) (number : ℕ) (beat : DBeat) (client source : ℕ) → (client ≢ number) ⊎ (source ≢ beat.source) → (with_reply_beat number beat observed).told client source ≡ observed.told client source
 told_other observed number beat client source (inl differs) = rw (ne_eqb client number differs) refl
 told_other observed number beat client source (inr differs) = rw (none_of (client == number) (source == beat.source) (ne_eqb source beat.source differs)) refl
 

@@ -17,11 +17,11 @@ use Rattle.scoreboard.proofs.Owed.{eqb_same}
 
 -- ---- how many beats there are
 
-front_lacks : (beats : List ABeat) → length beats < wanted_of beats → is_complete beats ≡ false
+pub front_lacks : (beats : List ABeat) → length beats < wanted_of beats → is_complete beats ≡ false
 front_lacks [] fewer = refl
 front_lacks (first ∷ rest) fewer = ne_eqb _ _ (λ same. omega (arith, same, fewer))
 
-spelling_complete : (limits : TlPortLimits) (beats : List ABeat) (q : WholeRequest) → Spells limits beats q → is_complete beats ≡ true
+pub spelling_complete : (limits : TlPortLimits) (beats : List ABeat) (q : WholeRequest) → Spells limits beats q → is_complete beats ≡ true
 spelling_complete limits [] q spells = absurd spells
 spelling_complete limits (first ∷ rest) q spells = ap (λ n. n == beats_of first.size (opcode_has_data first.opcode)) spells.2 ∙ eqb_same (beats_of first.size (opcode_has_data first.opcode))
 

@@ -128,7 +128,7 @@ board_more setup observed board number client beat of there goes =
 -- ---- the last beat of a message
 
 -- the request that it completes is the client's
-client_of : (number : ℕ) (begun : List ABeat) (beat : ABeat) (message : HeldMessage) → held_of number (begun ++ beat ∷ []) ≡ Some message → message.client ≡ number
+pub client_of : (number : ℕ) (begun : List ABeat) (beat : ABeat) (message : HeldMessage) → held_of number (begun ++ beat ∷ []) ≡ Some message → message.client ≡ number
 client_of number [] beat message is = let same : message ≡ message_of number beat [] = cc (is) in ap (λ (m : HeldMessage). m.client) same
 client_of number (first ∷ rest) beat message is = let same : message ≡ message_of number first (rest ++ beat ∷ []) = cc (is) in ap (λ (m : HeldMessage). m.client) same
 
@@ -147,14 +147,14 @@ abbrev pub with_whole : ℕ → List ABeat → Observed → Observed
 with_whole number beats observed = record (with_begun number [] observed) { messages = observed.messages ++ record { client = number; beats = beats } ∷ [] }
 
 -- the request and its reply
-record IsCompleted (setup : SetupLists) (observed : Observed) (number : ℕ) (beats : List ABeat) (message : HeldMessage) (reply : Reply) : Type 0 where
-  held : held_of number beats ≡ Some message
-  client : message.client ≡ number
-  spelled : IsSpelled setup (record { client = number; beats = beats }, request_of message)
-  free : message.source < 256 → left_of (replies_to setup observed number message.source) (observed.told number message.source) ≡ []
-  reply_is : reply ≡ (meaning (faults_of setup) setup.regions (request_of message) (bytes_of_all setup (requests_in observed))).reply
+pub record IsCompleted (setup : SetupLists) (observed : Observed) (number : ℕ) (beats : List ABeat) (message : HeldMessage) (reply : Reply) : Type 0 where
+  pub held : held_of number beats ≡ Some message
+  pub client : message.client ≡ number
+  pub spelled : IsSpelled setup (record { client = number; beats = beats }, request_of message)
+  pub free : message.source < 256 → left_of (replies_to setup observed number message.source) (observed.told number message.source) ≡ []
+  pub reply_is : reply ≡ (meaning (faults_of setup) setup.regions (request_of message) (bytes_of_all setup (requests_in observed))).reply
 
-requests_whole : (observed : Observed) (number : ℕ) (beats : List ABeat) (message : HeldMessage) → held_of number beats ≡ Some message
+pub requests_whole : (observed : Observed) (number : ℕ) (beats : List ABeat) (message : HeldMessage) → held_of number beats ≡ Some message
     → requests_in (with_whole number beats observed) ≡ requests_in observed ++ request_of message ∷ []
 requests_whole observed number beats message held = requests_of-append observed.messages (record { client = number; beats = beats }) (request_of message) (ap (option_map request_of) held)
 
@@ -171,12 +171,12 @@ own_with setup observed number beats message reply same with_q =
     (replies_to-own setup observed (with_whole number beats observed) (request_of message) reply with_q)
 
 -- the replies to a source of a client: one more where they are the request's
-own_replies : (setup : SetupLists) (observed : Observed) (number : ℕ) (beats : List ABeat) (message : HeldMessage) (reply : Reply) → IsCompleted setup observed number beats message reply
+pub own_replies : (setup : SetupLists) (observed : Observed) (number : ℕ) (beats : List ABeat) (message : HeldMessage) (reply : Reply) → IsCompleted setup observed number beats message reply
     → replies_to setup (with_whole number beats observed) number message.source ≡ replies_to setup observed number message.source ++ shown (request_of message) reply ∷ []
 own_replies setup observed number beats message reply done =
     own_with setup observed number beats message reply done.client (with_request setup observed number beats message reply done)
 
-other_replies : (setup : SetupLists) (observed : Observed) (number : ℕ) (beats : List ABeat) (message : HeldMessage) (reply : Reply) (client source : ℕ) → IsCompleted setup observed number beats message reply
+pub other_replies : (setup : SetupLists) (observed : Observed) (number : ℕ) (beats : List ABeat) (message : HeldMessage) (reply : Reply) (client source : ℕ) → IsCompleted setup observed number beats message reply
     → (client ≢ number) ⊎ (source ≢ message.source) → replies_to setup (with_whole number beats observed) client source ≡ replies_to setup observed client source
 other_replies setup observed number beats message reply client source done differs =
     replies_to-other setup observed (with_whole number beats observed) (request_of message) reply client source (with_request setup observed number beats message reply done) (is_other differs)
@@ -189,7 +189,7 @@ other_replies setup observed number beats message reply client source done diffe
     is_other (inl other) = rw (ne_eqb message.client client (λ same. other (sym same ∙ done.client))) refl
     is_other (inr other) = none_of (message.client == client) (message.source == source) (ne_eqb message.source source (λ same. other (sym same)))
 
-right_whole : (setup : SetupLists) (observed : Observed) (number : ℕ) (beats : List ABeat) (message : HeldMessage) (reply : Reply) → IsCompleted setup observed number beats message reply
+pub right_whole : (setup : SetupLists) (observed : Observed) (number : ℕ) (beats : List ABeat) (message : HeldMessage) (reply : Reply) → IsCompleted setup observed number beats message reply
     → IsRightNow setup observed → IsRightNow setup (with_whole number beats observed)
 right_whole setup observed number beats message reply done right =
     record {
@@ -375,7 +375,7 @@ alone : (limits : TlPortLimits) (begun : List ABeat) (beat : ABeat) → begun �
 alone limits [] beat empty = refl
 alone limits (first ∷ rest) beat empty = absurd (cc (empty))
 
-own_begun : (observed : Observed) (number : ℕ) (beats : List ABeat) → (with_begun number beats observed).begun number ≡ beats
+pub own_begun : (observed : Observed) (number : ℕ) (beats : List ABeat) → (with_begun number beats observed).begun number ≡ beats
 own_begun observed number beats = rw (eqb_same number) refl
 
 -- a beat that may come isn't wrong

@@ -4,4 +4,5 @@ pub mod InsideSerial
 pub mod Names
 pub mod Observed
 pub mod Right
+pub mod SeenRuns
 pub mod SerialMemory

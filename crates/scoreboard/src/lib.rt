@@ -6,6 +6,7 @@ mod board;
 mod clients;
 mod names;
 mod replies;
+mod runs;
 mod serial;
 #[cfg(test)]
 mod tests;
@@ -13,6 +14,7 @@ mod tests;
 use axi_beats::{ArBeat, AwBeat, BBeat, RBeat, WBeat};
 use axi_checker::AxiRule;
 pub use board::Scoreboard;
+pub use runs::observed;
 pub use serial::SerialMemory;
 use tl_checker::TlRule;
 use tl_messages::{ABeat, DBeat};

@@ -7,7 +7,7 @@ use std::test::Fail;
 use subordinate::{PageKind, device_fault};
 use tl_checker::{Level, Port, Progress};
 use tl_messages::ReplyBox;
-use world_run::{Setup, SetupFault};
+use world_run::{Setup, SetupFault, Step};
 
 /// TileLink pages 0 to 3 lead to AXI pages 0x10 to 0x13.
 const REGION: Region = Region {
@@ -454,6 +454,63 @@ fn right_beats_and_bytes(rt: HostRuntime) {
     ] {
         assert_eq!(rt; board.byte(address), byte, "{address}");
     }
+}
+
+/// A beat that its client offers; anything else is no step of a client, and a Pump stands for it.
+fn offer(beat: Beat) -> Step {
+    match seen(beat) {
+        Seen::A(client, beat) => Step::Offer(client, beat),
+        _ => Step::Pump,
+    }
+}
+
+/// Which of a run's beats a scoreboard finds wrong first, if it finds one.
+fn first_wrong(board: &mut Scoreboard, beats: &[Seen]) -> Option<usize> {
+    for (place, beat) in beats.iter().enumerate() {
+        if board.judge(beat).is_some() {
+            return Some(place);
+        }
+    }
+    None
+}
+
+#[test]
+fn what_a_run_shows(rt: HostRuntime) {
+    let setup = set_up(REGION).expect(&rt, "room");
+    let steps = [
+        offer(PUT),
+        offer(PUT),
+        Step::Take(0),
+        Step::Pump,
+        Step::Pump,
+        Step::Perform(0, 0),
+        Step::AnswerB(0),
+        Step::Take(0),
+        offer(A(1, 4, 0, 2, 7, 0xc, 0xf0, 0)),
+        Step::Pump,
+        Step::Perform(1, 0),
+        Step::AnswerR(0),
+        Step::Take(1),
+        Step::Take(1),
+    ];
+    let shown = [
+        PUT,
+        Aw(0, 0x10008, 0, 3),
+        W(WORD, 0xff, true),
+        B(0),
+        D(0, ACK),
+        A(1, 4, 0, 2, 7, 0xc, 0xf0, 0),
+        Ar(0, 0x1000c, 0, 2),
+        R(0, 0x1122334400000000, true),
+        D(1, (1, 2, 7, false, 0x1122334400000000, false)),
+    ];
+    let beats = observed(rt.alloc(), &setup, &steps).expect(&rt, "memory");
+    assert_eq!(rt; beats.len(), shown.len());
+    for (place, beat) in shown.iter().enumerate() {
+        assert_eq!(rt; beats.get(place), Some(&seen(*beat)), "{place}");
+    }
+    let mut board = Scoreboard::new(rt.alloc(), &setup).expect(&rt, "memory");
+    assert_eq!(rt; first_wrong(&mut board, &beats), None);
 }
 
 #[test]
