@@ -111,6 +111,11 @@ STATEMENTS = (
         (("scoreboard", "Right", "IsRight"),),
     ),
     (
+        "What is seen of a run",
+        "`scoreboard::observed`, clause `shows`; clause `right` says that it is right, as above.",
+        (("scoreboard", "SeenRuns", "observed"),),
+    ),
+    (
         "What the scoreboard says",
         "`scoreboard::Scoreboard::judge`, clauses `answer` and `state`, and the board that `right` begins with.",
         (("scoreboard", "Boards", "wrong_at"), ("scoreboard", "Boards", "IsAfter"), ("scoreboard", "Boards", "IsReached")),

@@ -100,14 +100,19 @@ pub record TellsWhole (replies : List (List DBeat)) (told left : List DBeat) : T
   pub tells : TellsOn replies told left
   pub whole : IsPartly replies told → ⊥
 
--- what was observed, and a bridge, where these requests are accepted so far of those of the whole run
+-- what was observed is in accord with a bridge. Of the requests that a whole run accepts some are accepted so far
 pub record IsSeen (setup : SetupLists) (requests past : List WholeRequest) (seen : Observed) (bridge : BridgeState) : Type 0 where
+  -- those that came whole are those that are accepted so far
   pub accepted : requests_in seen ≡ past
   pub count : length past ≡ bridge.requests.accepted
+  -- what has begun on each channel A is its front
   pub heard : IsHeard setup.config bridge seen.begun
+  -- what is left to tell of each source is the reply to its live request
   pub told : (client source : ℕ) → TellsWhole (replies_to setup seen client source) (seen.told client source) (owed (shown_at setup requests) bridge.requests.live client source)
+  -- and the same bursts are outstanding
   pub open_bursts : open_after_all nothing_open seen.axi ≡ bridge.open_bursts
 
+-- and it is right
 pub record Accords (setup : SetupLists) (requests past : List WholeRequest) (before : List Seen) (bridge : BridgeState) : Type 0 where
   pub right : IsRight setup before
   pub seen : IsSeen setup requests past (observed_in before) bridge

@@ -33,6 +33,7 @@ seen_by (step.AnswerR id) (answer.R r) burst reply = R r ∷ []
 seen_by (step.Take client) (answer.Reply number) burst reply = seen_of_reply client reply
 seen_by _ _ burst reply = []
 
+-- the same, of an event and what it gives
 abbrev pub seen_of : Step → Outcome → List Seen
 seen_of event outcome = seen_by event outcome.answer outcome.burst outcome.reply
 
