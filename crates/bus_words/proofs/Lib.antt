@@ -1,4 +1,5 @@
 pub mod BelowEight
+pub mod DistinctPlaces
 pub mod FirstPlaces
 pub mod Inclusion
 pub mod LaneLaws

@@ -5,12 +5,11 @@ use Rattle.std.specs.List.{AllByRecursion, find, position, position_or_len}
 use Rattle.bus_words.proofs.FirstPlaces.{find-none}
 use Rattle.std.proofs.lemmas.Bool.{eq-eqb, eqb-true, lt-ltb, ne_eqb}
 use Rattle.std.proofs.lemmas.Grind.{common_steps}
-use Rattle.bus_words.specs.Places.{change_first, without_first}
+use Rattle.bus_words.specs.Places.{AreDistinct, change_first, without_first}
 use Rattle.bus_words.proofs.PlaceChanges.{all-append, all-without_first}
 use Rattle.slab.proofs.SlabLemmas.{Updates-with_value}
 use Rattle.slab.specs.Slab.{Slab, with_value, get, ContainsKey, slab_len, Updates}
 use Rattle.flight_table.specs.Inside.{IsIndex, entries_in, entry_in, stored}
-use Rattle.flight_table.specs.Laws.{AreDistinct}
 use Rattle.flight_table.specs.LiveRequests.{LiveRequest}
 use Rattle.flight_table.specs.Tables.{KeyedRequest, change_entry, has_key, request_in, requests_of}
 use Rattle.flight_table.proofs.PlaceLaws.{position_map}
@@ -248,24 +247,3 @@ place_keyed s key ks = position_map (entry_in s) (has_key key) ks
 
 pub place_passing : (s : Slab LiveRequest) (p : LiveRequest → Bool) (ks : List ℕ) → position p (requests_of (entries_in s ks)) ≡ position (λ k. p (stored s k)) ks
 place_passing s p ks = position_map (λ (entry : KeyedRequest). entry.request) p (entries_in s ks) ∙ position_map (entry_in s) (λ entry. p entry.request) ks
-
--- ---- a key that stands at a place
-
-other_at : (key : ℕ) (ks : List ℕ) (g d : ℕ) → AreOthers key ks → g < length ks → get_or ks g d ≢ key
-other_at key [] g d others within = absurd (omega (arith, within))
-other_at key (k ∷ ks) zero d others within = others.0
-other_at key (k ∷ ks) (suc g) d others within = other_at key ks g d others.1 (omega (arith, within))
-
-first_at : (ks : List ℕ) (g d : ℕ) → AreDistinct ks → g < length ks → position_or_len (λ k. k == get_or ks g d) ks ≡ g
-first_at [] g d distinct within = absurd (omega (arith, within))
-first_at (k ∷ ks) zero d distinct within = rw (eq-eqb k k refl) refl
-first_at (k ∷ ks) (suc g) d distinct within =
-    let inside : g < length ks = omega (arith, within) in
-    let rest = first_at ks g d distinct.1 inside in
-    rw (ne_eqb k (get_or ks g d) (λ same. other_at k ks g d distinct.0 inside (sym same))) (omega (arith, rest))
-
--- where no two keys are the same, a key has no other place
-pub position_here : (ks : List ℕ) (g d key : ℕ) → AreDistinct ks → g < length ks → get_or ks g d ≡ key → position (λ k. k == key) ks ≡ Some g
-position_here ks g d key distinct within at =
-    let first : position_or_len (λ k. k == key) ks ≡ g = subst (λ x. position_or_len (λ k. k == x) ks ≡ g) at (first_at ks g d distinct within) in
-    rw (first, lt-ltb g (length ks) within) refl

@@ -9,7 +9,7 @@ use Rattle.bus_words.proofs.FirstPlaces.{find-first, find-none, position_is_firs
 use Rattle.bus_words.proofs.PlaceChanges.{all-append}
 use Rattle.burst_plan.specs.Pieces.{IsPlannable, PlannedRange, range_end}
 use Rattle.burst_plan.proofs.PieceLaws.{range_in_page}
-use Rattle.flight_table.specs.Laws.{AreDistinct}
+use Rattle.bus_words.specs.Places.{AreDistinct}
 use Rattle.flight_table.specs.LiveRequests.{LiveRequest}
 use Rattle.flight_table.specs.Marks.{marks_of, number_of, without_bit}
 use Rattle.flight_table.specs.Order.{conflict, holds_back, is_get, ranges_meet, share_bytes}

@@ -1,9 +1,9 @@
 -- How the live requests lie in a slab, and the index of their keys.
 use Rattle.std.specs.Prelude.{◌≡◌, ℕ, ◌<◌, ◌≤◌, ⊤, Option, Some, filter, slice_set, ◌-◌, ◌==◌, Bool, false, ◌&&◌, not, List, [], ◌∷◌, map, length, None, is_some, nat_lt, unwrap_or, if◌then◌else◌}
 use Rattle.std.specs.List.{AllByRecursion, list_any, range_with_len}
+use Rattle.bus_words.specs.Places.{AreDistinct}
 use Rattle.slab.specs.Slab.{Slab, get, ContainsKey, slab_len}
 use Rattle.tl_messages.specs.declared.Operation.TheVariants.{Get}
-use Rattle.flight_table.specs.Laws.{AreDistinct}
 use Rattle.flight_table.specs.LiveRequests.{LiveRequest, next_burst, unanswered}
 use Rattle.flight_table.specs.Order.{holders, holds_back, holds_id}
 use Rattle.flight_table.specs.Tables.{KeyedRequest, KeyedTable, key_in}

@@ -1,6 +1,7 @@
 -- What is true of every table that the calls make (this project's profile).
-use Rattle.std.specs.Prelude.{ℕ, ◌≡◌, ◌≢◌, ◌+◌, ◌<◌, ◌≤◌, true, false, List, [], ◌∷◌, length, map, filter, None, IfSome, IsSome, ⊤}
+use Rattle.std.specs.Prelude.{ℕ, ◌≡◌, ◌+◌, ◌<◌, ◌≤◌, true, false, List, [], ◌∷◌, length, map, filter, None, IfSome, IsSome, ⊤}
 use Rattle.std.specs.List.{AllByRecursion}
+use Rattle.bus_words.specs.Places.{AreDistinct}
 use Rattle.tl_messages.specs.Operations.{has_data, reply_has_data}
 use Rattle.flight_table.specs.LiveRequests.{LiveRequest, all_sent, planned}
 use Rattle.flight_table.specs.Order.{holds_id, is_held}
@@ -38,11 +39,6 @@ pub record IsSoundRequest (limits : TableLimits) (accepted : ℕ) (request : Liv
 abbrev pub AreRising : List ℕ → Type 0
 AreRising [] = ⊤
 AreRising (n ∷ ns) = AllByRecursion (λ m. n < m) ns × AreRising ns
-
--- numbers of which no two are the same
-abbrev pub AreDistinct : List ℕ → Type 0
-AreDistinct [] = ⊤
-AreDistinct (n ∷ ns) = AllByRecursion (λ m. m ≢ n) ns × AreDistinct ns
 
 -- numbers rise; an ID is held by one request at most; of two requests that conflict and aren't done, the one that was accepted later holds no ID, so
 -- it has sent nothing; no client has more live requests than it may have, or two of the same source

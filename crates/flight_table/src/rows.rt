@@ -1,7 +1,7 @@
 //! Which live requests lie in which AXI page. A request's range lies in one page, so that it can conflict only with those of
 //! its row.
 ghost use Rattle.std.specs.Prelude.{◌≡◌, ℕ, ◌+◌, ◌^◌, ◌<◌, ◌≤◌, [], IfOk, None, Some, if◌then◌else◌, length, map, position, slice_index_or};
-ghost use Rattle.flight_table.specs.Laws.{AreDistinct};
+ghost use Rattle.bus_words.specs.Places.{AreDistinct};
 ghost use Rattle.flight_table.specs.Marks.{marks_of, without_bit};
 ghost use Rattle.flight_table.specs.Rows.{bits_in, bits_of, cut, has_page, is_vacant, lies_in};
 ghost use Rattle.flight_table.specs.declared.rows.Row.{Row};
@@ -27,7 +27,7 @@ pub(crate) struct Rows {
 impl Model for Rows {
     ghost use Rattle.std.specs.Prelude.{List, ◌≤◌, map};
     ghost use Rattle.std.specs.Vec.{vec_capacity};
-    ghost use Rattle.flight_table.specs.Laws.{AreDistinct};
+    ghost use Rattle.bus_words.specs.Places.{AreDistinct};
     ghost use Rattle.flight_table.specs.declared.rows.Row.{Row};
 
     ghost Value = { List Row };
@@ -37,11 +37,32 @@ impl Model for Rows {
     ghost invariant = { λ r. AreDistinct (map (λ row. row.page) r.rows.items) × (64 ≤ vec_capacity r.rows) };
 }
 
-/// The place of the row of a page.
-fn place_of(rows: &[Row], page: u32) -> Option<usize>
+/// Where the row of this page stands, if the pages rise by one. What is found doesn't rest on it.
+fn guess(rows: &[Row], page: u32) -> usize {
+    match rows.first() {
+        Some(first) => page.saturating_sub(first.page) as usize,
+        None => 0,
+    }
+}
+
+/// The place of the row of a page, of all rows looked at in order.
+fn searched(rows: &[Row], page: u32) -> Option<usize>
     ensures { result ≡ position (has_page page) rows.now }
 {
     rows.iter().position(|row| row.page == page)
+}
+
+/// The place of the row of a page, of which no two are the same; where it stands as the pages rise by one, no other row is
+/// looked at.
+fn place_of(rows: &[Row], page: u32) -> Option<usize>
+    requires { AreDistinct (map (λ row. row.page) rows.now) }
+    ensures { result ≡ position (has_page page) rows.now }
+{
+    let guess = guess(rows, page);
+    if guess < rows.len() && rows[guess].page == page {
+        return Some(guess);
+    }
+    searched(rows, page)
 }
 
 /// The place of a row without places.

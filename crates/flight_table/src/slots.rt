@@ -2,9 +2,9 @@
 ghost use Rattle.std.specs.Prelude.{◌≡◌, ◌==◌, ◌<◌, ◌≤◌, Bool, [], ◌∷◌, ◌++◌, Some, None, IfOk, IfSome, IsSome, length, position, slice_index_or};
 ghost use Rattle.flight_table.specs.LiveRequests.{LiveRequest};
 ghost use Rattle.std.specs.Vec.{vec_len, vec_capacity};
-ghost use Rattle.bus_words.specs.Places.{change_first, without_first};
+ghost use Rattle.bus_words.specs.Places.{AreDistinct, change_first, without_first};
 ghost use Rattle.flight_table.specs.Tables.{change_entry, has_key, has_number, key_in, request_in, requests_of};
-ghost use Rattle.flight_table.specs.Laws.{AreDistinct, HaveOwnKeys};
+ghost use Rattle.flight_table.specs.Laws.{HaveOwnKeys};
 
 use crate::request::LiveRequest;
 use crate::scans::{key_at, of_number, stored};

@@ -24,7 +24,7 @@ none_parts : (test : Bool) (rule : DeviceFault) (rows : List (Bool × DeviceFaul
 none_parts true rule rows none = absurd (cc)
 none_parts false rule rows none = (refl, none)
 
-none_before : (xs ys : List (Bool × DeviceFault)) → first_broken (xs ++ ys) ≡ None → first_broken xs ≡ None
+pub none_before : (xs ys : List (Bool × DeviceFault)) → first_broken (xs ++ ys) ≡ None → first_broken xs ≡ None
 none_before [] ys none = refl
 none_before ((true, rule) ∷ xs) ys none = absurd (cc)
 none_before ((false, rule) ∷ xs) ys none = none_before xs ys none
@@ -35,19 +35,19 @@ none_before ((false, rule) ∷ xs) ys none = none_before xs ys none
 abbrev keeps : ℕ → Memory → Bool
 keeps number memory = is_some (find (λ page. page.number == number) memory)
 
-listed_more : (number : ℕ) (earlier : List (ℕ × PageKind)) (page : ℕ × PageKind) → list_any (lists_page number) earlier ≡ true → list_any (lists_page number) (earlier ++ page ∷ []) ≡ true
+pub listed_more : (number : ℕ) (earlier : List (ℕ × PageKind)) (page : ℕ × PageKind) → list_any (lists_page number) earlier ≡ true → list_any (lists_page number) (earlier ++ page ∷ []) ≡ true
 listed_more number [] page = λ listed. absurd (cc)
 listed_more number (first ∷ earlier) page =
     elim (lists_page number first) as (λ b. (b || list_any (lists_page number) earlier) ≡ true → (b || list_any (lists_page number) (earlier ++ page ∷ [])) ≡ true)
     [ true ↦ (λ listed. refl) | false ↦ listed_more number earlier page ]
 
-listed_last : (number : ℕ) (earlier : List (ℕ × PageKind)) (page : ℕ × PageKind) → lists_page number page ≡ true → list_any (lists_page number) (earlier ++ page ∷ []) ≡ true
+pub listed_last : (number : ℕ) (earlier : List (ℕ × PageKind)) (page : ℕ × PageKind) → lists_page number page ≡ true → list_any (lists_page number) (earlier ++ page ∷ []) ≡ true
 listed_last number [] page here = rw here refl
 listed_last number (first ∷ earlier) page here =
     elim (lists_page number first) as (λ b. (b || list_any (lists_page number) (earlier ++ page ∷ [])) ≡ true) [ true ↦ refl | false ↦ listed_last number earlier page here ]
 
 -- what the rules on a page ask: it doesn't stand earlier, and the later ones break none
-page_parts : (earlier : List (ℕ × PageKind)) (i : ℕ) (page : ℕ × PageKind) (pages : List (ℕ × PageKind)) → first_broken (rules_of_pages earlier i (page ∷ pages)) ≡ None
+pub page_parts : (earlier : List (ℕ × PageKind)) (i : ℕ) (page : ℕ × PageKind) (pages : List (ℕ × PageKind)) → first_broken (rules_of_pages earlier i (page ∷ pages)) ≡ None
     → (list_any (lists_page page.0) earlier ≡ false) × (first_broken (rules_of_pages (earlier ++ page ∷ []) (i + 1) pages) ≡ None)
 page_parts earlier i page pages none =
     let later = rules_of_pages (earlier ++ page ∷ []) (i + 1) pages in

@@ -1,4 +1,5 @@
 mod Examples
+pub mod ApartPages
 pub mod BeatStates
 pub mod BoxTransfers
 pub mod ByteLaws

@@ -1,6 +1,7 @@
 //! The pages of a device: their bytes, and the transfers that are performed on them.
 ghost use Rattle.std.specs.Prelude.{◌≡◌, ◌==◌, ◌+◌, ◌≤◌, filter, map, position, replicate, IfOk, IsTrue, None, Some};
 ghost use Rattle.bus_words.specs.Lanes.{payload_of};
+ghost use Rattle.bus_words.specs.Places.{AreDistinct};
 ghost use Rattle.axi_beats.specs.Bursts.{strobes_fit};
 ghost use Rattle.axi_beats.specs.Transfers.{IsBusWidth, transfer_address};
 ghost use Rattle.subordinate.specs.Faults.{device_fault, lists_page};
@@ -27,6 +28,7 @@ pub struct Pages {
 
 impl Model for Pages {
     ghost use Rattle.std.specs.Prelude.{◌≡◌, length};
+    ghost use Rattle.bus_words.specs.Places.{AreDistinct};
     ghost use Rattle.subordinate.specs.InsidePages.{KeepsGoodPages, PagesState, pages_state};
 
     ghost Value = { PagesState };
@@ -34,7 +36,7 @@ impl Model for Pages {
     ghost view = { λ p. pages_state p.listed.items p.numbers.items p.words.items p.bad.items };
 
     ghost invariant = { λ p. (length p.words.items ≡ length p.numbers.items)
-        × KeepsGoodPages (pages_state p.listed.items p.numbers.items p.words.items p.bad.items) };
+        × KeepsGoodPages (pages_state p.listed.items p.numbers.items p.words.items p.bad.items) × AreDistinct p.numbers.items };
 }
 
 // Written out, so that what lets go of one calls this, and proves nothing of its parts.
@@ -111,6 +113,9 @@ impl Pages {
         ensures value { result ≡ write_response (standing_at self.now.faults address) }
         ensures good_pages { KeepsGoodPages self.now }
     {
+        if place_of(&self.numbers, address / 4096).is_some() {
+            return Resp::Okay;
+        }
         match listed_at(&self.listed, address / 4096) {
             Some(place) => match self.listed[place].1 {
                 PageKind::Good => Resp::Okay,
@@ -197,11 +202,32 @@ fn zero_pages(alloc: Global, count: usize) -> Result<Vec<[u64; 512]>, AllocError
     Ok(pages)
 }
 
-/// The place of a good page by its number.
-fn place_of(numbers: &[u32], number: u32) -> Option<usize>
+/// Where a page of this number stands, if the numbers rise by one. What is found doesn't rest on it.
+fn guess(numbers: &[u32], number: u32) -> usize {
+    match numbers.first() {
+        Some(first) => number.saturating_sub(*first) as usize,
+        None => 0,
+    }
+}
+
+/// The place of a good page by its number, of all pages looked at in order.
+fn searched(numbers: &[u32], number: u32) -> Option<usize>
     ensures { result ≡ position (λ page. page == number) numbers.now }
 {
     numbers.iter().position(|page| *page == number)
+}
+
+/// The place of a good page by its number, of which no two are the same; where it stands as the numbers rise by one, no other
+/// page is looked at.
+fn place_of(numbers: &[u32], number: u32) -> Option<usize>
+    requires { AreDistinct numbers.now }
+    ensures { result ≡ position (λ page. page == number) numbers.now }
+{
+    let guess = guess(numbers, number);
+    if guess < numbers.len() && numbers[guess] == number {
+        return Some(guess);
+    }
+    searched(numbers, number)
 }
 
 /// The place of a page in the list by its number.

@@ -1,7 +1,7 @@
 -- A key that stands at the guess stands nowhere else.
 use Rattle.std.proofs.Common.{◌∙◌, sym}
 use Rattle.std.proofs.lemmas.Bool.{eqb-true}
-use Rattle.flight_table.proofs.Index.{position_here}
+use Rattle.bus_words.proofs.DistinctPlaces.{position_here}
 use Rattle.flight_table.proofs.slots.place_from.Goals as goal
 
 pub returns-then-eq : goal.returns-then-eq

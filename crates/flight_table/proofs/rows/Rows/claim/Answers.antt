@@ -14,6 +14,9 @@ use Rattle.flight_table.proofs.rows.Rows.claim.Goals as goal
 others : (page : ℕ) (items rows : List Row) (found : Option ℕ) → items ≡ rows → found ≡ position (has_page page) items → found ≡ None → AreOthers page (pages_of rows)
 others page items rows found same is none = none_has page rows (ap (position (has_page page)) (sym same) ∙ sym is ∙ none)
 
+pub place_of-requires : goal.place_of-requires
+place_of-requires c = rw c.deref.ensures.value c.self.invariant.0
+
 pub invariant_of-self : goal.invariant_of-self
 invariant_of-self c =
     let rows = c.self.inside.rows.items in

@@ -4,6 +4,9 @@ use Rattle.flight_table.specs.Rows.{bits_of, has_page}
 use Rattle.flight_table.proofs.RowLaws.{bits_absent, bits_at}
 use Rattle.flight_table.proofs.rows.Rows.places.Goals as goal
 
+pub place_of-requires : goal.place_of-requires
+place_of-requires c = rw c.deref.ensures.value c.self.invariant.0
+
 pub returns-in-Some-place_of-clause-places : goal.returns-in-Some-place_of-clause-places
 returns-in-Some-place_of-clause-places c =
     let page = c.in-Some.page in

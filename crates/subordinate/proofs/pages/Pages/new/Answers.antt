@@ -4,6 +4,7 @@ use Rattle.std.proofs.lemmas.List.{length-replicate}
 use Rattle.std.specs.Prelude.{replicate}
 use Rattle.subordinate.specs.InsidePages.{KeepsGoodPages, pages_state}
 use Rattle.subordinate.specs.Pages.{opening_memory, zero_words}
+use Rattle.subordinate.proofs.ApartPages.{are_apart}
 use Rattle.subordinate.proofs.PagesOf.{pages_state-opening}
 use Rattle.subordinate.proofs.GoodPages.{keeps_good_pages-opening}
 use Rattle.subordinate.proofs.pages.Pages.new.Goals as goal
@@ -22,6 +23,7 @@ pub invariant_of-result : goal.invariant_of-result
 invariant_of-result c = (
   ap length c.in_ok-words.ensures ∙ length-replicate c.len.result zero_words ∙ omega arith,
   subst KeepsGoodPages (sym (opens c)) (keeps_good_pages-opening c.args.pages.now c.args.bad.now c.requires.fine),
+  rw c.in_ok-numbers.ensures (are_apart c.args.pages.now c.args.bad.now c.requires.fine),
 )
 
 pub returns : goal.returns

@@ -5,6 +5,9 @@ use Rattle.subordinate.specs.Pages.{word_at}
 use Rattle.subordinate.proofs.PagesOf.{is_page_of, word_at-pages_of, word_at-none}
 use Rattle.subordinate.proofs.pages.Pages.word_at.Goals as goal
 
+pub place_of-requires : goal.place_of-requires
+place_of-requires c = rw c.deref.ensures.value c.self.invariant.2
+
 pub returns-in-Some-clause-word : goal.returns-in-Some-clause-word
 returns-in-Some-clause-word c =
     sym (word_at-pages_of c.self.inside.numbers.items c.self.inside.words.items c.args.address c.in-Some.place c.index.result.now c.self.invariant.0 found c.index.ensures)

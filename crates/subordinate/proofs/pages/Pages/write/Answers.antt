@@ -8,6 +8,9 @@ use Rattle.subordinate.proofs.PageWrites.{bytes_written-store, bytes_written-non
 use Rattle.subordinate.proofs.PagesOf.{is_page_of}
 use Rattle.subordinate.proofs.pages.Pages.write.Goals as goal
 
+pub place_of-requires : goal.place_of-requires
+place_of-requires c = rw c.deref.ensures.value c.self.invariant.2
+
 pub returns-in_default-clause-written : goal.returns-in_default-clause-written
 returns-in_default-clause-written c =
     sym c.self.view_is
@@ -40,6 +43,7 @@ invariant_of-self c = (
   subst (λ (memory : Memory). KeepsGoodPages (record { faults = record { pages = c.self.inside.listed.items; bad_words = c.self.inside.bad.items }; memory = memory })) (sym (stored c))
       (keeps_good_pages-written c.args.bus_bytes (pages_state c.self.inside.listed.items c.self.inside.numbers.items c.self.inside.words.items c.self.inside.bad.items) c.args.aw c.args.n c.args.beat
       c.self.invariant.1),
+  c.self.invariant.2,
 )
 
 pub returns-clause-written : goal.returns-clause-written
