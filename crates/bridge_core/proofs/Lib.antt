@@ -5,7 +5,7 @@ pub mod BurstWrites
 pub mod BurstsToSend
 pub mod FreeFronts
 pub mod HeldBytes
-pub mod HeldPlaces
+pub mod HeldKeys
 pub mod HolderChanges
 pub mod JoinedRequests
 pub mod KeyChanges
@@ -27,5 +27,4 @@ pub mod Serving
 pub mod SmallestNumbers
 pub mod TableSteps
 pub mod TakenRequests
-pub mod Together
 pub mod WorkLeft

@@ -1,92 +1,61 @@
--- The live request that an answer belongs to, on both sides, and what the answer makes of it.
-use Rattle.std.proofs.Common.{◌≡◌, ℕ, ◌<◌, ◌==◌, Bool, true, false, ◌&&◌, not, List, Option, Some, None, refl, sym, ◌∙◌, ap, subst, length, arith}
+-- The live request that an answer belongs to, and what the answer makes of it.
+use Rattle.std.proofs.Common.{◌≡◌, ℕ, ◌<◌, Bool, true, false, ◌&&◌, not, Option, Some, None, refl, sym, ◌∙◌, ap, subst, length, get_or, set, arith}
 use Rattle.std.specs.Prelude.{IsSome, IsSomeAnd, is_some, if◌then◌else◌}
 use Rattle.std.specs.List.{find}
 use Rattle.std.proofs.lemmas.Bool.{lt-leb}
-use Rattle.bus_words.specs.Places.{change_first}
-use Rattle.bus_words.proofs.PlaceChanges.{all-find, find-passes}
+use Rattle.bus_words.proofs.PlaceChanges.{all-find}
 use Rattle.tl_messages.specs.Requests.{request_of}
 use Rattle.axi_beats.specs.declared.RBeat.{RBeat}
 use Rattle.axi_beats.specs.declared.Resp.{Resp}
-use Rattle.burst_plan.specs.declared.Region.{Region}
 use Rattle.flight_table.specs.Laws.{IsSound, IsSoundRequest}
 use Rattle.flight_table.specs.LiveRequests.{LiveRequest, finished, is_settled, planned, with_answered, with_write}
 use Rattle.flight_table.specs.Order.{holds_id}
-use Rattle.flight_table.specs.Tables.{KeyedTable, change_key, request_at, requests_of}
+use Rattle.flight_table.specs.Tables.{KeyedTable, change_key, request_at}
 use Rattle.flight_table.specs.declared.TableLimits.{TableLimits}
-use Rattle.responses.specs.Gathered.{Gathering, after_b, after_r, old_value, outline_of}
+use Rattle.responses.specs.Gathered.{outline_of, reads_of}
 use Rattle.bridge_core.specs.Configs.{is_valid, table_limits_of}
-use Rattle.bridge_core.specs.Inside.{AwaitsAnswer, AwaitsBeat, HeldRequest, IsFirstAt, IsKept, IsUndone, answered_flight, bridged, is_held, settled_flight, table_kept, together, value_held}
+use Rattle.bridge_core.specs.Inside.{AwaitsAnswer, AwaitsBeat, HeldRequest, IsFirstAt, IsKept, IsUndone, KeptTable, answered_flight, beat_held, bridged, held_in, responded, settled_flight, shown_table, value_held}
 use Rattle.bridge_core.specs.Laws.{IsServed, IsSoundRequestTable}
-use Rattle.bridge_core.specs.Requests.{BridgedRequest, RequestTable, after_read, after_response, holder, outline_in, settled, value_found}
-use Rattle.bridge_core.specs.declared.Config.{Config}
-use Rattle.bridge_core.proofs.HolderChanges.{find-changed}
+use Rattle.bridge_core.specs.Requests.{BridgedRequest, RequestTable, after_read, after_response, holder, holds, settled, value_found}
+use Rattle.bridge_core.proofs.HeldKeys.{found_apart}
 use Rattle.bridge_core.proofs.KeyChanges.{change_none}
 use Rattle.bridge_core.proofs.SendingLinks.{sound_requests}
 use Rattle.bridge_core.proofs.ServedRequests.{found_is_atomic, served_read, served_response}
-use Rattle.bridge_core.proofs.TableSteps.{IsChanged, IsStep, changed_table, rising}
-use Rattle.bridge_core.proofs.Together.{found_apart, found_together, held_there}
+use Rattle.bridge_core.proofs.TableSteps.{IsChanged, IsStep, all-held, changed_table, held_at, shown_at}
 
--- a request on both sides, of which something is known
-pub record Serving (config : Config) (regions : List Region) (accepted : ℕ) (helds : List HeldRequest) (n : ℕ) (P : BridgedRequest → Type 0) (r : LiveRequest) : Type 0 where
-  pub held : HeldRequest
-  pub there : find (is_held n) helds ≡ Some held
-  pub served : IsServed config regions (bridged r held)
-  pub sound : IsSoundRequest (table_limits_of config) accepted r
-  pub known : P (bridged r held)
-  pub bus : held.bus_bytes ≡ config.axi_bytes
+-- a live request, of which something is known
+pub record Serving (kept : KeptTable) (key : ℕ) (P : BridgedRequest → Type 0) (r : LiveRequest) : Type 0 where
+  pub served : IsServed kept.config kept.regions (bridged r (held_in kept.helds key))
+  pub sound : IsSoundRequest (table_limits_of kept.config) kept.flight.accepted r
+  pub known : P (bridged r (held_in kept.helds key))
+  pub bus : (held_in kept.helds key).bus_bytes ≡ kept.config.axi_bytes
 
 some_and : {X : Type 0} (P : X → Type 0) (o : Option X) (x : X) → o ≡ Some x → IsSomeAnd o P → P x
 some_and P o x is holds = rw is at holds
-
-pub serving_is : (config : Config) (regions : List Region) (flight : KeyedTable) (helds spare : List HeldRequest) (test : LiveRequest → Bool) (key n : ℕ) (P : BridgedRequest → Type 0)
-    → IsKept config flight helds spare → IsSoundRequestTable (table_kept config regions flight helds) → (at : IsFirstAt test flight key n)
-    → IsSomeAnd (find (λ b. test b.flight) (together (requests_of flight.entries) helds)) P → Serving config regions flight.accepted helds n P at.request
-serving_is config regions flight helds spare test key n P kept sound at holds =
-    let rs = requests_of flight.entries in
-    let there = held_there test rs helds at.request (rising flight at.laws) kept.numbers at.first in
-    let found = found_together test rs helds at.request there.0 (rising flight at.laws) kept.numbers at.first there.1 in
-    let named : find (is_held n) helds ≡ Some there.0 = ap (λ (m : ℕ). find (is_held m) helds) (sym at.number_is) ∙ there.1 in
-    record {
-      held = there.0;
-      there = named;
-      served = all-find (IsServed config regions) (λ b. test b.flight) (together rs helds) (bridged at.request there.0) sound.served found;
-      sound = all-find (λ (b : BridgedRequest). IsSoundRequest (table_limits_of config) flight.accepted b.flight) (λ b. test b.flight) (together rs helds) (bridged at.request there.0)
-          (sound_requests (table_kept config regions flight helds) sound) found;
-      known = some_and P (find (λ b. test b.flight) (together rs helds)) (bridged at.request there.0) found holds;
-      bus = all-find (λ (h : HeldRequest). h.bus_bytes ≡ config.axi_bytes) (is_held n) helds there.0 kept.buses named;
-    }
 
 some_of : {X : Type 0} (P : X → Type 0) (o : Option X) → IsSomeAnd o P → IsSome o
 some_of P None holds = absurd holds
 some_of P (Some x) holds = refl
 
 -- the request that holds an ID, of a table whose holder is known
-pub holder_apart : (config : Config) (regions : List Region) (flight : KeyedTable) (helds spare : List HeldRequest) (table : RequestTable) (id : ℕ) (P : BridgedRequest → Type 0) → table_kept config regions flight helds ≡ table
-    → IsKept config flight helds spare → IsSomeAnd (holder id table.live) P → IsSome (find (holds_id id) (requests_of flight.entries))
-holder_apart config regions flight helds spare table id P is kept holds =
-    found_apart (holds_id id) (requests_of flight.entries) helds kept.numbers
-    (some_of P (holder id (together (requests_of flight.entries) helds)) (subst (λ (t : RequestTable). IsSomeAnd (holder id t.live) P) (sym is) holds))
+pub holder_apart : (kept : KeptTable) (table : RequestTable) (id : ℕ) (P : BridgedRequest → Type 0) → shown_table kept ≡ table → IsSomeAnd (holder id table.live) P → IsSome (find (λ entry. holds_id id entry.request) kept.flight.entries)
+holder_apart kept table id P is holds =
+    found_apart (holds_id id) kept.helds kept.flight.entries (some_of P (holder id (shown_table kept).live) (subst (λ (t : RequestTable). IsSomeAnd (holder id t.live) P) (sym is) holds))
 
-pub holder_serves : (config : Config) (regions : List Region) (flight : KeyedTable) (helds spare : List HeldRequest) (table : RequestTable) (id key n : ℕ) (P : BridgedRequest → Type 0)
-    → table_kept config regions flight helds ≡ table → IsKept config flight helds spare → IsSoundRequestTable (table_kept config regions flight helds) → (at : IsFirstAt (holds_id id) flight key n)
-    → IsSomeAnd (holder id table.live) P → Serving config regions flight.accepted helds n P at.request
-holder_serves config regions flight helds spare table id key n P is kept sound at holds =
-    serving_is config regions flight helds spare (holds_id id) key n P kept sound at (subst (λ (t : RequestTable). IsSomeAnd (holder id t.live) P) (sym is) holds)
-
--- what is kept of it after a change
-pub held_changed : (n : ℕ) (g : HeldRequest → HeldRequest) (helds : List HeldRequest) (held : HeldRequest) → ((h : HeldRequest) → (g h).number ≡ h.number) → find (is_held n) helds ≡ Some held
-    → find (is_held n) (change_first (is_held n) g helds) ≡ Some (g held)
-held_changed n g helds held keeps there =
-    find-changed (is_held n) g helds held there (ap (λ (m : ℕ). m == n) (keeps held) ∙ find-passes (is_held n) helds held there)
+pub holder_serves : (kept : KeptTable) (table : RequestTable) (id key : ℕ) (P : BridgedRequest → Type 0) → shown_table kept ≡ table → IsKept kept → IsSoundRequestTable (shown_table kept) → (at : IsFirstAt (holds_id id) kept.flight key)
+    → key < 64 → IsSomeAnd (holder id table.live) P → Serving kept key P at.request
+holder_serves kept table id key P is keeps sound at few holding =
+    let live = (shown_table kept).live in
+    let one = bridged at.request (held_in kept.helds key) in
+    let found = shown_at (holds_id id) kept key at in
+    record {
+      served = all-find (IsServed kept.config kept.regions) (holds id) live one sound.served found;
+      sound = all-find (λ (b : BridgedRequest). IsSoundRequest (table_limits_of kept.config) kept.flight.accepted b.flight) (holds id) live one (sound_requests (shown_table kept) sound) found;
+      known = some_and P (holder id live) one found (subst (λ (t : RequestTable). IsSomeAnd (holder id t.live) P) (sym is) holding);
+      bus = all-held (λ (h : HeldRequest). h.bus_bytes ≡ kept.config.axi_bytes) kept.helds key keeps.buses (omega (arith, few, keeps.all));
+    }
 
 -- ---- what an answer makes of it
-
-abbrev pub responded : Resp → HeldRequest → HeldRequest
-responded resp held = record held { gathering = after_b resp held.gathering }
-
-abbrev pub beat_held : RBeat → HeldRequest → HeldRequest
-beat_held r held = record held { gathering = after_r held.bus_bytes (outline_of (request_of held.message)) r held.gathering.came held.gathering }
 
 -- settled on both sides
 pub settled_both : (found : Bool) (r : LiveRequest) (held : HeldRequest) → found ≡ is_some (value_found (bridged r held)) → settled (bridged r held) ≡ bridged (settled_flight found r) held
@@ -104,109 +73,143 @@ unsettled r limits accepted sound less = lt-leb (length (planned r)) r.answered 
 settled_not : (request : BridgedRequest) → is_settled request.flight ≡ false → settled request ≡ request
 settled_not request is = rw is refl
 
-answered_number : (found : Bool) (q : LiveRequest) → (answered_flight found q).number ≡ q.number
-answered_number found q = by_test (is_settled (with_answered q)) (not q.writing && found)
-  where
-    by_test : (b d : Bool) → (if b then (if d then with_write (with_answered q) else finished (with_answered q)) else with_answered q).number ≡ q.number
-    by_test true true = refl
-    by_test true false = refl
-    by_test false d = refl
-
-read_served : (config : Config) (regions : List Region) (accepted : ℕ) (helds : List HeldRequest) (n : ℕ) (beat : RBeat) (r : LiveRequest) (h : HeldRequest) → is_valid config ≡ true
-    → IsServed config regions (bridged r h) → (serving : Serving config regions accepted helds n (AwaitsBeat config.axi_bytes beat) r) → h ≡ serving.held
-    → IsServed config regions (after_read config.axi_bytes beat (bridged r h))
-read_served config regions accepted helds n beat r h valid served serving is =
-    let known = serving.known in
-    let one = served_read config regions (table_limits_of config) accepted beat (bridged r serving.held) known.awaits.piece known.beats valid serving.served.pages serving.served serving.sound
-    (record { within = known.awaits.unanswered; live = known.awaits.live; burst = known.awaits.next; came = known.came; few = known.within }) known.last known.place in
-    subst (λ (k : HeldRequest). IsServed config regions (after_read config.axi_bytes beat (bridged r k))) (sym is) one
-
 -- the step of a response
-pub step_response : (config : Config) (regions : List Region) (accepted : ℕ) (helds : List HeldRequest) (n : ℕ) (resp : Resp) (found : Bool) (r : LiveRequest) → is_valid config ≡ true
-    → r.number ≡ n → (serving : Serving config regions accepted helds n (AwaitsAnswer true) r) → found ≡ is_some (value_found (bridged r (responded resp serving.held)))
-    → IsStep config regions helds (answered_flight found) (responded resp) (after_response resp) r
-step_response config regions accepted helds n resp found r valid number serving is =
+pub step_response : (kept : KeptTable) (key : ℕ) (resp : Resp) (found : Bool) (r : LiveRequest) → is_valid kept.config ≡ true → Serving kept key (AwaitsAnswer true) r
+    → found ≡ is_some (value_held (responded resp (held_in kept.helds key))) → IsStep kept (answered_flight found) (held_in kept.helds key) (responded resp (held_in kept.helds key)) (after_response resp) r
+step_response kept key resp found r valid serving is =
+    let held = held_in kept.helds key in
     record {
-      numbers = answered_number found;
-      held_numbers = λ h. refl;
-      buses = λ h. refl;
-      same = λ h there. rw (only h there) (settled_both found (with_answered r) (responded resp serving.held) is);
-      served = λ h there served.
-          served_response config regions (table_limits_of config) accepted resp (bridged r h) serving.known.piece valid served.pages served serving.sound serving.known.unanswered serving.known.live serving.known.next;
+      bus = refl;
+      same = settled_both found (with_answered r) (responded resp held) is;
+      served = λ served.
+          served_response kept.config kept.regions (table_limits_of kept.config) kept.flight.accepted resp (bridged r held) serving.known.piece valid served.pages served serving.sound serving.known.unanswered
+          serving.known.live serving.known.next;
     }
-  where
-    only : (h : HeldRequest) → find (is_held r.number) helds ≡ Some h → h ≡ serving.held
-    only h there = cc (sym (rw number at there) ∙ serving.there)
+
+read_served : (kept : KeptTable) (key : ℕ) (beat : RBeat) (r : LiveRequest) → is_valid kept.config ≡ true → Serving kept key (AwaitsBeat kept.config.axi_bytes beat) r
+    → IsServed kept.config kept.regions (after_read kept.config.axi_bytes beat (bridged r (held_in kept.helds key)))
+read_served kept key beat r valid serving =
+    let known = serving.known in
+    served_read kept.config kept.regions (table_limits_of kept.config) kept.flight.accepted beat (bridged r (held_in kept.helds key)) known.awaits.piece known.beats valid serving.served.pages serving.served serving.sound
+    (record { within = known.awaits.unanswered; live = known.awaits.live; burst = known.awaits.next; came = known.came; few = known.within }) known.last known.place
 
 -- the step of the last beat of a read
-pub step_last : (config : Config) (regions : List Region) (accepted : ℕ) (helds : List HeldRequest) (n : ℕ) (beat : RBeat) (found : Bool) (r : LiveRequest) → is_valid config ≡ true
-    → r.number ≡ n → (serving : Serving config regions accepted helds n (AwaitsBeat config.axi_bytes beat) r) → beat.last ≡ true → found ≡ is_some (value_found (bridged r (beat_held beat serving.held)))
-    → IsStep config regions helds (answered_flight found) (beat_held beat) (after_read config.axi_bytes beat) r
-step_last config regions accepted helds n beat found r valid number serving last is =
+pub step_last : (kept : KeptTable) (key : ℕ) (beat : RBeat) (found : Bool) (r : LiveRequest) → is_valid kept.config ≡ true → Serving kept key (AwaitsBeat kept.config.axi_bytes beat) r → beat.last ≡ true
+    → found ≡ is_some (value_held (beat_held beat (held_in kept.helds key)))
+    → IsStep kept (answered_flight found) (held_in kept.helds key) (beat_held beat (held_in kept.helds key)) (after_read kept.config.axi_bytes beat) r
+step_last kept key beat found r valid serving last is =
     record {
-      numbers = answered_number found;
-      held_numbers = λ h. refl;
-      buses = λ h. refl;
-      same = λ h there. rw (only h there, last, ← serving.bus) (settled_both found (with_answered r) (beat_held beat serving.held) is);
-      served = λ h there served. read_served config regions accepted helds n beat r h valid served serving (only h there);
+      bus = refl;
+      same = rw (last, ← serving.bus) (settled_both found (with_answered r) (beat_held beat (held_in kept.helds key)) is);
+      served = λ served. read_served kept key beat r valid serving;
     }
-  where
-    only : (h : HeldRequest) → find (is_held r.number) helds ≡ Some h → h ≡ serving.held
-    only h there = cc (sym (rw number at there) ∙ serving.there)
 
 -- the step of another beat of a read
-pub step_more : (config : Config) (regions : List Region) (accepted : ℕ) (helds : List HeldRequest) (n : ℕ) (beat : RBeat) (r : LiveRequest) → is_valid config ≡ true
-    → r.number ≡ n → (serving : Serving config regions accepted helds n (AwaitsBeat config.axi_bytes beat) r) → beat.last ≡ false
-    → IsStep config regions helds (λ q. q) (beat_held beat) (after_read config.axi_bytes beat) r
-step_more config regions accepted helds n beat r valid number serving last =
+pub step_more : (kept : KeptTable) (key : ℕ) (beat : RBeat) (r : LiveRequest) → is_valid kept.config ≡ true → Serving kept key (AwaitsBeat kept.config.axi_bytes beat) r → beat.last ≡ false
+    → IsStep kept (λ q. q) (held_in kept.helds key) (beat_held beat (held_in kept.helds key)) (after_read kept.config.axi_bytes beat) r
+step_more kept key beat r valid serving last =
     record {
-      numbers = λ q. refl;
-      held_numbers = λ h. refl;
-      buses = λ h. refl;
-      same = λ h there. rw (only h there, last, ← serving.bus)
-          (settled_not (bridged r (beat_held beat serving.held)) (unsettled r (table_limits_of config) accepted serving.sound serving.known.awaits.unanswered));
-      served = λ h there served. read_served config regions accepted helds n beat r h valid served serving (only h there);
+      bus = refl;
+      same = rw (last, ← serving.bus)
+          (settled_not (bridged r (beat_held beat (held_in kept.helds key))) (unsettled r (table_limits_of kept.config) kept.flight.accepted serving.sound serving.known.awaits.unanswered));
+      served = λ served. read_served kept key beat r valid serving;
     }
-  where
-    only : (h : HeldRequest) → find (is_held r.number) helds ≡ Some h → h ≡ serving.held
-    only h there = cc (sym (rw number at there) ∙ serving.there)
 
--- ---- a whole answer, as the calls make it
-
--- what the old value of the changed request is found to be
-pub value_after : (n : ℕ) (g : HeldRequest → HeldRequest) (helds after : List HeldRequest) (old held : HeldRequest) (found : Bool) → ((h : HeldRequest) → (g h).number ≡ h.number) → find (is_held n) helds ≡ Some old
-    → after ≡ change_first (is_held n) g helds → find (is_held n) after ≡ Some held → found ≡ is_some (value_held held) → found ≡ is_some (value_held (g old))
-value_after n g helds after old held found keeps there is now value =
-    let same : held ≡ g old = one held (g old) (sym now ∙ ap (λ (l : List HeldRequest). find (is_held n) l) is ∙ held_changed n g helds old keeps there) in
-    value ∙ ap (λ (h : HeldRequest). is_some (value_held h)) same
-  where
-    one : (a b : HeldRequest) → Some a ≡ Some b → a ≡ b
-    one a b is = cc
-
-pub answer_changes : (config : Config) (regions : List Region) (flight new : KeyedTable) (helds after spare : List HeldRequest) (test : LiveRequest → Bool) (key n : ℕ) (found : Bool) (g : HeldRequest → HeldRequest)
-    (change : BridgedRequest → BridgedRequest) → IsKept config flight helds spare → IsSoundRequestTable (table_kept config regions flight helds) → (at : IsFirstAt test flight key n)
-    → after ≡ change_first (is_held n) g helds → IsStep config regions helds (answered_flight found) g change at.request → new ≡ change_key key (answered_flight found) flight → IsSound new
-    → IsChanged config regions flight new helds after spare test change
-answer_changes config regions flight new helds after spare test key n found g change kept sound at is step state laws =
-    subst (λ (l : List HeldRequest). IsChanged config regions flight new helds l spare test change) (sym is)
-    (changed_table config regions flight new helds spare test key n (answered_flight found) g change kept sound at state laws step)
+-- ---- an answer, as the calls make it
 
 -- a request that awaits an answer isn't done, and its old value is found only where it is an atomic
-pub undone : (config : Config) (regions : List Region) (flight : KeyedTable) (helds : List HeldRequest) (test : LiveRequest → Bool) (key n : ℕ) (found : Bool) (gathering : Gathering) (held : HeldRequest)
-    → (at : IsFirstAt test flight key n) → IsServed config regions (bridged at.request held) → at.request.done ≡ false → found ≡ is_some (old_value (outline_in (bridged at.request held)) gathering)
-    → IsSomeAnd (request_at key flight) (IsUndone found)
-undone config regions flight helds test key n found gathering held at served live is =
-    rw at.named (record { live = live; atomic = λ some. found_is_atomic config regions (bridged at.request held) gathering served.flight (sym is ∙ some) })
+undone : (kept : KeptTable) (test : LiveRequest → Bool) (key : ℕ) (found : Bool) (held : HeldRequest) → (at : IsFirstAt test kept.flight key) → IsServed kept.config kept.regions (bridged at.request (held_in kept.helds key))
+    → at.request.done ≡ false → held.message ≡ (held_in kept.helds key).message → found ≡ is_some (value_held held) → IsSomeAnd (request_at key kept.flight) (IsUndone found)
+undone kept test key found held at served live same is =
+    rw at.named
+    (record { live = live; atomic = λ some. found_is_atomic kept.config kept.regions (bridged at.request (held_in kept.helds key)) held.gathering served.flight (rw same at (sym is ∙ some)) })
 
-pub unanswered_at : (flight : KeyedTable) (test : LiveRequest → Bool) (key n : ℕ) → (at : IsFirstAt test flight key n) → at.request.answered < at.request.sent
-    → IsSomeAnd (request_at key flight) (λ request. request.answered < request.sent)
-unanswered_at flight test key n at less = rw at.named less
+-- a slot is that of a key, and this stands in it
+pub record IsInSlot (kept : KeptTable) (key slot : ℕ) (held : HeldRequest) : Type 0 where
+  pub same : slot ≡ key
+  pub few : slot < 64
+  pub held_is : held ≡ get_or kept.helds slot held
 
--- ---- a beat that leaves more to come
+-- what a whole answer asks of the request, and what it makes of the table, once it was counted
+pub record IsAnswer (kept : KeptTable) (id key slot : ℕ) (found : Bool) (new : HeldRequest) (change : BridgedRequest → BridgedRequest) : Type 0 where
+  pub live : IsSomeAnd (request_at key kept.flight) (IsUndone found)
+  pub unanswered : IsSomeAnd (request_at key kept.flight) (λ request. request.answered < request.sent)
+  pub changes : (flight : KeyedTable) → flight ≡ change_key key (answered_flight found) kept.flight → IsSound flight → IsChanged kept (record kept { flight = flight; helds = set kept.helds slot new }) (holds_id id) change
 
-pub beat_changes : (config : Config) (regions : List Region) (flight : KeyedTable) (helds after spare : List HeldRequest) (test : LiveRequest → Bool) (key n : ℕ) (g : HeldRequest → HeldRequest)
-    (change : BridgedRequest → BridgedRequest) → IsKept config flight helds spare → IsSoundRequestTable (table_kept config regions flight helds) → (at : IsFirstAt test flight key n)
-    → after ≡ change_first (is_held n) g helds → IsStep config regions helds (λ q. q) g change at.request → IsChanged config regions flight flight helds after spare test change
-beat_changes config regions flight helds after spare test key n g change kept sound at is step =
-    subst (λ (l : List HeldRequest). IsChanged config regions flight flight helds l spare test change) (sym is)
-    (changed_table config regions flight flight helds spare test key n (λ q. q) g change kept sound at (change_none key (λ q. q) flight (rw at.named refl)) at.laws step)
+pub response_answers : (kept : KeptTable) (table : RequestTable) (id : ℕ) (resp : Resp) (key slot : ℕ) (held new : HeldRequest) (found : Bool) → shown_table kept ≡ table → IsKept kept → IsSoundRequestTable (shown_table kept)
+    → (at : IsFirstAt (holds_id id) kept.flight key) → IsSomeAnd (holder id table.live) (AwaitsAnswer true) → IsInSlot kept key slot held → new ≡ responded resp held → found ≡ is_some (value_held new)
+    → IsAnswer kept id key slot found new (after_response resp)
+response_answers kept table id resp key slot held new found view keeps sound at holds in_slot new_is found_is =
+    record {
+      live = undone kept (holds_id id) key found (responded resp old) at serving.served serving.known.live refl value;
+      unanswered = rw at.named serving.known.unanswered;
+      changes = λ flight state laws. rw (in_slot.same, now)
+          (changed_table kept flight (holds_id id) key (answered_flight found) (responded resp old) (after_response resp) keeps sound at few state laws (step_response kept key resp found at.request sound.config serving value));
+    }
+  where
+    old : HeldRequest
+    old = held_in kept.helds key
+
+    few : key < 64
+    few = rw in_slot.same at in_slot.few
+
+    now : new ≡ responded resp old
+    now = new_is ∙ ap (responded resp) (held_at kept key slot held keeps in_slot.same in_slot.few in_slot.held_is)
+
+    value : found ≡ is_some (value_held (responded resp old))
+    value = found_is ∙ ap (λ (h : HeldRequest). is_some (value_held h)) now
+
+    serving : Serving kept key (AwaitsAnswer true) at.request
+    serving = holder_serves kept table id key (AwaitsAnswer true) view keeps sound at few holds
+
+-- what a beat of a read makes of the table: the last one answers its burst, and another leaves more to come
+pub record IsRead (kept : KeptTable) (r : RBeat) (key slot : ℕ) (found : Bool) (new : HeldRequest) : Type 0 where
+  pub answers : r.last ≡ true → IsAnswer kept r.id key slot found new (after_read kept.config.axi_bytes r)
+  pub more : r.last ≡ false → IsChanged kept (record kept { helds = set kept.helds slot new }) (holds_id r.id) (after_read kept.config.axi_bytes r)
+
+read_serves : (kept : KeptTable) (table : RequestTable) (r : RBeat) (key : ℕ) → shown_table kept ≡ table → IsKept kept → IsSoundRequestTable (shown_table kept) → (at : IsFirstAt (holds_id r.id) kept.flight key) → key < 64
+    → IsSomeAnd (holder r.id table.live) (AwaitsBeat table.config.axi_bytes r) → Serving kept key (AwaitsBeat kept.config.axi_bytes r) at.request
+read_serves kept table r key view keeps sound at few holds =
+    holder_serves kept table r.id key (AwaitsBeat kept.config.axi_bytes r) view keeps sound at few (subst (λ (t : RequestTable). IsSomeAnd (holder r.id table.live) (AwaitsBeat t.config.axi_bytes r)) (sym view) holds)
+
+-- the beat has a place among those that the request gathers
+pub read_fits : (kept : KeptTable) (table : RequestTable) (r : RBeat) (key slot : ℕ) (held : HeldRequest) → shown_table kept ≡ table → IsKept kept → IsSoundRequestTable (shown_table kept)
+    → (at : IsFirstAt (holds_id r.id) kept.flight key) → IsSomeAnd (holder r.id table.live) (AwaitsBeat table.config.axi_bytes r) → IsInSlot kept key slot held
+    → held.gathering.came < reads_of held.bus_bytes (outline_of (request_of held.message))
+read_fits kept table r key slot held view keeps sound at holds in_slot =
+    let serving = read_serves kept table r key view keeps sound at (rw in_slot.same at in_slot.few) holds in
+    rw (held_at kept key slot held keeps in_slot.same in_slot.few in_slot.held_is, serving.bus) serving.known.place
+
+pub beat_reads : (kept : KeptTable) (table : RequestTable) (r : RBeat) (key slot : ℕ) (held new : HeldRequest) (found : Bool) → shown_table kept ≡ table → IsKept kept → IsSoundRequestTable (shown_table kept)
+    → (at : IsFirstAt (holds_id r.id) kept.flight key) → IsSomeAnd (holder r.id table.live) (AwaitsBeat table.config.axi_bytes r) → IsInSlot kept key slot held → new ≡ beat_held r held → found ≡ is_some (value_held new)
+    → IsRead kept r key slot found new
+beat_reads kept table r key slot held new found view keeps sound at holds in_slot new_is found_is =
+    record {
+      answers = λ last. record {
+        live = undone kept (holds_id r.id) key found (beat_held r old) at serving.served serving.known.awaits.live refl value;
+        unanswered = rw at.named serving.known.awaits.unanswered;
+        changes = λ flight state laws. rw (in_slot.same, now)
+            (changed_table kept flight (holds_id r.id) key (answered_flight found) (beat_held r old) change keeps sound at few state laws (step_last kept key r found at.request sound.config serving last value));
+      };
+      more = λ going. rw (in_slot.same, now)
+          (changed_table kept kept.flight (holds_id r.id) key (λ q. q) (beat_held r old) change keeps sound at few (change_none key (λ q. q) kept.flight (rw at.named refl)) at.laws
+          (step_more kept key r at.request sound.config serving going));
+    }
+  where
+    old : HeldRequest
+    old = held_in kept.helds key
+
+    change : BridgedRequest → BridgedRequest
+    change = after_read kept.config.axi_bytes r
+
+    few : key < 64
+    few = rw in_slot.same at in_slot.few
+
+    now : new ≡ beat_held r old
+    now = new_is ∙ ap (beat_held r) (held_at kept key slot held keeps in_slot.same in_slot.few in_slot.held_is)
+
+    value : found ≡ is_some (value_held (beat_held r old))
+    value = found_is ∙ ap (λ (h : HeldRequest). is_some (value_held h)) now
+
+    serving : Serving kept key (AwaitsBeat kept.config.axi_bytes r) at.request
+    serving = read_serves kept table r key view keeps sound at few holds

@@ -1,127 +1,135 @@
--- What a change of one live request keeps of the table: the numbers on both sides, and what is true of every table.
-use Rattle.std.proofs.Common.{◌≡◌, ℕ, Bool, List, Option, Some, None, refl, sym, ◌∙◌, ap}
-use Rattle.std.specs.Prelude.{IsSome, option_map}
+-- What a change of one live request keeps of the table: a slot for each key, and what is true of every table.
+use Rattle.std.proofs.Common.{◌≡◌, ◌<◌, ◌==◌, ℕ, zero, suc, Bool, true, false, List, [], ◌∷◌, map, length, get_or, set, Option, Some, None, refl, sym, ◌∙◌, ap, arith}
+use Rattle.std.specs.Prelude.{if◌then◌else◌, option_map}
 use Rattle.std.specs.List.{AllByRecursion, find}
+use Rattle.std.proofs.lemmas.Bool.{eq-eqb, ne_eqb}
+use Rattle.std.proofs.lemmas.List.{get_or_default, length-set}
 use Rattle.bus_words.specs.Places.{change_first}
-use Rattle.bus_words.proofs.PlaceChanges.{all-change_first, all-find, length-change_first}
-use Rattle.burst_plan.specs.declared.Region.{Region}
+use Rattle.bus_words.proofs.PlaceChanges.{all-find}
 use Rattle.flight_table.specs.Laws.{AreRising, IsSound}
 use Rattle.flight_table.specs.LiveRequests.{LiveRequest}
-use Rattle.flight_table.specs.Tables.{KeyedTable, change_key, has_number, key_where, requests_of, request_at, table_of}
-use Rattle.flight_table.proofs.KeyLaws.{by_number, named, none_named}
-use Rattle.bridge_core.specs.Inside.{HeldRequest, IsFirstAt, IsKept, bridged, is_held, numbers_held, numbers_of, table_kept, together}
+use Rattle.flight_table.specs.Tables.{KeyedRequest, KeyedTable, change_entry, change_key, has_number, key_where, requests_of, table_of}
+use Rattle.flight_table.proofs.KeyLaws.{named}
+use Rattle.bridge_core.specs.Inside.{HeldRequest, IsFirstAt, IsKept, KeptTable, bridged, held_in, joined, nothing_held, shown_table}
 use Rattle.bridge_core.specs.Laws.{IsServed, IsSoundRequestTable}
 use Rattle.bridge_core.specs.Requests.{BridgedRequest, flight_table_of}
-use Rattle.bridge_core.specs.declared.Config.{Config}
+use Rattle.bridge_core.proofs.HeldKeys.{change_by_key, changed_joined, find-mapped, flights_joined, found_joined}
+use Rattle.bridge_core.proofs.HolderChanges.{all-mapped}
 use Rattle.bridge_core.proofs.ServedRequests.{all-change_found}
-use Rattle.bridge_core.proofs.Together.{changed_together, found_together, flights_together, held_there, numbers_changed, numbers_held_changed}
 
 -- ---- a key that a search found
 
-pub first_at : (test : LiveRequest → Bool) (flight : KeyedTable) (key number : ℕ) → IsSound flight → key_where test flight ≡ Some key → option_map (λ (r : LiveRequest). r.number) (request_at key flight) ≡ Some number
-    → IsFirstAt test flight key number
-first_at test flight key number laws found is =
-    let names = named test flight.entries key laws.keys found in
-    let numbered : Some names.request.number ≡ Some number = ap (option_map (λ (r : LiveRequest). r.number)) (sym names.named) ∙ is in
-    record { request = names.request; named = names.named; first = names.first; number_is = cc (numbered); laws = laws }
+entry_found : (test : LiveRequest → Bool) (entries : List KeyedRequest) (key : ℕ) (r : LiveRequest) (o : Option KeyedRequest) → find (λ entry. test entry.request) entries ≡ o → option_map (λ (e : KeyedRequest). e.key) o ≡ Some key
+    → option_map (λ (e : KeyedRequest). e.request) o ≡ Some r → find (λ entry. test entry.request) entries ≡ Some (record { key = key; request = r })
+entry_found test entries key r None found keyed is = absurd (cc (keyed))
+entry_found test entries key r (Some e) found keyed is =
+    let one : e.key ≡ key = cc (keyed) in
+    let other : e.request ≡ r = cc (is) in
+    rw (← one, ← other) found
 
-pub key_there : (test : LiveRequest → Bool) (flight : KeyedTable) (key : ℕ) → IsSound flight → key_where test flight ≡ Some key → IsSome (request_at key flight)
-key_there test flight key laws found = rw (named test flight.entries key laws.keys found).named refl
-
-pub some_key : (test : LiveRequest → Bool) (flight : KeyedTable) → IsSome (find test (requests_of flight.entries)) → IsSome (key_where test flight)
-some_key test flight there = by_key (key_where test flight) refl there
-  where
-    by_key : (o : Option ℕ) → key_where test flight ≡ o → IsSome (find test (requests_of flight.entries)) → IsSome (key_where test flight)
-    by_key None is found =
-        let nothing : IsSome {T = LiveRequest} None = rw (none_named test flight.entries is) at found in
-        absurd (cc (nothing))
-    by_key (Some k) is found = rw is refl
+pub first_at : (test : LiveRequest → Bool) (flight : KeyedTable) (key : ℕ) → IsSound flight → key_where test flight ≡ Some key → IsFirstAt test flight key
+first_at test flight key laws keyed =
+    let names = named test flight.entries key laws.keys keyed in
+    let found = entry_found test flight.entries key names.request (find (λ (e : KeyedRequest). test e.request) flight.entries) refl keyed (sym (find-mapped test (λ (e : KeyedRequest). e.request) flight.entries) ∙ names.first) in
+    record { request = names.request; named = names.named; first = found; laws = laws }
 
 -- ---- the table that the order of bursts sees
 
-pub table_seen : (config : Config) (regions : List Region) (flight : KeyedTable) (helds spare : List HeldRequest) → IsKept config flight helds spare
-    → table_of flight ≡ flight_table_of (table_kept config regions flight helds)
-table_seen config regions flight helds spare kept =
-    rw (kept.limits, flights_together (requests_of flight.entries) helds kept.numbers) refl
+pub table_seen : (kept : KeptTable) → IsKept kept → table_of kept.flight ≡ flight_table_of (shown_table kept)
+table_seen kept is = rw (is.limits, flights_joined kept.helds kept.flight.entries) refl
 
-pub rising : (flight : KeyedTable) → IsSound flight → AreRising (numbers_of (requests_of flight.entries))
-rising flight laws = laws.table.rising
+-- ---- by number
+
+abbrev numbers_of : List KeyedRequest → List ℕ
+numbers_of entries = map (λ (r : LiveRequest). r.number) (requests_of entries)
+
+-- the request that a search found is the first of its number
+pub numbered : (test : KeyedRequest → Bool) (entries : List KeyedRequest) (entry : KeyedRequest) → AreRising (numbers_of entries) → find test entries ≡ Some entry
+    → find (λ e. has_number entry.request.number e.request) entries ≡ Some entry
+numbered test [] entry rising found = found
+numbered test (e ∷ es) entry rising found = by_test (test e) found (λ later. numbered test es entry rising.1 later)
+  where
+    by_test : (b : Bool) → (if b then Some e else find test es) ≡ Some entry → (find test es ≡ Some entry → find (λ o. has_number entry.request.number o.request) es ≡ Some entry)
+        → (if has_number entry.request.number e.request then Some e else find (λ o. has_number entry.request.number o.request) es) ≡ Some entry
+    by_test true here rest =
+        let same : e ≡ entry = cc in
+        rw (eq-eqb e.request.number entry.request.number (ap (λ (o : KeyedRequest). o.request.number) same)) here
+    by_test false later rest =
+        let above = all-mapped (λ (r : LiveRequest). e.request.number < r.number) (λ (o : KeyedRequest). o.request) es
+        (all-mapped (λ m. e.request.number < m) (λ (r : LiveRequest). r.number) (requests_of es) rising.0) in
+        let below : e.request.number < entry.request.number = all-find (λ (o : KeyedRequest). e.request.number < o.request.number) test es entry above later in
+        rw (ne_eqb e.request.number entry.request.number (λ same. absurd (omega (arith, below, same)))) (rest later)
+
+-- ---- what is kept of a request
+
+-- of the first request that passes a test, as the table shows it
+pub shown_at : (test : LiveRequest → Bool) (kept : KeptTable) (key : ℕ) → (at : IsFirstAt test kept.flight key) → find (λ b. test b.flight) (shown_table kept).live ≡ Some (bridged at.request (held_in kept.helds key))
+shown_at test kept key at = found_joined test kept.helds kept.flight.entries key at.request at.first
+
+-- what stands in the slot of a key
+pub held_at : (kept : KeptTable) (key slot : ℕ) (held : HeldRequest) → IsKept kept → slot ≡ key → slot < 64 → held ≡ get_or kept.helds slot held → held ≡ held_in kept.helds key
+held_at kept key slot held is same few at = at ∙ get_or_default kept.helds slot held nothing_held (omega (arith, few, is.all)) ∙ ap (held_in kept.helds) same
+
+-- what is true of each slot is true of that of a key
+pub all-held : (P : HeldRequest → Type 0) (helds : List HeldRequest) (key : ℕ) → AllByRecursion P helds → key < length helds → P (held_in helds key)
+all-held P [] key all within = absurd (omega (arith, within))
+all-held P (held ∷ helds) zero all within = all.0
+all-held P (held ∷ helds) (suc key) all within = all-held P helds key all.1 (omega (arith, within))
+
+all-put : (P : HeldRequest → Type 0) (helds : List HeldRequest) (key : ℕ) (held : HeldRequest) → AllByRecursion P helds → P held → AllByRecursion P (set helds key held)
+all-put P [] key held all one = tt
+all-put P (first ∷ helds) zero held all one = (one, all.1)
+all-put P (first ∷ helds) (suc key) held all one = (all.0, all-put P helds key held all.1 one)
+
+-- something of the bus of the limits is put into a slot
+pub kept_put : (kept : KeptTable) (flight : KeyedTable) (key : ℕ) (held : HeldRequest) → IsKept kept → flight.limits ≡ kept.flight.limits → held.bus_bytes ≡ kept.config.axi_bytes
+    → IsKept (record kept { flight = flight; helds = set kept.helds key held })
+kept_put kept flight key held is limits bus =
+    record { limits = limits ∙ is.limits; buses = all-put (λ (h : HeldRequest). h.bus_bytes ≡ kept.config.axi_bytes) kept.helds key held is.buses bus; all = length-set kept.helds key held ∙ is.all }
 
 -- ---- a change of one request
 
--- the table after a change of one request, on both sides
-pub record IsChanged (config : Config) (regions : List Region) (old new : KeyedTable) (helds after spare : List HeldRequest) (test : LiveRequest → Bool) (change : BridgedRequest → BridgedRequest) : Type 0 where
-  pub kept : IsKept config new after spare
-  pub sound : IsSoundRequestTable (table_kept config regions new after)
-  pub table : table_kept config regions new after ≡ record (table_kept config regions old helds) { live = change_first (λ b. test b.flight) change (together (requests_of old.entries) helds) }
+-- the table after a change of one request and of what is kept of it
+pub record IsChanged (old new : KeptTable) (test : LiveRequest → Bool) (change : BridgedRequest → BridgedRequest) : Type 0 where
+  pub kept : IsKept new
+  pub sound : IsSoundRequestTable (shown_table new)
+  pub table : shown_table new ≡ record (shown_table old) { live = change_first (λ b. test b.flight) change (shown_table old).live }
 
-buses_changed : (config : Config) (g : HeldRequest → HeldRequest) (n : ℕ) (helds : List HeldRequest) → ((h : HeldRequest) → (g h).bus_bytes ≡ h.bus_bytes)
-    → AllByRecursion (λ (h : HeldRequest). h.bus_bytes ≡ config.axi_bytes) helds → AllByRecursion (λ (h : HeldRequest). h.bus_bytes ≡ config.axi_bytes) (change_first (is_held n) g helds)
-buses_changed config g n helds keeps all = all-change_first (λ (h : HeldRequest). h.bus_bytes ≡ config.axi_bytes) (is_held n) g helds (λ h passes is. keeps h ∙ is) all
+-- what has to be shown of a change: what is kept now is kept over the same bus; both together are what the change makes; and it leaves the request served
+pub record IsStep (kept : KeptTable) (f : LiveRequest → LiveRequest) (old new : HeldRequest) (change : BridgedRequest → BridgedRequest) (r : LiveRequest) : Type 0 where
+  pub bus : new.bus_bytes ≡ old.bus_bytes
+  pub same : change (bridged r old) ≡ bridged (f r) new
+  pub served : IsServed kept.config kept.regions (bridged r old) → IsServed kept.config kept.regions (change (bridged r old))
 
--- what has to be shown of a change: it keeps numbers and buses, makes of the request what both sides make of it, and leaves it served
-pub record IsStep (config : Config) (regions : List Region) (helds : List HeldRequest) (f : LiveRequest → LiveRequest) (g : HeldRequest → HeldRequest) (change : BridgedRequest → BridgedRequest) (r : LiveRequest) : Type 0 where
-  pub numbers : (q : LiveRequest) → (f q).number ≡ q.number
-  pub held_numbers : (h : HeldRequest) → (g h).number ≡ h.number
-  pub buses : (h : HeldRequest) → (g h).bus_bytes ≡ h.bus_bytes
-  pub same : (h : HeldRequest) → find (is_held r.number) helds ≡ Some h → change (bridged r h) ≡ bridged (f r) (g h)
-  pub served : (h : HeldRequest) → find (is_held r.number) helds ≡ Some h → IsServed config regions (bridged r h) → IsServed config regions (change (bridged r h))
-
-pub changed_table : (config : Config) (regions : List Region) (old new : KeyedTable) (helds spare : List HeldRequest) (test : LiveRequest → Bool) (key n : ℕ)
-    (f : LiveRequest → LiveRequest) (g : HeldRequest → HeldRequest) (change : BridgedRequest → BridgedRequest)
-    → IsKept config old helds spare → IsSoundRequestTable (table_kept config regions old helds) → (at : IsFirstAt test old key n) → new ≡ change_key key f old → IsSound new
-    → IsStep config regions helds f g change at.request → IsChanged config regions old new helds (change_first (is_held n) g helds) spare test change
-changed_table config regions old new helds spare test key n f g change kept sound at is laws step =
-    record { kept = kept_new; sound = sound_new; table = table }
+pub changed_table : (old : KeptTable) (flight : KeyedTable) (test : LiveRequest → Bool) (key : ℕ) (f : LiveRequest → LiveRequest) (held : HeldRequest) (change : BridgedRequest → BridgedRequest) → IsKept old
+    → IsSoundRequestTable (shown_table old) → (at : IsFirstAt test old.flight key) → key < 64 → flight ≡ change_key key f old.flight → IsSound flight → IsStep old f (held_in old.helds key) held change at.request
+    → IsChanged old (record old { flight = flight; helds = set old.helds key held }) test change
+changed_table old flight test key f held change kept sound at few is laws step = record { kept = kept_new; sound = sound_new; table = table }
   where
-    r : LiveRequest
-    r = at.request
+    new : KeptTable
+    new = record old { flight = flight; helds = set old.helds key held }
 
-    rs : List LiveRequest
-    rs = requests_of old.entries
+    within : key < length old.helds
+    within = omega (arith, few, kept.all)
 
-    ups : AreRising (numbers_of rs)
-    ups = rising old at.laws
+    entries : flight.entries ≡ change_first (λ entry. test entry.request) (change_entry f) old.flight.entries
+    entries = ap (λ (t : KeyedTable). t.entries) is ∙ change_by_key (λ (e : KeyedRequest). test e.request) (change_entry f) old.flight.entries (record { key = key; request = at.request }) at.laws.keys at.first
 
-    requests : requests_of new.entries ≡ change_first (has_number r.number) f rs
-    requests = ap (λ (t : KeyedTable). requests_of t.entries) is ∙ by_number f key old.entries r ups at.named
+    kept_new : IsKept new
+    kept_new = kept_put old flight key held kept (ap (λ (t : KeyedTable). t.limits) is) (step.bus ∙ all-held (λ (h : HeldRequest). h.bus_bytes ≡ old.config.axi_bytes) old.helds key kept.buses within)
 
-    after : List HeldRequest
-    after = change_first (is_held n) g helds
+    live : (shown_table new).live ≡ change_first (λ b. test b.flight) change (shown_table old).live
+    live = ap (joined (set old.helds key held)) entries ∙ changed_joined test change f old.helds old.flight.entries key at.request held at.laws.keys at.first within step.same
 
-    after_is : change_first (is_held r.number) g helds ≡ after
-    after_is = ap (λ (m : ℕ). change_first (is_held m) g helds) at.number_is
+    table : shown_table new ≡ record (shown_table old) { live = change_first (λ b. test b.flight) change (shown_table old).live }
+    table = rw (live, ap (λ (t : KeyedTable). t.accepted) is) refl
 
-    numbers : numbers_of (requests_of new.entries) ≡ numbers_held after
-    numbers = rw requests (numbers_changed f r.number rs step.numbers ∙ kept.numbers ∙ sym (numbers_held_changed g n helds step.held_numbers))
-
-    kept_new : IsKept config new after spare
-    kept_new =
-        record {
-          limits = rw is kept.limits;
-          numbers = numbers;
-          buses = buses_changed config g n helds step.buses kept.buses;
-          spare_buses = kept.spare_buses;
-          all = rw (length-change_first (is_held n) g helds) kept.all;
-        }
-
-    both : together (requests_of new.entries) after ≡ change_first (λ b. test b.flight) change (together rs helds)
-    both = rw (requests, ← after_is) (changed_together test change f g rs helds r ups kept.numbers at.first step.same)
-
-    table : table_kept config regions new after ≡ record (table_kept config regions old helds) { live = change_first (λ b. test b.flight) change (together rs helds) }
-    table = rw (both, is) refl
-
-    served : AllByRecursion (IsServed config regions) (together (requests_of new.entries) after)
+    served : AllByRecursion (IsServed old.config old.regions) (shown_table new).live
     served =
-        let there = held_there test rs helds r ups kept.numbers at.first in
-        let found = found_together test rs helds r there.0 ups kept.numbers at.first there.1 in
-        let new_one = step.served there.0 there.1 (all-find (IsServed config regions) (λ b. test b.flight) (together rs helds) (bridged r there.0) sound.served found) in
-        rw both (all-change_found (IsServed config regions) (λ b. test b.flight) change (together rs helds) (bridged r there.0) found new_one sound.served)
+        let one = bridged at.request (held_in old.helds key) in
+        let found = shown_at test old key at in
+        let served_one = step.served (all-find (IsServed old.config old.regions) (λ (b : BridgedRequest). test b.flight) (shown_table old).live one sound.served found) in
+        rw live (all-change_found (IsServed old.config old.regions) (λ b. test b.flight) change (shown_table old).live one found served_one sound.served)
 
-    sound_new : IsSoundRequestTable (table_kept config regions new after)
-    sound_new =
-        record {
-          config = sound.config;
-          flights = rw (← (table_seen config regions new after spare kept_new)) laws.table;
-          served = served;
-        }
+    sound_new : IsSoundRequestTable (shown_table new)
+    sound_new = record { config = sound.config; flights = rw (← (table_seen new kept_new)) laws.table; served = served }

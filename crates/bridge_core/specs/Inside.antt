@@ -1,18 +1,19 @@
--- How a bridge keeps its live requests: their places in the order in a table, and beside it, in the same order, what each asks and was told.
-use Rattle.std.specs.Prelude.{ℕ, ◌≡◌, ◌+◌, ◌%◌, ◌^◌, ◌<◌, ◌≤◌, ◌==◌, Bool, true, false, ◌&&◌, not, List, [], ◌∷◌, map, find, length, Option, Some, None, suc, ⊤, unwrap_or, if◌then◌else◌, nat_le, slice_get, Result, Ok, Err}
+-- How a bridge keeps its live requests: their places in the order of bursts in a table, and in the slot of each one's key what it asks and was told.
+use Rattle.std.specs.Prelude.{ℕ, ◌≡◌, ◌+◌, ◌%◌, ◌^◌, ◌<◌, ◌≤◌, ◌==◌, Bool, true, false, ◌&&◌, not, List, [], ◌∷◌, map, find, length, Option, Some, None, suc, ⊤, unwrap_or, if◌then◌else◌, nat_le, slice_get, slice_index_or, Result, Ok, Err}
 use Rattle.std.specs.List.{AllByRecursion, range_with_len}
 use Rattle.tl_messages.specs.Operations.{beats_of, has_data}
 use Rattle.tl_messages.specs.Requests.{HeldMessage, request_of}
 use Rattle.tl_messages.specs.declared.AtomicOp.{AtomicOp}
-use Rattle.tl_messages.specs.declared.Operation.TheVariants.{Atomic}
+use Rattle.tl_messages.specs.declared.Operation.TheVariants.{Atomic, Get}
 use Rattle.axi_beats.specs.declared.RBeat.{RBeat}
+use Rattle.axi_beats.specs.declared.Resp.{Resp}
 use Rattle.burst_plan.specs.Pieces.{PlannedRange, pieces}
 use Rattle.burst_plan.specs.declared.Piece.{Piece}
 use Rattle.burst_plan.specs.declared.Region.{Region}
 use Rattle.flight_table.specs.LiveRequests.{LiveRequest, finished, is_atomic, is_settled, planned, with_answered, with_write}
 use Rattle.flight_table.specs.Laws.{IsSound}
-use Rattle.flight_table.specs.Tables.{KeyedTable, has_room, is_busy, request_at, requests_of}
-use Rattle.responses.specs.Gathered.{Gathering, old_value, outline_of, reads_of}
+use Rattle.flight_table.specs.Tables.{KeyedRequest, KeyedTable, has_room, is_busy, request_at}
+use Rattle.responses.specs.Gathered.{Gathering, after_b, after_r, old_value, outline_of, reads_of}
 use Rattle.axi_checker.specs.OpenBursts.{OpenBursts}
 use Rattle.tl_checker.specs.Ports.{PortState, opening_port}
 use Rattle.tl_checker.specs.declared.Progress.{Progress}
@@ -27,15 +28,27 @@ use Rattle.bridge_core.specs.declared.Config.{Config}
 use Rattle.bridge_core.specs.declared.Offered.{Offered}
 use Rattle.bridge_core.specs.declared.Offered.TheVariants.{Exhausted, NotReady}
 
--- what is kept beside the table
+-- what is kept of a live request beside the table: its message, and what was gathered for its reply over a bus of so many bytes
 pub record HeldRequest : Type 0 where
-  pub number : ℕ
   pub message : HeldMessage
   pub bus_bytes : ℕ
   pub gathering : Gathering
 
 abbrev pub bridged : LiveRequest → HeldRequest → BridgedRequest
 bridged flight held = record { flight = flight; message = held.message; gathering = held.gathering }
+
+-- what stands in where there is no slot
+abbrev pub nothing_held : HeldRequest
+nothing_held =
+    record {
+      message = record { client = 0; source = 0; operation = Get; size = 0; address = 0; corrupt = false; beats = [] };
+      bus_bytes = 0;
+      gathering = record { came = 0; denied = false; words = [] };
+    }
+
+-- what is kept in the slot of a key
+abbrev pub held_in : List HeldRequest → ℕ → HeldRequest
+held_in helds key = slice_index_or helds key nothing_held
 
 -- the old value of an atomic, if it was found, and the bytes that are to be written
 abbrev pub value_held : HeldRequest → Option ℕ
@@ -55,21 +68,19 @@ pub record CanFill (held : HeldRequest) (range : PlannedRange) (piece : Piece) :
   pub aligned : held.message.address % 2 ^ held.message.size ≡ 0
   pub atomic_size : (op : AtomicOp) → held.message.operation ≡ Atomic op → held.message.size ≤ 3
 
--- both together, place by place
-abbrev pub together : List LiveRequest → List HeldRequest → List BridgedRequest
-together [] helds = []
-together (flight ∷ flights) [] = []
-together (flight ∷ flights) (held ∷ helds) = bridged flight held ∷ together flights helds
+-- the live requests, each with what is kept in the slot of its key
+abbrev pub with_held : List HeldRequest → KeyedRequest → BridgedRequest
+with_held helds entry = bridged entry.request (held_in helds entry.key)
 
-abbrev pub numbers_of : List LiveRequest → List ℕ
-numbers_of flights = map (λ flight. flight.number) flights
+abbrev pub joined : List HeldRequest → List KeyedRequest → List BridgedRequest
+joined helds entries = map (with_held helds) entries
 
-abbrev pub numbers_held : List HeldRequest → List ℕ
-numbers_held helds = map (λ held. held.number) helds
+-- what is kept of a request after the response to one of its writes, and after the next beat of its read
+abbrev pub responded : Resp → HeldRequest → HeldRequest
+responded resp held = record held { gathering = after_b resp held.gathering }
 
--- whether it is kept for this number
-abbrev pub is_held : ℕ → HeldRequest → Bool
-is_held number held = held.number == number
+abbrev pub beat_held : RBeat → HeldRequest → HeldRequest
+beat_held r held = record held { gathering = after_r held.bus_bytes (outline_of (request_of held.message)) r held.gathering.came held.gathering }
 
 -- a request that isn't done, and whose old value can be found only where it is an atomic
 pub record IsUndone (found : Bool) (flight : LiveRequest) : Type 0 where
@@ -103,24 +114,30 @@ pub record AwaitsBeat (bus_bytes : ℕ) (r : RBeat) (request : BridgedRequest) :
 
 -- ---- the table
 
-abbrev pub table_kept : Config → List Region → KeyedTable → List HeldRequest → RequestTable
-table_kept config regions flight helds =
-    record { config = config; regions = regions; accepted = flight.accepted; live = together (requests_of flight.entries) helds }
+-- what a table of live requests keeps: their places in the order of bursts by key, and in the slot of each key what is kept beside
+pub record KeptTable : Type 0 where
+  pub config : Config
+  pub regions : List Region
+  pub flight : KeyedTable
+  pub helds : List HeldRequest
 
--- both sides have the same numbers, over the bus of the limits; and so has what is spare
-pub record IsKept (config : Config) (flight : KeyedTable) (helds spare : List HeldRequest) : Type 0 where
-  pub limits : flight.limits ≡ table_limits_of config
-  pub numbers : numbers_of (requests_of flight.entries) ≡ numbers_held helds
-  pub buses : AllByRecursion (λ held. held.bus_bytes ≡ config.axi_bytes) helds
-  pub spare_buses : AllByRecursion (λ held. held.bus_bytes ≡ config.axi_bytes) spare
-  pub all : length helds + length spare ≡ 64
+abbrev pub kept_table : Config → List Region → KeyedTable → List HeldRequest → KeptTable
+kept_table config regions flight helds = record { config = config; regions = regions; flight = flight; helds = helds }
 
--- a key and a number are those of the first request that passes a test
-pub record IsFirstAt (test : LiveRequest → Bool) (flight : KeyedTable) (key number : ℕ) : Type 0 where
+abbrev pub shown_table : KeptTable → RequestTable
+shown_table kept = record { config = kept.config; regions = kept.regions; accepted = kept.flight.accepted; live = joined kept.helds kept.flight.entries }
+
+-- there is a slot for each of the 64 keys, over the bus of the limits
+pub record IsKept (kept : KeptTable) : Type 0 where
+  pub limits : kept.flight.limits ≡ table_limits_of kept.config
+  pub buses : AllByRecursion (λ held. held.bus_bytes ≡ kept.config.axi_bytes) kept.helds
+  pub all : length kept.helds ≡ 64
+
+-- a key is that of the first request that passes a test
+pub record IsFirstAt (test : LiveRequest → Bool) (flight : KeyedTable) (key : ℕ) : Type 0 where
   pub request : LiveRequest
   pub named : request_at key flight ≡ Some request
-  pub first : find test (requests_of flight.entries) ≡ Some request
-  pub number_is : request.number ≡ number
+  pub first : find (λ entry. test entry.request) flight.entries ≡ Some (record { key = key; request = request })
   pub laws : IsSound flight
 
 -- ---- ports

@@ -1,10 +1,11 @@
 //! What a live request asks, and what its answers have told so far.
-ghost use Rattle.std.specs.Prelude.{◌≡◌, ◌<◌, IfOk};
+ghost use Rattle.std.specs.Prelude.{◌≡◌, ◌<◌, IfOk, IfSome, IsSome};
 ghost use Rattle.axi_beats.specs.Transfers.{IsBusWidth};
 ghost use Rattle.tl_messages.specs.Requests.{request_of};
-ghost use Rattle.responses.specs.Gathered.{after_b, after_r, gathered, gathering_of, old_value, outline_of, reads_of};
+ghost use Rattle.tl_checker.specs.Ports.{opening_port};
+ghost use Rattle.responses.specs.Gathered.{gathered, gathering_of, old_value, outline_of, reads_of};
 ghost use Rattle.burst_plan.specs.PlannedBursts.{write_of};
-ghost use Rattle.bridge_core.specs.Inside.{CanFill, bytes_held};
+ghost use Rattle.bridge_core.specs.Inside.{CanFill, beat_held, bytes_held, responded};
 ghost use Rattle.responses.specs.RightReplies.{ShowsReply};
 ghost use Rattle.responses.specs.Shown.{shown};
 
@@ -14,12 +15,12 @@ use burst_plan::{Piece, Plan};
 use responses::Gather;
 use std::alloc::{AllocError, Global};
 use std::marker::Model;
+use tl_checker::Port;
 use tl_messages::{Operation, ReplyBox, Request};
 
-/// A live request's message and what was gathered for its reply, under its number.
+/// A live request's message, and what was gathered for its reply.
 #[derive(Drop)]
 pub(crate) struct Held {
-    number: u64,
     request: Request,
     gather: Gather,
 }
@@ -32,7 +33,7 @@ impl Model for Held {
 
     ghost Value = { HeldRequest };
 
-    ghost view = { λ h. record { number = h.number; message = h.request; bus_bytes = h.gather.bus_bytes; gathering = h.gather.gathering } };
+    ghost view = { λ h. record { message = h.request; bus_bytes = h.gather.bus_bytes; gathering = h.gather.gathering } };
 
     ghost invariant = { λ h. h.gather.outline ≡ outline_of (request_of h.request) };
 }
@@ -44,44 +45,29 @@ impl Held {
         ensures { IfOk result (λ held. held.bus_bytes ≡ bus_bytes) }
     {
         let request = Request::new(alloc)?;
-        let gather = Gather::new(alloc, bus_bytes)?;
-        Ok(Held::begin(0, request, gather, true))
+        let mut gather = Gather::new(alloc, bus_bytes)?;
+        gather.start(&request, true);
+        Ok(Held { request, gather })
     }
 
-    /// A request just accepted, of which no answer has come; it is denied from the start where it sends no bursts because
-    /// no answer could make it right.
-    pub(crate) fn begin(number: u64, request: Request, mut gather: Gather, denied: bool) -> Self
-        ensures { result ≡ record {
-          number = number;
-          message = request;
-          bus_bytes = gather.bus_bytes;
-          gathering = gathering_of (outline_of (request_of request)) denied;
-        } }
+    /// Begins with the request that stands whole on a port, of which no answer has come; it is denied from the start where
+    /// it sends no bursts because no answer could make it right. No byte of it is copied.
+    pub(crate) fn begin(&mut self, port: &mut Port, denied: bool)
+        requires { IsSome port.old.whole }
+        ensures held { IfSome port.old.whole (λ message. self.new ≡ record {
+          message = message;
+          bus_bytes = self.old.bus_bytes;
+          gathering = gathering_of (outline_of (request_of message)) denied;
+        }) }
+        ensures port { port.new ≡ opening_port port.old.limits }
     {
-        gather.start(&request, denied);
-        Held {
-            number,
-            request,
-            gather,
-        }
-    }
-
-    /// Its parts, to be used again.
-    pub(crate) fn into_parts(self) -> (Request, Gather)
-        ensures { result.1.bus_bytes ≡ self.bus_bytes }
-    {
-        (self.request, self.gather)
-    }
-
-    pub(crate) fn number(&self) -> u64
-        ensures { result ≡ self.now.number }
-    {
-        self.number
+        port.take_whole(&mut self.request);
+        self.gather.start(&self.request, denied);
     }
 
     /// Takes the response to one of its writes.
     pub(crate) fn on_b(&mut self, resp: Resp)
-        ensures { self.new ≡ record self.old { gathering = after_b resp self.old.gathering } }
+        ensures { self.new ≡ responded resp self.old }
     {
         self.gather.on_b(resp);
     }
@@ -89,9 +75,7 @@ impl Held {
     /// Takes the next beat of its read: its place is the number of those that came before.
     pub(crate) fn on_r(&mut self, beat: &RBeat)
         requires { self.old.gathering.came < reads_of self.old.bus_bytes (outline_of (request_of self.old.message)) }
-        ensures { self.new ≡ record self.old {
-          gathering = after_r self.old.bus_bytes (outline_of (request_of self.old.message)) beat.now self.old.gathering.came self.old.gathering;
-        } }
+        ensures { self.new ≡ beat_held beat.now self.old }
     {
         let place = self.gather.reads_that_came();
         self.gather.on_r(beat, place);

@@ -1,20 +1,19 @@
 //! The live requests of the bridge.
-ghost use Rattle.std.specs.Prelude.{◌≡◌, ◌+◌, ◌<◌, ◌≤◌, ◌^◌, ◌%◌, [], ◌∷◌, ◌++◌, true, false, find, position, IfOk, IfSome, IsSome, IsSomeAnd, None, Some, is_some, option_map};
+ghost use Rattle.std.specs.Prelude.{◌≡◌, ◌+◌, ◌<◌, ◌≤◌, ◌^◌, ◌%◌, true, false, find, IfOk, IfSome, IsSome, IsSomeAnd, None, Some, is_some, option_map};
 ghost use Rattle.std.specs.List.{AllByRecursion};
 ghost use Rattle.std.specs.Vec.{vec_capacity, vec_len};
-ghost use Rattle.bus_words.specs.Places.{change_first, without_first};
 ghost use Rattle.tl_messages.specs.Requests.{request_of};
 ghost use Rattle.tl_checker.specs.Ports.{opening_port};
 ghost use Rattle.burst_plan.specs.PageMap.{IsPageMap};
-ghost use Rattle.flight_table.specs.Tables.{change_key, has_room, is_busy, is_done_of, request_at, requests_of, table_of};
-ghost use Rattle.flight_table.specs.Order.{holds_id, is_ready};
+ghost use Rattle.flight_table.specs.Tables.{change_key, has_room, is_busy, request_at, table_of};
+ghost use Rattle.flight_table.specs.Order.{holds_id};
 ghost use Rattle.flight_table.specs.Laws.{IsSound};
-ghost use Rattle.responses.specs.Gathered.{after_b, after_r, gathered, outline_of, reads_of};
+ghost use Rattle.responses.specs.Gathered.{gathered};
 ghost use Rattle.responses.specs.RightReplies.{ShowsReply};
 ghost use Rattle.axi_beats.specs.Transfers.{IsBusWidth};
 ghost use Rattle.bridge_core.specs.Bridge.{opening_requests};
 ghost use Rattle.bridge_core.specs.Configs.{is_valid, port_of};
-ghost use Rattle.bridge_core.specs.Inside.{AwaitsAnswer, AwaitsBeat, IsFirstAt, IsUndone, answered_flight, is_held, settled_flight};
+ghost use Rattle.bridge_core.specs.Inside.{AwaitsAnswer, AwaitsBeat, IsFirstAt, IsUndone, answered_flight, settled_flight};
 ghost use Rattle.bridge_core.specs.Laws.{IsSoundRequestTable};
 ghost use Rattle.bridge_core.specs.Requests.{first_done, flight_table_of, holder, may_send, outline_in, range_of, reply_beats, with_read, with_request, with_response, with_sent_burst, without_done};
 ghost use Rattle.bridge_core.specs.Sending.{next_sending};
@@ -33,31 +32,26 @@ use tl_messages::{ReplyBox, Request};
 /// How many requests can be live at once.
 const ROOM: usize = 64;
 
-/// The live requests: their places in the order of bursts, and beside it, in the same order, what each asks and was told.
+/// The live requests: their places in the order of bursts, and in the slot of each one's key what it asks and was told. The
+/// slots of the other keys are room for more.
 #[derive(Drop)]
 pub(crate) struct RequestTable {
     config: Config,
     map: PageMap,
     flight: Flight,
-    live: Vec<Held>,
-    /// What is kept for no request, to be used again.
-    spare: Vec<Held>,
+    held: Vec<Held>,
 }
 
 impl Model for RequestTable {
-    ghost use Rattle.std.specs.Prelude.{◌≤◌};
-    ghost use Rattle.std.specs.Vec.{vec_capacity};
-    ghost use Rattle.bridge_core.specs.Inside.{IsKept, table_kept};
+    ghost use Rattle.bridge_core.specs.Inside.{IsKept, kept_table, shown_table};
     ghost use Rattle.bridge_core.specs.Laws.{IsSoundRequestTable};
     ghost use Rattle.bridge_core.specs.Requests.{RequestTable};
 
     ghost Value = { RequestTable };
 
-    ghost view = { λ t. table_kept t.config t.map t.flight t.live.items };
+    ghost view = { λ t. shown_table (kept_table t.config t.map t.flight t.held.items) };
 
-    ghost invariant = { λ t. IsSoundRequestTable (table_kept t.config t.map t.flight t.live.items)
-        × IsKept t.config t.flight t.live.items t.spare.items
-        × (64 ≤ vec_capacity t.live) × (64 ≤ vec_capacity t.spare) };
+    ghost invariant = { λ t. IsSoundRequestTable (shown_table (kept_table t.config t.map t.flight t.held.items)) × IsKept (kept_table t.config t.map t.flight t.held.items) };
 }
 
 impl RequestTable {
@@ -73,14 +67,12 @@ impl RequestTable {
             config.ids,
             config.depth,
         )?;
-        let live = Vec::with_capacity(alloc, ROOM)?;
-        let spare = spare_room(alloc, config.axi_bytes)?;
+        let held = room_for_all(alloc, config.axi_bytes)?;
         Ok(RequestTable {
             config,
             map,
             flight,
-            live,
-            spare,
+            held,
         })
     }
 
@@ -112,14 +104,11 @@ impl RequestTable {
         ensures port { port.new ≡ opening_port port.old.limits }
         ensures laws { IsSoundRequestTable self.new }
     {
-        let (room, gather) = self.spare.pop().unwrap().into_parts();
-        let request = port.take_whole(room);
-        let range = range_of(&self.config, &self.map, &request);
-        let number = self.flight.accept(request.client(), &request, range);
-        push(
-            &mut self.live,
-            Held::begin(number, request, gather, range.is_none()),
-        );
+        let number = self.flight.accepted();
+        let request = port.whole().unwrap();
+        let range = range_of(&self.config, &self.map, request);
+        let key = self.flight.accept(request.client(), request, range);
+        self.held[key.slot()].begin(port, range.is_none());
         number
     }
 
@@ -134,14 +123,15 @@ impl RequestTable {
         ensures kept { result ≡ None → (self.new ≡ self.old) × (stock.new ≡ stock.old) }
         ensures laws { IsSoundRequestTable self.new }
     {
-        let (key, number) = sending(&self.flight)?;
+        let key = self.flight.next_ready()?;
+        let slot = key.slot();
         let mut burst = stock.pop().unwrap();
         let piece = self.flight.next_piece(key);
         let is_write = self.flight.next_is_write(key);
         let plan = self.flight.plan(key).unwrap();
         let id = self.flight.sent(key);
         if is_write {
-            held_at(&self.live, number).fill(&mut burst, id, &plan, piece);
+            self.held[slot].fill(&mut burst, id, &plan, piece);
         } else {
             set_read(&mut burst, id, piece);
         }
@@ -154,9 +144,10 @@ impl RequestTable {
         ensures table { self.new ≡ with_response beat.now.id beat.now.resp self.old }
         ensures laws { IsSoundRequestTable self.new }
     {
-        let (key, number) = serving(&self.flight, beat.id);
-        respond(&mut self.live, number, beat.resp);
-        let found = held_at(&self.live, number).old_value().is_some();
+        let key = serving(&self.flight, beat.id);
+        let held = &mut self.held[key.slot()];
+        held.on_b(beat.resp);
+        let found = held.old_value().is_some();
         answer(&mut self.flight, key, found);
     }
 
@@ -166,13 +157,13 @@ impl RequestTable {
         ensures table { self.new ≡ with_read beat.now self.old }
         ensures laws { IsSoundRequestTable self.new }
     {
-        let (key, number) = serving(&self.flight, beat.id);
-        read(&mut self.live, number, beat);
-        if !beat.last {
-            return;
+        let key = serving(&self.flight, beat.id);
+        let held = &mut self.held[key.slot()];
+        held.on_r(beat);
+        let found = held.old_value().is_some();
+        if beat.last {
+            answer(&mut self.flight, key, found);
         }
-        let found = held_at(&self.live, number).old_value().is_some();
-        answer(&mut self.flight, key, found);
     }
 
     /// Takes out the first live request of a client that is done: its reply's beats are put into a box, and its number is
@@ -185,35 +176,22 @@ impl RequestTable {
         ensures kept { result ≡ None → (self.new ≡ self.old) × (reply.new ≡ reply.old) }
         ensures laws { IsSoundRequestTable self.new }
     {
-        let (key, number) = finished_of(&self.flight, client)?;
-        let held = take_out(&mut self.live, number);
-        held.reply_into(reply);
-        push(&mut self.spare, held);
-        self.flight.release(key);
-        Some(number)
+        let key = self.flight.oldest_done(client)?;
+        self.held[key.slot()].reply_into(reply);
+        Some(self.flight.release(key))
     }
 }
 
 /// The room for 64 live requests.
-fn spare_room(alloc: Global, bus_bytes: u8) -> Result<Vec<Held>, AllocError>
+fn room_for_all(alloc: Global, bus_bytes: u8) -> Result<Vec<Held>, AllocError>
     requires { IsBusWidth bus_bytes }
-    ensures { IfOk result (λ spare. (vec_len spare ≡ 64) × (64 ≤ vec_capacity spare) × AllByRecursion (λ held. held.bus_bytes ≡ bus_bytes) spare.items) }
+    ensures { IfOk result (λ held. (vec_len held ≡ 64) × AllByRecursion (λ h. h.bus_bytes ≡ bus_bytes) held.items) }
 {
-    let mut spare = Vec::with_capacity(alloc, ROOM)?;
+    let mut held = Vec::with_capacity(alloc, ROOM)?;
     for _ in 0..ROOM {
-        push(&mut spare, Held::new(alloc, bus_bytes)?);
+        held.push_reserved(Held::new(alloc, bus_bytes)?);
     }
-    Ok(spare)
-}
-
-/// Appends an item for which there is room.
-fn push<T>(items: &mut Vec<T>, item: T)
-    requires { vec_len items.old < vec_capacity items.old }
-    ensures items { items.new.items ≡ items.old.items ++ item ∷ [] }
-    ensures len { vec_len items.new ≡ vec_len items.old + 1 }
-    ensures capacity { vec_capacity items.old ≤ vec_capacity items.new }
-{
-    items.push_reserved(item);
+    Ok(held)
 }
 
 /// The range on the AXI side of a request that its port took, with the way it is cut into bursts; none where it is corrupt
@@ -230,61 +208,6 @@ fn range_of(config: &Config, map: &PageMap, request: &Request) -> Option<Plan>
     }
     let address = address?;
     Some(Plan::new_of(address, request.size(), config.max_len, config.axi_bytes))
-}
-
-fn find_place(live: &[Held], number: u64) -> Option<usize>
-    ensures { result ≡ position (is_held number) live.now }
-{
-    live.iter().position(|held| held.number() == number)
-}
-
-/// The place of what is kept for a number.
-fn place_of(live: &[Held], number: u64) -> usize
-    requires { IsSome (find (is_held number) live.now) }
-    ensures { position (is_held number) live.now ≡ Some result }
-{
-    find_place(live, number).unwrap()
-}
-
-/// What is kept for a number.
-fn held_at(live: &[Held], number: u64) -> &Held
-    requires { IsSome (find (is_held number) live.now) }
-    ensures { find (is_held number) live.now ≡ Some result.now }
-{
-    &live[place_of(live, number)]
-}
-
-/// Takes the response to a write of the request of a number.
-fn respond(live: &mut Vec<Held>, number: u64, resp: Resp)
-    requires { IsSome (find (is_held number) live.old.items) }
-    ensures items { live.new.items ≡ change_first (is_held number) (λ held. record held { gathering = after_b resp held.gathering }) live.old.items }
-    ensures capacity { vec_capacity live.new ≡ vec_capacity live.old }
-{
-    let place = place_of(live, number);
-    live[place].on_b(resp);
-}
-
-/// Takes the next beat of the read of the request of a number.
-fn read(live: &mut Vec<Held>, number: u64, beat: &RBeat)
-    requires { IsSomeAnd (find (is_held number) live.old.items) (λ held. held.gathering.came < reads_of held.bus_bytes (outline_of (request_of held.message))) }
-    ensures items { live.new.items ≡ change_first (is_held number) (λ held. record held {
-      gathering = after_r held.bus_bytes (outline_of (request_of held.message)) beat.now held.gathering.came held.gathering;
-    }) live.old.items }
-    ensures capacity { vec_capacity live.new ≡ vec_capacity live.old }
-{
-    let place = place_of(live, number);
-    live[place].on_r(beat);
-}
-
-/// Takes out what is kept for a number.
-fn take_out(live: &mut Vec<Held>, number: u64) -> Held
-    requires { IsSome (find (is_held number) live.old.items) }
-    ensures held { find (is_held number) live.old.items ≡ Some result }
-    ensures items { live.new.items ≡ without_first (is_held number) live.old.items }
-    ensures capacity { vec_capacity live.new ≡ vec_capacity live.old }
-{
-    let place = place_of(live, number);
-    live.remove(place)
 }
 
 /// Where all that is planned was answered, an atomic that found its old value plans its write, and every other request is
@@ -316,29 +239,10 @@ fn answer(flight: &mut Flight, key: Key, found: bool)
     settle(flight, key, found);
 }
 
-/// The key and the number of the live request that holds an ID.
-fn serving(flight: &Flight, id: u8) -> (Key, u64)
-    requires { IsSome (find (holds_id id) (requests_of flight.now.entries)) }
-    ensures { IsFirstAt (holds_id id) flight.now result.0 result.1 }
+/// The key of the live request that holds an ID.
+fn serving(flight: &Flight, id: u8) -> Key
+    requires { IsSome (find (λ entry. holds_id id entry.request) flight.now.entries) }
+    ensures { IsFirstAt (holds_id id) flight.now result }
 {
-    let key = flight.of_id(id).unwrap();
-    (key, flight.number(key))
-}
-
-/// The key and the number of the live request that sends next.
-fn sending(flight: &Flight) -> Option<(Key, u64)>
-    ensures some { IfSome result (λ found. IsFirstAt (is_ready (table_of flight.now)) flight.now found.0 found.1) }
-    ensures none { result ≡ None → find (is_ready (table_of flight.now)) (requests_of flight.now.entries) ≡ None }
-{
-    let key = flight.next_ready()?;
-    Some((key, flight.number(key)))
-}
-
-/// The key and the number of the first live request of a client that is done.
-fn finished_of(flight: &Flight, client: u8) -> Option<(Key, u64)>
-    ensures some { IfSome result (λ found. IsFirstAt (is_done_of client) flight.now found.0 found.1) }
-    ensures none { result ≡ None → find (is_done_of client) (requests_of flight.now.entries) ≡ None }
-{
-    let key = flight.oldest_done(client)?;
-    Some((key, flight.number(key)))
+    flight.of_id(id).unwrap()
 }

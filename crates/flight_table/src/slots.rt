@@ -15,26 +15,30 @@ use std::marker::Model;
 /// How many requests can be live at once.
 pub(crate) const ROOM: usize = 64;
 
-/// The key of a live request, by which calls name it; a plain value. After its release a key may name a later request.
+/// The key of a live request, by which calls name it; a plain value. After its release a key may name a later request. There
+/// are 64 of them, so that what else is kept of a live request may lie in the slot of its key.
 #[derive(Clone, Copy, PartialEq, Eq)]
 pub struct Key {
     slot: usize,
 }
 
 impl Model for Key {
-    ghost use Rattle.std.specs.Prelude.{ℕ};
+    ghost use Rattle.std.specs.Prelude.{ℕ, ◌<◌};
 
     ghost Value = { ℕ };
 
     ghost view = { λ k. k.slot };
 
+    ghost invariant = { λ k. k.slot < 64 };
+
     ghost inverse = { λ n. record { slot = n } };
 }
 
 impl Key {
-    /// The slot of the slab.
-    pub(crate) fn slot(self) -> usize
-        ensures { result ≡ self }
+    /// Its slot, from 0 to 63: no other live request has it.
+    pub fn slot(self) -> usize
+        ensures value { result ≡ self }
+        ensures within { result < 64 }
     {
         self.slot
     }
@@ -48,7 +52,7 @@ pub(crate) struct Slots {
 }
 
 impl Model for Slots {
-    ghost use Rattle.std.specs.Prelude.{List, ◌≤◌};
+    ghost use Rattle.std.specs.Prelude.{◌≡◌, List, ◌≤◌};
     ghost use Rattle.std.specs.Vec.{vec_len, vec_capacity};
     ghost use Rattle.flight_table.specs.Inside.{IsIndex, entries_in};
     ghost use Rattle.flight_table.specs.Tables.{KeyedRequest};
@@ -57,16 +61,7 @@ impl Model for Slots {
 
     ghost view = { λ l. entries_in l.requests l.order.items };
 
-    ghost invariant = { λ l. IsIndex l.requests l.order.items × (64 ≤ vec_capacity l.order) × (64 ≤ l.requests.capacity) × (vec_len l.order ≤ 64) };
-}
-
-/// Appends a key, for which there is room.
-fn put(order: &mut Vec<Key>, key: Key)
-    requires { vec_len order.old < vec_capacity order.old }
-    ensures items { order.new.items ≡ order.old.items ++ key ∷ [] }
-    ensures capacity { vec_capacity order.old ≤ vec_capacity order.new }
-{
-    order.push_reserved(key);
+    ghost invariant = { λ l. IsIndex l.requests l.order.items × (64 ≤ vec_capacity l.order) × (l.requests.capacity ≡ 64) × (vec_len l.order ≤ 64) };
 }
 
 /// The place of a key.
@@ -104,6 +99,10 @@ impl Slots {
         ensures { IfOk result (λ slots. slots ≡ []) }
     {
         let requests = Slab::with_capacity(alloc, ROOM)?;
+        // A slab of more room would have keys beyond those that there are.
+        if requests.capacity() != ROOM {
+            return Err(AllocError);
+        }
         let order = Vec::with_capacity(alloc, ROOM)?;
         Ok(Slots { requests, order })
     }
@@ -117,7 +116,7 @@ impl Slots {
     {
         let slot = self.requests.insert_reserved(request);
         let key = Key { slot };
-        put(&mut self.order, key);
+        self.order.push_reserved(key);
         key
     }
 

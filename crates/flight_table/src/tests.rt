@@ -84,7 +84,9 @@ fn accept(flight: &mut Flight, request: &mut Request, asked: Asked) -> Option<u6
     if !flight.room(asked.client) || flight.busy(asked.client, source) {
         return None;
     }
-    Some(flight.accept(asked.client, request, plan))
+    let number = flight.accepted();
+    flight.accept(asked.client, request, plan);
+    Some(number)
 }
 
 /// Whether the next burst is this one; it is sent.

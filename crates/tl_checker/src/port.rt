@@ -130,19 +130,19 @@ impl Port {
         }
     }
 
-    /// Hands out the request that stands whole, and keeps `room` in its place: the next beat is a first one. The request
-    /// moves, so that none of its beats is copied.
-    pub fn take_whole(&mut self, room: Request) -> Request
+    /// Puts the request that stands whole into `room`, and keeps what was there as its own room: the next beat is a first
+    /// one. The two change places, so that no beat is copied.
+    pub fn take_whole(&mut self, room: &mut Request)
         requires { IsSome self.old.whole }
-        ensures request { self.old.whole ≡ Some result }
+        ensures request { self.old.whole ≡ Some room.new }
         ensures port { self.new ≡ opening_port self.old.limits }
 
         // It is within the port's limits, aligned and complete, and its masks are right.
-        ensures sound { IsSound self.old.limits result }
+        ensures sound { IsSound self.old.limits room.new }
     {
         let Port { stage, request, .. } = self;
         *stage = Stage::Free;
-        mem::replace(request, room)
+        mem::swap(request, room);
     }
 
     /// Lets go of the whole request, and of a message that has begun: the next beat is a first one.

@@ -160,12 +160,10 @@ fn a_request_moves_out(rt: HostRuntime) -> Result<(), Fail> {
     let mut port = Port::new(rt.alloc(), 3, Level::Uh, 12)?;
     assert_eq!(rt; answer(&mut port, PUT), Ok(Progress::More));
     assert_eq!(rt; answer(&mut port, PUT), Ok(Progress::Whole));
-    let room = Request::new(rt.alloc())?;
-    let request = if port.whole().is_some() {
-        port.take_whole(room)
-    } else {
-        room
-    };
+    let mut request = Request::new(rt.alloc())?;
+    if port.whole().is_some() {
+        port.take_whole(&mut request);
+    }
     assert_eq!(rt;
         (request.client(), request.size(), request.beats()),
         (3, 4, 2)

@@ -1,15 +1,17 @@
 -- The key that the table answers is that of the first request.
-use Rattle.std.proofs.Common.{sym, ◌∙◌}
+use Rattle.std.proofs.Common.{◌≡◌, Option, Some, None, true, refl, sym, ◌∙◌}
+use Rattle.std.specs.Prelude.{is_some, option_map}
 use Rattle.flight_table.specs.Order.{holds_id}
-use Rattle.bridge_core.proofs.TableSteps.{first_at, key_there, some_key}
+use Rattle.flight_table.specs.Tables.{KeyedRequest}
+use Rattle.bridge_core.proofs.TableSteps.{first_at}
 use Rattle.bridge_core.proofs.requests.serving.Goals as goal
 
-pub unwrap-key-requires : goal.unwrap-key-requires
-unwrap-key-requires c = rw c.of_id.ensures.key (some_key (holds_id c.args.id) c.args.flight.now c.requires)
+some_key : (o : Option KeyedRequest) → is_some o ≡ true → is_some (option_map (λ (e : KeyedRequest). e.key) o) ≡ true
+some_key None some = some
+some_key (Some e) some = refl
 
-pub number-requires : goal.number-requires
-number-requires c = key_there (holds_id c.args.id) c.args.flight.now c.unwrap-key.result c.of_id.ensures.laws (sym c.of_id.ensures.key ∙ c.unwrap-key.ensures)
+pub unwrap-requires : goal.unwrap-requires
+unwrap-requires c = rw c.of_id.ensures.key (some_key _ c.requires)
 
 pub returns : goal.returns
-returns c =
-    first_at (holds_id c.args.id) c.args.flight.now c.unwrap-key.result c.number.result c.of_id.ensures.laws (sym c.of_id.ensures.key ∙ c.unwrap-key.ensures) c.number.ensures
+returns c = first_at (holds_id c.args.id) c.args.flight.now c.unwrap.result c.of_id.ensures.laws (sym c.of_id.ensures.key ∙ c.unwrap.ensures)

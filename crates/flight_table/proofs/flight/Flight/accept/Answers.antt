@@ -6,32 +6,32 @@ use Rattle.flight_table.specs.Tables.{KeyedTable}
 use Rattle.flight_table.proofs.NewRequests.{accepted_laws, is_latest, known_client, quota_left, room_left}
 use Rattle.flight_table.proofs.flight.Flight.accept.Goals as goal
 
-pub add-requires-clause-room : goal.add-requires-clause-room
-add-requires-clause-room c =
+pub add-key-requires-clause-room : goal.add-key-requires-clause-room
+add-key-requires-clause-room c =
     let old : KeyedTable = keyed_of c.self.inside.accepted c.self.inside.live in
     room_left old c.args.self.now c.args.client c.args.request.now c.args.plan c.self.view_is c.self.invariant (record { there = c.requires.client; room = c.requires.room; free = c.requires.source })
 
-pub add-requires-clause-client : goal.add-requires-clause-client
-add-requires-clause-client c = rw c.accepted.ensures (known_client (keyed_of c.self.inside.accepted c.self.inside.live) c.args.self.now c.args.client c.self.view_is c.self.invariant c.requires.client)
+pub add-key-requires-clause-client : goal.add-key-requires-clause-client
+add-key-requires-clause-client c = rw c.accepted.ensures (known_client (keyed_of c.self.inside.accepted c.self.inside.live) c.args.self.now c.args.client c.self.view_is c.self.invariant c.requires.client)
 
-pub add-requires-clause-quota : goal.add-requires-clause-quota
-add-requires-clause-quota c =
+pub add-key-requires-clause-quota : goal.add-key-requires-clause-quota
+add-key-requires-clause-quota c =
     rw c.accepted.ensures
     (quota_left (keyed_of c.self.inside.accepted c.self.inside.live) c.args.self.now c.args.client c.args.request.now.source c.self.view_is c.self.invariant
     (record { there = c.requires.client; room = c.requires.room; free = c.requires.source }))
 
-pub add-requires-clause-latest : goal.add-requires-clause-latest
-add-requires-clause-latest c = rw c.accepted.ensures (is_latest (keyed_of c.self.inside.accepted c.self.inside.live) c.self.invariant)
+pub add-key-requires-clause-latest : goal.add-key-requires-clause-latest
+add-key-requires-clause-latest c = rw c.accepted.ensures (is_latest (keyed_of c.self.inside.accepted c.self.inside.live) c.self.invariant)
 
-pub add-requires-clause-no_id : goal.add-requires-clause-no_id
-add-requires-clause-no_id c = ap (λ (q : LiveRequest). q.id) c.accepted.ensures
+pub add-key-requires-clause-no_id : goal.add-key-requires-clause-no_id
+add-key-requires-clause-no_id c = ap (λ (q : LiveRequest). q.id) c.accepted.ensures
 
-sound : (c : goal.After-self-1) → IsSound (keyed_of (c.self.inside.accepted + 1) c.add.new.self)
+sound : (c : goal.After-self-1) → IsSound (keyed_of (c.self.inside.accepted + 1) c.add-key.new.self)
 sound c =
     let old : KeyedTable = keyed_of c.self.inside.accepted c.self.inside.live in
-    rw c.add.ensures.table
-    (accepted_laws old c.args.self.now c.args.client c.add.result c.args.request.now c.args.plan c.accepted.result (old.entries ++ record { key = c.add.result; request = c.accepted.result } ∷ []) c.self.view_is c.self.invariant
-    (record { there = c.requires.client; room = c.requires.room; free = c.requires.source }) c.accepted.ensures refl (rw c.add.ensures.table at c.add.ensures.keys))
+    rw c.add-key.ensures.table
+    (accepted_laws old c.args.self.now c.args.client c.add-key.result c.args.request.now c.args.plan c.accepted.result (old.entries ++ record { key = c.add-key.result; request = c.accepted.result } ∷ []) c.self.view_is c.self.invariant
+    (record { there = c.requires.client; room = c.requires.room; free = c.requires.source }) c.accepted.ensures refl (rw c.add-key.ensures.table at c.add-key.ensures.keys))
 
 pub invariant_of-self : goal.invariant_of-self
 invariant_of-self c = sound c

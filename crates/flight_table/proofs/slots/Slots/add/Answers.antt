@@ -1,4 +1,4 @@
-use Rattle.std.proofs.Common.{[], ◌∷◌, ◌++◌, ap, arith, length, length-append}
+use Rattle.std.proofs.Common.{[], ◌∷◌, ◌++◌, ◌∙◌, ap, arith, length, length-append}
 use Rattle.flight_table.proofs.Index.{entries-add, fresh-add, index-add, keys_of, length_entries}
 use Rattle.flight_table.proofs.slots.Slots.add.Goals as goal
 
@@ -7,10 +7,10 @@ invariant_of-self c =
     let s = c.self.inside.requests in
     let ks = c.self.inside.order.items in
     let slot = c.insert_reserved-slot in (
-      rw c.put.ensures.items (index-add s slot.new.self slot.result c.args.request ks c.self.invariant.0 slot.ensures.was_vacant slot.ensures.updates slot.ensures.len),
-      omega (arith, c.self.invariant.1, c.put.ensures.capacity),
-      omega (arith, c.self.invariant.2, slot.ensures.capacity),
-      omega (arith, c.requires, length_entries s ks, ap length c.self.view_is, ap length c.put.ensures.items, length-append ks (slot.result ∷ [])),
+      rw c.push_reserved.ensures.items (index-add s slot.new.self slot.result c.args.request ks c.self.invariant.0 slot.ensures.was_vacant slot.ensures.updates slot.ensures.len),
+      omega (arith, c.self.invariant.1, c.push_reserved.ensures.capacity),
+      slot.ensures.capacity ∙ c.self.invariant.2,
+      omega (arith, c.requires, length_entries s ks, ap length c.self.view_is, ap length c.push_reserved.ensures.items, length-append ks (slot.result ∷ [])),
     )
 
 pub returns-clause-entries : goal.returns-clause-entries
@@ -18,7 +18,7 @@ returns-clause-entries c =
     let s = c.self.inside.requests in
     let ks = c.self.inside.order.items in
     let slot = c.insert_reserved-slot in
-    rw (c.put.ensures.items, ← c.self.view_is) (entries-add s slot.new.self slot.result c.args.request ks c.self.invariant.0 slot.ensures.was_vacant slot.ensures.updates)
+    rw (c.push_reserved.ensures.items, ← c.self.view_is) (entries-add s slot.new.self slot.result c.args.request ks c.self.invariant.0 slot.ensures.was_vacant slot.ensures.updates)
 
 pub returns-clause-fresh : goal.returns-clause-fresh
 returns-clause-fresh c =
@@ -30,4 +30,7 @@ returns-clause-keys c =
     let ks = c.self.inside.order.items in
     let slot = c.insert_reserved-slot in
     let index = index-add s slot.new.self slot.result c.args.request ks c.self.invariant.0 slot.ensures.was_vacant slot.ensures.updates slot.ensures.len in
-    rw (c.put.ensures.items, keys_of slot.new.self (ks ++ slot.result ∷ [])) index.distinct
+    rw (c.push_reserved.ensures.items, keys_of slot.new.self (ks ++ slot.result ∷ [])) index.distinct
+
+pub invariant_of-key : goal.invariant_of-key
+invariant_of-key c = omega (arith, c.insert_reserved-slot.ensures.key_in_range, c.insert_reserved-slot.ensures.capacity, c.self.invariant.2)

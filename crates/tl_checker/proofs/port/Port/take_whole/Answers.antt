@@ -13,5 +13,5 @@ returns-clause-sound c =
     let port = port_state inside.client inside.level inside.max_size inside.stage inside.request in
     let stands : IsSome (whole_at inside.stage inside.request) = subst (λ (p : PortState). IsSome p.whole) (sym c.self.view_is) c.requires in
     let sound = standing_sound port.limits inside.stage inside.request stands c.self.invariant.1.whole in
-    subst (λ (message : HeldMessage). IsSound c.args.self.now.limits message) (sym c.replace.ensures.value)
+    subst (λ (message : HeldMessage). IsSound c.args.self.now.limits message) (sym c.swap.ensures.y_after)
     (subst (λ (p : PortState). IsSound p.limits inside.request) c.self.view_is sound)

@@ -3,7 +3,7 @@ use Rattle.std.proofs.Common.{◌≡◌, ◌≤◌}
 use Rattle.std.specs.List.{AllByRecursion}
 use Rattle.std.specs.Vec.{vec_capacity, vec_len}
 use Rattle.bridge_core.specs.Inside.{HeldRequest}
-use Rattle.bridge_core.proofs.requests.spare_room.Given as goal
+use Rattle.bridge_core.proofs.requests.room_for_all.Given as goal
 
 abbrev pub invariant-loop : goal.invariant-loop
-invariant-loop l = (vec_len l.spare ≡ l.counter) × (64 ≤ vec_capacity l.spare) × AllByRecursion (λ (held : HeldRequest). held.bus_bytes ≡ l.bus_bytes) l.spare.items
+invariant-loop l = (vec_len l.held ≡ l.counter) × (64 ≤ vec_capacity l.held) × AllByRecursion (λ (held : HeldRequest). held.bus_bytes ≡ l.bus_bytes) l.held.items
