@@ -1,6 +1,3 @@
-mod histories;
-mod plain;
-
 use super::*;
 use burst_plan::Plan;
 use std::alloc::{AllocError, Global};

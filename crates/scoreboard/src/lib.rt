@@ -8,8 +8,6 @@ mod names;
 mod replies;
 mod runs;
 mod serial;
-#[cfg(test)]
-mod tests;
 
 use axi_beats::{ArBeat, AwBeat, BBeat, RBeat, WBeat};
 use axi_checker::AxiRule;

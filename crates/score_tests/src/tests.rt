@@ -1,12 +1,14 @@
-use super::*;
-use axi_beats::Resp;
+//! Histories of observed beats, with what has to be said of each.
+use axi_beats::{ArBeat, AwBeat, BBeat, RBeat, Resp, WBeat};
+use axi_checker::AxiRule;
 use bridge_core::Config;
 use burst_plan::{MapFault, PageMap, Region};
+use scoreboard::{ReplyRule, Scoreboard, Seen, SerialMemory, Wrong, observed};
 use std::alloc::Global;
 use std::test::Fail;
 use subordinate::{PageKind, device_fault};
-use tl_checker::{Level, Port, Progress};
-use tl_messages::ReplyBox;
+use tl_checker::{Level, Port, Progress, TlRule};
+use tl_messages::{ABeat, DBeat, ReplyBox};
 use world_run::{Setup, SetupFault, Step};
 
 /// TileLink pages 0 to 3 lead to AXI pages 0x10 to 0x13.

@@ -1,5 +1,5 @@
 //! What the faults are called.
-use crate::Fault;
+use bridge_threads::Fault;
 use std::test::Fail;
 use tl_checker::TlRule;
 
