@@ -8,11 +8,13 @@ use Rattle.script_text.specs.declared.reader.Ending.TheVariants.{LineFeed, Input
 
 -- ---- blocks
 
--- the block that was read last: what is left of it, how many bytes were taken off its front, and whether text was written since it was read
+-- the block that was read last: what is left of it, how many bytes were taken off its front, and whether text was written since it was read; and
+-- the line that was read last
 pub record BlockState : Type 0 where
   pub ahead : List ℕ
   pub taken : ℕ
   pub has_text : Bool
+  pub line : List ℕ
 
 -- what is left of an input: of its block, and by its reader
 abbrev pub left : BlockState → Option (List ℕ) → Option (List ℕ)
@@ -81,6 +83,11 @@ TakesPart old new before after (Some LineFeed) = (part : List ℕ) × (after ≡
 TakesPart old new before after (Some Room) =
     (part : List ℕ) × (byte : ℕ) × (after ≡ before ++ part) × (length after ≡ 129) × IsOneLine part × (byte ≢ 10) × Passes old new (part ++ byte ∷ [])
 TakesPart old new before after (Some Input) = ⊥
+
+-- the next line was taken, whole and with its line feed, or nothing was
+abbrev pub TakesWhole : BlockState → BlockState → Bool → Type 0
+TakesWhole old new true = IsOneLine new.line × (length new.line ≤ 129) × Passes old new (new.line ++ 10 ∷ [])
+TakesWhole old new false = new ≡ old
 
 -- what was taken where a line ended so
 abbrev pub Ends : BlockState → BlockState → Option (List ℕ) → Option (List ℕ) → List ℕ → Ending → Type 0

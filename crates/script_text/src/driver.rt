@@ -8,7 +8,7 @@ ghost use Rattle.script_text.specs.Scripts.{line_step, text_from, text_of, text_
 ghost use Rattle.script_text.specs.Steps.{TakesStep, TakesRest};
 
 use crate::faults::ScriptFault;
-use crate::reader::{Block, Ending, Line};
+use crate::reader::{Block, Ending};
 use crate::words::{Words, is_comment};
 use std::alloc::Global;
 use std::io::{Read, Write};
@@ -149,12 +149,11 @@ pub fn read_script<S: Script + Drop, R: Read, W: Write>(
         return Err(ScriptFault::NoMemory);
     };
     let mut script = script;
-    let mut line = Line::new();
     let late = S::most_lines() + 1;
     for number in 1..late {
-        match block.read_line(reader, writer, &mut line)? {
+        match block.read_line(reader, writer)? {
             Ending::LineFeed => {}
-            Ending::Input => return take_rest(script, alloc, number, line.as_slice(), writer),
+            Ending::Input => return take_rest(script, alloc, number, block.line(), writer),
             Ending::Room => {
                 return Err(ScriptFault::Script {
                     line: number,
@@ -162,7 +161,7 @@ pub fn read_script<S: Script + Drop, R: Read, W: Write>(
                 });
             }
         }
-        if take_line(&mut script, alloc, number, line.as_slice(), writer)? {
+        if take_line(&mut script, alloc, number, block.line(), writer)? {
             block.note_text();
         }
     }

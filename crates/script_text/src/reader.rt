@@ -1,8 +1,9 @@
 //! The input as it is read: by blocks, and of these by lines. A read that fails, an interrupted one too, is a fault.
-ghost use Rattle.std.specs.Prelude.{◌≡◌, ◌≢◌, ◌≤◌, [], true, false, IfOk};
+ghost use Rattle.std.specs.Prelude.{◌≡◌, ◌≢◌, ◌≤◌, [], true, false, IfOk, IfSome, Some};
 ghost use Rattle.std.specs.Io.KnownBytes.{Keeps};
 ghost use Rattle.arrayvec.specs.ArrayVec.{array_vec_len};
-ghost use Rattle.script_text.specs.Reads.{Fills, IsPart, IsSmall, ReadsLine, Refills, TakesByte, TakesPart};
+ghost use Rattle.script_text.specs.Reads.{Fills, IsPart, IsSmall, ReadsLine, Refills, TakesByte, TakesPart, TakesWhole};
+ghost use Rattle.script_text.specs.declared.reader.Ending.TheVariants.{LineFeed};
 
 use crate::faults::ScriptFault;
 use arrayvec::ArrayVec;
@@ -14,7 +15,7 @@ use std::marker::Model;
 const BLOCK_BYTES: usize = 65_536;
 
 /// A line's bytes without its line feed: at most 128 and a carriage return.
-pub type Line = ArrayVec<u8, 129>;
+type Line = ArrayVec<u8, 129>;
 
 /// The most bytes of a line without its line feed.
 const LINE_BYTES: usize = 129;
@@ -51,30 +52,45 @@ fn part_of(ahead: &[u8], room: usize) -> (usize, Option<Ending>)
     (most, None)
 }
 
-/// The block of the input that was read last, at most 65,536 bytes.
+/// How many bytes the line has that bytes ahead begin with, where its line feed is among them and there is room for it.
+fn line_in(ahead: &[u8]) -> Option<usize>
+    ensures { IfSome result (λ count. IsPart ahead.now 129 count (Some LineFeed)) }
+{
+    match part_of(ahead, LINE_BYTES) {
+        (count, Some(Ending::LineFeed)) => Some(count),
+        _ => None,
+    }
+}
+
+/// The block of the input that was read last, at most 65,536 bytes, and the line that was read last, which stands in the block
+/// or, where it doesn't lie whole in one, apart.
 #[derive(Drop)]
 pub struct Block {
     bytes: Vec<u8>,
     filled: usize,
     taken: usize,
     has_text: bool,
+    start: usize,
+    end: usize,
+    is_apart: bool,
+    apart: Line,
 }
 
 impl Model for Block {
-    ghost use Rattle.std.specs.Prelude.{◌≡◌, ◌≤◌, drop, take, length};
+    ghost use Rattle.std.specs.Prelude.{◌≡◌, ◌≤◌, drop, take, length, slice_range, if◌then◌else◌};
     ghost use Rattle.script_text.specs.Reads.{BlockState};
 
     ghost Value = { BlockState };
 
-    ghost view = { λ b. record { ahead = drop b.taken (take b.filled b.bytes.items); taken = b.taken; has_text = b.has_text } };
+    ghost view = { λ b. record { ahead = drop b.taken (take b.filled b.bytes.items); taken = b.taken; has_text = b.has_text; line = if b.is_apart then b.apart.items else slice_range b.bytes.items b.start b.end } };
 
-    ghost invariant = { λ b. (b.taken ≤ b.filled) × (b.filled ≤ 65536) × (length b.bytes.items ≡ 65536) };
+    ghost invariant = { λ b. (b.taken ≤ b.filled) × (b.filled ≤ 65536) × (length b.bytes.items ≡ 65536) × (b.start ≤ b.end) × (b.end ≤ 65536) };
 }
 
 impl Block {
-    /// No block yet. The one error is that memory was refused.
+    /// No block and no line yet. The one error is that memory was refused.
     pub fn new(alloc: Global) -> Result<Block, AllocError>
-        ensures { IfOk result (λ block. block ≡ record { ahead = []; taken = 0; has_text = false }) }
+        ensures { IfOk result (λ block. block ≡ record { ahead = []; taken = 0; has_text = false; line = [] }) }
     {
         let mut bytes = Vec::new(alloc);
         bytes.resize(BLOCK_BYTES, 0)?;
@@ -83,6 +99,10 @@ impl Block {
             filled: 0,
             taken: 0,
             has_text: false,
+            start: 0,
+            end: 0,
+            is_apart: false,
+            apart: Line::new(),
         })
     }
 
@@ -91,6 +111,16 @@ impl Block {
         ensures { self.new ≡ record self.old { has_text = true } }
     {
         self.has_text = true;
+    }
+
+    /// The line that was read last.
+    pub fn line(&self) -> &[u8]
+        ensures { result.now ≡ self.now.line }
+    {
+        if self.is_apart {
+            return self.apart.as_slice();
+        }
+        &self.bytes[self.start..self.end]
     }
 
     /// Reads the next block. Text that was written since the last one is flushed before the reader is asked.
@@ -155,6 +185,21 @@ impl Block {
         Ok(Some(byte))
     }
 
+    /// Takes the next line where all of it lies in what is left of the block, with its line feed. The answer is whether it does.
+    fn take_whole(&mut self) -> bool
+        ensures whole { TakesWhole self.old self.new result }
+        ensures small { IsSmall self.new }
+    {
+        let Some(count) = line_in(&self.bytes[self.taken..self.filled]) else {
+            return false;
+        };
+        self.start = self.taken;
+        self.end = self.taken + count;
+        self.is_apart = false;
+        self.taken += count + 1;
+        true
+    }
+
     /// Takes of what is left of the block what a line has room for, up to a line feed and it too. The answer is what ended
     /// the line, if anything did.
     fn take_part(&mut self, line: &mut Line) -> Option<Ending>
@@ -168,18 +213,18 @@ impl Block {
         ending
     }
 
-    /// Takes the bytes up to the next line feed, and it too.
-    pub fn read_line<R: Read, W: Write>(
+    /// Takes the bytes up to the next line feed, and it too, block by block.
+    fn take_parts<R: Read, W: Write>(
         &mut self,
         reader: &mut R,
         writer: &mut W,
         line: &mut Line,
     ) -> Result<Ending, ScriptFault>
+        requires { line.old.items ≡ [] }
         ensures input { ReadsLine self.old self.new (R.remaining reader.old) (R.remaining reader.new) line.new.items result }
         ensures small { IsSmall self.new }
         ensures output { Keeps (W.contents writer.old) (W.contents writer.new) }
     {
-        line.clear();
         for _ in 0..=LINE_BYTES {
             if !self.refill(reader, writer)? {
                 return Ok(Ending::Input);
@@ -189,5 +234,46 @@ impl Block {
             }
         }
         Ok(Ending::Room)
+    }
+
+    /// Holds a line apart from the block.
+    fn hold(&mut self, line: Line)
+        ensures { self.new ≡ record self.old { line = line.items } }
+    {
+        self.apart = line;
+        self.is_apart = true;
+    }
+
+    /// Reads a line that doesn't lie whole in the block. It is apart, since few lines do so.
+    #[inline(never)]
+    fn read_apart<R: Read, W: Write>(
+        &mut self,
+        reader: &mut R,
+        writer: &mut W,
+    ) -> Result<Ending, ScriptFault>
+        ensures input { ReadsLine self.old self.new (R.remaining reader.old) (R.remaining reader.new) self.new.line result }
+        ensures small { IsSmall self.new }
+        ensures output { Keeps (W.contents writer.old) (W.contents writer.new) }
+    {
+        let mut line = Line::new();
+        let ending = self.take_parts(reader, writer, &mut line);
+        self.hold(line);
+        ending
+    }
+
+    /// Takes the bytes up to the next line feed, and it too. They are the line that was read last.
+    pub fn read_line<R: Read, W: Write>(
+        &mut self,
+        reader: &mut R,
+        writer: &mut W,
+    ) -> Result<Ending, ScriptFault>
+        ensures input { ReadsLine self.old self.new (R.remaining reader.old) (R.remaining reader.new) self.new.line result }
+        ensures small { IsSmall self.new }
+        ensures output { Keeps (W.contents writer.old) (W.contents writer.new) }
+    {
+        if self.take_whole() {
+            return Ok(Ending::LineFeed);
+        }
+        self.read_apart(reader, writer)
     }
 }
