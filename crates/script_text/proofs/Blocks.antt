@@ -7,7 +7,9 @@ use Rattle.std.proofs.lemmas.Slice.{between_is}
 use Rattle.std.specs.List.{between}
 use Rattle.std.specs.Io.KnownBytes.{Consumes}
 use Rattle.script_text.proofs.Parts.{Lacks-append}
+use Rattle.script_text.proofs.PlainLines.{plain-one_line, plain-short}
 use Rattle.script_text.specs.Reads.{BlockState, IsOneLine, IsPart, IsSmall, Passes, ReadsLine, Takes, TakesPart, TakesWhole, left}
+use Rattle.script_text.specs.Words.{is_plain_line}
 use Rattle.script_text.specs.declared.faults.ScriptFault.{ScriptFault}
 use Rattle.script_text.specs.declared.faults.ScriptFault.TheVariants.{Script, Setup, Read, Write, NoMemory}
 use Rattle.script_text.specs.declared.reader.Ending.{Ending}
@@ -43,9 +45,9 @@ Takes-passed first old read new input between rest before bytes so_far next pass
 -- ---- a line that lies whole in a block
 
 pub ReadsLine-whole : (old new : BlockState) (input : Option (List ℕ)) → TakesWhole old new true → ReadsLine old new input input new.line (Ok LineFeed)
-ReadsLine-whole old new input (bare, short, passes) = (
-  bare,
-  short,
+ReadsLine-whole old new input (plain, passes) = (
+  plain-one_line new.line plain,
+  omega (arith, plain-short new.line plain),
   record {
     consumed = Passes-Consumes old new (new.line ++ 10 ∷ []) input passes;
     same_block = λ text. (sym passes.same_text ∙ text, passes.counted);
@@ -92,10 +94,10 @@ Passes-past old new count byte within is (ahead, taken, text) =
       same_text = text;
     }
 
-pub TakesWhole-part : (old new : BlockState) (count : ℕ) → IsPart old.ahead 129 count (Some LineFeed) → new.line ≡ take count old.ahead → IsPast old new (count + 1) → TakesWhole old new true
-TakesWhole-part old new count (within, few, bare, byte) is past = (
-  subst IsOneLine (sym is) bare,
-  omega (arith, ap length is, few, length-take-le count old.ahead (omega arith)),
+pub TakesWhole-part : (old new : BlockState) (count : ℕ) → count < length old.ahead → is_plain_line (take count old.ahead) ≡ true → get_or old.ahead count 0 ≡ 10 → new.line ≡ take count old.ahead → IsPast old new (count + 1)
+    → TakesWhole old new true
+TakesWhole-part old new count within plain byte is past = (
+  subst (λ line. is_plain_line line ≡ true) (sym is) plain,
   subst (λ line. Passes old new (line ++ 10 ∷ [])) (sym is) (Passes-past old new count 10 within byte past),
 )
 

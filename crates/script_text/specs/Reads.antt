@@ -1,6 +1,7 @@
 -- How the input is read: by blocks, and of these by lines.
 use Rattle.std.specs.Prelude.{◌≡◌, ◌≢◌, ◌<◌, ◌≤◌, ◌+◌, ℕ, Bool, true, false, List, [], ◌∷◌, ◌++◌, length, take, slice_index_or, Option, Some, None, Result, Ok, Err}
 use Rattle.std.specs.Io.KnownBytes.{Consumes, IsAtEnd, prepend_known}
+use Rattle.script_text.specs.Words.{is_plain_line}
 use Rattle.script_text.specs.declared.faults.ScriptFault.{ScriptFault}
 use Rattle.script_text.specs.declared.faults.ScriptFault.TheVariants.{Script, Setup, Read, Write, NoMemory}
 use Rattle.script_text.specs.declared.reader.Ending.{Ending}
@@ -84,9 +85,9 @@ TakesPart old new before after (Some Room) =
     (part : List ℕ) × (byte : ℕ) × (after ≡ before ++ part) × (length after ≡ 129) × IsOneLine part × (byte ≢ 10) × Passes old new (part ++ byte ∷ [])
 TakesPart old new before after (Some Input) = ⊥
 
--- the next line was taken, whole and with its line feed, or nothing was
+-- the next line, which may stand as it is, was taken with its line feed, or nothing was
 abbrev pub TakesWhole : BlockState → BlockState → Bool → Type 0
-TakesWhole old new true = IsOneLine new.line × (length new.line ≤ 129) × Passes old new (new.line ++ 10 ∷ [])
+TakesWhole old new true = (is_plain_line new.line ≡ true) × Passes old new (new.line ++ 10 ∷ [])
 TakesWhole old new false = new ≡ old
 
 -- what was taken where a line ended so

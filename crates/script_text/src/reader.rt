@@ -1,11 +1,12 @@
 //! The input as it is read: by blocks, and of these by lines. A read that fails, an interrupted one too, is a fault.
-ghost use Rattle.std.specs.Prelude.{◌≡◌, ◌≢◌, ◌≤◌, [], true, false, IfOk, IfSome, Some};
+ghost use Rattle.std.specs.Prelude.{◌≡◌, ◌≢◌, ◌≤◌, ◌<◌, [], true, false, length, take, slice_index_or, IfOk, IfSome};
 ghost use Rattle.std.specs.Io.KnownBytes.{Keeps};
 ghost use Rattle.arrayvec.specs.ArrayVec.{array_vec_len};
 ghost use Rattle.script_text.specs.Reads.{Fills, IsPart, IsSmall, ReadsLine, Refills, TakesByte, TakesPart, TakesWhole};
-ghost use Rattle.script_text.specs.declared.reader.Ending.TheVariants.{LineFeed};
+ghost use Rattle.script_text.specs.Words.{is_plain_line};
 
 use crate::faults::ScriptFault;
+use crate::plain::is_plain;
 use arrayvec::ArrayVec;
 use std::alloc::{AllocError, Global};
 use std::io::{Read, Write};
@@ -52,14 +53,22 @@ fn part_of(ahead: &[u8], room: usize) -> (usize, Option<Ending>)
     (most, None)
 }
 
-/// How many bytes the line has that bytes ahead begin with, where its line feed is among them and there is room for it.
-fn line_in(ahead: &[u8]) -> Option<usize>
-    ensures { IfSome result (λ count. IsPart ahead.now 129 count (Some LineFeed)) }
+/// How many bytes the line has that bytes ahead begin with, where its line feed is among them and it may stand as it is.
+fn plain_line_in(ahead: &[u8]) -> Option<usize>
+    ensures { IfSome result (λ count. (count < length ahead.now) × (is_plain_line (take count ahead.now) ≡ true) × (slice_index_or ahead.now count 0 ≡ 10)) }
 {
-    match part_of(ahead, LINE_BYTES) {
-        (count, Some(Ending::LineFeed)) => Some(count),
-        _ => None,
+    let most = if ahead.len() > LINE_BYTES {
+        LINE_BYTES
+    } else {
+        ahead.len()
+    };
+    for count in 0..most {
+        let byte = ahead[count];
+        if !is_plain(byte) {
+            return if byte == b'\n' { Some(count) } else { None };
+        }
     }
+    None
 }
 
 /// The block of the input that was read last, at most 65,536 bytes, and the line that was read last, which stands in the block
@@ -77,14 +86,16 @@ pub struct Block {
 }
 
 impl Model for Block {
-    ghost use Rattle.std.specs.Prelude.{◌≡◌, ◌≤◌, drop, take, length, slice_range, if◌then◌else◌};
+    ghost use Rattle.std.specs.Prelude.{◌≡◌, ◌≤◌, true, false, drop, take, length, slice_range, if◌then◌else◌};
     ghost use Rattle.script_text.specs.Reads.{BlockState};
+    ghost use Rattle.script_text.specs.Words.{is_plain_line};
 
     ghost Value = { BlockState };
 
     ghost view = { λ b. record { ahead = drop b.taken (take b.filled b.bytes.items); taken = b.taken; has_text = b.has_text; line = if b.is_apart then b.apart.items else slice_range b.bytes.items b.start b.end } };
 
-    ghost invariant = { λ b. (b.taken ≤ b.filled) × (b.filled ≤ 65536) × (length b.bytes.items ≡ 65536) × (b.start ≤ b.end) × (b.end ≤ 65536) };
+    ghost invariant = { λ b. (b.taken ≤ b.filled) × (b.filled ≤ 65536) × (length b.bytes.items ≡ 65536) × (b.start ≤ b.end) × (b.end ≤ 65536)
+        × (b.is_apart ≡ false → is_plain_line (slice_range b.bytes.items b.start b.end) ≡ true) };
 }
 
 impl Block {
@@ -101,7 +112,7 @@ impl Block {
             has_text: false,
             start: 0,
             end: 0,
-            is_apart: false,
+            is_apart: true,
             apart: Line::new(),
         })
     }
@@ -111,6 +122,13 @@ impl Block {
         ensures { self.new ≡ record self.old { has_text = true } }
     {
         self.has_text = true;
+    }
+
+    /// Whether the line that was read last is known to be one that may stand.
+    pub fn has_plain_line(&self) -> bool
+        ensures { result ≡ true → is_plain_line self.now.line ≡ true }
+    {
+        !self.is_apart
     }
 
     /// The line that was read last.
@@ -139,6 +157,7 @@ impl Block {
         }
         self.taken = 0;
         self.filled = 0;
+        self.is_apart = true;
         match reader.read(self.bytes.as_mut_slice()) {
             Ok(count) => {
                 self.filled = count;
@@ -185,12 +204,13 @@ impl Block {
         Ok(Some(byte))
     }
 
-    /// Takes the next line where all of it lies in what is left of the block, with its line feed. The answer is whether it does.
+    /// Takes the next line where all of it lies in what is left of the block, with its line feed, and it may stand as it is. The
+    /// answer is whether it does.
     fn take_whole(&mut self) -> bool
         ensures whole { TakesWhole self.old self.new result }
         ensures small { IsSmall self.new }
     {
-        let Some(count) = line_in(&self.bytes[self.taken..self.filled]) else {
+        let Some(count) = plain_line_in(&self.bytes[self.taken..self.filled]) else {
             return false;
         };
         self.start = self.taken;
