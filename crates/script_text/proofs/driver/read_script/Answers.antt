@@ -1,10 +1,7 @@
-use Rattle.std.proofs.Common.{◌≡◌, ◌+◌, [], Err, inl, refl, subst, arith, rules, ◌∙◌}
-use Rattle.std.specs.Str.Lines.{strip_carriage_return}
+use Rattle.std.proofs.Common.{◌≡◌, ◌+◌, [], Err, inl, refl, arith, rules, ◌∙◌}
 use Rattle.std.proofs.KnownBytes.{Consumes-nil, Keeps-refl}
 use Rattle.script_text.proofs.Endings.{Ends-fault, Ends-full, Ends-late, Ends-long, Ends-rest, Ends-stopped, Ends-unread}
 use Rattle.script_text.proofs.Progress.{Progress-start, Progress-quiet, Progress-wrote}
-use Rattle.script_text.specs.Scripts.{line_step}
-use Rattle.script_text.specs.Steps.{TakesStep}
 use Rattle.script_text.proofs.driver.read_script.Goals.{then-branch, else-branch}
 use Rattle.script_text.proofs.driver.read_script.Goals as goal
 

@@ -1,7 +1,6 @@
 use Rattle.std.proofs.Common.{◌≡◌, ◌<◌, ◌-◌, ◌+◌, drop, take, length, get_or, true, ap, ◌∙◌, sym, subst, arith}
 use Rattle.std.proofs.lemmas.List.{drop-drop}
 use Rattle.std.proofs.lemmas.Slice.{between_is}
-use Rattle.std.specs.List.{between}
 use Rattle.script_text.proofs.Blocks.{TakesWhole-part, between-front}
 use Rattle.script_text.specs.Words.{is_plain_line}
 use Rattle.script_text.proofs.reader.Block.take_whole.Goals as goal
