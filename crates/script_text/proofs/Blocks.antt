@@ -1,11 +1,17 @@
 -- What is left of a block, and what was taken of it.
-use Rattle.std.proofs.Common.{◌≡◌, ◌≢◌, ◌≤◌, ◌<◌, ℕ, ◌+◌, ◌-◌, List, [], ◌∷◌, ◌++◌, length, take, drop, Option, None, Some, get_or, is_some, refl, sym, ap, ◌∙◌, append_assoc, append-nil, length-append, length-drop, length-take, length-take-le, take_all, take-append-drop, arith}
+use Rattle.std.proofs.Common.{◌≡◌, ◌≢◌, ◌≤◌, ◌<◌, ℕ, ◌+◌, ◌-◌, List, [], ◌∷◌, ◌++◌, length, take, drop, true, Option, None, Some, Result, Ok, Err, get_or, is_some, refl, sym, ap, subst, ◌∙◌, append_assoc, append-nil, length-append, length-drop, length-take, length-take-le, take_all, take-append-drop, arith}
 use mir.Val.{bool_byte}
 use Rattle.std.proofs.KnownBytes.{Consumes-nil, Consumes-trans}
-use Rattle.std.proofs.lemmas.List.{drop_all, drop_more, get_or-take}
+use Rattle.std.proofs.lemmas.List.{drop_all, drop_more, get_or-take, take-take}
+use Rattle.std.proofs.lemmas.Slice.{between_is}
+use Rattle.std.specs.List.{between}
 use Rattle.std.specs.Io.KnownBytes.{Consumes}
 use Rattle.script_text.proofs.Parts.{Lacks-append}
-use Rattle.script_text.specs.Reads.{BlockState, IsOneLine, IsPart, IsSmall, Passes, Takes, TakesPart, left}
+use Rattle.script_text.proofs.PlainLines.{plain-one_line, plain-short}
+use Rattle.script_text.specs.Reads.{BlockState, IsOneLine, IsPart, IsSmall, Passes, ReadsLine, Takes, TakesPart, TakesWhole, left}
+use Rattle.script_text.specs.Words.{is_plain_line}
+use Rattle.script_text.specs.declared.faults.ScriptFault.{ScriptFault}
+use Rattle.script_text.specs.declared.faults.ScriptFault.TheVariants.{Script, Setup, Read, Write, NoMemory}
 use Rattle.script_text.specs.declared.reader.Ending.{Ending}
 use Rattle.script_text.specs.declared.reader.Ending.TheVariants.{LineFeed, Input, Room}
 
@@ -36,6 +42,33 @@ Takes-passed first old read new input between rest before bytes so_far next pass
           (there.0, omega (arith, passes.counted, here.1, there.1, length-append before bytes));
     }
 
+-- ---- a line that lies whole in a block
+
+pub ReadsLine-whole : (old new : BlockState) (input : Option (List ℕ)) → TakesWhole old new true → ReadsLine old new input input new.line (Ok LineFeed)
+ReadsLine-whole old new input (plain, passes) = (
+  plain-one_line new.line plain,
+  omega (arith, plain-short new.line plain),
+  record {
+    consumed = Passes-Consumes old new (new.line ++ 10 ∷ []) input passes;
+    same_block = λ text. (sym passes.same_text ∙ text, passes.counted);
+  },
+)
+
+-- ---- a line that is held apart
+
+Takes-held : (old new : BlockState) (held : List ℕ) (input rest : Option (List ℕ)) (bytes : List ℕ) → Takes old new input rest bytes → Takes old (record new { line = held }) input rest bytes
+Takes-held old new held input rest bytes takes = record { consumed = takes.consumed; same_block = takes.same_block }
+
+pub ReadsLine-held : (old new : BlockState) (held line : List ℕ) (input rest : Option (List ℕ)) (result : Result Ending ScriptFault) → ReadsLine old new input rest line result → ReadsLine old (record new { line = held }) input rest line result
+ReadsLine-held old new held line input rest (Ok LineFeed) (bare, short, takes) = (bare, short, Takes-held old new held input rest (line ++ 10 ∷ []) takes)
+ReadsLine-held old new held line input rest (Ok Input) (bare, short, ends) = (bare, short, (Takes-held old new held input rest line ends.0, ends.1, ends.2))
+ReadsLine-held old new held line input rest (Ok Room) (bare, short, ends) = (bare, short, (ends.0, ends.1, ends.2, Takes-held old new held input rest (line ++ ends.0 ∷ []) ends.3))
+ReadsLine-held old new held line input rest (Err Read) (bare, short, stops) = (bare, short, (Takes-held old new held input rest line stops.0, stops.1))
+ReadsLine-held old new held line input rest (Err Write) (bare, short, stops) = (bare, short, (Takes-held old new held input rest line stops.0, stops.1, stops.2))
+ReadsLine-held old new held line input rest (Err (Script number word)) (bare, short, none) = (bare, short, none)
+ReadsLine-held old new held line input rest (Err (Setup fault)) (bare, short, none) = (bare, short, none)
+ReadsLine-held old new held line input rest (Err NoMemory) (bare, short, none) = (bare, short, none)
+
 -- ---- a part of a line
 
 -- bytes that were taken, of what was ahead
@@ -60,6 +93,21 @@ Passes-past old new count byte within is (ahead, taken, text) =
       counted = omega (arith, taken, length-append (take count old.ahead) (byte ∷ []), length-take-le count old.ahead (omega arith));
       same_text = text;
     }
+
+pub TakesWhole-part : (old new : BlockState) (count : ℕ) → count < length old.ahead → is_plain_line (take count old.ahead) ≡ true → get_or old.ahead count 0 ≡ 10 → new.line ≡ take count old.ahead → IsPast old new (count + 1)
+    → TakesWhole old new true
+TakesWhole-part old new count within plain byte is past = (
+  subst (λ line. is_plain_line line ≡ true) (sym is) plain,
+  subst (λ line. Passes old new (line ++ 10 ∷ [])) (sym is) (Passes-past old new count 10 within byte past),
+)
+
+-- bytes of a block's front, by where they stand in it
+pub between-front : (bytes ahead : List ℕ) (taken filled count : ℕ) → ahead ≡ drop taken (take filled bytes) → filled ≤ length bytes → count < length ahead → between taken (taken + count) bytes ≡ take count ahead
+between-front bytes ahead taken filled count is within few =
+    let long : length (drop taken (take filled bytes)) ≡ filled - taken = simp (length-drop, length-take) (omega arith) in
+    let room : count ≤ filled - taken = omega (arith, few, ap length is, long) in
+    let same : taken + count - taken ≡ count = omega arith in
+    ap (λ n. take n (drop taken bytes)) same ∙ sym (take-take count (filled - taken) (drop taken bytes) room) ∙ ap (take count) (between_is bytes taken filled ∙ sym is)
 
 pub TakesPart-part : (old new : BlockState) (before after : List ℕ) (room count : ℕ) (ending : Option Ending) → room + length before ≡ 129 → IsPart old.ahead room count ending
     → after ≡ before ++ take count old.ahead → IsPast old new (count + ended ending) → TakesPart old new before after ending

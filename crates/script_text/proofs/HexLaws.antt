@@ -1,9 +1,11 @@
 -- The hexadecimal digits of a number, from the last on.
-use Rattle.std.proofs.Common.{◌≡◌, ◌≢◌, ◌≤◌, ◌<◌, ◌==◌, ℕ, zero, suc, ◌+◌, ◌-◌, ◌/◌, ◌%◌, ◌^◌, Bool, true, false, codes, get_or, List, [], ◌∷◌, ◌++◌, length, length-append, length-drop, drop, replicate, refl, sym, ap, ◌∙◌, arith, if◌then◌else◌}
+use Rattle.std.proofs.Common.{◌≡◌, ◌≢◌, ◌≤◌, ◌<◌, ◌==◌, ◌*◌, ◌&&◌, T, eqb, eqb→eq, eq-zero-or-pos, inl, inr, ℕ, zero, suc, ◌+◌, ◌-◌, ◌/◌, ◌%◌, ◌^◌, Bool, true, false, get_or, List, [], ◌∷◌, ◌++◌, length, length-append, length-drop, drop, replicate, refl, sym, ap, ◌∙◌, arith, if◌then◌else◌}
+use lib.Ieee.Fits.{and_l, and_r}
 use Rattle.std.proofs.Math.Nat.{pow-suc}
 use Rattle.std.proofs.lemmas.Bool.Decides.{nat_tests}
 use Rattle.std.specs.Fmt.{digits, digits_onto, digit_glyph}
 use Rattle.bus_words.specs.Text.{hex}
+use Rattle.script_text.specs.declared.line_text.TheConstants.{PAIRS}
 
 -- the last `count` digits of a number, in front of a text
 abbrev pub last_digits : ℕ → ℕ → List ℕ → List ℕ
@@ -81,25 +83,36 @@ pub last_digits-step : (left rest : ℕ) (text : List ℕ) → 0 < left → last
 last_digits-step zero rest text some = absurd (omega arith)
 last_digits-step (suc left) rest text some = let one : suc left - 1 ≡ left = omega arith in rw one refl
 
--- the letters of the digits
-pub glyph_of : (d : ℕ) → d < 16 → get_or (codes "0123456789abcdef") d 0 ≡ digit_glyph false d
-glyph_of zero small = refl
-glyph_of (suc zero) small = refl
-glyph_of (suc (suc zero)) small = refl
-glyph_of (suc (suc (suc zero))) small = refl
-glyph_of (suc (suc (suc (suc zero)))) small = refl
-glyph_of (suc (suc (suc (suc (suc zero))))) small = refl
-glyph_of (suc (suc (suc (suc (suc (suc zero)))))) small = refl
-glyph_of (suc (suc (suc (suc (suc (suc (suc zero))))))) small = refl
-glyph_of (suc (suc (suc (suc (suc (suc (suc (suc zero)))))))) small = refl
-glyph_of (suc (suc (suc (suc (suc (suc (suc (suc (suc zero))))))))) small = refl
-glyph_of (suc (suc (suc (suc (suc (suc (suc (suc (suc (suc zero)))))))))) small = refl
-glyph_of (suc (suc (suc (suc (suc (suc (suc (suc (suc (suc (suc zero))))))))))) small = refl
-glyph_of (suc (suc (suc (suc (suc (suc (suc (suc (suc (suc (suc (suc zero)))))))))))) small = refl
-glyph_of (suc (suc (suc (suc (suc (suc (suc (suc (suc (suc (suc (suc (suc zero))))))))))))) small = refl
-glyph_of (suc (suc (suc (suc (suc (suc (suc (suc (suc (suc (suc (suc (suc (suc zero)))))))))))))) small = refl
-glyph_of (suc (suc (suc (suc (suc (suc (suc (suc (suc (suc (suc (suc (suc (suc (suc zero))))))))))))))) small = refl
-glyph_of (suc (suc (suc (suc (suc (suc (suc (suc (suc (suc (suc (suc (suc (suc (suc (suc d)))))))))))))))) small = absurd (omega arith)
+-- two digits more
+pub last_digits-pair : (left rest : ℕ) (text : List ℕ) → 2 ≤ left
+    → last_digits (left - 2) (rest / 256) (digit_glyph false (rest % 256 / 16) ∷ digit_glyph false (rest % 256 % 16) ∷ text) ≡ last_digits left rest text
+last_digits-pair zero rest text some = absurd (omega arith)
+last_digits-pair (suc zero) rest text some = absurd (omega arith)
+last_digits-pair (suc (suc left)) rest text some =
+    let less : suc (suc left) - 2 ≡ left = omega arith in
+    let high : rest % 256 / 16 ≡ rest / 16 % 16 = omega arith in
+    let low : rest % 256 % 16 ≡ rest % 16 = omega arith in
+    let off : rest / 256 ≡ rest / 16 / 16 = omega arith in
+    rw (less, high, low, off) refl
+
+-- the digits of a byte
+abbrev pub AreDigits : ℕ → Type 0
+AreDigits n = (get_or PAIRS.now (2 * n) 0 ≡ digit_glyph false (n / 16)) × (get_or PAIRS.now (2 * n + 1) 0 ≡ digit_glyph false (n % 16))
+
+abbrev are_pairs : ℕ → Bool
+are_pairs zero = true
+are_pairs (suc n) = (eqb (get_or PAIRS.now (2 * n) 0) (digit_glyph false (n / 16)) && eqb (get_or PAIRS.now (2 * n + 1) 0) (digit_glyph false (n % 16))) && are_pairs n
+
+digits_below : (count n : ℕ) → T (are_pairs count) → n < count → AreDigits n
+digits_below zero n all below = absurd (omega arith)
+digits_below (suc count) n all below =
+    elim (eq-zero-or-pos (count - n)) [
+      | inl last ↦ let e : n ≡ count = omega arith in let both = and_l _ (are_pairs count) all in rw e (eqb→eq _ _ (and_l _ _ both), eqb→eq _ _ (and_r _ _ both))
+      | inr before ↦ digits_below count n (and_r _ (are_pairs count) all) (omega arith)
+    ]
+
+pub digits_at : (n : ℕ) → n < 256 → AreDigits n
+digits_at n below = digits_below 256 n tt below
 
 -- what is left of 64 bytes
 pub room_in : (bytes view : List ℕ) (start : ℕ) → length bytes ≡ 64 → start ≤ 64 → drop start bytes ≡ view → start + length view ≡ 64

@@ -5,6 +5,7 @@ pub mod LineRooms
 mod NumberLaws
 pub mod PageLists
 mod Parts
+mod PlainLines
 mod Progress
 mod ScriptLines
 pub mod StageSteps

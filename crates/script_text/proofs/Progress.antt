@@ -85,7 +85,7 @@ pub record Progress {S A : Type 0} (reading : Reading S A) (is_silent : S → Bo
   pub silent : is_silent state ≡ true → text ≡ []
   pub last : block.has_text ≡ true → LastText reading start read block.taken
 
-pub Progress-start : {S A : Type 0} (reading : Reading S A) (is_silent : S → Bool) (start : S) (block : BlockState) (input old : Option (List ℕ)) → block ≡ record { ahead = []; taken = 0; has_text = false }
+pub Progress-start : {S A : Type 0} (reading : Reading S A) (is_silent : S → Bool) (start : S) (block : BlockState) (input old : Option (List ℕ)) → block ≡ record { ahead = []; taken = 0; has_text = false; line = [] }
     → Progress reading is_silent start start 1 block input input old old
 Progress-start reading is_silent start block input old none =
     record {

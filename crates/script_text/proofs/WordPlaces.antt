@@ -80,6 +80,14 @@ word_here line start end inside byte (order, within) lacks found = let some : st
     longer true same = let e : end ≡ start = grind (arith, nat_tests, same) in absurd (byte (ap (λ k. get_or line k 0) (sym e) ∙ found (omega (arith, e, inside))))
     longer false other = grind (arith, nat_tests, other, order)
 
+-- what holds of a word's first place and of those behind it
+pub from_next : (line : List ℕ) (start end : ℕ) → get_or line start 0 ≢ 32 → ((k : ℕ) → start + 1 ≤ k → k < end → get_or line k 0 ≢ 32) → (k : ℕ) → start ≤ k → k < end → get_or line k 0 ≢ 32
+from_next line start end first rest k from below = by_place (k == start) refl
+  where
+    by_place : (test : Bool) → (k == start) ≡ test → get_or line k 0 ≢ 32
+    by_place true same = let e : k ≡ start = grind (arith, nat_tests, same) in rw e first
+    by_place false other = rest k (grind (arith, nat_tests, other, from)) below
+
 -- the word that begins at a place, behind those held so far
 pub record NextWord (line : List ℕ) (count start end : ℕ) : Type 0 where
   pub is : slice_get (words_of line) count ≡ Some (between start end line)

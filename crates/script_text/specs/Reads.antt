@@ -1,6 +1,7 @@
 -- How the input is read: by blocks, and of these by lines.
 use Rattle.std.specs.Prelude.{◌≡◌, ◌≢◌, ◌<◌, ◌≤◌, ◌+◌, ℕ, Bool, true, false, List, [], ◌∷◌, ◌++◌, length, take, slice_index_or, Option, Some, None, Result, Ok, Err}
 use Rattle.std.specs.Io.KnownBytes.{Consumes, IsAtEnd, prepend_known}
+use Rattle.script_text.specs.Words.{is_plain_line}
 use Rattle.script_text.specs.declared.faults.ScriptFault.{ScriptFault}
 use Rattle.script_text.specs.declared.faults.ScriptFault.TheVariants.{Script, Setup, Read, Write, NoMemory}
 use Rattle.script_text.specs.declared.reader.Ending.{Ending}
@@ -8,11 +9,13 @@ use Rattle.script_text.specs.declared.reader.Ending.TheVariants.{LineFeed, Input
 
 -- ---- blocks
 
--- the block that was read last: what is left of it, how many bytes were taken off its front, and whether text was written since it was read
+-- the block that was read last: what is left of it, how many bytes were taken off its front, and whether text was written since it was read; and
+-- the line that was read last
 pub record BlockState : Type 0 where
   pub ahead : List ℕ
   pub taken : ℕ
   pub has_text : Bool
+  pub line : List ℕ
 
 -- what is left of an input: of its block, and by its reader
 abbrev pub left : BlockState → Option (List ℕ) → Option (List ℕ)
@@ -81,6 +84,11 @@ TakesPart old new before after (Some LineFeed) = (part : List ℕ) × (after ≡
 TakesPart old new before after (Some Room) =
     (part : List ℕ) × (byte : ℕ) × (after ≡ before ++ part) × (length after ≡ 129) × IsOneLine part × (byte ≢ 10) × Passes old new (part ++ byte ∷ [])
 TakesPart old new before after (Some Input) = ⊥
+
+-- the next line, which may stand as it is, was taken with its line feed, or nothing was
+abbrev pub TakesWhole : BlockState → BlockState → Bool → Type 0
+TakesWhole old new true = (is_plain_line new.line ≡ true) × Passes old new (new.line ++ 10 ∷ [])
+TakesWhole old new false = new ≡ old
 
 -- what was taken where a line ended so
 abbrev pub Ends : BlockState → BlockState → Option (List ℕ) → Option (List ℕ) → List ℕ → Ending → Type 0

@@ -149,6 +149,7 @@ fn b_text(beat: &BBeat) -> LineText
 }
 
 /// Writes the line of a write's response.
+#[inline(never)]
 pub(crate) fn b_line<W: Write>(beat: &BBeat, writer: &mut W) -> Result<(), WriteFault>
     ensures all { OnOk result (Appends (W.contents writer.old) (W.contents writer.new) (b_text beat.now)) }
     ensures front { OnErr result (StopsShort (b_text beat.now) (W.contents writer.old) (W.contents writer.new)) }
@@ -169,6 +170,7 @@ fn r_text(beat: &RBeat) -> LineText
 }
 
 /// Writes the line of a read's data.
+#[inline(never)]
 pub(crate) fn r_line<W: Write>(beat: &RBeat, writer: &mut W) -> Result<(), WriteFault>
     ensures all { OnOk result (Appends (W.contents writer.old) (W.contents writer.new) (r_text beat.now)) }
     ensures front { OnErr result (StopsShort (r_text beat.now) (W.contents writer.old) (W.contents writer.new)) }

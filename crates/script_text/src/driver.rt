@@ -1,14 +1,14 @@
 //! How a script is read and carried out, line by line, whatever its lines do.
 ghost use Rattle.std.specs.Prelude.{◌≡◌, ◌≤◌, ◌<◌, true, false, MatchOption};
-ghost use Rattle.std.specs.List.{list_all};
 ghost use Rattle.std.specs.Str.Lines.{strip_carriage_return};
 ghost use Rattle.script_text.specs.Reads.{IsOneLine};
-ghost use Rattle.script_text.specs.Words.{is_plain_byte, is_plain_line};
+ghost use Rattle.script_text.specs.Words.{is_plain_line};
 ghost use Rattle.script_text.specs.Scripts.{line_step, text_from, text_of, text_before_failure, EndsAs};
 ghost use Rattle.script_text.specs.Steps.{TakesStep, TakesRest};
 
 use crate::faults::ScriptFault;
-use crate::reader::{Block, Ending, Line};
+use crate::plain::may_stand;
+use crate::reader::{Block, Ending};
 use crate::words::{Words, is_comment};
 use std::alloc::Global;
 use std::io::{Read, Write};
@@ -58,28 +58,33 @@ pub trait Script {
         ensures { TakesRest (reading.ending (state self) number) (is_silent (state self)) (W.contents writer.old) (W.contents writer.new) result };
 }
 
-fn are_plain(bytes: &[u8]) -> bool
-    ensures { result ≡ list_all is_plain_byte bytes.now }
-{
-    let mut plain = true;
-    for byte in bytes {
-        plain = plain & (0x20 <= *byte) & (*byte <= 0x7e);
-    }
-    plain
-}
-
-/// Whether a line may stand: it has at most 128 bytes, each from 0x20 to 0x7e.
-fn may_stand(line: &[u8]) -> bool
-    ensures { result ≡ is_plain_line line.now }
-{
-    line.len() <= 128 && are_plain(line)
-}
-
 /// A line without the carriage return at its end, if it has one.
 fn without_return(line: &[u8]) -> &[u8]
     ensures { result.now ≡ strip_carriage_return line.now }
 {
     line.strip_suffix(b"\r").unwrap_or(line)
+}
+
+/// Carries out a line that may stand. The answer is whether it wrote something.
+fn take_plain<S: Script, W: Write>(
+    script: &mut S,
+    alloc: Global,
+    number: u32,
+    text: &[u8],
+    writer: &mut W,
+) -> Result<bool, ScriptFault>
+    requires number { number ≤ S.reading.most_lines }
+    requires plain { is_plain_line text.now ≡ true }
+    ensures { TakesStep S.reading (line_step S.reading (S.state script.old) number text.now) S.is_silent (S.state script.old) (S.state script.new) (W.contents writer.old) (W.contents writer.new) result }
+{
+    if is_comment(text) {
+        return Ok(false);
+    }
+    let words = &Words::of(text);
+    if words.are_skipped() {
+        return Ok(false);
+    }
+    script.take_words(alloc, number, words, writer)
 }
 
 /// Carries out one line, which has no line feed but may end with a carriage return. The answer is whether it wrote
@@ -101,14 +106,24 @@ fn take_line<S: Script, W: Write>(
             word: 0,
         });
     }
-    if is_comment(text) {
-        return Ok(false);
+    take_plain(script, alloc, number, text, writer)
+}
+
+/// Carries out the line of a block that was read last.
+fn take_read<S: Script, W: Write>(
+    script: &mut S,
+    alloc: Global,
+    number: u32,
+    block: &Block,
+    writer: &mut W,
+) -> Result<bool, ScriptFault>
+    requires { number ≤ S.reading.most_lines }
+    ensures { TakesStep S.reading (line_step S.reading (S.state script.old) number (strip_carriage_return block.now.line)) S.is_silent (S.state script.old) (S.state script.new) (W.contents writer.old) (W.contents writer.new) result }
+{
+    if block.has_plain_line() {
+        return take_plain(script, alloc, number, block.line(), writer);
     }
-    let words = Words::of(text);
-    if words.are_skipped() {
-        return Ok(false);
-    }
-    script.take_words(alloc, number, &words, writer)
+    take_line(script, alloc, number, block.line(), writer)
 }
 
 /// Carries out the line that the input's end ended, if there is one, and ends the script.
@@ -149,12 +164,11 @@ pub fn read_script<S: Script + Drop, R: Read, W: Write>(
         return Err(ScriptFault::NoMemory);
     };
     let mut script = script;
-    let mut line = Line::new();
     let late = S::most_lines() + 1;
     for number in 1..late {
-        match block.read_line(reader, writer, &mut line)? {
+        match block.read_line(reader, writer)? {
             Ending::LineFeed => {}
-            Ending::Input => return take_rest(script, alloc, number, line.as_slice(), writer),
+            Ending::Input => return take_rest(script, alloc, number, block.line(), writer),
             Ending::Room => {
                 return Err(ScriptFault::Script {
                     line: number,
@@ -162,7 +176,7 @@ pub fn read_script<S: Script + Drop, R: Read, W: Write>(
                 });
             }
         }
-        if take_line(&mut script, alloc, number, line.as_slice(), writer)? {
+        if take_read(&mut script, alloc, number, &block, writer)? {
             block.note_text();
         }
     }

@@ -8,6 +8,7 @@ mod keywords;
 mod line_text;
 mod numbers;
 mod offer_parser;
+mod plain;
 mod reader;
 mod setup_lines;
 mod setup_parser;

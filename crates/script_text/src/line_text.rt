@@ -1,21 +1,23 @@
 //! The text of a line, put together from its end.
-ghost use Rattle.std.specs.Prelude.{◌≡◌, ◌≤◌, ◌<◌, ◌+◌, ◌^◌, ◌∷◌, ◌++◌, [], false, length, decimal};
+ghost use Rattle.std.specs.Prelude.{◌≡◌, ◌≤◌, ◌<◌, ◌+◌, ◌/◌, ◌%◌, ◌^◌, ◌∷◌, ◌++◌, [], false, length, decimal};
 ghost use Rattle.std.specs.Fmt.{digit_glyph};
 ghost use Rattle.bus_words.specs.Text.{flag, hex};
 
 use itoa::write_digits;
 use std::marker::Model;
 
-/// The letters of the hexadecimal digits.
-const GLYPHS: &[u8; 16] = b"0123456789abcdef";
+/// The two hexadecimal digits of each byte.
+const PAIRS: &[u8; 512] =
+    b"000102030405060708090a0b0c0d0e0f101112131415161718191a1b1c1d1e1f202122232425262728292a2b2c2d2e2f303132333435363738393a3b3c3d3e3f404142434445464748494a4b4c4d4e4f505152535455565758595a5b5c5d5e5f606162636465666768696a6b6c6d6e6f707172737475767778797a7b7c7d7e7f808182838485868788898a8b8c8d8e8f909192939495969798999a9b9c9d9e9fa0a1a2a3a4a5a6a7a8a9aaabacadaeafb0b1b2b3b4b5b6b7b8b9babbbcbdbebfc0c1c2c3c4c5c6c7c8c9cacbcccdcecfd0d1d2d3d4d5d6d7d8d9dadbdcdddedfe0e1e2e3e4e5e6e7e8e9eaebecedeeeff0f1f2f3f4f5f6f7f8f9fafbfcfdfeff";
 
-/// The letter of a hexadecimal digit.
+/// The two hexadecimal digits of a byte.
 #[inline(always)]
-fn glyph(digit: usize) -> u8
-    requires { digit < 16 }
-    ensures { result ≡ digit_glyph false digit }
+fn digits_of(byte: usize) -> (u8, u8)
+    requires { byte < 256 }
+    ensures first { result.0 ≡ digit_glyph false (byte / 16) }
+    ensures second { result.1 ≡ digit_glyph false (byte % 16) }
 {
-    GLYPHS[digit]
+    (PAIRS[2 * byte], PAIRS[2 * byte + 1])
 }
 
 /// The last words of a line of at most 64 bytes, with a space between each two, and its line feed.
@@ -122,26 +124,39 @@ impl LineText {
         self.put(if is_set { b'1' } else { b'0' });
     }
 
-    /// Puts a number in so many hexadecimal digits in front.
+    /// Puts two bytes in front.
+    #[inline(always)]
+    fn put_two(&mut self, first: u8, second: u8)
+        requires { length self.old < 63 }
+        ensures { self.new ≡ first ∷ second ∷ self.old }
+    {
+        self.put(second);
+        self.put(first);
+    }
+
+    /// Puts a number in so many hexadecimal digits, an even count of them, in front.
     #[inline(always)]
     pub(crate) fn put_digits(&mut self, digits: usize, number: u64)
         requires some { 0 < digits }
+        requires even { digits % 2 ≡ 0 }
         requires fits { number < 16 ^ digits }
         requires room { digits + length self.old ≤ 64 }
         ensures text { self.new ≡ hex digits number ++ self.old }
         ensures short { length self.new ≡ length self.old + digits }
     {
         let mut rest = number;
-        for _ in 0..digits {
-            self.put(glyph((rest % 16) as usize));
-            rest /= 16;
+        for _ in 0..digits / 2 {
+            let (first, second) = digits_of((rest % 256) as usize);
+            self.put_two(first, second);
+            rest /= 256;
         }
     }
 
-    /// Puts a number in so many hexadecimal digits, and a space, in front.
+    /// Puts a number in so many hexadecimal digits, an even count of them, and a space, in front.
     #[inline(always)]
     pub(crate) fn put_hex(&mut self, digits: usize, number: u64)
         requires some { 0 < digits }
+        requires even { digits % 2 ≡ 0 }
         requires fits { number < 16 ^ digits }
         requires room { digits + length self.old < 64 }
         ensures text { self.new ≡ hex digits number ++ 32 ∷ self.old }

@@ -1,10 +1,12 @@
 //! The input as it is read: by blocks, and of these by lines. A read that fails, an interrupted one too, is a fault.
-ghost use Rattle.std.specs.Prelude.{◌≡◌, ◌≢◌, ◌≤◌, [], true, false, IfOk};
+ghost use Rattle.std.specs.Prelude.{◌≡◌, ◌≢◌, ◌≤◌, ◌<◌, [], true, false, length, take, slice_index_or, IfOk, IfSome};
 ghost use Rattle.std.specs.Io.KnownBytes.{Keeps};
 ghost use Rattle.arrayvec.specs.ArrayVec.{array_vec_len};
-ghost use Rattle.script_text.specs.Reads.{Fills, IsPart, IsSmall, ReadsLine, Refills, TakesByte, TakesPart};
+ghost use Rattle.script_text.specs.Reads.{Fills, IsPart, IsSmall, ReadsLine, Refills, TakesByte, TakesPart, TakesWhole};
+ghost use Rattle.script_text.specs.Words.{is_plain_line};
 
 use crate::faults::ScriptFault;
+use crate::plain::is_plain;
 use arrayvec::ArrayVec;
 use std::alloc::{AllocError, Global};
 use std::io::{Read, Write};
@@ -14,7 +16,7 @@ use std::marker::Model;
 const BLOCK_BYTES: usize = 65_536;
 
 /// A line's bytes without its line feed: at most 128 and a carriage return.
-pub type Line = ArrayVec<u8, 129>;
+type Line = ArrayVec<u8, 129>;
 
 /// The most bytes of a line without its line feed.
 const LINE_BYTES: usize = 129;
@@ -51,30 +53,55 @@ fn part_of(ahead: &[u8], room: usize) -> (usize, Option<Ending>)
     (most, None)
 }
 
-/// The block of the input that was read last, at most 65,536 bytes.
+/// How many bytes the line has that bytes ahead begin with, where its line feed is among them and it may stand as it is.
+fn plain_line_in(ahead: &[u8]) -> Option<usize>
+    ensures { IfSome result (λ count. (count < length ahead.now) × (is_plain_line (take count ahead.now) ≡ true) × (slice_index_or ahead.now count 0 ≡ 10)) }
+{
+    let most = if ahead.len() > LINE_BYTES {
+        LINE_BYTES
+    } else {
+        ahead.len()
+    };
+    for count in 0..most {
+        let byte = ahead[count];
+        if !is_plain(byte) {
+            return if byte == b'\n' { Some(count) } else { None };
+        }
+    }
+    None
+}
+
+/// The block of the input that was read last, at most 65,536 bytes, and the line that was read last, which stands in the block
+/// or, where it doesn't lie whole in one, apart.
 #[derive(Drop)]
 pub struct Block {
     bytes: Vec<u8>,
     filled: usize,
     taken: usize,
     has_text: bool,
+    start: usize,
+    end: usize,
+    is_apart: bool,
+    apart: Line,
 }
 
 impl Model for Block {
-    ghost use Rattle.std.specs.Prelude.{◌≡◌, ◌≤◌, drop, take, length};
+    ghost use Rattle.std.specs.Prelude.{◌≡◌, ◌≤◌, true, false, drop, take, length, slice_range, if◌then◌else◌};
     ghost use Rattle.script_text.specs.Reads.{BlockState};
+    ghost use Rattle.script_text.specs.Words.{is_plain_line};
 
     ghost Value = { BlockState };
 
-    ghost view = { λ b. record { ahead = drop b.taken (take b.filled b.bytes.items); taken = b.taken; has_text = b.has_text } };
+    ghost view = { λ b. record { ahead = drop b.taken (take b.filled b.bytes.items); taken = b.taken; has_text = b.has_text; line = if b.is_apart then b.apart.items else slice_range b.bytes.items b.start b.end } };
 
-    ghost invariant = { λ b. (b.taken ≤ b.filled) × (b.filled ≤ 65536) × (length b.bytes.items ≡ 65536) };
+    ghost invariant = { λ b. (b.taken ≤ b.filled) × (b.filled ≤ 65536) × (length b.bytes.items ≡ 65536) × (b.start ≤ b.end) × (b.end ≤ 65536)
+        × (b.is_apart ≡ false → is_plain_line (slice_range b.bytes.items b.start b.end) ≡ true) };
 }
 
 impl Block {
-    /// No block yet. The one error is that memory was refused.
+    /// No block and no line yet. The one error is that memory was refused.
     pub fn new(alloc: Global) -> Result<Block, AllocError>
-        ensures { IfOk result (λ block. block ≡ record { ahead = []; taken = 0; has_text = false }) }
+        ensures { IfOk result (λ block. block ≡ record { ahead = []; taken = 0; has_text = false; line = [] }) }
     {
         let mut bytes = Vec::new(alloc);
         bytes.resize(BLOCK_BYTES, 0)?;
@@ -83,6 +110,10 @@ impl Block {
             filled: 0,
             taken: 0,
             has_text: false,
+            start: 0,
+            end: 0,
+            is_apart: true,
+            apart: Line::new(),
         })
     }
 
@@ -91,6 +122,23 @@ impl Block {
         ensures { self.new ≡ record self.old { has_text = true } }
     {
         self.has_text = true;
+    }
+
+    /// Whether the line that was read last is known to be one that may stand.
+    pub fn has_plain_line(&self) -> bool
+        ensures { result ≡ true → is_plain_line self.now.line ≡ true }
+    {
+        !self.is_apart
+    }
+
+    /// The line that was read last.
+    pub fn line(&self) -> &[u8]
+        ensures { result.now ≡ self.now.line }
+    {
+        if self.is_apart {
+            return self.apart.as_slice();
+        }
+        &self.bytes[self.start..self.end]
     }
 
     /// Reads the next block. Text that was written since the last one is flushed before the reader is asked.
@@ -109,6 +157,7 @@ impl Block {
         }
         self.taken = 0;
         self.filled = 0;
+        self.is_apart = true;
         match reader.read(self.bytes.as_mut_slice()) {
             Ok(count) => {
                 self.filled = count;
@@ -155,6 +204,22 @@ impl Block {
         Ok(Some(byte))
     }
 
+    /// Takes the next line where all of it lies in what is left of the block, with its line feed, and it may stand as it is. The
+    /// answer is whether it does.
+    fn take_whole(&mut self) -> bool
+        ensures whole { TakesWhole self.old self.new result }
+        ensures small { IsSmall self.new }
+    {
+        let Some(count) = plain_line_in(&self.bytes[self.taken..self.filled]) else {
+            return false;
+        };
+        self.start = self.taken;
+        self.end = self.taken + count;
+        self.is_apart = false;
+        self.taken += count + 1;
+        true
+    }
+
     /// Takes of what is left of the block what a line has room for, up to a line feed and it too. The answer is what ended
     /// the line, if anything did.
     fn take_part(&mut self, line: &mut Line) -> Option<Ending>
@@ -168,18 +233,18 @@ impl Block {
         ending
     }
 
-    /// Takes the bytes up to the next line feed, and it too.
-    pub fn read_line<R: Read, W: Write>(
+    /// Takes the bytes up to the next line feed, and it too, block by block.
+    fn take_parts<R: Read, W: Write>(
         &mut self,
         reader: &mut R,
         writer: &mut W,
         line: &mut Line,
     ) -> Result<Ending, ScriptFault>
+        requires { line.old.items ≡ [] }
         ensures input { ReadsLine self.old self.new (R.remaining reader.old) (R.remaining reader.new) line.new.items result }
         ensures small { IsSmall self.new }
         ensures output { Keeps (W.contents writer.old) (W.contents writer.new) }
     {
-        line.clear();
         for _ in 0..=LINE_BYTES {
             if !self.refill(reader, writer)? {
                 return Ok(Ending::Input);
@@ -189,5 +254,46 @@ impl Block {
             }
         }
         Ok(Ending::Room)
+    }
+
+    /// Holds a line apart from the block.
+    fn hold(&mut self, line: Line)
+        ensures { self.new ≡ record self.old { line = line.items } }
+    {
+        self.apart = line;
+        self.is_apart = true;
+    }
+
+    /// Reads a line that doesn't lie whole in the block. It is apart, since few lines do so.
+    #[inline(never)]
+    fn read_apart<R: Read, W: Write>(
+        &mut self,
+        reader: &mut R,
+        writer: &mut W,
+    ) -> Result<Ending, ScriptFault>
+        ensures input { ReadsLine self.old self.new (R.remaining reader.old) (R.remaining reader.new) self.new.line result }
+        ensures small { IsSmall self.new }
+        ensures output { Keeps (W.contents writer.old) (W.contents writer.new) }
+    {
+        let mut line = Line::new();
+        let ending = self.take_parts(reader, writer, &mut line);
+        self.hold(line);
+        ending
+    }
+
+    /// Takes the bytes up to the next line feed, and it too. They are the line that was read last.
+    pub fn read_line<R: Read, W: Write>(
+        &mut self,
+        reader: &mut R,
+        writer: &mut W,
+    ) -> Result<Ending, ScriptFault>
+        ensures input { ReadsLine self.old self.new (R.remaining reader.old) (R.remaining reader.new) self.new.line result }
+        ensures small { IsSmall self.new }
+        ensures output { Keeps (W.contents writer.old) (W.contents writer.new) }
+    {
+        if self.take_whole() {
+            return Ok(Ending::LineFeed);
+        }
+        self.read_apart(reader, writer)
     }
 }

@@ -30,6 +30,7 @@ fn refused_text(rule: TlRule) -> LineText
 }
 
 /// Writes the line of a refused beat.
+#[inline(never)]
 pub fn refused_line<W: Write>(rule: TlRule, writer: &mut W) -> Result<(), WriteFault>
     ensures all { OnOk result (Appends (W.contents writer.old) (W.contents writer.new) (refused_text rule)) }
     ensures front { OnErr result (StopsShort (refused_text rule) (W.contents writer.old) (W.contents writer.new)) }
@@ -38,6 +39,7 @@ pub fn refused_line<W: Write>(rule: TlRule, writer: &mut W) -> Result<(), WriteF
 }
 
 /// `= WORD NUMBER`.
+#[inline(always)]
 fn number_text(word: &[u8], number: u64) -> LineText
     requires { length word.now ≤ 8 }
     ensures { result ≡ answer_line (word.now ∷ decimal number ∷ []) }
@@ -49,12 +51,23 @@ fn number_text(word: &[u8], number: u64) -> LineText
     text
 }
 
+/// Writes a line of a word and a number. It is apart, as other lines with fields are, since a function clears the room for
+/// its values at its entry.
+#[inline(never)]
+fn number_line<W: Write>(word: &[u8], number: u64, writer: &mut W) -> Result<(), WriteFault>
+    requires { length word.now ≤ 8 }
+    ensures all { OnOk result (Appends (W.contents writer.old) (W.contents writer.new) (answer_line (word.now ∷ decimal number ∷ []))) }
+    ensures front { OnErr result (StopsShort (answer_line (word.now ∷ decimal number ∷ [])) (W.contents writer.old) (W.contents writer.new)) }
+{
+    write_text(number_text(word, number).as_slice(), writer)
+}
+
 /// Writes the line of a reply, by its request's number.
 pub fn reply_line<W: Write>(number: u64, writer: &mut W) -> Result<(), WriteFault>
     ensures all { OnOk result (Appends (W.contents writer.old) (W.contents writer.new) (reply_line_text number)) }
     ensures front { OnErr result (StopsShort (reply_line_text number) (W.contents writer.old) (W.contents writer.new)) }
 {
-    write_text(number_text(b"reply", number).as_slice(), writer)
+    number_line(b"reply", number, writer)
 }
 
 /// Writes the line of a run that went well.
@@ -90,14 +103,12 @@ pub fn answer_line<W: Write>(answer: &Answer, writer: &mut W) -> Result<(), Writ
 {
     match *answer {
         Answer::More => write_text(b"= more\n", writer),
-        Answer::Accepted(number) => {
-            write_text(number_text(b"accepted", number).as_slice(), writer)
-        }
+        Answer::Accepted(number) => number_line(b"accepted", number, writer),
         Answer::NotReady => write_text(b"= notready\n", writer),
         Answer::Exhausted => write_text(b"= exhausted\n", writer),
         Answer::Refused(rule) => refused_line(rule, writer),
         Answer::NoClient => write_text(b"= noclient\n", writer),
-        Answer::Sent(serial) => write_text(number_text(b"sent", serial).as_slice(), writer),
+        Answer::Sent(serial) => number_line(b"sent", serial, writer),
         Answer::Idle => write_text(b"= idle\n", writer),
         Answer::Done => write_text(b"= done\n", writer),
         Answer::NoSuch => write_text(b"= nosuch\n", writer),
@@ -173,7 +184,7 @@ pub fn drained_line<W: Write>(steps: u64, writer: &mut W) -> Result<(), WriteFau
     ensures all { OnOk result (Appends (W.contents writer.old) (W.contents writer.new) (drained_text steps)) }
     ensures front { OnErr result (StopsShort (drained_text steps) (W.contents writer.old) (W.contents writer.new)) }
 {
-    write_text(number_text(b"drained", steps).as_slice(), writer)
+    number_line(b"drained", steps, writer)
 }
 
 /// Writes the line of the work left.
@@ -181,5 +192,5 @@ pub fn work_line<W: Write>(work: u64, writer: &mut W) -> Result<(), WriteFault>
     ensures all { OnOk result (Appends (W.contents writer.old) (W.contents writer.new) (work_text work)) }
     ensures front { OnErr result (StopsShort (work_text work) (W.contents writer.old) (W.contents writer.new)) }
 {
-    write_text(number_text(b"work", work).as_slice(), writer)
+    number_line(b"work", work, writer)
 }

@@ -62,6 +62,33 @@ fn space_from(line: &[u8], at: usize) -> usize
     line.len()
 }
 
+/// Where the word ends that begins at a place.
+#[inline(always)]
+fn word_end(line: &[u8], start: usize) -> usize
+    requires within { start < length line.now }
+    requires found { slice_index line.now start ≢ 32 }
+    ensures within { (start ≤ result) × (result ≤ length line.now) }
+    ensures before { (k : ℕ) → start ≤ k → k < result → slice_index line.now k ≢ 32 }
+    ensures found { result < length line.now → slice_index line.now result ≡ 32 }
+{
+    space_from(line, start + 1)
+}
+
+/// Where the next word begins behind one that ends at a place, or the line's end where there is none.
+#[inline(always)]
+fn word_after(line: &[u8], end: usize) -> usize
+    requires within { end ≤ length line.now }
+    requires found { end < length line.now → slice_index line.now end ≡ 32 }
+    ensures within { (end ≤ result) × (result ≤ length line.now) }
+    ensures same { words_of (drop end line.now) ≡ words_of (drop result line.now) }
+    ensures found { result < length line.now → slice_index line.now result ≢ 32 }
+{
+    if end == line.len() {
+        return end;
+    }
+    word_from(line, end + 1)
+}
+
 /// How many words there are from a place on, at which one begins if any does.
 fn words_from(line: &[u8], at: usize) -> usize
     requires short { length line.now ≤ 128 }
@@ -116,10 +143,10 @@ impl<'a> Words<'a> {
                     count,
                 };
             }
-            let end = space_from(line, start);
+            let end = word_end(line, start);
             starts[count] = start as u8;
             ends[count] = end as u8;
-            start = word_from(line, end);
+            start = word_after(line, end);
         }
         Words {
             line,

@@ -1,10 +1,7 @@
-use Rattle.std.proofs.Common.{◌≡◌, ◌+◌, [], Err, inl, refl, subst, arith, rules, ◌∙◌}
-use Rattle.std.specs.Str.Lines.{strip_carriage_return}
+use Rattle.std.proofs.Common.{◌≡◌, ◌+◌, [], Err, inl, refl, arith, rules, ◌∙◌}
 use Rattle.std.proofs.KnownBytes.{Consumes-nil, Keeps-refl}
 use Rattle.script_text.proofs.Endings.{Ends-fault, Ends-full, Ends-late, Ends-long, Ends-rest, Ends-stopped, Ends-unread}
 use Rattle.script_text.proofs.Progress.{Progress-start, Progress-quiet, Progress-wrote}
-use Rattle.script_text.specs.Scripts.{line_step}
-use Rattle.script_text.specs.Steps.{TakesStep}
 use Rattle.script_text.proofs.driver.read_script.Goals.{then-branch, else-branch}
 use Rattle.script_text.proofs.driver.read_script.Goals as goal
 
@@ -28,44 +25,41 @@ pub returns-in_err-read_line : goal.returns-in_err-read_line
 returns-in_err-read_line g c =
     let same : c.from_residual.result ≡ Err c.in_err-read_line.field-0.0 = search rules in
     rw same
-    (Ends-stopped g.S.Script.reading g.S.Script.is_silent (g.S.Script.state c.args.script) (g.S.Script.state c.loop-number.script) c.loop-number.number _ _ _ _ _ _ _ _ c.read_line.new.line.items c.in_err-read_line.field-0.0 c.loop-number.invariant
+    (Ends-stopped g.S.Script.reading g.S.Script.is_silent (g.S.Script.state c.args.script) (g.S.Script.state c.loop-number.script) c.loop-number.number _ _ _ _ _ _ _ _ c.read_line.new.self.line c.in_err-read_line.field-0.0 c.loop-number.invariant
     (omega (arith, c.loop-number-test.true)) c.in_err-read_line.ensures.input c.read_line.ensures.small c.read_line.ensures.output)
 
 pub returns-in-Input : goal.returns-in-Input
 returns-in-Input g c =
     let part = rw c.in-Input.is at c.in_ok-read_line.ensures.input in
-    Ends-rest g.S.Script.reading g.S.Script.is_silent (g.S.Script.state c.args.script) (g.S.Script.state c.loop-number.script) c.loop-number.number _ _ _ _ _ _ _ _ _ c.read_line.new.line.items c.take_rest.result c.loop-number.invariant
-    (omega (arith, c.loop-number-test.true, part.1)) part.0 part.2.0 part.2.1 part.2.2 c.read_line.ensures.output (rw c.as_slice.ensures.value at c.take_rest.ensures)
+    Ends-rest g.S.Script.reading g.S.Script.is_silent (g.S.Script.state c.args.script) (g.S.Script.state c.loop-number.script) c.loop-number.number _ _ _ _ _ _ _ _ _ c.read_line.new.self.line c.take_rest.result c.loop-number.invariant
+    (omega (arith, c.loop-number-test.true, part.1)) part.0 part.2.0 part.2.1 part.2.2 c.read_line.ensures.output (rw c.line.ensures at c.take_rest.ensures)
 
 pub returns-in-Room : goal.returns-in-Room
 returns-in-Room g c =
     let part = rw c.in-Room.is at c.in_ok-read_line.ensures.input in
-    Ends-long g.S.Script.reading g.S.Script.is_silent (g.S.Script.state c.args.script) (g.S.Script.state c.loop-number.script) c.loop-number.number _ _ _ _ _ _ _ _ c.read_line.new.line.items part.2.0 c.loop-number.invariant
+    Ends-long g.S.Script.reading g.S.Script.is_silent (g.S.Script.state c.args.script) (g.S.Script.state c.loop-number.script) c.loop-number.number _ _ _ _ _ _ _ _ c.read_line.new.self.line part.2.0 c.loop-number.invariant
     (omega (arith, c.loop-number-test.true)) part.0 part.2.1 part.2.2 part.2.3 c.read_line.ensures.small c.read_line.ensures.output
 
-pub returns-in_err-take_line : goal.returns-in_err-take_line
-returns-in_err-take_line g c =
+pub returns-in_err-take_read : goal.returns-in_err-take_read
+returns-in_err-take_read g c =
     let part = rw c.in-LineFeed.is at c.in_ok-read_line.ensures.input in
-    let same : c.from_residual-in_err-take_line.result ≡ Err c.in_err-take_line.field-0.0 = search rules in
+    let same : c.from_residual-in_err-take_read.result ≡ Err c.in_err-take_read.field-0.0 = search rules in
     rw same
-    (Ends-fault g.S.Script.reading g.S.Script.is_silent (g.S.Script.state c.args.script) (g.S.Script.state c.loop-number.script) (g.S.Script.state c.take_line.new.script) c.loop-number.number _ _ _ _ _ _ _ _ _ c.read_line.new.line.items c.in_err-take_line.field-0.0 c.loop-number.invariant
+    (Ends-fault g.S.Script.reading g.S.Script.is_silent (g.S.Script.state c.args.script) (g.S.Script.state c.loop-number.script) (g.S.Script.state c.take_read.new.script) c.loop-number.number _ _ _ _ _ _ _ _ _ c.read_line.new.self.line c.in_err-take_read.field-0.0 c.loop-number.invariant
     (omega (arith, c.loop-number-test.true)) part.0 part.1 part.2 c.read_line.ensures.small c.read_line.ensures.output
-    (subst
-    (λ line. TakesStep g.S.Script.reading (line_step g.S.Script.reading (g.S.Script.state c.loop-number.script) c.loop-number.number (strip_carriage_return line)) g.S.Script.is_silent (g.S.Script.state c.loop-number.script) (g.S.Script.state c.take_line.new.script) (g.W.Write.contents c.read_line.new.writer) (g.W.Write.contents c.take_line.new.writer) (Err c.in_err-take_line.field-0.0))
-    c.as_slice-in-loop-number.ensures.value c.in_err-take_line.ensures))
+    c.in_err-take_read.ensures)
 
 pub loop-number-preserved : goal.loop-number-preserved
 loop-number-preserved g c =
     let part = rw c.in-LineFeed.is at c.in_ok-read_line.ensures.input in
-    let went = rw c.as_slice-in-loop-number.ensures.value at c.in_ok-take_line.ensures in
     elim c.if-branch.branch [
       | then-branch w ↦
-          Progress-wrote g.S.Script.reading g.S.Script.is_silent (g.S.Script.state c.args.script) (g.S.Script.state c.loop-number.script) (g.S.Script.state c.take_line.new.script) c.loop-number.number _ c.read_line.new.self c.if-branch.block _ _ _ _ _ _ _ c.read_line.new.line.items c.loop-number.invariant
-          part.0 part.1 part.2 c.read_line.ensures.output (rw w.if-branch.true at went) (w.block-is ∙ w.note_text.ensures)
+          Progress-wrote g.S.Script.reading g.S.Script.is_silent (g.S.Script.state c.args.script) (g.S.Script.state c.loop-number.script) (g.S.Script.state c.take_read.new.script) c.loop-number.number _ c.read_line.new.self c.if-branch.block _ _ _ _ _ _ _ c.read_line.new.self.line c.loop-number.invariant
+          part.0 part.1 part.2 c.read_line.ensures.output (rw w.if-branch.true at c.in_ok-take_read.ensures) (w.block-is ∙ w.note_text.ensures)
       | else-branch w ↦
           rw w.block-is
-          (Progress-quiet g.S.Script.reading g.S.Script.is_silent (g.S.Script.state c.args.script) (g.S.Script.state c.loop-number.script) (g.S.Script.state c.take_line.new.script) c.loop-number.number _ c.read_line.new.self _ _ _ _ _ _ _ c.read_line.new.line.items c.loop-number.invariant
-          part.0 part.1 part.2 c.read_line.ensures.output (rw w.if-branch.false at went))
+          (Progress-quiet g.S.Script.reading g.S.Script.is_silent (g.S.Script.state c.args.script) (g.S.Script.state c.loop-number.script) (g.S.Script.state c.take_read.new.script) c.loop-number.number _ c.read_line.new.self _ _ _ _ _ _ _ c.read_line.new.self.line c.loop-number.invariant
+          part.0 part.1 part.2 c.read_line.ensures.output (rw w.if-branch.false at c.in_ok-take_read.ensures))
     ]
 
 pub returns-in_err-next_byte : goal.returns-in_err-next_byte

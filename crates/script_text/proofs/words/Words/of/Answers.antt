@@ -7,17 +7,17 @@ pub loop-count-preserved : goal.loop-count-preserved
 loop-count-preserved c =
     let l = c.loop-count in
     let word =
-    next_word c.args.line.now l.count l.start c.space_from-end.result l.invariant.rest c.if-start-line.false (l.invariant.found c.if-start-line.false) c.space_from-end.ensures.within c.space_from-end.ensures.before
-    c.space_from-end.ensures.found in
+    next_word c.args.line.now l.count l.start c.word_end-end.result l.invariant.rest c.if-start-line.false (l.invariant.found c.if-start-line.false) c.word_end-end.ensures.within c.word_end-end.ensures.before
+    c.word_end-end.ensures.found in
     record {
       room_s = omega (arith, length-set l.starts l.count l.start, l.invariant.room_s);
-      room_e = omega (arith, length-set l.ends l.count c.space_from-end.result, l.invariant.room_e);
-      within = c.word_from-start-in-loop-count.ensures.within.1;
-      found = c.word_from-start-in-loop-count.ensures.found;
+      room_e = omega (arith, length-set l.ends l.count c.word_end-end.result, l.invariant.room_e);
+      within = c.word_after-start.ensures.within.1;
+      found = c.word_after-start.ensures.found;
       places =
-          places-more c.args.line.now l.starts l.ends l.count l.start c.space_from-end.result (omega (arith, c.loop-count-test.true, l.invariant.room_s)) (omega (arith, c.loop-count-test.true, l.invariant.room_e)) l.invariant.places
-          c.space_from-end.ensures.within.0 c.space_from-end.ensures.within.1 word.is;
-      rest = word.rest ∙ c.word_from-start-in-loop-count.ensures.same;
+          places-more c.args.line.now l.starts l.ends l.count l.start c.word_end-end.result (omega (arith, c.loop-count-test.true, l.invariant.room_s)) (omega (arith, c.loop-count-test.true, l.invariant.room_e)) l.invariant.places
+          c.word_end-end.ensures.within.0 c.word_end-end.ensures.within.1 word.is;
+      rest = word.rest ∙ c.word_after-start.ensures.same;
       counted = omega (arith, word.counted);
     }
 

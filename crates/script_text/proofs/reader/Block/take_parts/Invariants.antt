@@ -1,7 +1,7 @@
 use Rattle.std.proofs.Common.{◌≢◌, ◌≤◌, length}
 use Rattle.std.specs.Io.KnownBytes.{Keeps}
 use Rattle.script_text.specs.Reads.{IsOneLine, IsSmall, Takes}
-use Rattle.script_text.proofs.reader.Block.read_line.Given as goal
+use Rattle.script_text.proofs.reader.Block.take_parts.Given as goal
 
 abbrev pub invariant-loop : goal.invariant-loop
 invariant-loop g l =
