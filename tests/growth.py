@@ -4,7 +4,7 @@ any case; then the program asks no more, however long a script of `run` or `chec
 Where one growth alone is refused a vector may ask once more, for just what it needs: then nothing is wanting, and the run
 asked once more than it does with memory enough. Then each thread of `threads` is refused in turn, and all from each on.
 
-The calls of the libraries that take memory have tests of their own, in `crates/world_tests` and `crates/thread_tests`: each growth of these is
+The calls of the libraries that take memory have tests of their own, as those of `crates/world_tests`: each growth of these is
 refused in turn too, and all from each on.
 
     python3 tests/growth.py PROGRAM
@@ -39,9 +39,9 @@ CALLS = (
         "request", "reply_box", "burst_box", "port", "monitor", "flight", "gather")),
     *(("world_tests", f"constructors::{name}", ("NoMemory",)) for name in (
         "page_map", "bridge", "device", "world", "a_run")),
-    ("thread_tests", "growths::shared", ("NoMemory",)),
+    ("bridge_threads", "growths::shared", ("NoMemory",)),
     # The lists that it is given come first.
-    ("thread_tests", "growths::threads", ("AllocError", "NoMemory", "Spawn")),
+    ("bridge_threads", "growths::threads", ("AllocError", "NoMemory", "Spawn")),
 )
 
 

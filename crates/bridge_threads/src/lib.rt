@@ -5,6 +5,8 @@ mod clients;
 mod limits;
 mod ports;
 mod shared;
+#[cfg(test)]
+mod tests;
 mod threads;
 mod turns;
 

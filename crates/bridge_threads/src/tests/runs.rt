@@ -1,8 +1,8 @@
 //! Whole runs in threads.
 use super::gates::{Holding, Meeting, Open, Shut};
 use super::given::*;
+use crate::{Fault, Limits, Who};
 use bridge_core::Config;
-use bridge_threads::{Fault, Limits, Who};
 use std::alloc::Global;
 use std::test::Fail;
 use thread_reports::{Receipts, Report};

@@ -1,7 +1,8 @@
 //! What lies under the lock, without threads.
 use super::given::*;
+use crate::turns::{Turn, WorkerFault, hold};
+use crate::{HistoryFull, Shared};
 use bridge_core::Config;
-use bridge_threads::{HistoryFull, Shared};
 use burst_plan::MapFault;
 use std::test::Fail;
 use subordinate::{DeviceFault, PageKind};
@@ -12,6 +13,13 @@ use world_run::{Answer, SetupFault, Step};
 /// A Get of eight bytes where no region is.
 const OUTSIDE: ABeat = ABeat {
     address: 0x5000,
+    ..GET
+};
+
+/// A Get of sixteen bytes.
+const TWO_BEATS: ABeat = ABeat {
+    size: 4,
+    address: 0x20,
     ..GET
 };
 
@@ -83,6 +91,30 @@ fn turns(rt: HostRuntime) -> Result<(), Fail> {
             );
             assert_eq!(rt; reply.as_slice(), [DENIED].as_slice());
             assert!(rt; !shared.world().first_done(1));
+        }
+        Err(fault) => assert_eq!(rt; Some(fault), None),
+    }
+    Ok(())
+}
+
+/// Room for three steps, and more to do: the burst of two beats is sent, and the second beat is performed.
+#[test]
+fn full_in_a_hold(rt: HostRuntime) -> Result<(), Fail> {
+    let alloc = rt.alloc();
+    let mut reply = ReplyBox::new(alloc)?;
+    match Shared::new(alloc, &set_up(TWO_CLIENTS), 3) {
+        Ok(mut shared) => {
+            let offer = Step::Offer(0, TWO_BEATS);
+            assert_eq!(rt; shared.turn(&offer, &mut reply), Ok(Answer::Accepted(0)));
+            let mut place = 0usize;
+            let turn = hold(&mut shared, &[4, 5, 6], &mut place, &mut reply);
+            assert_eq!(rt; turn, Turn::Failed(WorkerFault::HistoryFull));
+            assert_eq!(rt;
+                shared.steps(),
+                [offer, Step::Pump, Step::Perform(0, 1)].as_slice()
+            );
+            assert_eq!(rt; place, 2);
+            assert_eq!(rt; shared.world().work_left(), 3);
         }
         Err(fault) => assert_eq!(rt; Some(fault), None),
     }

@@ -1,5 +1,5 @@
 //! Gates.
-use bridge_threads::{Gate, Who};
+use crate::{Gate, Who};
 use std::sync::atomic::{AtomicBool, AtomicU64, Ordering};
 
 /// Lets everyone pass.

@@ -1,5 +1,5 @@
 //! What the faults are called.
-use bridge_threads::Fault;
+use crate::Fault;
 use std::test::Fail;
 use tl_checker::TlRule;
 
