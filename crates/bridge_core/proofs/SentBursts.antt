@@ -1,5 +1,5 @@
 -- The burst that goes next is legal, and breaks no rule of the port.
-use Rattle.std.proofs.Common.{◌≡◌, ℕ, ◌-◌, ◌^◌, ◌<◌, ◌≤◌, Bool, true, false, List, [], ◌∷◌, map, length, take, Option, Some, None, refl, ap, sym, ◌∙◌, arith, subst, length-drop, length-take, lit<}
+use Rattle.std.proofs.Common.{◌≡◌, ℕ, ◌-◌, ◌^◌, ◌<◌, ◌≤◌, Bool, true, false, List, [], ◌∷◌, length, take, Option, Some, None, refl, ap, sym, ◌∙◌, arith, subst, length-drop, length-take, lit<}
 use Rattle.std.specs.Prelude.{if◌then◌else◌, unwrap_or, IfSome, slice_index_or}
 use Rattle.std.specs.List.{range_with_len, slice_get}
 use Rattle.std.specs.Option.{option_and_then}

@@ -1,5 +1,5 @@
 -- A request whose reply leaves.
-use Rattle.std.proofs.Common.{◌≡◌, ℕ, List, None, Some, refl, sym, ◌∙◌, ap, subst}
+use Rattle.std.proofs.Common.{◌≡◌, ℕ, None, Some, refl, ◌∙◌, ap, subst}
 use Rattle.std.specs.Prelude.{IsSomeAnd, IsTrue, find}
 use Rattle.std.proofs.lemmas.Bool.{and_parts}
 use Rattle.bus_words.specs.Places.{without_first}

@@ -1,16 +1,14 @@
 -- A request that is accepted joins the table.
-use Rattle.std.proofs.Common.{◌≡◌, ℕ, Bool, true, false, Option, set, refl, sym, ◌∙◌, ap, subst}
-use Rattle.std.specs.Prelude.{IfSome, Some, is_none}
+use Rattle.std.proofs.Common.{◌≡◌, true, false, Option, set, refl, sym, ◌∙◌, ap, subst}
+use Rattle.std.specs.Prelude.{IfSome, Some}
 use Rattle.std.specs.Option.{option_copied}
 use Rattle.tl_messages.specs.Requests.{HeldMessage, request_of}
-use Rattle.tl_messages.specs.declared.request.Request.{Request}
 use Rattle.tl_checker.specs.Requests.{TlPortLimits}
 use Rattle.tl_checker.specs.Sound as checker
-use Rattle.flight_table.specs.LiveRequests.{flight_for}
-use Rattle.flight_table.specs.Tables.{FlightTable, has_room, is_busy, table_of, with_entry}
+use Rattle.flight_table.specs.Tables.{FlightTable, has_room, is_busy, table_of}
 use Rattle.responses.specs.Gathered.{gathering_of, outline_of}
 use Rattle.bridge_core.specs.Configs.{port_of}
-use Rattle.bridge_core.specs.Inside.{HeldRequest, held_in, kept_table}
+use Rattle.bridge_core.specs.Inside.{kept_table}
 use Rattle.bridge_core.specs.Requests.{RequestTable, flight_table_of}
 use Rattle.bridge_core.specs.Requests as requests
 use Rattle.bridge_core.proofs.JoinedRequests.{IsJoined, joins, none_told}

@@ -1,5 +1,5 @@
 -- The answer belongs to the request that holds its ID.
-use Rattle.std.proofs.Common.{◌≡◌, ◌∙◌, ap, set, subst, sym}
+use Rattle.std.proofs.Common.{◌∙◌, ap, set, subst, sym}
 use Rattle.std.specs.Prelude.{IsSomeAnd, is_some}
 use Rattle.flight_table.specs.Order.{holds_id}
 use Rattle.bridge_core.specs.Inside.{AwaitsBeat, kept_table}

@@ -1,5 +1,5 @@
 -- The request that goes next is found with what is kept of it, and its burst is filled from that.
-use Rattle.std.proofs.Common.{◌≡◌, Bool, true, Option, None, Some, refl, sym, ◌∙◌, ap, subst}
+use Rattle.std.proofs.Common.{◌≡◌, Bool, true, Option, None, Some, sym, ◌∙◌, ap, subst}
 use Rattle.std.specs.Prelude.{IfSome, option_map}
 use Rattle.std.proofs.lemmas.Option.{same_Some}
 use Rattle.axi_beats.specs.Bursts.{Burst}
@@ -89,8 +89,8 @@ returns-clause-burst c =
           | then-is_write w ↦
               w.burst-is ∙ w.fill.ensures
               ∙ ap (λ (h : HeldRequest). Some (write_of c.unwrap-plan.result.bus_bytes c.sent-id.result (bytes_held h) c.unwrap-plan.result.address c.next_piece-piece.result))
-                  (held_at (kept_table c.self.inside.config c.self.inside.map c.self.inside.flight c.self.inside.held.items) c.in_ok-key.key c.slot-slot.result w.index.result.now c.self.invariant.1 c.slot-slot.ensures.value
-                  c.slot-slot.ensures.within w.index.ensures)
+              (held_at (kept_table c.self.inside.config c.self.inside.map c.self.inside.flight c.self.inside.held.items) c.in_ok-key.key c.slot-slot.result w.index.result.now c.self.invariant.1 c.slot-slot.ensures.value
+              c.slot-slot.ensures.within w.index.ensures)
               ∙ ap (λ b. Some (burst_of_piece c.sent-id.result (bridged (goes c).request one) c.unwrap-plan.result (b, c.next_piece-piece.result))) (sym w.if-is_write.true)
           | else-is_write w ↦
               w.burst-is ∙ w.set_read.ensures

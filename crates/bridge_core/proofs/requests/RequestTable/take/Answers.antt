@@ -1,8 +1,7 @@
 -- The first done request of the client leaves.
-use Rattle.std.proofs.Common.{◌≡◌, ℕ, None, Some, ◌∙◌, ap, sym, refl}
-use Rattle.flight_table.specs.LiveRequests.{LiveRequest}
+use Rattle.std.proofs.Common.{◌≡◌, None, Some, ◌∙◌, ap, sym, refl}
 use Rattle.flight_table.specs.Tables.{is_done_of}
-use Rattle.bridge_core.specs.Inside.{IsFirstAt, KeptTable, bridged, held_in, kept_table}
+use Rattle.bridge_core.specs.Inside.{IsFirstAt, bridged, held_in, kept_table}
 use Rattle.bridge_core.specs.Requests.{RequestTable, first_done, without_done}
 use Rattle.bridge_core.proofs.TableSteps.{first_at, held_at}
 use Rattle.bridge_core.proofs.TakenRequests.{IsTakenOut, done_shown, none_shown, taken_out}
