@@ -1,3 +1,6 @@
+mod histories;
+mod plain;
+
 use super::*;
 use burst_plan::Plan;
 use std::alloc::{AllocError, Global};
