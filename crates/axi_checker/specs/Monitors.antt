@@ -14,6 +14,11 @@ pub record MonitorState : Type 0 where
   pub port : AxiPortLimits
   pub open_bursts : OpenBursts
 
+-- the outstanding bursts of a side, the oldest first, and for how many there is room
+pub record OpenSide (X : Type 0) : Type 0 where
+  pub items : List X
+  pub room : ℕ
+
 -- the entries of a list have IDs below `ids`, and at most `depth` of them the same
 pub record HasFewOfEach {X : Type 0} (id_of : X → ℕ) (ids depth : ℕ) (xs : List X) : Type 0 where
   pub known : AllByRecursion (λ x. id_of x < ids) xs

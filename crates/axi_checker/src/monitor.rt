@@ -9,11 +9,7 @@ ghost use Rattle.axi_checker.specs.Rules.{axi_fault, beats_sent, burst_fault, id
 
 use crate::AxiRule;
 use crate::limits::{Address, PortLimits};
-use crate::outstanding::{
-    OpenRead, OpenWrite, answer_read, beats_came, close_write, fill_write, oldest_read,
-    oldest_write, open_read, open_whole_write, open_write, reads_of_id, write_to_fill,
-    writes_of_id,
-};
+use crate::outstanding::{Reads, Writes};
 use axi_beats::{ArBeat, AwBeat, BBeat, BurstBox, RBeat, Resp, WBeat};
 use std::alloc::{AllocError, Global};
 use std::marker::Model;
@@ -23,19 +19,18 @@ use std::marker::Model;
 /// All room is taken by `new`; no other call takes memory.
 pub struct Monitor {
     limits: PortLimits,
-    writes: Vec<OpenWrite>,
-    reads: Vec<OpenRead>,
+    writes: Writes,
+    reads: Reads,
 }
 
 impl Model for Monitor {
-    ghost use Rattle.std.specs.Vec.{vec_capacity};
     ghost use Rattle.axi_checker.specs.Monitors.{MonitorState, IsSoundMonitor, monitor_state};
 
     ghost Value = { MonitorState };
 
     ghost view = { λ m. monitor_state m.limits m.writes.items m.reads.items };
 
-    ghost invariant = { λ m. IsSoundMonitor (monitor_state m.limits m.writes.items m.reads.items) (vec_capacity m.writes) (vec_capacity m.reads) };
+    ghost invariant = { λ m. IsSoundMonitor (monitor_state m.limits m.writes.items m.reads.items) m.writes.room m.reads.room };
 }
 
 // Written out, so that what lets go of one calls this, and proves nothing of its parts.
@@ -64,8 +59,8 @@ impl Monitor {
             ≡ record { port = record { bus_bytes = bus_bytes; ids = ids; depth = depth }; open_bursts = nothing_open }) }
     {
         let limits = PortLimits::new(bus_bytes, ids, depth);
-        let writes = Vec::with_capacity(alloc, limits.room())?;
-        let reads = Vec::with_capacity(alloc, limits.room())?;
+        let writes = Writes::new(alloc, limits.room())?;
+        let reads = Reads::new(alloc, limits.room())?;
         Ok(Monitor {
             limits,
             writes,
@@ -85,7 +80,7 @@ impl Monitor {
         if let Some(rule) = self.aw_fault(beat) {
             return Err(rule);
         }
-        open_write(&mut self.writes, *beat);
+        self.writes.add(*beat);
         Ok(())
     }
 
@@ -99,7 +94,7 @@ impl Monitor {
         ensures order { IsOk result → beat.now.last ∷ writes_lack self.new.open_bursts.writes ≡ writes_lack self.old.open_bursts.writes }
     {
         let place = self.place_of_data(beat)?;
-        fill_write(&mut self.writes, place);
+        self.writes.fill(place);
         Ok(())
     }
 
@@ -115,7 +110,7 @@ impl Monitor {
         if let Some(rule) = self.ar_fault(beat) {
             return Err(rule);
         }
-        open_read(&mut self.reads, *beat);
+        self.reads.add(*beat);
         Ok(())
     }
 
@@ -134,7 +129,7 @@ impl Monitor {
         ensures data { IsOk result → write_to_fill self.old.open_bursts ≡ None → write_to_fill self.new.open_bursts ≡ None }
     {
         let place = self.place_of_response(beat)?;
-        close_write(&mut self.writes, beat.id, place);
+        self.writes.close(beat.id, place);
         Ok(())
     }
 
@@ -148,7 +143,7 @@ impl Monitor {
         ensures order { IsOk result → (id : ℕ) → read_given id (OnR beat.now) ++ reads_owe id self.new.open_bursts.reads ≡ reads_owe id self.old.open_bursts.reads }
     {
         let place = self.place_of_read(beat)?;
-        answer_read(&mut self.reads, beat.id, place);
+        self.reads.answer(beat.id, place);
         Ok(())
     }
 
@@ -195,9 +190,9 @@ impl Monitor {
         ensures ready { write_to_fill self.new.open_bursts ≡ None }
     {
         if burst.is_write() {
-            open_whole_write(&mut self.writes, burst.aw());
+            self.writes.add_whole(burst.aw());
         } else {
-            open_read(&mut self.reads, burst.ar());
+            self.reads.add(burst.ar());
         }
     }
 
@@ -205,7 +200,7 @@ impl Monitor {
     pub fn answered_reads(&self) -> u64
         ensures { result ≡ sum_by (λ read. read.came) self.now.open_bursts.reads }
     {
-        beats_came(&self.reads)
+        self.reads.beats_came()
     }
 
     /// How many outstanding bursts have the ID and the side of a burst.
@@ -214,9 +209,9 @@ impl Monitor {
         ensures { IfSome burst.now (λ b. outstanding_beside self.now.open_bursts b ≡ result) }
     {
         if burst.is_write() {
-            writes_of_id(&self.writes, burst.aw().id)
+            self.writes.of_id(burst.aw().id)
         } else {
-            reads_of_id(&self.reads, burst.ar().id)
+            self.reads.of_id(burst.ar().id)
         }
     }
 
@@ -225,7 +220,7 @@ impl Monitor {
     {
         let address = Address::of_write(*beat);
         self.limits
-            .address_fault(address, writes_of_id(&self.writes, beat.id))
+            .address_fault(address, self.writes.of_id(beat.id))
     }
 
     fn ar_fault(&self, beat: &ArBeat) -> Option<AxiRule>
@@ -233,7 +228,7 @@ impl Monitor {
     {
         let address = Address::of_read(*beat);
         self.limits
-            .address_fault(address, reads_of_id(&self.reads, beat.id))
+            .address_fault(address, self.reads.of_id(beat.id))
     }
 
     /// The place of the write that a W beat belongs to.
@@ -242,7 +237,7 @@ impl Monitor {
             (λ place. (axi_fault self.now.port self.now.open_bursts (OnW beat.now) ≡ None) × (position lacks_data self.now.open_bursts.writes ≡ Some place))
             (λ rule. axi_fault self.now.port self.now.open_bursts (OnW beat.now) ≡ Some rule) }
     {
-        let Some((place, write)) = write_to_fill(&self.writes) else {
+        let Some((place, write)) = self.writes.to_fill() else {
             return Err(AxiRule::WWithoutAw);
         };
         match self.limits.data_fault(write, beat) {
@@ -260,7 +255,7 @@ impl Monitor {
         if beat.id >= self.limits.ids {
             return Err(AxiRule::IdRange);
         }
-        let Some((place, write)) = oldest_write(&self.writes, beat.id) else {
+        let Some((place, write)) = self.writes.oldest(beat.id) else {
             return Err(AxiRule::BWithoutWrite);
         };
         if write.lacks_data() {
@@ -281,7 +276,7 @@ impl Monitor {
         if beat.id >= self.limits.ids {
             return Err(AxiRule::IdRange);
         }
-        let Some((place, read)) = oldest_read(&self.reads, beat.id) else {
+        let Some((place, read)) = self.reads.oldest(beat.id) else {
             return Err(AxiRule::RWithoutRead);
         };
         if beat.last != read.is_at_last() {

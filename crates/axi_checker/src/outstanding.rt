@@ -1,10 +1,11 @@
 //! The outstanding bursts of a port, the oldest first (AXI4, A5, transaction ordering).
-ghost use Rattle.std.specs.Prelude.{◌≡◌, ◌+◌, ◌<◌, ◌≤◌, [], ◌∷◌, ◌++◌, ◌==◌, Bool, IfSome, Some, filter, find, length, option_map, position, sum_by};
-ghost use Rattle.std.specs.Vec.{vec_capacity};
+ghost use Rattle.std.specs.Prelude.{◌≡◌, ◌+◌, ◌<◌, ◌≤◌, [], ◌∷◌, ◌++◌, ◌==◌, Bool, IfOk, IfSome, Some, filter, find, length, option_map, position, sum_by};
 ghost use Rattle.bus_words.specs.Places.{change_first, without_first};
 ghost use Rattle.axi_checker.specs.OpenBursts.{lacks_data, read_of_id, reads_after, write_of_id};
 
 use axi_beats::{ArBeat, AwBeat};
+use memchr::memchr;
+use std::alloc::{AllocError, Global};
 use std::marker::Model;
 
 /// A write without its B, and how many of its W beats came.
@@ -59,36 +60,64 @@ impl OpenRead {
     }
 }
 
-/// How many writes have this ID.
-pub(crate) fn writes_of_id(writes: &[OpenWrite], id: u8) -> usize
-    ensures { result ≡ length (filter (write_of_id id) writes.now) }
-{
-    writes.iter().filter(|write| write.aw.id == id).count()
+/// The outstanding writes, the oldest first, and beside them their IDs, so that one is found without touching the others.
+#[derive(Drop)]
+pub(crate) struct Writes {
+    entries: Vec<OpenWrite>,
+    ids: Vec<u8>,
 }
 
-/// How many reads have this ID.
-pub(crate) fn reads_of_id(reads: &[OpenRead], id: u8) -> usize
-    ensures { result ≡ length (filter (read_of_id id) reads.now) }
+impl Model for Writes {
+    ghost use Rattle.std.specs.Prelude.{◌≡◌, ◌≤◌, map};
+    ghost use Rattle.std.specs.Vec.{vec_capacity};
+    ghost use Rattle.axi_checker.specs.Monitors.{OpenSide, id_of_write};
+    ghost use Rattle.axi_checker.specs.OpenBursts.{OpenWrite};
+
+    ghost Value = { OpenSide OpenWrite };
+
+    ghost view = { λ w. record { items = w.entries.items; room = vec_capacity w.entries } };
+
+    ghost invariant = { λ w. (w.ids.items ≡ map id_of_write w.entries.items) × (vec_capacity w.entries ≤ vec_capacity w.ids) };
+}
+
+/// The outstanding reads, the oldest first, and beside them their IDs.
+#[derive(Drop)]
+pub(crate) struct Reads {
+    entries: Vec<OpenRead>,
+    ids: Vec<u8>,
+}
+
+impl Model for Reads {
+    ghost use Rattle.std.specs.Prelude.{◌≡◌, ◌≤◌, map};
+    ghost use Rattle.std.specs.Vec.{vec_capacity};
+    ghost use Rattle.axi_checker.specs.Monitors.{OpenSide, id_of_read};
+    ghost use Rattle.axi_checker.specs.OpenBursts.{OpenRead};
+
+    ghost Value = { OpenSide OpenRead };
+
+    ghost view = { λ r. record { items = r.entries.items; room = vec_capacity r.entries } };
+
+    ghost invariant = { λ r. (r.ids.items ≡ map id_of_read r.entries.items) × (vec_capacity r.entries ≤ vec_capacity r.ids) };
+}
+
+/// The first place of an ID.
+fn place_of(ids: &[u8], id: u8) -> Option<usize>
+    ensures { result ≡ position (λ other. other == id) ids.now }
 {
-    reads.iter().filter(|read| read.ar.id == id).count()
+    memchr(id, ids)
+}
+
+/// How many times an ID stands there.
+fn count_of(ids: &[u8], id: u8) -> usize
+    ensures { result ≡ length (filter (λ other. other == id) ids.now) }
+{
+    ids.iter().filter(|other| **other == id).count()
 }
 
 fn place_to_fill(writes: &[OpenWrite]) -> Option<usize>
     ensures { result ≡ position lacks_data writes.now }
 {
     writes.iter().position(|write| write.lacks_data())
-}
-
-fn place_of_write(writes: &[OpenWrite], id: u8) -> Option<usize>
-    ensures { result ≡ position (write_of_id id) writes.now }
-{
-    writes.iter().position(|write| write.aw.id == id)
-}
-
-fn place_of_read(reads: &[OpenRead], id: u8) -> Option<usize>
-    ensures { result ≡ position (read_of_id id) reads.now }
-{
-    reads.iter().position(|read| read.ar.id == id)
 }
 
 /// The entry at a place, with its place, where there is one.
@@ -104,7 +133,7 @@ fn entry_at<T: Copy>(items: &[T], place: Option<usize>) -> Option<(usize, T)>
 }
 
 /// How many R beats came of some reads, of which there are at most 64.
-pub(crate) fn beats_came(reads: &[OpenRead]) -> u64
+fn beats_came(reads: &[OpenRead]) -> u64
     requires { length reads.now ≤ 64 }
     ensures { result ≡ sum_by (λ read. read.came) reads.now }
 {
@@ -115,93 +144,167 @@ pub(crate) fn beats_came(reads: &[OpenRead]) -> u64
     came
 }
 
-/// The oldest write that lacks data, and its place.
-pub(crate) fn write_to_fill(writes: &[OpenWrite]) -> Option<(usize, OpenWrite)>
-    ensures place { option_map (λ found. found.0) result ≡ position lacks_data writes.now }
-    ensures write { option_map (λ found. found.1) result ≡ find lacks_data writes.now }
-{
-    entry_at(writes, place_to_fill(writes))
-}
+impl Writes {
+    /// None, with room for so many.
+    pub(crate) fn new(alloc: Global, room: usize) -> Result<Self, AllocError>
+        ensures { IfOk result (λ writes. (writes.items ≡ []) × (room ≤ writes.room)) }
+    {
+        let entries = Vec::with_capacity(alloc, room)?;
+        let ids = Vec::with_capacity(alloc, room)?;
+        Ok(Writes { entries, ids })
+    }
 
-/// The oldest write of an ID, and its place.
-pub(crate) fn oldest_write(writes: &[OpenWrite], id: u8) -> Option<(usize, OpenWrite)>
-    ensures place { option_map (λ found. found.0) result ≡ position (write_of_id id) writes.now }
-    ensures write { option_map (λ found. found.1) result ≡ find (write_of_id id) writes.now }
-{
-    entry_at(writes, place_of_write(writes, id))
-}
+    /// How many have this ID.
+    pub(crate) fn of_id(&self, id: u8) -> usize
+        ensures { result ≡ length (filter (write_of_id id) self.now.items) }
+    {
+        count_of(&self.ids, id)
+    }
 
-/// The oldest read of an ID, and its place.
-pub(crate) fn oldest_read(reads: &[OpenRead], id: u8) -> Option<(usize, OpenRead)>
-    ensures place { option_map (λ found. found.0) result ≡ position (read_of_id id) reads.now }
-    ensures read { option_map (λ found. found.1) result ≡ find (read_of_id id) reads.now }
-{
-    entry_at(reads, place_of_read(reads, id))
-}
+    /// The oldest that lacks data, and its place.
+    pub(crate) fn to_fill(&self) -> Option<(usize, OpenWrite)>
+        ensures place { option_map (λ found. found.0) result ≡ position lacks_data self.now.items }
+        ensures write { option_map (λ found. found.1) result ≡ find lacks_data self.now.items }
+    {
+        entry_at(&self.entries, place_to_fill(&self.entries))
+    }
 
-/// Appends a write, for which there is room.
-pub(crate) fn open_write(writes: &mut Vec<OpenWrite>, aw: AwBeat)
-    requires { length writes.old.items < vec_capacity writes.old }
-    ensures items { writes.new.items ≡ writes.old.items ++ record { aw = aw; came = 0 } ∷ [] }
-    ensures capacity { vec_capacity writes.old ≤ vec_capacity writes.new }
-{
-    writes.push_reserved(OpenWrite { aw, came: 0 });
-}
+    /// The oldest of an ID, and its place.
+    pub(crate) fn oldest(&self, id: u8) -> Option<(usize, OpenWrite)>
+        ensures place { option_map (λ found. found.0) result ≡ position (write_of_id id) self.now.items }
+        ensures write { option_map (λ found. found.1) result ≡ find (write_of_id id) self.now.items }
+    {
+        entry_at(&self.entries, place_of(&self.ids, id))
+    }
 
-/// Appends a write all of whose data came, for which there is room.
-pub(crate) fn open_whole_write(writes: &mut Vec<OpenWrite>, aw: AwBeat)
-    requires { length writes.old.items < vec_capacity writes.old }
-    ensures items { writes.new.items ≡ writes.old.items ++ record { aw = aw; came = aw.len + 1 } ∷ [] }
-    ensures capacity { vec_capacity writes.old ≤ vec_capacity writes.new }
-{
-    let came = u16::from(aw.len) + 1;
-    writes.push_reserved(OpenWrite { aw, came });
-}
+    /// Appends a write of which so many beats came, for which there is room.
+    fn push(&mut self, aw: AwBeat, came: u16)
+        requires { length self.old.items < self.old.room }
+        ensures items { self.new.items ≡ self.old.items ++ record { aw = aw; came = came } ∷ [] }
+        ensures room { self.new.room ≡ self.old.room }
+    {
+        self.entries.push_reserved(OpenWrite { aw, came });
+        self.ids.push_reserved(aw.id);
+    }
 
-/// Appends a read, for which there is room.
-pub(crate) fn open_read(reads: &mut Vec<OpenRead>, ar: ArBeat)
-    requires { length reads.old.items < vec_capacity reads.old }
-    ensures items { reads.new.items ≡ reads.old.items ++ record { ar = ar; came = 0 } ∷ [] }
-    ensures capacity { vec_capacity reads.old ≤ vec_capacity reads.new }
-{
-    reads.push_reserved(OpenRead { ar, came: 0 });
-}
+    /// Appends a write, for which there is room.
+    pub(crate) fn add(&mut self, aw: AwBeat)
+        requires { length self.old.items < self.old.room }
+        ensures items { self.new.items ≡ self.old.items ++ record { aw = aw; came = 0 } ∷ [] }
+        ensures room { self.new.room ≡ self.old.room }
+    {
+        self.push(aw, 0);
+    }
 
-/// Counts a W beat of the oldest write that lacks data, which is at `place`.
-pub(crate) fn fill_write(writes: &mut Vec<OpenWrite>, place: usize)
-    requires { position lacks_data writes.old.items ≡ Some place }
-    ensures items { writes.new.items ≡ change_first lacks_data (λ write. record write { came = write.came + 1 }) writes.old.items }
-    ensures capacity { vec_capacity writes.new ≡ vec_capacity writes.old }
-{
-    let write = writes[place];
-    writes[place] = OpenWrite {
-        came: write.came + 1,
-        ..write
-    };
-}
+    /// Appends a write all of whose data came, for which there is room.
+    pub(crate) fn add_whole(&mut self, aw: AwBeat)
+        requires { length self.old.items < self.old.room }
+        ensures items { self.new.items ≡ self.old.items ++ record { aw = aw; came = aw.len + 1 } ∷ [] }
+        ensures room { self.new.room ≡ self.old.room }
+    {
+        self.push(aw, u16::from(aw.len) + 1);
+    }
 
-/// Closes the oldest write of an ID, which is at `place`.
-pub(crate) fn close_write(writes: &mut Vec<OpenWrite>, id: u8, place: usize)
-    requires { position (write_of_id id) writes.old.items ≡ Some place }
-    ensures items { writes.new.items ≡ without_first (write_of_id id) writes.old.items }
-    ensures capacity { vec_capacity writes.new ≡ vec_capacity writes.old }
-{
-    writes.remove(place);
-}
-
-/// Counts an R beat of the oldest read of an ID, which is at `place`; the last one closes it.
-pub(crate) fn answer_read(reads: &mut Vec<OpenRead>, id: u8, place: usize)
-    requires { position (read_of_id id) reads.old.items ≡ Some place }
-    ensures items { reads.new.items ≡ reads_after id reads.old.items }
-    ensures capacity { vec_capacity reads.new ≡ vec_capacity reads.old }
-{
-    let read = reads[place];
-    if read.came < u16::from(read.ar.len) {
-        reads[place] = OpenRead {
-            came: read.came + 1,
-            ..read
+    /// Counts a W beat of the oldest write that lacks data, which is at `place`.
+    pub(crate) fn fill(&mut self, place: usize)
+        requires { position lacks_data self.old.items ≡ Some place }
+        ensures items { self.new.items ≡ change_first lacks_data (λ write. record write { came = write.came + 1 }) self.old.items }
+        ensures room { self.new.room ≡ self.old.room }
+    {
+        let write = self.entries[place];
+        self.entries[place] = OpenWrite {
+            came: write.came + 1,
+            ..write
         };
-    } else {
-        reads.remove(place);
+    }
+
+    /// Closes the oldest write of an ID, which is at `place`.
+    pub(crate) fn close(&mut self, id: u8, place: usize)
+        requires { position (write_of_id id) self.old.items ≡ Some place }
+        ensures items { self.new.items ≡ without_first (write_of_id id) self.old.items }
+        ensures room { self.new.room ≡ self.old.room }
+    {
+        let _ = id;
+        self.entries.remove(place);
+        self.ids.remove(place);
+    }
+
+    /// None any more.
+    pub(crate) fn clear(&mut self)
+        ensures { self.new ≡ record self.old { items = [] } }
+    {
+        self.entries.clear();
+        self.ids.clear();
+    }
+}
+
+impl Reads {
+    /// None, with room for so many.
+    pub(crate) fn new(alloc: Global, room: usize) -> Result<Self, AllocError>
+        ensures { IfOk result (λ reads. (reads.items ≡ []) × (room ≤ reads.room)) }
+    {
+        let entries = Vec::with_capacity(alloc, room)?;
+        let ids = Vec::with_capacity(alloc, room)?;
+        Ok(Reads { entries, ids })
+    }
+
+    /// How many have this ID.
+    pub(crate) fn of_id(&self, id: u8) -> usize
+        ensures { result ≡ length (filter (read_of_id id) self.now.items) }
+    {
+        count_of(&self.ids, id)
+    }
+
+    /// The oldest of an ID, and its place.
+    pub(crate) fn oldest(&self, id: u8) -> Option<(usize, OpenRead)>
+        ensures place { option_map (λ found. found.0) result ≡ position (read_of_id id) self.now.items }
+        ensures read { option_map (λ found. found.1) result ≡ find (read_of_id id) self.now.items }
+    {
+        entry_at(&self.entries, place_of(&self.ids, id))
+    }
+
+    /// How many R beats came of them, of which there are at most 64.
+    pub(crate) fn beats_came(&self) -> u64
+        requires { length self.now.items ≤ 64 }
+        ensures { result ≡ sum_by (λ read. read.came) self.now.items }
+    {
+        beats_came(&self.entries)
+    }
+
+    /// Appends a read, for which there is room.
+    pub(crate) fn add(&mut self, ar: ArBeat)
+        requires { length self.old.items < self.old.room }
+        ensures items { self.new.items ≡ self.old.items ++ record { ar = ar; came = 0 } ∷ [] }
+        ensures room { self.new.room ≡ self.old.room }
+    {
+        self.entries.push_reserved(OpenRead { ar, came: 0 });
+        self.ids.push_reserved(ar.id);
+    }
+
+    /// Counts an R beat of the oldest read of an ID, which is at `place`; the last one closes it.
+    pub(crate) fn answer(&mut self, id: u8, place: usize)
+        requires { position (read_of_id id) self.old.items ≡ Some place }
+        ensures items { self.new.items ≡ reads_after id self.old.items }
+        ensures room { self.new.room ≡ self.old.room }
+    {
+        let _ = id;
+        let read = self.entries[place];
+        if read.came < u16::from(read.ar.len) {
+            self.entries[place] = OpenRead {
+                came: read.came + 1,
+                ..read
+            };
+        } else {
+            self.entries.remove(place);
+            self.ids.remove(place);
+        }
+    }
+
+    /// None any more.
+    pub(crate) fn clear(&mut self)
+        ensures { self.new ≡ record self.old { items = [] } }
+    {
+        self.entries.clear();
+        self.ids.clear();
     }
 }

@@ -3,6 +3,7 @@ pub mod DistinctPlaces
 pub mod FirstPlaces
 pub mod Inclusion
 pub mod LaneLaws
+pub mod MappedPlaces
 pub mod MaskLaws
 pub mod PlaceChanges
 pub mod TableLaws

@@ -11,7 +11,7 @@ use Rattle.flight_table.specs.LiveRequests.{LiveRequest, finished}
 use Rattle.flight_table.specs.Tables.{KeyedRequest, change_entry, has_key, has_source, is_done_of, is_of, key_in, request_in, requests_of}
 use Rattle.flight_table.specs.declared.clients.OwnRequest.{OwnRequest}
 use Rattle.flight_table.proofs.HeldIds.{length_range, range_at, range_set}
-use Rattle.flight_table.proofs.PlaceLaws.{length_map, map_same}
+use Rattle.bus_words.proofs.MappedPlaces.{length_map, map_same}
 
 abbrev own_if : Bool → KeyedRequest → List OwnRequest → List OwnRequest
 own_if b e own = if b then own_part e ∷ own else own

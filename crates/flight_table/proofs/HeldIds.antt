@@ -12,7 +12,7 @@ use Rattle.flight_table.specs.LiveRequests.{LiveRequest}
 use Rattle.flight_table.specs.Order.{free_id, holds_id, is_free}
 use Rattle.flight_table.specs.Tables.{KeyedRequest, change_entry, has_key, key_in, request_in, requests_of}
 use Rattle.flight_table.proofs.Kept.{IsPlaced, count_set, requests_changed}
-use Rattle.flight_table.proofs.PlaceLaws.{length_map, map_same, position_map, position_same}
+use Rattle.bus_words.proofs.MappedPlaces.{length_map, map_same, position_map, position_same}
 
 -- ---- the key of the first that passes a test, after a change
 

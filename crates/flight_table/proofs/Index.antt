@@ -12,7 +12,7 @@ use Rattle.slab.specs.Slab.{Slab, with_value, get, ContainsKey, slab_len, Update
 use Rattle.flight_table.specs.Inside.{IsIndex, entries_in, entry_in, stored}
 use Rattle.flight_table.specs.LiveRequests.{LiveRequest}
 use Rattle.flight_table.specs.Tables.{KeyedRequest, change_entry, has_key, request_in, requests_of}
-use Rattle.flight_table.proofs.PlaceLaws.{position_map}
+use Rattle.bus_words.proofs.MappedPlaces.{position_map}
 
 abbrev AreOthers : ℕ → List ℕ → Type 0
 AreOthers key ks = AllByRecursion (λ k. k ≢ key) ks

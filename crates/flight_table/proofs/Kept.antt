@@ -10,7 +10,7 @@ use Rattle.flight_table.specs.LiveRequests.{LiveRequest, finished}
 use Rattle.flight_table.specs.Order.{holds_back}
 use Rattle.flight_table.specs.Tables.{KeyedRequest, change_entry, has_key, request_in, requests_of}
 use Rattle.flight_table.proofs.Lowered.{count_cons, less_if}
-use Rattle.flight_table.proofs.PlaceLaws.{length_map, map-remove, map_same}
+use Rattle.bus_words.proofs.MappedPlaces.{length_map, map-remove, map_same}
 
 -- ---- the requests at their places, after a change by key
 

@@ -1,5 +1,4 @@
 pub mod MarkLaws
-pub mod PlaceLaws
 pub mod SumLaws
 pub mod HeldIds
 pub mod ClientLaws

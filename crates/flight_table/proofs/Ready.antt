@@ -8,7 +8,7 @@ use Rattle.flight_table.specs.LiveRequests.{LiveRequest}
 use Rattle.flight_table.specs.Marks.{both}
 use Rattle.flight_table.specs.Order.{free_id, holds_back, may_send}
 use Rattle.flight_table.specs.declared.TableLimits.{TableLimits}
-use Rattle.flight_table.proofs.PlaceLaws.{position_map, position_same}
+use Rattle.bus_words.proofs.MappedPlaces.{position_map, position_same}
 
 both_map : {X : Type 0} (f g : X → Bool) (xs : List X) → both (map f xs) (map g xs) ≡ map (λ x. f x && g x) xs
 both_map f g [] = refl

@@ -21,7 +21,7 @@ use Rattle.flight_table.specs.declared.spans.Span.{Span}
 use Rattle.flight_table.proofs.Kept.{each}
 use Rattle.flight_table.proofs.Lowered.{counted_all, lowered_all}
 use Rattle.flight_table.proofs.MarkLaws.{as_marks, below, pushed, removed_is}
-use Rattle.flight_table.proofs.PlaceLaws.{length_map, map-remove}
+use Rattle.bus_words.proofs.MappedPlaces.{length_map, map-remove}
 use Rattle.flight_table.proofs.SlabScans.{few_pass}
 use Rattle.flight_table.proofs.SumLaws.{all_remove, all_set}
 

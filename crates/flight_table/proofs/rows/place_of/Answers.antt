@@ -3,7 +3,7 @@ use Rattle.std.proofs.Common.{◌==◌, ◌∙◌, sym}
 use Rattle.std.proofs.lemmas.List.{get_or-map}
 use Rattle.flight_table.specs.declared.rows.Row.{Row}
 use Rattle.bus_words.proofs.DistinctPlaces.{position_here}
-use Rattle.flight_table.proofs.PlaceLaws.{length_map, position_map}
+use Rattle.bus_words.proofs.MappedPlaces.{length_map, position_map}
 use Rattle.flight_table.proofs.RowLaws.{pages_of}
 use Rattle.flight_table.proofs.rows.place_of.Goals as goal
 

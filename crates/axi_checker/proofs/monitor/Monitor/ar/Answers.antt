@@ -1,5 +1,4 @@
 use Rattle.std.proofs.Common.{◌≡◌, refl, arith, sym, ◌∙◌, ap}
-use Rattle.std.specs.Vec.{vec_capacity}
 use Rattle.axi_checker.specs.Monitors.{MonitorState, monitor_state}
 use Rattle.axi_checker.specs.OpenBursts.{OnAr, open_after}
 use Rattle.axi_checker.specs.Order.{reads_owe}
@@ -7,23 +6,23 @@ use Rattle.axi_checker.proofs.Lasts.{reads_owe-append}
 use Rattle.axi_checker.proofs.SoundMonitors.{sound-open_after, sound_read_room}
 use Rattle.axi_checker.proofs.monitor.Monitor.ar.Goals as goal
 
-pub open_read-requires : goal.open_read-requires
-open_read-requires c =
+pub add-requires : goal.add-requires
+add-requires c =
     let old = c.self.inside in
-    sound_read_room (monitor_state old.limits old.writes.items old.reads.items) c.args.self.now c.args.beat.now (vec_capacity old.writes) (vec_capacity old.reads) c.self.invariant c.self.view_is
+    sound_read_room (monitor_state old.limits old.writes.items old.reads.items) c.args.self.now c.args.beat.now old.writes.room old.reads.room c.self.invariant c.self.view_is
     (sym c.ar_fault.ensures ∙ c.in_default.is)
 
 pub invariant_of-self : goal.invariant_of-self
 invariant_of-self c =
     let old = c.self.inside in
-    let reads = c.open_read.new.reads in
-    sound-open_after (monitor_state old.limits old.writes.items old.reads.items) c.args.self.now (OnAr c.args.beat.now) old.writes.items reads.items (vec_capacity old.writes) (vec_capacity old.reads)
-    (vec_capacity old.writes) (vec_capacity reads) c.self.invariant c.self.view_is (sym c.ar_fault.ensures ∙ c.in_default.is) refl c.open_read.ensures.items (omega arith) c.open_read.ensures.capacity
+    let reads = c.add.new.self in
+    sound-open_after (monitor_state old.limits old.writes.items old.reads.items) c.args.self.now (OnAr c.args.beat.now) old.writes.items reads.items old.writes.room old.reads.room
+    old.writes.room reads.room c.self.invariant c.self.view_is (sym c.ar_fault.ensures ∙ c.in_default.is) refl c.add.ensures.items (omega arith) (omega (arith, c.add.ensures.room))
 
 pub returns-clause-order : goal.returns-clause-order
 returns-clause-order c =
     λ ok id.
     let now = c.args.self.now in
     let ar = c.args.beat.now in
-    let after : c.open_read.new.reads.items ≡ (open_after now.open_bursts (OnAr ar)).reads = c.open_read.ensures.items ∙ ap (λ (m : MonitorState). (open_after m.open_bursts (OnAr ar)).reads) c.self.view_is in
+    let after : c.add.new.self.items ≡ (open_after now.open_bursts (OnAr ar)).reads = c.add.ensures.items ∙ ap (λ (m : MonitorState). (open_after m.open_bursts (OnAr ar)).reads) c.self.view_is in
     ap (reads_owe id) after ∙ reads_owe-append id now.open_bursts.reads (record { ar = ar; came = 0 })

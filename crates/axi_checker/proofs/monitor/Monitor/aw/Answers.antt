@@ -1,5 +1,4 @@
 use Rattle.std.proofs.Common.{◌≡◌, refl, arith, sym, ◌∙◌, ap}
-use Rattle.std.specs.Vec.{vec_capacity}
 use Rattle.axi_checker.specs.Monitors.{MonitorState, monitor_state}
 use Rattle.axi_checker.specs.OpenBursts.{OnAw, open_after}
 use Rattle.axi_checker.specs.Order.{writes_lack}
@@ -7,23 +6,23 @@ use Rattle.axi_checker.proofs.Lasts.{writes_lack-append}
 use Rattle.axi_checker.proofs.SoundMonitors.{sound-open_after, sound_write_room}
 use Rattle.axi_checker.proofs.monitor.Monitor.aw.Goals as goal
 
-pub open_write-requires : goal.open_write-requires
-open_write-requires c =
+pub add-requires : goal.add-requires
+add-requires c =
     let old = c.self.inside in
-    sound_write_room (monitor_state old.limits old.writes.items old.reads.items) c.args.self.now c.args.beat.now (vec_capacity old.writes) (vec_capacity old.reads) c.self.invariant c.self.view_is
+    sound_write_room (monitor_state old.limits old.writes.items old.reads.items) c.args.self.now c.args.beat.now old.writes.room old.reads.room c.self.invariant c.self.view_is
     (sym c.aw_fault.ensures ∙ c.in_default.is)
 
 pub invariant_of-self : goal.invariant_of-self
 invariant_of-self c =
     let old = c.self.inside in
-    let writes = c.open_write.new.writes in
-    sound-open_after (monitor_state old.limits old.writes.items old.reads.items) c.args.self.now (OnAw c.args.beat.now) writes.items old.reads.items (vec_capacity old.writes) (vec_capacity old.reads)
-    (vec_capacity writes) (vec_capacity old.reads) c.self.invariant c.self.view_is (sym c.aw_fault.ensures ∙ c.in_default.is) c.open_write.ensures.items refl c.open_write.ensures.capacity (omega arith)
+    let writes = c.add.new.self in
+    sound-open_after (monitor_state old.limits old.writes.items old.reads.items) c.args.self.now (OnAw c.args.beat.now) writes.items old.reads.items old.writes.room old.reads.room
+    writes.room old.reads.room c.self.invariant c.self.view_is (sym c.aw_fault.ensures ∙ c.in_default.is) c.add.ensures.items refl (omega (arith, c.add.ensures.room)) (omega arith)
 
 pub returns-clause-order : goal.returns-clause-order
 returns-clause-order c =
     λ ok.
     let now = c.args.self.now in
     let aw = c.args.beat.now in
-    let after : c.open_write.new.writes.items ≡ (open_after now.open_bursts (OnAw aw)).writes = c.open_write.ensures.items ∙ ap (λ (m : MonitorState). (open_after m.open_bursts (OnAw aw)).writes) c.self.view_is in
+    let after : c.add.new.self.items ≡ (open_after now.open_bursts (OnAw aw)).writes = c.add.ensures.items ∙ ap (λ (m : MonitorState). (open_after m.open_bursts (OnAw aw)).writes) c.self.view_is in
     ap writes_lack after ∙ writes_lack-append now.open_bursts.writes (record { aw = aw; came = 0 })

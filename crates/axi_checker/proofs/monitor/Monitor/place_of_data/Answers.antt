@@ -1,5 +1,5 @@
 -- The write that is found lacks data, and its transfers fit the bus, as each write's do.
-use Rattle.std.proofs.Common.{◌≡◌, ap, rules, sym, ◌∙◌}
+use Rattle.std.proofs.Common.{◌≡◌, rules, sym}
 use Rattle.std.specs.Prelude.{Some, find}
 use Rattle.bus_words.proofs.PlaceChanges.{all-find, find-passes}
 use Rattle.axi_checker.specs.Monitors.{IsSoundWrite}
@@ -9,11 +9,11 @@ use Rattle.axi_checker.proofs.monitor.Monitor.place_of_data.Goals as goal
 pub data_fault-requires-clause-size : goal.data_fault-requires-clause-size
 data_fault-requires-clause-size c =
     let writes = c.self.inside.writes.items in
-    let found : find lacks_data writes ≡ Some c.in-Some.write = ap (find lacks_data) (sym c.deref.ensures.value) ∙ sym c.in-Some.ensures.write in
+    let found : find lacks_data writes ≡ Some c.in-Some.write = sym c.in-Some.ensures.write in
     let sound = all-find (IsSoundWrite c.self.inside.limits.bus_bytes) lacks_data writes c.in-Some.write c.self.invariant.within.sound_writes found in
     search (rules, sound.fits)
 
 pub data_fault-requires-clause-lacks : goal.data_fault-requires-clause-lacks
 data_fault-requires-clause-lacks c =
-    let lacks = find-passes lacks_data c.deref.result.now c.in-Some.write (sym c.in-Some.ensures.write) in
+    let lacks = find-passes lacks_data c.self.inside.writes.items c.in-Some.write (sym c.in-Some.ensures.write) in
     search (rules, lacks)

@@ -1,6 +1,5 @@
 -- A burst that breaks no rule finds room, keeps the limits, and lacks no data.
 use Rattle.std.proofs.Common.{◌≡◌, List, refl, ap, ◌∙◌, arith}
-use Rattle.std.specs.Vec.{vec_capacity}
 use Rattle.axi_beats.specs.Boxes.{w_beats_of}
 use Rattle.axi_beats.specs.Bursts.{ReadBurst, WriteBurst}
 use Rattle.axi_checker.specs.Monitors.{MonitorState, monitor_state}
@@ -10,50 +9,50 @@ use Rattle.axi_checker.proofs.SoundMonitors.{sound-open_with_burst, sound_read_r
 use Rattle.axi_checker.proofs.Taking.{address_of_read, address_of_write, filled_with_burst, read_unbroken, write_taken, write_unbroken}
 use Rattle.axi_checker.proofs.monitor.Monitor.take_burst.Goals as goal
 
-pub open_whole_write-requires : goal.open_whole_write-requires
-open_whole_write-requires c =
+pub add_whole-requires : goal.add_whole-requires
+add_whole-requires c =
     let old = c.self.inside in
     let now = c.args.self.now in
     let none = write_unbroken now.port now.open_bursts c.args.burst.now c.aw.result c.aw.ensures c.requires.unbroken in
-    sound_write_room (monitor_state old.limits old.writes.items old.reads.items) now c.aw.result (vec_capacity old.writes) (vec_capacity old.reads) c.self.invariant c.self.view_is
+    sound_write_room (monitor_state old.limits old.writes.items old.reads.items) now c.aw.result old.writes.room old.reads.room c.self.invariant c.self.view_is
     (address_of_write now.port now.open_bursts c.aw.result (w_beats_of c.args.burst.now) none)
 
-pub open_read-requires : goal.open_read-requires
-open_read-requires c =
+pub add-requires : goal.add-requires
+add-requires c =
     let old = c.self.inside in
     let now = c.args.self.now in
     let none = read_unbroken now.port now.open_bursts c.args.burst.now c.ar.result c.ar.ensures c.requires.unbroken in
-    sound_read_room (monitor_state old.limits old.writes.items old.reads.items) now c.ar.result (vec_capacity old.writes) (vec_capacity old.reads) c.self.invariant c.self.view_is
+    sound_read_room (monitor_state old.limits old.writes.items old.reads.items) now c.ar.result old.writes.room old.reads.room c.self.invariant c.self.view_is
     (address_of_read now.port now.open_bursts c.ar.result none)
 
 pub invariant_of-self : goal.invariant_of-self
 invariant_of-self c =
     let old = c.self.inside in
     let now = c.args.self.now in
-    let writes = c.open_whole_write.new.writes in
+    let writes = c.add_whole.new.self in
     let none = write_unbroken now.port now.open_bursts c.args.burst.now c.aw.result c.aw.ensures c.requires.unbroken in
     sound-open_with_burst (monitor_state old.limits old.writes.items old.reads.items) now (WriteBurst c.aw.result (w_beats_of c.args.burst.now)) writes.items old.reads.items
-    (vec_capacity old.writes) (vec_capacity old.reads) (vec_capacity writes) (vec_capacity old.reads) c.self.invariant c.self.view_is c.requires.ready none
-    c.open_whole_write.ensures.items refl c.open_whole_write.ensures.capacity (omega arith)
+    old.writes.room old.reads.room writes.room old.reads.room c.self.invariant c.self.view_is c.requires.ready none
+    c.add_whole.ensures.items refl (omega (arith, c.add_whole.ensures.room)) (omega arith)
 
 pub invariant_of-self-else-is_write : goal.invariant_of-self-else-is_write
 invariant_of-self-else-is_write c =
     let old = c.self.inside in
     let now = c.args.self.now in
-    let reads = c.open_read.new.reads in
+    let reads = c.add.new.self in
     let none = read_unbroken now.port now.open_bursts c.args.burst.now c.ar.result c.ar.ensures c.requires.unbroken in
     sound-open_with_burst (monitor_state old.limits old.writes.items old.reads.items) now (ReadBurst c.ar.result) old.writes.items reads.items
-    (vec_capacity old.writes) (vec_capacity old.reads) (vec_capacity old.writes) (vec_capacity reads) c.self.invariant c.self.view_is c.requires.ready none
-    refl c.open_read.ensures.items (omega arith) c.open_read.ensures.capacity
+    old.writes.room old.reads.room old.writes.room reads.room c.self.invariant c.self.view_is c.requires.ready none
+    refl c.add.ensures.items (omega arith) (omega (arith, c.add.ensures.room))
 
-abbrev left : goal.After-open_whole_write → OpenBursts
-left c = record { writes = c.open_whole_write.new.writes.items; reads = c.self.inside.reads.items }
+abbrev left : goal.After-add_whole → OpenBursts
+left c = record { writes = c.add_whole.new.self.items; reads = c.self.inside.reads.items }
 
-taken : (c : goal.After-open_whole_write) → left c ≡ open_with_burst c.args.self.now.open_bursts (WriteBurst c.aw.result (w_beats_of c.args.burst.now))
+taken : (c : goal.After-add_whole) → left c ≡ open_with_burst c.args.self.now.open_bursts (WriteBurst c.aw.result (w_beats_of c.args.burst.now))
 taken c =
     let reads = c.self.inside.reads.items in
     let after : List OpenWrite → OpenBursts = λ writes. record { writes = writes; reads = reads } in
-    ap after c.open_whole_write.ensures.items
+    ap after c.add_whole.ensures.items
     ∙ ap (λ (m : MonitorState). open_with_burst m.open_bursts (WriteBurst c.aw.result (w_beats_of c.args.burst.now))) c.self.view_is
 
 pub returns-then-is_write-clause-beats : goal.returns-then-is_write-clause-beats

@@ -1,6 +1,6 @@
 use Rattle.std.proofs.Common.{is_none, is_some, ◌∙◌, ap}
 use Rattle.std.specs.List.{position}
-use Rattle.flight_table.proofs.PlaceLaws.{position_map}
+use Rattle.bus_words.proofs.MappedPlaces.{position_map}
 use Rattle.flight_table.proofs.ids.Ids.has_free.Goals as goal
 
 pub returns : goal.returns

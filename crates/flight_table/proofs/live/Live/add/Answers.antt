@@ -7,7 +7,7 @@ use Rattle.flight_table.proofs.ClientLaws.{are_fewer, is_kept, kept_added}
 use Rattle.flight_table.proofs.HeldIds.{ids_add}
 use Rattle.bus_words.proofs.PlaceChanges.{all-append}
 use Rattle.flight_table.specs.Sums.{IsSmall, with_sums}
-use Rattle.flight_table.proofs.PlaceLaws.{length_map}
+use Rattle.bus_words.proofs.MappedPlaces.{length_map}
 use Rattle.flight_table.proofs.SumLaws.{are_small, sums_pushed}
 use Rattle.flight_table.proofs.Kept.{kept_add}
 use Rattle.flight_table.specs.Rows.{bits_of, lies_in}

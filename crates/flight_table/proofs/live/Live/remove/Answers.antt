@@ -10,7 +10,7 @@ use Rattle.flight_table.specs.Spans.{span_of}
 use Rattle.flight_table.specs.Sums.{IsSmall}
 use Rattle.flight_table.proofs.SumLaws.{all_remove, are_part, sums_removed}
 use Rattle.flight_table.proofs.Kept.{kept_remove, named_with, placed, requests_without}
-use Rattle.flight_table.proofs.PlaceLaws.{map-remove}
+use Rattle.bus_words.proofs.MappedPlaces.{map-remove}
 use Rattle.flight_table.proofs.RowLaws.{rows_remove}
 use Rattle.flight_table.proofs.live.Live.remove.Goals as goal
 

@@ -1,6 +1,7 @@
 -- What stands at a place of a list, where the list is made of another, or one entry of it changes.
-use Rattle.std.proofs.Common.{◌≡◌, ℕ, zero, suc, Bool, List, [], ◌∷◌, length, map, refl, ap}
-use Rattle.std.specs.List.{position, position_or_len, remove}
+use Rattle.std.proofs.Common.{◌≡◌, ℕ, zero, suc, Bool, true, false, List, [], ◌∷◌, length, map, refl, ap}
+use Rattle.std.specs.List.{filter, position, position_or_len, remove}
+use Rattle.std.specs.Prelude.{if◌then◌else◌}
 
 pub length_map : {X Y : Type 0} (f : X → Y) (xs : List X) → length (map f xs) ≡ length xs
 length_map f [] = refl
@@ -33,3 +34,13 @@ map-remove f (x ∷ xs) (suc place) = ap (λ ys. f x ∷ ys) (map-remove f xs pl
 pub map_same : {X Y : Type 0} (f g : X → Y) (xs : List X) → ((x : X) → f x ≡ g x) → map f xs ≡ map g xs
 map_same f g [] same = refl
 map_same f g (x ∷ xs) same = rw (same x, map_same f g xs same) refl
+
+-- as many pass a test of what they are made of
+pub length-filter-map : {X Y : Type 0} (f : X → Y) (p : Y → Bool) (xs : List X) → length (filter p (map f xs)) ≡ length (filter (λ x. p (f x)) xs)
+length-filter-map f p [] = refl
+length-filter-map {X = X} {Y = Y} f p (x ∷ xs) = by_test (p (f x)) (length-filter-map f p xs)
+  where
+    by_test : (b : Bool) → length (filter p (map f xs)) ≡ length (filter (λ z. p (f z)) xs)
+        → length (if b then f x ∷ filter p (map f xs) else filter p (map f xs)) ≡ length (if b then x ∷ filter (λ z. p (f z)) xs else filter (λ z. p (f z)) xs)
+    by_test true rest = ap suc rest
+    by_test false rest = rest

@@ -1,0 +1,12 @@
+-- The IDs are counted in the place of the reads.
+use Rattle.std.proofs.Common.{◌∙◌, length, ap}
+use Rattle.std.specs.Prelude.{filter}
+use Rattle.axi_checker.specs.Monitors.{OpenSide, id_of_read}
+use Rattle.axi_checker.specs.OpenBursts.{OpenRead, read_of_id}
+use Rattle.axi_checker.proofs.IdLists.{same_count}
+use Rattle.axi_checker.proofs.outstanding.Reads.of_id.Goals as goal
+
+pub returns : goal.returns
+returns c =
+    c.count_of.ensures ∙ same_count id_of_read c.self.inside.entries.items c.deref.result.now c.args.id (c.deref.ensures.value ∙ c.self.invariant.0)
+    ∙ ap (λ (side : OpenSide OpenRead). length (filter (read_of_id c.args.id) side.items)) c.self.view_is

@@ -1,0 +1,12 @@
+-- The IDs are counted in the place of the writes.
+use Rattle.std.proofs.Common.{◌∙◌, length, ap}
+use Rattle.std.specs.Prelude.{filter}
+use Rattle.axi_checker.specs.Monitors.{OpenSide, id_of_write}
+use Rattle.axi_checker.specs.OpenBursts.{OpenWrite, write_of_id}
+use Rattle.axi_checker.proofs.IdLists.{same_count}
+use Rattle.axi_checker.proofs.outstanding.Writes.of_id.Goals as goal
+
+pub returns : goal.returns
+returns c =
+    c.count_of.ensures ∙ same_count id_of_write c.self.inside.entries.items c.deref.result.now c.args.id (c.deref.ensures.value ∙ c.self.invariant.0)
+    ∙ ap (λ (side : OpenSide OpenWrite). length (filter (write_of_id c.args.id) side.items)) c.self.view_is

@@ -1,0 +1,25 @@
+-- The ID is looked for in the place of the write.
+use Rattle.std.proofs.Common.{◌≡◌, ◌∙◌, sym, ap}
+use Rattle.std.specs.Prelude.{find}
+use Rattle.std.specs.List.{position}
+use Rattle.axi_checker.specs.Monitors.{OpenSide, id_of_write}
+use Rattle.axi_checker.specs.OpenBursts.{OpenWrite, write_of_id}
+use Rattle.axi_checker.proofs.IdLists.{found_within, same_place}
+use Rattle.axi_checker.proofs.outstanding.Writes.oldest.Goals as goal
+
+pub entry_at-requires : goal.entry_at-requires
+entry_at-requires c =
+    let placed = c.place_of.ensures ∙ same_place id_of_write c.self.inside.entries.items c.deref-2.result.now c.args.id (c.deref-2.ensures.value ∙ c.self.invariant.0) in
+    rw c.deref.ensures.value (found_within (write_of_id c.args.id) c.self.inside.entries.items c.place_of.result placed)
+
+placed : (c : goal.After-entry_at) → c.place_of.result ≡ position (write_of_id c.args.id) c.self.inside.entries.items
+placed c = c.place_of.ensures ∙ same_place id_of_write c.self.inside.entries.items c.deref-2.result.now c.args.id (c.deref-2.ensures.value ∙ c.self.invariant.0)
+
+pub returns-clause-place : goal.returns-clause-place
+returns-clause-place c = c.entry_at.ensures.place ∙ placed c ∙ ap (λ (side : OpenSide OpenWrite). position (write_of_id c.args.id) side.items) c.self.view_is
+
+pub returns-clause-write : goal.returns-clause-write
+returns-clause-write c =
+    c.entry_at.ensures.entry (write_of_id c.args.id) (placed c ∙ ap (position (write_of_id c.args.id)) (sym c.deref.ensures.value))
+    ∙ ap (find (write_of_id c.args.id)) c.deref.ensures.value
+    ∙ ap (λ (side : OpenSide OpenWrite). find (write_of_id c.args.id) side.items) c.self.view_is
