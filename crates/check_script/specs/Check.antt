@@ -4,11 +4,12 @@ use Rattle.bridge_core.specs.Configs.{is_valid}
 use Rattle.bridge_core.specs.declared.Config.{Config as Limits}
 use Rattle.world_run.specs.declared.SetupFault.{SetupFault}
 use Rattle.world_run.specs.declared.SetupFault.TheVariants.{BadConfig}
-use Rattle.script_text.specs.Forms.{read_as, told_as, byte_field}
-use Rattle.script_text.specs.OfferLines.{offer_line}
+use Rattle.line_text.specs.Fields.{read_as, byte_field}
+use Rattle.script_text.specs.Forms.{told_as}
+use Rattle.line_text.specs.OfferLines.{offer_line}
 use Rattle.script_text.specs.Scripts.{Reading}
 use Rattle.script_text.specs.Stages.{Kind, Stage, is_config_form, reading_of}
-use Rattle.script_text.specs.Words.{dec_at}
+use Rattle.line_text.specs.Words.{dec_at}
 use Rattle.script_text.specs.declared.keywords.Form.{Form}
 use Rattle.script_text.specs.declared.keywords.Form.TheVariants as form
 use Rattle.check_script.specs.ClientPorts.{PortTable, opening_table, table_after, check_text}

@@ -2,7 +2,8 @@
 ghost use Rattle.std.specs.Prelude.{◌≡◌};
 ghost use Rattle.check_script.specs.Check.{check_command, free_line};
 
-use script_text::{Form, Words, offer_line};
+use line_text::{Words, offer_line};
+use script_text::Form;
 use tl_messages::ABeat;
 
 /// A command.

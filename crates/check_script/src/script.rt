@@ -8,10 +8,8 @@ ghost use Rattle.check_script.specs.ClientPorts.{check_text, table_after, verdic
 
 use crate::client_ports::{ClientPorts, Verdict};
 use crate::lines::{CheckCommand, check_command};
-use script_text::{
-    Form, Kind, ScriptFault, StagedScript, Words, WriteFault, a_line, read_script, refused_line,
-    write_text,
-};
+use line_text::{Words, WriteFault, a_line, refused_line, write_text};
+use script_text::{Form, Kind, ScriptFault, StagedScript, read_script};
 use std::alloc::Global;
 use std::io::{Read, Write};
 use world_run::{Setup, SetupFault};

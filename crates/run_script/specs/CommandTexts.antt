@@ -3,7 +3,8 @@ use Rattle.std.proofs.Common.{◌≡◌, ◌≢◌, ℕ, true, List, [], ◌∷�
 use Rattle.world_run.specs.World.{WorldState, next}
 use Rattle.world_run.specs.declared.Answer.{Answer}
 use Rattle.world_run.specs.declared.Answer.TheVariants as answer
-use Rattle.script_text.specs.Names.{answer_text, mem_text}
+use Rattle.line_text.specs.Traces.{mem_text}
+use Rattle.script_text.specs.Answers.{answer_text}
 use Rattle.run_script.specs.Run.{after_answer, before_answer, commanded, run_kind}
 use Rattle.run_script.specs.declared.lines.Command.{Command}
 use Rattle.run_script.specs.declared.lines.Command.TheVariants.{Event, Drain, Mem, Work}

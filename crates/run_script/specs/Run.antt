@@ -6,12 +6,14 @@ use Rattle.world_run.specs.World.{WorldState, Outcome, opening_world, next, byte
 use Rattle.world_run.specs.declared.SetupFault.{SetupFault}
 use Rattle.world_run.specs.declared.Step.{Step}
 use Rattle.world_run.specs.declared.Step.TheVariants as step
-use Rattle.script_text.specs.Forms.{read_as, told_as, byte_field, short_field, address_field}
-use Rattle.script_text.specs.OfferLines.{offer_line}
-use Rattle.script_text.specs.Names.{answer_text, held_text, reply_text, drained_text, mem_text, work_text}
+use Rattle.line_text.specs.Fields.{read_as, byte_field, short_field, address_field}
+use Rattle.script_text.specs.Forms.{told_as}
+use Rattle.line_text.specs.OfferLines.{offer_line}
+use Rattle.line_text.specs.Traces.{held_text, reply_text, drained_text, mem_text, work_text}
+use Rattle.script_text.specs.Answers.{answer_text}
 use Rattle.script_text.specs.Scripts.{Reading}
 use Rattle.script_text.specs.Stages.{Kind, Stage, reading_of}
-use Rattle.script_text.specs.Words.{is_dec_to, dec_at, hex_at}
+use Rattle.line_text.specs.Words.{is_dec_to, dec_at, hex_at}
 use Rattle.script_text.specs.declared.keywords.Form.{Form}
 use Rattle.script_text.specs.declared.keywords.Form.TheVariants as form
 use Rattle.run_script.specs.declared.lines.Command.{Command}

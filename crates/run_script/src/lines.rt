@@ -1,9 +1,10 @@
 //! The lines of `tlbridge run`.
 ghost use Rattle.std.specs.Prelude.{◌≡◌, []};
-ghost use Rattle.script_text.specs.Forms.{read_as};
+ghost use Rattle.line_text.specs.Fields.{read_as};
 ghost use Rattle.run_script.specs.Run.{byte_line, command_of, mem_line, perform_line};
 
-use script_text::{Form, Words, offer_line};
+use line_text::{Words, offer_line};
+use script_text::Form;
 use world_run::Step;
 
 /// A command.

@@ -6,7 +6,7 @@ use Rattle.score_script.specs.FindingTexts.{finding_text, last_text, optional_te
 use Rattle.score_script.specs.Scores.{Score, closing}
 use Rattle.score_script.specs.declared.findings.Finding.{Finding}
 use Rattle.score_script.specs.declared.findings.Finding.TheVariants.{Beat, Byte}
-use Rattle.script_text.proofs.TraceTexts.{some_after, some_before}
+use Rattle.line_text.proofs.TraceTexts.{some_after, some_before}
 
 wrong_some : (number client : ℕ) (wrong : Wrong) → wrong_text number client wrong ≢ []
 wrong_some number client NoClient none = search rules

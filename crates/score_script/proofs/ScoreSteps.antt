@@ -9,7 +9,7 @@ use Rattle.score_script.specs.FindingTexts.{WritesText, optional_text}
 use Rattle.score_script.specs.Scores.{Finds, Score, closing, command_step, ending_of, finds, finds_text, placed_step, score_at, score_reading, settling, setup_step}
 use Rattle.score_script.specs.declared.findings.Finding.{Finding}
 use Rattle.score_script.specs.declared.score.Command.{Command}
-use Rattle.script_text.proofs.TraceTexts.{some_after}
+use Rattle.line_text.proofs.TraceTexts.{some_after}
 use Rattle.script_text.specs.Scripts.{LineStep}
 use Rattle.script_text.specs.Stages.{MayStand, OpensStage, Opening, Running, SettingUp, Stage, nothing_written, setup_line, with_setup_line}
 use Rattle.script_text.specs.Steps.{GivesText, TakesRest, TakesStep}

@@ -8,7 +8,7 @@ use Rattle.scoreboard.specs.Names.{reply_rule_name, reply_rule_number}
 use Rattle.scoreboard.specs.declared.ReplyRule.{ReplyRule}
 use Rattle.scoreboard.specs.declared.Wrong.{Wrong}
 use Rattle.scoreboard.specs.declared.Wrong.TheVariants.{NoClient, Request, Reply, Axi}
-use Rattle.script_text.specs.Names.{answer_line, mem_text}
+use Rattle.line_text.specs.Traces.{answer_line, mem_text}
 use Rattle.tl_checker.specs.Names.{name_of, number_of}
 use Rattle.tl_messages.specs.Lines.{d_text}
 

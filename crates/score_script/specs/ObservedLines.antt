@@ -8,9 +8,10 @@ use Rattle.axi_beats.specs.declared.RBeat.{RBeat}
 use Rattle.axi_beats.specs.declared.Resp.{Resp}
 use Rattle.axi_beats.specs.declared.Resp.TheVariants.{Okay, ExOkay, SlvErr, DecErr}
 use Rattle.axi_beats.specs.declared.WBeat.{WBeat}
-use Rattle.script_text.specs.Forms.{Field, address_field, byte_field, flag_field, is_set, read_as, told_as}
-use Rattle.script_text.specs.OfferLines.{offer_line}
-use Rattle.script_text.specs.Words.{dec_at, hex_at, is_hex_to, word_at}
+use Rattle.line_text.specs.Fields.{Field, address_field, byte_field, flag_field, is_set, read_as}
+use Rattle.script_text.specs.Forms.{told_as}
+use Rattle.line_text.specs.OfferLines.{offer_line}
+use Rattle.line_text.specs.Words.{dec_at, hex_at, is_hex_to, word_at}
 use Rattle.score_script.specs.declared.lines.Channel.{Channel}
 use Rattle.score_script.specs.declared.lines.Channel.TheVariants as channel
 use Rattle.scoreboard.specs.declared.Seen.{Seen}

@@ -16,7 +16,7 @@ use Rattle.scoreboard.specs.declared.Wrong.{Wrong}
 use Rattle.script_text.specs.Forms.{form_of}
 use Rattle.script_text.specs.Scripts.{LineStep, Reading, TextResult, ended}
 use Rattle.script_text.specs.Stages.{Opening, Running, SettingUp, Stage, is_misplaced, set_up_as, setup_line, with_setup_line}
-use Rattle.script_text.specs.Words.{word_at}
+use Rattle.line_text.specs.Words.{word_at}
 use Rattle.script_text.specs.declared.faults.ScriptFault.{ScriptFault}
 use Rattle.script_text.specs.declared.faults.ScriptFault.TheVariants.{Script}
 use Rattle.script_text.specs.declared.keywords.Form.{Form}

@@ -4,7 +4,7 @@ ghost use Rattle.std.specs.Io.KnownBytes.{Appends};
 ghost use Rattle.score_script.specs.FindingTexts.{WritesText, expected_text, finding_text, last_text, optional_text, wrong_text};
 
 use scoreboard::{ReplyRule, Wrong};
-use script_text::{WriteFault, mem_line};
+use line_text::{WriteFault, mem_line};
 use std::io::Write;
 use tl_messages::d_line;
 

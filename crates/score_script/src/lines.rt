@@ -1,12 +1,12 @@
 //! The lines of observed beats, and of the answers between them.
 ghost use Rattle.std.specs.Prelude.{◌≡◌, ◌<◌};
-ghost use Rattle.script_text.specs.Forms.{Reads};
-ghost use Rattle.script_text.specs.Words.{word_at};
+ghost use Rattle.line_text.specs.Fields.{Reads};
+ghost use Rattle.line_text.specs.Words.{word_at};
 ghost use Rattle.score_script.specs.ObservedLines.{address_line, ar_line, aw_line, b_line, channel_of, d_line, is_withdrawal, r_line, resp_field, resp_in, seen_line, w_line};
 
 use axi_beats::{ArBeat, AwBeat, BBeat, RBeat, Resp, WBeat};
 use scoreboard::Seen;
-use script_text::{Words, offer_line};
+use line_text::{Words, offer_line};
 use tl_messages::DBeat;
 
 /// A channel on which beats are observed.

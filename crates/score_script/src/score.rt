@@ -7,7 +7,7 @@ ghost use Rattle.score_script.specs.SeenBoards.{after_seen, byte_in, bursts_open
 
 use crate::findings::{Finding, Findings, last_line, optional_line};
 use scoreboard::{Scoreboard, Seen, Wrong};
-use script_text::WriteFault;
+use line_text::WriteFault;
 use std::io::Write;
 use tl_messages::ABeat;
 

@@ -6,10 +6,10 @@ use Rattle.std.proofs.lemmas.List.{drop_all, drop_more, get_or-take, take-take}
 use Rattle.std.proofs.lemmas.Slice.{between_is}
 use Rattle.std.specs.List.{between}
 use Rattle.std.specs.Io.KnownBytes.{Consumes}
-use Rattle.script_text.proofs.Parts.{Lacks-append}
+use Rattle.line_text.proofs.Parts.{Lacks-append}
 use Rattle.script_text.proofs.PlainLines.{plain-one_line, plain-short}
 use Rattle.script_text.specs.Reads.{BlockState, IsOneLine, IsPart, IsSmall, Passes, ReadsLine, Takes, TakesPart, TakesWhole, left}
-use Rattle.script_text.specs.Words.{is_plain_line}
+use Rattle.line_text.specs.Words.{is_plain_line}
 use Rattle.script_text.specs.declared.faults.ScriptFault.{ScriptFault}
 use Rattle.script_text.specs.declared.faults.ScriptFault.TheVariants.{Script, Setup, Read, Write, NoMemory}
 use Rattle.script_text.specs.declared.reader.Ending.{Ending}

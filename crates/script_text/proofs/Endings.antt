@@ -3,14 +3,14 @@ use Rattle.std.proofs.Common.{◌≡◌, ◌≢◌, ◌<◌, ◌≤◌, ◌⊎�
 use Rattle.std.proofs.KnownBytes.{Appends-nil, Appends-trans, Appends-kept, Consumes-trans, Keeps-trans}
 use Rattle.std.specs.Io.KnownBytes.{Appends, Consumes, Keeps, IsAtEnd, prepend_known}
 use Rattle.std.specs.Str.Lines.{strip_carriage_return}
-use Rattle.script_text.proofs.Parts.{Lacks, Lacks-push}
+use Rattle.line_text.proofs.Parts.{Lacks, Lacks-push}
 use Rattle.script_text.proofs.Progress.{LastText, Progress, failed_within, grown_after, line_step-not_plain, line_step-late, lines_result-went, lines_result-fault}
 use Rattle.script_text.proofs.ScriptLines.{lines_of-line, lines_of-last, begins, begins-not_plain, lines_of-some}
-use Rattle.script_text.proofs.TraceTexts.{some_after, some_before}
+use Rattle.line_text.proofs.TraceTexts.{some_after, some_before}
 use Rattle.script_text.specs.Reads.{BlockState, IsSmall, Stops, Takes, TakesByte, left}
 use Rattle.script_text.specs.Scripts.{Reading, TextResult, EndsAs, HasText, IsAllJudged, IsFront, IsSettled, LineStep, Tells, after_text, ended, line_step, lines_result, text_from, text_of, text_before_failure}
 use Rattle.script_text.specs.Steps.{GivesText, Goes, Speaks, TakesStep, TakesRest}
-use Rattle.script_text.specs.Words.{lines_of}
+use Rattle.line_text.specs.Words.{lines_of}
 use Rattle.script_text.specs.declared.faults.ScriptFault.{ScriptFault}
 use Rattle.script_text.specs.declared.faults.ScriptFault.TheVariants.{Script, Setup, Read, Write, NoMemory}
 

@@ -3,10 +3,11 @@ use Rattle.std.proofs.Common.{◌≡◌, ◌<◌, ◌≤◌, ℕ, ◌+◌, List,
 use Rattle.std.proofs.lemmas.Bool.Decides.{nat_tests}
 use Rattle.bridge_core.specs.declared.Config.{Config as Limits}
 use Rattle.world_run.specs.Setups.{SetupLists}
-use Rattle.script_text.specs.Forms.{first_wrong, read_as, unless_wrong, told_as, address_field, count_field, kind_field}
+use Rattle.line_text.specs.Fields.{first_wrong, read_as, unless_wrong, address_field}
+use Rattle.script_text.specs.Forms.{told_as, count_field, kind_field}
 use Rattle.script_text.specs.SetupLines.{config_in, config_fields, region_in, region_fields, page_fields, kind_in}
 use Rattle.script_text.specs.Stages.{HasRoomFor, MayStand, Opening, Running, SettingUp, Stage, has_no_room, is_misplaced, is_setup_form, setup_line}
-use Rattle.script_text.specs.Words.{word_at, dec_at, hex_at}
+use Rattle.line_text.specs.Words.{word_at, dec_at, hex_at}
 use Rattle.script_text.specs.declared.keywords.Form.{Form}
 use Rattle.script_text.specs.declared.keywords.Form.TheVariants as form
 use Rattle.script_text.specs.declared.setup_parser.SetupLine.{SetupLine}

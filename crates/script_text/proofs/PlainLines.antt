@@ -4,7 +4,7 @@ use Rattle.std.proofs.lemmas.Bool.Decides.{nat_tests}
 use Rattle.std.specs.List.{list_all}
 use Rattle.std.specs.Str.Lines.{strip_carriage_return}
 use Rattle.script_text.specs.Reads.{IsOneLine}
-use Rattle.script_text.specs.Words.{is_plain_byte, is_plain_line}
+use Rattle.line_text.specs.Words.{is_plain_byte, is_plain_line}
 
 both : (a b : Bool) → (a && b) ≡ true → (a ≡ true) × (b ≡ true)
 both true b all = (refl, all)

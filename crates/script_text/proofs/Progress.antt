@@ -4,13 +4,13 @@ use Rattle.std.proofs.KnownBytes.{Appends-nil, Appends-trans, Appends-kept, Cons
 use Rattle.std.proofs.lemmas.Bool.Decides.{nat_tests}
 use Rattle.std.specs.Io.KnownBytes.{Appends, Consumes, Keeps, prepend_known}
 use Rattle.std.specs.Str.Lines.{strip_carriage_return}
-use Rattle.script_text.proofs.Parts.{Lacks}
+use Rattle.line_text.proofs.Parts.{Lacks}
 use Rattle.script_text.proofs.ScriptLines.{lines_of-line, ended_lines_of-line, ended_lines_of-last}
-use Rattle.script_text.proofs.TraceTexts.{grows}
+use Rattle.line_text.proofs.TraceTexts.{grows}
 use Rattle.script_text.specs.Reads.{BlockState, Takes, left}
 use Rattle.script_text.specs.Scripts.{Reading, TextResult, after_step, after_text, ended, line_step, lines_result, text_from, text_of, text_before_failure}
 use Rattle.script_text.specs.Steps.{Goes}
-use Rattle.script_text.specs.Words.{lines_of, ended_lines_of, is_plain_line, is_skipped, words_of}
+use Rattle.line_text.specs.Words.{lines_of, ended_lines_of, is_plain_line, is_skipped, words_of}
 use Rattle.script_text.specs.declared.faults.ScriptFault.{ScriptFault}
 use Rattle.script_text.specs.declared.faults.ScriptFault.TheVariants.{Script, Read}
 

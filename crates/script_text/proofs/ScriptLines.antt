@@ -3,8 +3,8 @@ use Rattle.std.proofs.Common.{◌≡◌, ◌≢◌, ◌<◌, ◌==◌, ℕ, zero
 use Rattle.std.proofs.lemmas.Bool.Decides.{nat_tests}
 use Rattle.std.specs.List.{slice_index}
 use Rattle.std.specs.Str.Lines.{strip_carriage_return}
-use Rattle.script_text.proofs.Parts.{Lacks, slice_split-lacks, slice_split-at, slice_split-front, Split, split}
-use Rattle.script_text.specs.Words.{lines_of, ended_lines_of, without_empty_end, without_last, parts_of, is_plain_line}
+use Rattle.line_text.proofs.Parts.{Lacks, slice_split-lacks, slice_split-at, slice_split-front, Split, split}
+use Rattle.line_text.specs.Words.{lines_of, ended_lines_of, without_empty_end, without_last, parts_of, is_plain_line}
 
 -- a line, its line feed, and the lines after it
 without_empty_end-cons : (part : List ℕ) (parts : List (List ℕ)) (rest : List ℕ) → Split 10 rest → parts ≡ parts_of rest → without_empty_end (part ∷ parts) ≡ part ∷ without_empty_end parts

@@ -4,7 +4,7 @@ use Rattle.std.proofs.KnownBytes.{Appends-nil, Keeps-refl}
 use Rattle.script_text.specs.Forms.{form_of}
 use Rattle.script_text.specs.Scripts.{LineStep}
 use Rattle.script_text.specs.Stages.{Command, Kind, MayStand, OpensStage, Opening, Running, SettingUp, Setup as SetUp, Stage, Writes, command_step, is_misplaced, is_setup_form, line_in, line_of_form, nothing_written, reading_of, setup_line, with_setup_line, world_at}
-use Rattle.script_text.specs.Words.{word_at}
+use Rattle.line_text.specs.Words.{word_at}
 use Rattle.script_text.specs.declared.keywords.Form.{Form}
 use Rattle.script_text.specs.declared.setup_parser.SetupLine.{SetupLine}
 use Rattle.script_text.specs.Steps.{GivesText, TakesStep}

@@ -1,10 +1,7 @@
+pub mod Answers
 pub mod Forms
-pub mod Names
-pub mod OfferLines
 pub mod Reads
 pub mod Scripts
 pub mod SetupLines
 pub mod Stages
 pub mod Steps
-pub mod Words
-pub mod Writing

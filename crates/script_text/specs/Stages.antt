@@ -7,7 +7,7 @@ use Rattle.world_run.specs.declared.SetupFault.TheVariants as refused
 use Rattle.script_text.specs.Forms.{told_as, form_of}
 use Rattle.script_text.specs.Scripts.{LineStep, Reading, TextResult, ended}
 use Rattle.script_text.specs.SetupLines.{config_line, region_line, page_line, bad_line, too_many_pages, with_config, with_line}
-use Rattle.script_text.specs.Words.{word_at}
+use Rattle.line_text.specs.Words.{word_at}
 use Rattle.script_text.specs.declared.faults.ScriptFault.{ScriptFault}
 use Rattle.script_text.specs.declared.faults.ScriptFault.TheVariants.{Script, Setup as SetupRefused, Read, Write, NoMemory}
 use Rattle.script_text.specs.declared.keywords.Form.{Form}

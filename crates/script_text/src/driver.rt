@@ -2,14 +2,13 @@
 ghost use Rattle.std.specs.Prelude.{◌≡◌, ◌≤◌, ◌<◌, true, false, MatchOption};
 ghost use Rattle.std.specs.Str.Lines.{strip_carriage_return};
 ghost use Rattle.script_text.specs.Reads.{IsOneLine};
-ghost use Rattle.script_text.specs.Words.{is_plain_line};
+ghost use Rattle.line_text.specs.Words.{is_plain_line};
 ghost use Rattle.script_text.specs.Scripts.{line_step, text_from, text_of, text_before_failure, EndsAs};
 ghost use Rattle.script_text.specs.Steps.{TakesStep, TakesRest};
 
 use crate::faults::ScriptFault;
-use crate::plain::may_stand;
 use crate::reader::{Block, Ending};
-use crate::words::{Words, is_comment};
+use line_text::{Words, is_comment, may_stand};
 use std::alloc::Global;
 use std::io::{Read, Write};
 

@@ -1,18 +1,6 @@
-//! Why a text isn't written whole, and why a script isn't carried out to its end.
-use std::io;
+//! Why a script isn't carried out to its end.
 use thiserror::Error;
 use world_run::SetupFault;
-
-/// The writer refused: what it took is a front of the text. Its own error is dropped, since each is told as the same fault.
-#[derive(Clone, Copy, Debug, PartialEq, Eq, Error)]
-#[error("write fault")]
-pub struct WriteFault;
-
-impl From<io::Error> for WriteFault {
-    fn from(_: io::Error) -> WriteFault {
-        WriteFault
-    }
-}
 
 /// Why a script isn't carried out to its end (this project's profile).
 #[derive(Clone, Copy, Debug, PartialEq, Eq, Error)]

@@ -3,11 +3,11 @@ ghost use Rattle.std.specs.Prelude.{◌≡◌, ◌≢◌, ◌≤◌, ◌<◌, []
 ghost use Rattle.std.specs.Io.KnownBytes.{Keeps};
 ghost use Rattle.arrayvec.specs.ArrayVec.{array_vec_len};
 ghost use Rattle.script_text.specs.Reads.{Fills, IsPart, IsSmall, ReadsLine, Refills, TakesByte, TakesPart, TakesWhole};
-ghost use Rattle.script_text.specs.Words.{is_plain_line};
+ghost use Rattle.line_text.specs.Words.{is_plain_line};
 
 use crate::faults::ScriptFault;
-use crate::plain::is_plain;
 use arrayvec::ArrayVec;
+use line_text::plain_line_in;
 use std::alloc::{AllocError, Global};
 use std::io::{Read, Write};
 use std::marker::Model;
@@ -53,24 +53,6 @@ fn part_of(ahead: &[u8], room: usize) -> (usize, Option<Ending>)
     (most, None)
 }
 
-/// How many bytes the line has that bytes ahead begin with, where its line feed is among them and it may stand as it is.
-fn plain_line_in(ahead: &[u8]) -> Option<usize>
-    ensures { IfSome result (λ count. (count < length ahead.now) × (is_plain_line (take count ahead.now) ≡ true) × (slice_index_or ahead.now count 0 ≡ 10)) }
-{
-    let most = if ahead.len() > LINE_BYTES {
-        LINE_BYTES
-    } else {
-        ahead.len()
-    };
-    for count in 0..most {
-        let byte = ahead[count];
-        if !is_plain(byte) {
-            return if byte == b'\n' { Some(count) } else { None };
-        }
-    }
-    None
-}
-
 /// The block of the input that was read last, at most 65,536 bytes, and the line that was read last, which stands in the block
 /// or, where it doesn't lie whole in one, apart.
 #[derive(Drop)]
@@ -88,7 +70,7 @@ pub struct Block {
 impl Model for Block {
     ghost use Rattle.std.specs.Prelude.{◌≡◌, ◌≤◌, true, false, drop, take, length, slice_range, if◌then◌else◌};
     ghost use Rattle.script_text.specs.Reads.{BlockState};
-    ghost use Rattle.script_text.specs.Words.{is_plain_line};
+    ghost use Rattle.line_text.specs.Words.{is_plain_line};
 
     ghost Value = { BlockState };
 

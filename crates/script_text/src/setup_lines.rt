@@ -6,7 +6,7 @@ ghost use Rattle.script_text.specs.Stages.{HasRoomFor, has_no_room, is_setup_for
 
 use crate::keywords::Form;
 use crate::setup_parser::{SetupLine, bad_line, config_line, page_count, page_line, region_line};
-use crate::words::Words;
+use line_text::Words;
 use subordinate::PageKind;
 use world_run::Setup;
 

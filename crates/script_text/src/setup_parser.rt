@@ -1,11 +1,12 @@
 //! The set-up lines of a script.
 ghost use Rattle.std.specs.Prelude.{◌≡◌, ◌==◌, ◌||◌, not, false};
 ghost use Rattle.std.specs.List.{list_all};
-ghost use Rattle.script_text.specs.Forms.{Reads, levels_field, permissions_field, count_field, first_wrong, kind_field, unless_wrong};
+ghost use Rattle.line_text.specs.Fields.{Reads, first_wrong, unless_wrong};
+ghost use Rattle.script_text.specs.Forms.{levels_field, permissions_field, count_field, kind_field};
 ghost use Rattle.script_text.specs.SetupLines.{config_line, region_line, page_line, bad_line, bus_fields, bus_in, kind_in, level_at, levels_in, permissions_in};
-ghost use Rattle.script_text.specs.Words.{word_at, dec_at};
+ghost use Rattle.line_text.specs.Words.{word_at, dec_at};
 
-use crate::words::Words;
+use line_text::Words;
 use bridge_core::Config;
 use burst_plan::Region;
 use subordinate::PageKind;

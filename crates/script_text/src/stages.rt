@@ -5,11 +5,11 @@ ghost use Rattle.script_text.specs.Stages.{MayStand, OpensAs, Opening, OpensStag
 ghost use Rattle.script_text.specs.Steps.{TakesRest, TakesStep};
 
 use crate::driver::Script;
-use crate::faults::{ScriptFault, WriteFault};
+use crate::faults::ScriptFault;
 use crate::keywords::Form;
 use crate::setup_lines::{add_setup_line, has_no_room, is_setup_form, setup_line};
 use crate::setup_parser::SetupLine;
-use crate::words::Words;
+use line_text::{WriteFault, Words};
 use std::alloc::Global;
 use std::io::Write;
 use std::marker::Model;

@@ -4,10 +4,10 @@ use Rattle.std.specs.Prelude.{nat_le}
 use Rattle.std.proofs.lemmas.Bool.{false≢true}
 use Rattle.tl_messages.specs.declared.ABeat.{ABeat}
 use Rattle.world_run.specs.Setups.{SetupLists}
-use Rattle.script_text.specs.Forms.{byte_field, unless_wrong}
-use Rattle.script_text.specs.OfferLines.{offer_line}
+use Rattle.line_text.specs.Fields.{byte_field, unless_wrong}
+use Rattle.line_text.specs.OfferLines.{offer_line}
 use Rattle.script_text.specs.Stages.{has_no_room, is_setup_form}
-use Rattle.script_text.specs.Words.{dec_at, word_at}
+use Rattle.line_text.specs.Words.{dec_at, word_at}
 use Rattle.script_text.specs.declared.keywords.Form.{Form}
 use Rattle.script_text.specs.declared.keywords.Form.TheVariants as form
 use Rattle.threads_script.specs.Asked.{AskedLists, is_misplaced}

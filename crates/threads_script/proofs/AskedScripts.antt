@@ -4,7 +4,7 @@ use Rattle.std.specs.Prelude.{⊤, ◌||◌, nat_lt, not}
 use Rattle.world_run.specs.Setups.{SetupLists, setup_fault}
 use Rattle.world_run.specs.declared.SetupFault.{SetupFault}
 use Rattle.script_text.specs.Scripts.{LineStep, TextResult, after_step, line_step, lines_result}
-use Rattle.script_text.specs.Words.{is_plain_line, is_skipped, words_of}
+use Rattle.line_text.specs.Words.{is_plain_line, is_skipped, words_of}
 use Rattle.script_text.specs.declared.faults.ScriptFault.{ScriptFault}
 use Rattle.script_text.specs.declared.faults.ScriptFault.TheVariants.{Script}
 use Rattle.threads_script.specs.Asked.{AskedLists, IsSoundAsked, asked_at_end, asked_by, asked_unless, silent_step, threads_reading}

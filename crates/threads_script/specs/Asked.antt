@@ -3,12 +3,13 @@ use Rattle.std.specs.Prelude.{ℕ, ◌+◌, ◌≡◌, ◌≤◌, Bool, true, fa
 use Rattle.tl_messages.specs.declared.ABeat.{ABeat}
 use Rattle.world_run.specs.Setups.{SetupLists, setup_fault}
 use Rattle.world_run.specs.declared.SetupFault.{SetupFault}
-use Rattle.script_text.specs.Forms.{Field, address_field, byte_field, form_of, read_as, told_as}
-use Rattle.script_text.specs.OfferLines.{offer_line}
+use Rattle.line_text.specs.Fields.{Field, address_field, byte_field, read_as}
+use Rattle.script_text.specs.Forms.{form_of, told_as}
+use Rattle.line_text.specs.OfferLines.{offer_line}
 use Rattle.script_text.specs.Scripts.{LineStep, Reading, TextResult, ended}
 use Rattle.script_text.specs.SetupLines.{with_config, with_line}
 use Rattle.script_text.specs.Stages.{has_no_room, is_config_form, is_setup_form, setup_line}
-use Rattle.script_text.specs.Words.{is_dec_to, word_at, dec_at, hex_at}
+use Rattle.line_text.specs.Words.{is_dec_to, word_at, dec_at, hex_at}
 use Rattle.script_text.specs.declared.faults.ScriptFault.TheVariants.{Script, Setup}
 use Rattle.script_text.specs.declared.keywords.Form.{Form}
 use Rattle.script_text.specs.declared.keywords.Form.TheVariants as form

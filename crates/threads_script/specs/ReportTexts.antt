@@ -1,7 +1,7 @@
 -- The text of a threaded run's report (this project's profile).
 use Rattle.std.specs.Prelude.{ℕ, ◌≡◌, ◌++◌, List, take, Some, flat_map, slice_get}
 use Rattle.std.specs.List.{range_with_len}
-use Rattle.script_text.specs.Names.{client_text, mem_text, ok_text, reply_line_text, reply_text}
+use Rattle.line_text.specs.Traces.{client_text, mem_text, ok_text, reply_line_text, reply_text}
 use Rattle.world_run.specs.Headline.{IsOneAtATime}
 use Rattle.world_run.specs.Runs.{HandedReply, answers_of, handed_in, sent_in}
 use Rattle.world_run.specs.Setups.{SetupLists}

@@ -9,9 +9,8 @@ ghost use Rattle.threads_script.specs.Asked.{IsFit, TakesLine, asked_by, asked_w
 use crate::line_parser::{address_line, thread_of, word_line};
 use crate::lists;
 use crate::lists::{lists_with_room, push_to};
-use script_text::{
-    Form, SetupLine, Words, add_setup_line, has_no_room, is_setup_form, offer_line, setup_line,
-};
+use line_text::{Words, offer_line};
+use script_text::{Form, SetupLine, add_setup_line, has_no_room, is_setup_form, setup_line};
 use std::alloc::{AllocError, Global};
 use std::marker::Model;
 use tl_messages::ABeat;

@@ -1,9 +1,9 @@
 //! The lines that a script of `tlbridge threads` alone has.
 ghost use Rattle.std.specs.Prelude.{◌≡◌};
-ghost use Rattle.script_text.specs.Forms.{Reads};
+ghost use Rattle.line_text.specs.Fields.{Reads};
 ghost use Rattle.threads_script.specs.Asked.{address_line, is_thread, thread_in, word_line};
 
-use script_text::Words;
+use line_text::Words;
 
 /// The memory thread of `word N T`, or the first one for `word N`.
 pub(crate) fn thread_of(words: &Words<'_>) -> Result<u8, u32>

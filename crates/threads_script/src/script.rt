@@ -1,7 +1,8 @@
 //! A script that asks, as it is read.
 
 use crate::asked::Asked;
-use script_text::{Script, ScriptFault, Words};
+use line_text::Words;
+use script_text::{Script, ScriptFault};
 use std::alloc::Global;
 use std::io::Write;
 use world_run::setup_fault;

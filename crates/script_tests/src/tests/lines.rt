@@ -1,7 +1,5 @@
-use script_text::{
-    Script, ScriptFault, Words, WriteFault, answer_line, client_line, drained_line, mem_line,
-    offer_line, ok_line, read_script, refused_line, reply_line, work_line,
-};
+use line_text::{Words, WriteFault, client_line, drained_line, mem_line, offer_line, ok_line, refused_line, reply_line, work_line};
+use script_text::{Script, ScriptFault, answer_line, read_script};
 use std::alloc::Global;
 use std::io::Write;
 use std::test::Fail;

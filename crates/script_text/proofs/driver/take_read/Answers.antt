@@ -1,6 +1,6 @@
 use Rattle.std.proofs.Common.{◌≡◌, true}
 use Rattle.script_text.proofs.PlainLines.{strip-plain}
-use Rattle.script_text.specs.Words.{is_plain_line}
+use Rattle.line_text.specs.Words.{is_plain_line}
 use Rattle.script_text.proofs.driver.take_read.Goals as goal
 
 pub take_plain-requires-clause-plain : goal.take_plain-requires-clause-plain

@@ -1,6 +1,6 @@
 use Rattle.std.proofs.Common.{◌≡◌, ◌∙◌, codes, arith, rules, refl, sym}
 use Rattle.std.proofs.lemmas.Slice.Eq.{text_from_reads}
-use Rattle.script_text.specs.Words.{word_at}
+use Rattle.line_text.specs.Words.{word_at}
 use Rattle.script_text.proofs.setup_parser.page_kind.Goals as goal
 
 pub returns-in-slverr : goal.returns-in-slverr

@@ -1,7 +1,7 @@
 -- The lines of the first addresses.
 use Rattle.std.proofs.Common.{flat_map, take}
 use Rattle.std.specs.Io.KnownBytes.{Appends}
-use Rattle.script_text.specs.Names.{mem_text}
+use Rattle.line_text.specs.Traces.{mem_text}
 use Rattle.world_run.specs.World.{byte_of}
 use Rattle.threads_script.proofs.report_writer.byte_lines.Given as goal
 

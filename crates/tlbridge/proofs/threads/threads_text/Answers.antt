@@ -3,7 +3,7 @@ use Rattle.std.proofs.Common.{◌≡◌, ℕ, List, [], Err, Ok, inl, refl, ap, 
 use Rattle.std.proofs.KnownBytes.{Consumes-nil, Keeps-refl}
 use Rattle.script_text.specs.Scripts.{text_before_failure, text_of}
 use Rattle.script_text.specs.Scripts as script
-use Rattle.script_text.specs.Words.{lines_of}
+use Rattle.line_text.specs.Words.{lines_of}
 use Rattle.script_text.specs.declared.faults.ScriptFault.TheVariants.{NoMemory}
 use Rattle.world_run.specs.Headline.{IsOneAtATime}
 use Rattle.world_run.specs.Runs.{answers_of, handed_in, sent_in}

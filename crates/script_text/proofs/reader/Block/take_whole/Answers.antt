@@ -2,7 +2,7 @@ use Rattle.std.proofs.Common.{◌≡◌, ◌<◌, ◌-◌, ◌+◌, drop, take, 
 use Rattle.std.proofs.lemmas.List.{drop-drop}
 use Rattle.std.proofs.lemmas.Slice.{between_is}
 use Rattle.script_text.proofs.Blocks.{TakesWhole-part, between-front}
-use Rattle.script_text.specs.Words.{is_plain_line}
+use Rattle.line_text.specs.Words.{is_plain_line}
 use Rattle.script_text.proofs.reader.Block.take_whole.Goals as goal
 
 pub returns-clause-whole : goal.returns-clause-whole

@@ -3,7 +3,7 @@ use Rattle.script_text.proofs.StageSteps.{line_in-form, line_of_form-command}
 use Rattle.script_text.specs.Forms.{form_of}
 use Rattle.script_text.specs.Stages.{is_misplaced, nothing_written, reading_of, step_of_line}
 use Rattle.script_text.specs.Steps.{TakesStep}
-use Rattle.script_text.specs.Words.{word_at}
+use Rattle.line_text.specs.Words.{word_at}
 use Rattle.script_text.proofs.stages.StagedScriptScript.take_words.Goals as goal
 
 pub returns-then-is_setup_form : goal.returns-then-is_setup_form

@@ -1,6 +1,6 @@
 -- A beat that may stand has room, and its list has an item more.
 use Rattle.std.proofs.Common.{◌≡◌, ◌<◌, ◌∙◌, Ok, ap, length, sym}
-use Rattle.script_text.specs.OfferLines.{offer_line}
+use Rattle.line_text.specs.OfferLines.{offer_line}
 use Rattle.thread_reports.specs.Reports.{items_of}
 use Rattle.threads_script.specs.Lists.{list_at}
 use Rattle.threads_script.proofs.AskedLines.{beat_room}

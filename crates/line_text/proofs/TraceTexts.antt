@@ -1,0 +1,60 @@
+-- The lines of one beat more, and texts that aren't empty.
+use Rattle.std.proofs.Common.{◌≡◌, ◌≢◌, ℕ, zero, suc, ◌+◌, ◌≤◌, List, [], ◌∷◌, ◌++◌, take, flat_map, Option, Some, None, slice_get, length, length-append, refl, ap, sym, ◌∙◌, append_assoc, rules, arith}
+use Rattle.axi_beats.specs.Boxes.{aw_of, w_beats_of}
+use Rattle.axi_beats.specs.Bursts.{Burst, WriteBurst, ReadBurst}
+use Rattle.axi_beats.specs.Lines.{aw_text, w_text}
+use Rattle.axi_beats.specs.declared.AwBeat.{AwBeat}
+use Rattle.line_text.specs.Traces.{held_text}
+use Rattle.tl_checker.specs.Names.{name_of}
+use Rattle.tl_checker.specs.declared.TlRule.{TlRule}
+use Rattle.tl_checker.specs.declared.TlRule.TheVariants.{Opcode, Level, Size, AtomicSize, Align, Param, Mask, Corrupt, SourceBusy, BurstControl, DOpcode, DSize, DSource, DBeats, DDenied, DCorrupt}
+
+flat_map-take-suc : {X : Type 0} (f : X → List ℕ) (xs : List X) (k : ℕ) (x : X) → slice_get xs k ≡ Some x → flat_map f (take (suc k) xs) ≡ flat_map f (take k xs) ++ f x
+flat_map-take-suc f [] k x found = search rules
+flat_map-take-suc f (y ∷ ys) zero x found = search rules
+flat_map-take-suc f (y ∷ ys) (suc k) x found =
+    ap (λ text. f y ++ text) (flat_map-take-suc f ys k x found) ∙ sym (append_assoc (f y) (flat_map f (take k ys)) (f x))
+
+pub flat_map-take : {X : Type 0} (f : X → List ℕ) (xs : List X) (k : ℕ) (x : X) → slice_get xs k ≡ Some x → flat_map f (take (k + 1) xs) ≡ flat_map f (take k xs) ++ f x
+flat_map-take f xs k x found =
+    let next : k + 1 ≡ suc k = omega arith in
+    rw next (flat_map-take-suc f xs k x found)
+
+-- the text of a write
+pub held_text-write : (burst : Option Burst) (aw : AwBeat) → aw_of burst ≡ Some aw → held_text burst ≡ aw_text aw ++ flat_map w_text (w_beats_of burst)
+held_text-write None aw found = search rules
+held_text-write (Some (ReadBurst ar)) aw found = search rules
+held_text-write (Some (WriteBurst first beats)) aw found = let same : first ≡ aw = cc in ap (λ beat. aw_text beat ++ flat_map w_text beats) same
+
+-- a text with a part that isn't empty
+pub some_before : (xs ys : List ℕ) → xs ≢ [] → xs ++ ys ≢ []
+some_before [] ys some none = some refl
+some_before (x ∷ xs) ys some none = search rules
+
+pub some_after : (xs ys : List ℕ) → ys ≢ [] → xs ++ ys ≢ []
+some_after [] ys some none = some none
+some_after (x ∷ xs) ys some none = search rules
+
+-- a text that isn't empty makes another longer
+pub grows : (xs ys : List ℕ) → ys ≢ [] → xs ≢ xs ++ ys
+grows xs [] some same = some refl
+grows xs (y ∷ ys) some same = omega (arith, ap length same, length-append xs (y ∷ ys))
+
+-- a rule's name is short
+pub short_name : (r : TlRule) → length (name_of r) ≤ 13
+short_name Opcode = omega arith
+short_name Level = omega arith
+short_name Size = omega arith
+short_name AtomicSize = omega arith
+short_name Align = omega arith
+short_name Param = omega arith
+short_name Mask = omega arith
+short_name Corrupt = omega arith
+short_name SourceBusy = omega arith
+short_name BurstControl = omega arith
+short_name DOpcode = omega arith
+short_name DSize = omega arith
+short_name DSource = omega arith
+short_name DBeats = omega arith
+short_name DDenied = omega arith
+short_name DCorrupt = omega arith

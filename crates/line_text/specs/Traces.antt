@@ -1,0 +1,56 @@
+-- The lines of a trace that aren't beats (this project's profile).
+use Rattle.std.specs.Prelude.{ℕ, List, [], ◌∷◌, ◌++◌, Option, Some, None, codes, decimal, flat_map}
+use Rattle.bus_words.specs.Text.{line, hex}
+use Rattle.tl_messages.specs.Lines.{d_text}
+use Rattle.tl_messages.specs.declared.DBeat.{DBeat}
+use Rattle.tl_checker.specs.Names.{number_of, name_of}
+use Rattle.tl_checker.specs.declared.TlRule.{TlRule}
+use Rattle.axi_beats.specs.Bursts.{Burst, WriteBurst, ReadBurst}
+use Rattle.axi_beats.specs.Lines.{aw_text, ar_text, w_text}
+
+-- the line of an answer: `=` and its words
+abbrev pub answer_line : List (List ℕ) → List ℕ
+answer_line words = line (codes "=" ∷ words)
+
+-- the line of a refused beat: the rule's number and name
+abbrev pub refused_text : TlRule → List ℕ
+refused_text rule = answer_line (codes "refused" ∷ decimal (number_of rule) ∷ name_of rule ∷ [])
+
+-- the line of a reply, by its request's number
+abbrev pub reply_line_text : ℕ → List ℕ
+reply_line_text number = answer_line (codes "reply" ∷ decimal number ∷ [])
+
+-- the line of a run that went well
+abbrev pub ok_text : List ℕ
+ok_text = answer_line (codes "ok" ∷ [])
+
+-- the line that names a client, whose lines follow
+abbrev pub client_text : ℕ → List ℕ
+client_text client = line (codes "client" ∷ decimal client ∷ [])
+
+-- the lines of a burst that was sent
+abbrev pub burst_text : Burst → List ℕ
+burst_text (WriteBurst aw beats) = aw_text aw ++ flat_map w_text beats
+burst_text (ReadBurst ar) = ar_text ar
+
+-- the lines of the burst in a box, if it holds one
+abbrev pub held_text : Option Burst → List ℕ
+held_text None = []
+held_text (Some burst) = burst_text burst
+
+-- the lines of a reply's beats
+abbrev pub reply_text : ℕ → List DBeat → List ℕ
+reply_text client beats = flat_map (d_text client) beats
+
+-- the line of a drain, by its number of steps
+abbrev pub drained_text : ℕ → List ℕ
+drained_text steps = answer_line (codes "drained" ∷ decimal steps ∷ [])
+
+-- the line of the work left
+abbrev pub work_text : ℕ → List ℕ
+work_text work = answer_line (codes "work" ∷ decimal work ∷ [])
+
+-- the line of a byte of memory
+abbrev pub mem_text : Option ℕ → List ℕ
+mem_text None = answer_line (codes "mem" ∷ codes "--" ∷ [])
+mem_text (Some byte) = answer_line (codes "mem" ∷ hex 2 byte ∷ [])

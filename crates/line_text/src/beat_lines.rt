@@ -1,0 +1,178 @@
+//! The lines of beats in a trace.
+ghost use Rattle.std.specs.Prelude.{◌≡◌, ◌≤◌, OnErr, OnOk, length};
+ghost use Rattle.std.specs.Io.KnownBytes.{Appends};
+ghost use Rattle.line_text.specs.Writing.{StopsShort};
+ghost use Rattle.tl_messages.specs.Lines.{a_text, d_text};
+ghost use Rattle.axi_beats.specs.Lines.{ar_text, aw_text, b_text, r_text, resp_text, w_text};
+
+use crate::line::LineText;
+use crate::writing::{WriteFault, write_text};
+use axi_beats::{ArBeat, AwBeat, BBeat, RBeat, Resp, WBeat};
+use std::io::Write;
+use tl_messages::{ABeat, DBeat};
+
+/// `A CLIENT OPCODE PARAM SIZE SOURCE ADDRESS MASK PAYLOAD CORRUPT`.
+fn a_text(client: u8, beat: &ABeat) -> LineText
+    ensures { result ≡ a_text client beat.now }
+{
+    let mut text = LineText::ending_in_flag(beat.corrupt);
+    text.put_hex(16, beat.payload);
+    text.put_hex(2, u64::from(beat.mask));
+    text.put_hex(8, u64::from(beat.address));
+    text.put_byte(beat.source);
+    text.put_byte(beat.size);
+    text.put_byte(beat.param);
+    text.put_byte(beat.opcode);
+    text.put_byte(client);
+    text.put_word(b"A");
+    text
+}
+
+/// Writes the line of a beat that a client offers.
+pub fn a_line<W: Write>(client: u8, beat: &ABeat, writer: &mut W) -> Result<(), WriteFault>
+    ensures all { OnOk result (Appends (W.contents writer.old) (W.contents writer.new) (a_text client beat.now)) }
+    ensures front { OnErr result (StopsShort (a_text client beat.now) (W.contents writer.old) (W.contents writer.new)) }
+{
+    write_text(a_text(client, beat).as_slice(), writer)
+}
+
+/// `D CLIENT OPCODE PARAM SIZE SOURCE DENIED PAYLOAD CORRUPT`.
+fn d_text(client: u8, beat: &DBeat) -> LineText
+    ensures { result ≡ d_text client beat.now }
+{
+    let mut text = LineText::ending_in_flag(beat.corrupt);
+    text.put_hex(16, beat.payload);
+    text.put_flag(beat.denied);
+    text.put_byte(beat.source);
+    text.put_byte(beat.size);
+    text.put_byte(beat.param);
+    text.put_byte(beat.opcode);
+    text.put_byte(client);
+    text.put_word(b"D");
+    text
+}
+
+/// Writes the line of a beat of a reply.
+pub(crate) fn d_line<W: Write>(client: u8, beat: &DBeat, writer: &mut W) -> Result<(), WriteFault>
+    ensures all { OnOk result (Appends (W.contents writer.old) (W.contents writer.new) (d_text client beat.now)) }
+    ensures front { OnErr result (StopsShort (d_text client beat.now) (W.contents writer.old) (W.contents writer.new)) }
+{
+    write_text(d_text(client, beat).as_slice(), writer)
+}
+
+/// A response's name.
+fn resp_word(resp: Resp) -> &'static [u8]
+    ensures is { result.now ≡ resp_text resp }
+    ensures short { length result.now ≤ 6 }
+{
+    match resp {
+        Resp::Okay => b"OKAY",
+        Resp::ExOkay => b"EXOKAY",
+        Resp::SlvErr => b"SLVERR",
+        Resp::DecErr => b"DECERR",
+    }
+}
+
+/// `AW ID ADDRESS LEN SIZE BURST`.
+fn aw_text(beat: &AwBeat) -> LineText
+    ensures { result ≡ aw_text beat.now }
+{
+    let mut text = LineText::new();
+    text.put_decimal(u64::from(beat.burst));
+    text.put_byte(beat.size);
+    text.put_byte(beat.len);
+    text.put_hex(8, u64::from(beat.address));
+    text.put_byte(beat.id);
+    text.put_word(b"AW");
+    text
+}
+
+/// Writes the line of a write's address.
+pub(crate) fn aw_line<W: Write>(beat: &AwBeat, writer: &mut W) -> Result<(), WriteFault>
+    ensures all { OnOk result (Appends (W.contents writer.old) (W.contents writer.new) (aw_text beat.now)) }
+    ensures front { OnErr result (StopsShort (aw_text beat.now) (W.contents writer.old) (W.contents writer.new)) }
+{
+    write_text(aw_text(beat).as_slice(), writer)
+}
+
+/// `AR ID ADDRESS LEN SIZE BURST`.
+fn ar_text(beat: &ArBeat) -> LineText
+    ensures { result ≡ ar_text beat.now }
+{
+    let mut text = LineText::new();
+    text.put_decimal(u64::from(beat.burst));
+    text.put_byte(beat.size);
+    text.put_byte(beat.len);
+    text.put_hex(8, u64::from(beat.address));
+    text.put_byte(beat.id);
+    text.put_word(b"AR");
+    text
+}
+
+/// Writes the line of a read's address.
+pub(crate) fn ar_line<W: Write>(beat: &ArBeat, writer: &mut W) -> Result<(), WriteFault>
+    ensures all { OnOk result (Appends (W.contents writer.old) (W.contents writer.new) (ar_text beat.now)) }
+    ensures front { OnErr result (StopsShort (ar_text beat.now) (W.contents writer.old) (W.contents writer.new)) }
+{
+    write_text(ar_text(beat).as_slice(), writer)
+}
+
+/// `W PAYLOAD STROBES LAST`.
+fn w_text(beat: &WBeat) -> LineText
+    ensures { result ≡ w_text beat.now }
+{
+    let mut text = LineText::ending_in_flag(beat.last);
+    text.put_hex(2, u64::from(beat.strobes));
+    text.put_hex(16, beat.payload);
+    text.put_word(b"W");
+    text
+}
+
+/// Writes the line of a write's data.
+pub(crate) fn w_line<W: Write>(beat: &WBeat, writer: &mut W) -> Result<(), WriteFault>
+    ensures all { OnOk result (Appends (W.contents writer.old) (W.contents writer.new) (w_text beat.now)) }
+    ensures front { OnErr result (StopsShort (w_text beat.now) (W.contents writer.old) (W.contents writer.new)) }
+{
+    write_text(w_text(beat).as_slice(), writer)
+}
+
+/// `B ID RESP`.
+fn b_text(beat: &BBeat) -> LineText
+    ensures { result ≡ b_text beat.now }
+{
+    let mut text = LineText::new();
+    text.put_text(resp_word(beat.resp));
+    text.put_byte(beat.id);
+    text.put_word(b"B");
+    text
+}
+
+/// Writes the line of a write's response.
+#[inline(never)]
+pub fn b_line<W: Write>(beat: &BBeat, writer: &mut W) -> Result<(), WriteFault>
+    ensures all { OnOk result (Appends (W.contents writer.old) (W.contents writer.new) (b_text beat.now)) }
+    ensures front { OnErr result (StopsShort (b_text beat.now) (W.contents writer.old) (W.contents writer.new)) }
+{
+    write_text(b_text(beat).as_slice(), writer)
+}
+
+/// `R ID PAYLOAD RESP LAST`.
+fn r_text(beat: &RBeat) -> LineText
+    ensures { result ≡ r_text beat.now }
+{
+    let mut text = LineText::ending_in_flag(beat.last);
+    text.put_word(resp_word(beat.resp));
+    text.put_hex(16, beat.payload);
+    text.put_byte(beat.id);
+    text.put_word(b"R");
+    text
+}
+
+/// Writes the line of a read's data.
+#[inline(never)]
+pub fn r_line<W: Write>(beat: &RBeat, writer: &mut W) -> Result<(), WriteFault>
+    ensures all { OnOk result (Appends (W.contents writer.old) (W.contents writer.new) (r_text beat.now)) }
+    ensures front { OnErr result (StopsShort (r_text beat.now) (W.contents writer.old) (W.contents writer.new)) }
+{
+    write_text(r_text(beat).as_slice(), writer)
+}

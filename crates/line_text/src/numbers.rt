@@ -1,0 +1,86 @@
+//! The numbers that words write.
+ghost use Rattle.std.specs.Prelude.{◌≡◌, ◌≤◌, ◌<◌, ◌^◌, true, false, length, MatchOption};
+ghost use Rattle.std.specs.Char.{digit_value, is_digit};
+ghost use Rattle.std.specs.List.{list_all};
+ghost use Rattle.std.specs.Str.Parse.{digits_value};
+ghost use Rattle.line_text.specs.Words.{number_of};
+
+/// The most digits of a decimal number.
+const DECIMAL_DIGITS: usize = 20;
+
+/// The most digits of a hexadecimal number.
+const HEXADECIMAL_DIGITS: usize = 16;
+
+/// The value of a digit of either case, if the byte is one.
+#[inline(always)]
+fn digit_of(byte: u8, radix: u8) -> Option<u8>
+    requires { radix ≤ 16 }
+    ensures { MatchOption result (is_digit byte radix ≡ false) (λ digit. (is_digit byte radix ≡ true) × (digit ≡ digit_value byte)) }
+{
+    let value = match byte {
+        b'0'..=b'9' => byte - b'0',
+        b'a'..=b'f' => byte - b'a' + 10,
+        b'A'..=b'F' => byte - b'A' + 10,
+        _ => 16,
+    };
+    if value < radix { Some(value) } else { None }
+}
+
+/// The number of digits of which any so many have one in 64 bits.
+#[inline(always)]
+fn value_of(word: &[u8], radix: u8) -> Option<u64>
+    requires radix { radix ≤ 16 }
+    requires few { radix ^ length word.now ≤ 2 ^ 64 }
+    ensures { MatchOption result (list_all (λ digit. is_digit digit radix) word.now ≡ false) (λ value. (list_all (λ digit. is_digit digit radix) word.now ≡ true) × (value ≡ digits_value radix word.now) × (value < 2 ^ 64)) }
+{
+    let mut value = 0;
+    for byte in word {
+        let Some(digit) = digit_of(*byte, radix) else {
+            return None;
+        };
+        value = value * u64::from(radix) + u64::from(digit);
+    }
+    Some(value)
+}
+
+/// The number of a decimal word of so many digits that not each has one in 64 bits. It is apart, since few words are so long.
+#[inline(never)]
+fn longest_decimal(word: &[u8]) -> Option<u64>
+    requires { length word.now ≡ 20 }
+    ensures { result ≡ number_of 10 20 word.now }
+{
+    let Some(front) = value_of(&word[..19], 10) else {
+        return None;
+    };
+    let Some(digit) = digit_of(word[19], 10) else {
+        return None;
+    };
+    let last = u64::from(digit);
+    if front > (u64::MAX - last) / 10 {
+        return None;
+    }
+    Some(front * 10 + last)
+}
+
+/// The number that 1 to 20 decimal digits write, where it has at most 64 bits.
+pub(crate) fn decimal(word: &[u8]) -> Option<u64>
+    ensures { result ≡ number_of 10 20 word.now }
+{
+    if word.is_empty() || word.len() > DECIMAL_DIGITS {
+        return None;
+    }
+    if word.len() == DECIMAL_DIGITS {
+        return longest_decimal(word);
+    }
+    value_of(word, 10)
+}
+
+/// The number that 1 to 16 hexadecimal digits of either case write.
+pub(crate) fn hexadecimal(word: &[u8]) -> Option<u64>
+    ensures { result ≡ number_of 16 16 word.now }
+{
+    if word.is_empty() || word.len() > HEXADECIMAL_DIGITS {
+        return None;
+    }
+    value_of(word, 16)
+}

@@ -1,7 +1,0 @@
-use Rattle.std.proofs.Common.{◌≡◌, take}
-use Rattle.std.specs.List.{list_all}
-use Rattle.script_text.specs.Words.{is_plain_byte}
-use Rattle.script_text.proofs.plain.are_plain.Given as goal
-
-abbrev pub invariant-loop-byte : goal.invariant-loop-byte
-invariant-loop-byte l = l.plain ≡ list_all is_plain_byte (take l.byte-index l.bytes)
