@@ -9,7 +9,7 @@ use crate::faults::ScriptFault;
 use crate::keywords::Form;
 use crate::setup_lines::{add_setup_line, has_no_room, is_setup_form, setup_line};
 use crate::setup_parser::SetupLine;
-use line_text::{WriteFault, Words};
+use line_text::{Words, WriteFault};
 use std::alloc::Global;
 use std::io::Write;
 use std::marker::Model;
