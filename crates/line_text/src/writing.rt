@@ -58,7 +58,7 @@ fn write_rest<W: Write>(text: &[u8], writer: &mut W) -> Result<(), WriteFault>
 
 /// Writes a text. A write that was interrupted is tried again; where the writer fails, it took a front of the text that isn't
 /// all of it.
-#[inline]
+#[inline(always)]
 pub fn write_text<W: Write>(text: &[u8], writer: &mut W) -> Result<(), WriteFault>
     ensures all { OnOk result (Appends (W.contents writer.old) (W.contents writer.new) text.now) }
     ensures front { OnErr result (StopsShort text.now (W.contents writer.old) (W.contents writer.new)) }

@@ -3,8 +3,8 @@ ghost use Rattle.std.specs.Prelude.{◌++◌, OnOk};
 ghost use Rattle.std.specs.Io.KnownBytes.{Appends};
 ghost use Rattle.score_script.specs.FindingTexts.{WritesText, expected_text, finding_text, last_text, optional_text, wrong_text};
 
-use scoreboard::{ReplyRule, Wrong};
 use line_text::{WriteFault, mem_line};
+use scoreboard::{ReplyRule, Wrong};
 use std::io::Write;
 use tl_messages::d_line;
 

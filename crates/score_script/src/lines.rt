@@ -5,8 +5,8 @@ ghost use Rattle.line_text.specs.Words.{word_at};
 ghost use Rattle.score_script.specs.ObservedLines.{address_line, ar_line, aw_line, b_line, channel_of, d_line, is_withdrawal, r_line, resp_field, resp_in, seen_line, w_line};
 
 use axi_beats::{ArBeat, AwBeat, BBeat, RBeat, Resp, WBeat};
-use scoreboard::Seen;
 use line_text::{Words, offer_line};
+use scoreboard::Seen;
 use tl_messages::DBeat;
 
 /// A channel on which beats are observed.

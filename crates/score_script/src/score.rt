@@ -6,8 +6,8 @@ ghost use Rattle.score_script.specs.ScoreStates.{score_of};
 ghost use Rattle.score_script.specs.SeenBoards.{after_seen, byte_in, bursts_open, replies_open, seen_board, wrong_in};
 
 use crate::findings::{Finding, Findings, last_line, optional_line};
-use scoreboard::{Scoreboard, Seen, Wrong};
 use line_text::WriteFault;
+use scoreboard::{Scoreboard, Seen, Wrong};
 use std::io::Write;
 use tl_messages::ABeat;
 

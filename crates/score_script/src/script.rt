@@ -11,9 +11,12 @@ ghost use Rattle.score_script.specs.ScoreStates.{made_score, state_of};
 use crate::findings::findings_lines;
 use crate::lines::{Channel, address_line, is_withdrawal, seen_line};
 use crate::score::{Command, Score};
-use scoreboard::{Scoreboard, Seen};
 use line_text::Words;
-use script_text::{Form, Script, ScriptFault, SetupLine, add_setup_line, has_no_room, is_setup_form, read_script, setup_line};
+use scoreboard::{Scoreboard, Seen};
+use script_text::{
+    Form, Script, ScriptFault, SetupLine, add_setup_line, has_no_room, is_setup_form, read_script,
+    setup_line,
+};
 use std::alloc::Global;
 use std::io::{Read, Write};
 use world_run::{Setup, SetupFault};

@@ -1,4 +1,7 @@
-use line_text::{Words, WriteFault, client_line, drained_line, mem_line, offer_line, ok_line, refused_line, reply_line, work_line};
+use line_text::{
+    Words, WriteFault, client_line, drained_line, mem_line, offer_line, ok_line, refused_line,
+    reply_line, work_line,
+};
 use script_text::{Script, ScriptFault, answer_line, read_script};
 use std::alloc::Global;
 use std::io::Write;
