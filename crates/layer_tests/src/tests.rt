@@ -1,4 +1,7 @@
 //! One module for each layer.
+use std::fmt::Debug;
+use std::process::Abort;
+
 mod bursts;
 mod data;
 mod memories;
@@ -8,3 +11,14 @@ mod plans;
 mod ports;
 mod replies;
 mod words;
+mod writers;
+
+/// Has the test fail where two values differ; `case` says of what they are.
+pub(crate) fn same<C: Debug + Drop, T: Debug + Drop + PartialEq>(
+    rt: &impl Abort,
+    case: C,
+    got: T,
+    wanted: T,
+) {
+    assert_eq!(rt; got, wanted, "{case:?}");
+}

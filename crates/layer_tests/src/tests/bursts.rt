@@ -1,3 +1,5 @@
+use super::same;
+use super::writers::Writer;
 use axi_beats::{
     ArBeat, AwBeat, BBeat, BurstBox, MAX_TRANSFERS, RBeat, Resp, WBeat, ar_line, aw_line, b_line,
     lanes_of, last_byte, r_line, transfer_address, w_line,
@@ -5,29 +7,6 @@ use axi_beats::{
 use std::io;
 use std::io::{ErrorKind, Write};
 use std::test::Fail;
-
-/// A writer to memory whose call number `fails`, from 0, fails.
-#[derive(Drop)]
-struct Writer {
-    text: Vec<u8>,
-    calls: u32,
-    fails: u32,
-}
-
-impl Write for Writer {
-    fn write(&mut self, buf: &[u8]) -> io::Result<usize> {
-        let call = self.calls;
-        self.calls = call.saturating_add(1);
-        if call == self.fails {
-            return Err(io::Error::from(ErrorKind::BrokenPipe));
-        }
-        self.text.write(buf)
-    }
-
-    fn flush(&mut self) -> io::Result<()> {
-        Ok(())
-    }
-}
 
 const AW: AwBeat = AwBeat {
     id: 0,
@@ -83,7 +62,7 @@ R 1 0505050505050505 OKAY 1
 fn writes_lines(rt: HostRuntime) -> Result<(), Fail> {
     let mut text = Vec::new(rt.alloc());
     all_lines(&mut text)?;
-    assert_eq!(rt; text.as_slice(), ALL_LINES);
+    same(&rt, "all lines", text.as_slice(), ALL_LINES);
     Ok(())
 }
 
@@ -105,29 +84,24 @@ fn writes_responses_and_flags(rt: HostRuntime) -> Result<(), Fail> {
         &mut text,
     )?;
     let wanted = b"B 15 EXOKAY\nB 15 SLVERR\nB 15 DECERR\nW 00000000aa000000 08 0\n";
-    assert_eq!(rt; text.as_slice(), wanted.as_slice());
+    same(&rt, "other lines", text.as_slice(), wanted.as_slice());
     Ok(())
 }
 
 #[test]
-fn answers_the_writers_fault(rt: HostRuntime) -> Result<(), Fail> {
+fn answers_the_writers_fault(rt: HostRuntime) {
     let mut faults = 0u32;
-    for k in 0..1000 {
-        let mut writer = Writer {
-            text: Vec::new(rt.alloc()),
-            calls: 0,
-            fails: k,
+    for call in 0..1000 {
+        let mut writer = Writer::failing_at(rt.alloc(), call);
+        let Err(fault) = all_lines(&mut writer) else {
+            break;
         };
-        match all_lines(&mut writer) {
-            Ok(()) => break,
-            Err(fault) => assert_eq!(rt; fault.kind(), ErrorKind::BrokenPipe, "call {k}"),
-        }
-        let written = writer.text.as_slice();
-        assert!(rt; ALL_LINES.starts_with(written), "call {k}");
+        same(&rt, ("call", call), fault.kind(), ErrorKind::BrokenPipe);
+        let is_front = ALL_LINES.starts_with(writer.text.as_slice());
+        same(&rt, ("text before call", call), is_front, true);
         faults = faults.saturating_add(1);
     }
-    assert!(rt; faults >= 5 && faults < 1000, "{faults} faults");
-    Ok(())
+    same(&rt, ("faults", faults), faults >= 5 && faults < 1000, true);
 }
 
 #[test]
@@ -141,11 +115,8 @@ fn transfers(rt: HostRuntime) {
         (0x10003, 2, 2, 0x10004),
         (0xfffffff8, 3, 2, 0x100000000),
     ] {
-        assert_eq!(rt;
-            transfer_address(start, size, n),
-            address,
-            "transfer {n} of {start:x}"
-        );
+        let found = transfer_address(start, size, n);
+        same(&rt, ("address of transfer", n, start), found, address);
     }
     for (start, size, n, bus_bytes, lanes) in [
         (0x10008, 3, 1, 8, (0, 7)),
@@ -156,10 +127,12 @@ fn transfers(rt: HostRuntime) {
         (0x10014, 2, 1, 4, (0, 3)),
         (0x1000d, 0, 1, 4, (1, 1)),
     ] {
-        assert_eq!(rt;
-            lanes_of(start, size, n, bus_bytes),
+        let found = lanes_of(start, size, n, bus_bytes);
+        same(
+            &rt,
+            ("lanes of transfer", n, start, bus_bytes),
+            found,
             lanes,
-            "transfer {n} of {start:x}"
         );
     }
     for (start, len, size, last) in [
@@ -168,36 +141,38 @@ fn transfers(rt: HostRuntime) {
         (0x11000, 255, 3, 0x117ff),
         (0x10003, 1, 2, 0x10007),
     ] {
-        assert_eq!(rt;
+        same(
+            &rt,
+            ("last byte", start, len),
             last_byte(start, len, size),
             last,
-            "len {len} from {start:x}"
         );
     }
+}
+
+/// Whether a box is empty, whether it holds a write, and how many data beats it has.
+fn state(held: &BurstBox) -> (bool, bool, u16) {
+    (held.is_empty(), held.is_write(), held.w_beats())
 }
 
 #[test]
 fn holds_one_burst(rt: HostRuntime) -> Result<(), Fail> {
     let mut held = BurstBox::new(rt.alloc())?;
-    assert!(rt; held.is_empty() && !held.is_write());
+    same(&rt, "new", state(&held), (true, false, 0));
     held.set_write(AW, &[W]);
-    assert!(rt; held.is_write() && !held.is_empty());
-    assert_eq!(rt; held.aw(), AW);
-    assert_eq!(rt; held.w_beats(), 1);
-    assert_eq!(rt; held.w(0), W);
+    same(&rt, "a write", state(&held), (false, true, 1));
+    same(&rt, "its beats", (held.aw(), held.w(0)), (AW, W));
     held.set_read(AR);
-    assert!(rt; !held.is_write() && !held.is_empty());
-    assert_eq!(rt; held.ar(), AR);
-    assert_eq!(rt; held.w_beats(), 0);
+    same(&rt, "a read", state(&held), (false, false, 0));
+    same(&rt, "its beat", held.ar(), AR);
     held.begin_write(AW);
     for _ in 0..MAX_TRANSFERS {
         if held.is_write() && held.w_beats() < 256 {
             held.push_w(W);
         }
     }
-    assert_eq!(rt; held.w_beats(), 256);
+    same(&rt, "the longest write", state(&held), (false, true, 256));
     held.clear();
-    assert!(rt; held.is_empty());
-    assert_eq!(rt; held.w_beats(), 0);
+    same(&rt, "cleared", state(&held), (true, false, 0));
     Ok(())
 }

@@ -1,3 +1,4 @@
+use super::same;
 use data_unit::{apply, cut, full_mask, merge, place};
 use tl_messages::AtomicOp;
 
@@ -9,20 +10,34 @@ fn masks_of_ranges(rt: HostRuntime) {
         (0x1000, 12, 0xff),
         (7, 1, 0x81),
     ] {
-        assert_eq!(rt;
-            full_mask(address, size),
-            mask,
-            "size {size} at {address:x}"
-        );
+        same(&rt, (address, size), full_mask(address, size), mask);
     }
 }
 
 #[test]
 fn operands_in_their_lanes(rt: HostRuntime) {
-    assert_eq!(rt; cut(0x00000000aa000000, 0x0b, 0), 0xaa);
-    assert_eq!(rt; place(0xaa, 0x0b, 0), 0x00000000aa000000);
-    assert_eq!(rt; cut(0x1122334455667788, 0x0c, 2), 0x11223344);
-    assert_eq!(rt; place(0x11223344, 0x0c, 2), 0x1122334400000000);
+    for (word, operand, address, size) in [
+        (0x00000000aa000000, 0xaa, 0x0b, 0),
+        (0x1122334455667788, 0x11223344, 0x0c, 2),
+    ] {
+        same(
+            &rt,
+            ("cut", address, size),
+            cut(word, address, size),
+            operand,
+        );
+    }
+    for (operand, word, address, size) in [
+        (0xaa, 0x00000000aa000000, 0x0b, 0),
+        (0x11223344, 0x1122334400000000, 0x0c, 2),
+    ] {
+        same(
+            &rt,
+            ("place", address, size),
+            place(operand, address, size),
+            word,
+        );
+    }
 }
 
 #[test]
@@ -34,27 +49,40 @@ fn merged_words(rt: HostRuntime) {
         (0x81, 0x2211111111111122),
         (0xff, 0x2222222222222222),
     ] {
-        assert_eq!(rt; merge(old, new, strobes), word, "{strobes:02x}");
+        same(&rt, strobes, merge(old, new, strobes), word);
     }
 }
 
 #[test]
 fn results_of_arithmetic(rt: HostRuntime) {
-    assert_eq!(rt; apply(AtomicOp::Add, 4, 0xffffffff, 1), 0);
-    assert_eq!(rt; apply(AtomicOp::Add, 2, 0xffff, 2), 1);
     let lowest = 0x8000000000000000;
-    assert_eq!(rt; apply(AtomicOp::Min, 8, lowest, 1), lowest);
-    assert_eq!(rt; apply(AtomicOp::MinU, 8, lowest, 1), 1);
-    assert_eq!(rt; apply(AtomicOp::Min, 4, 0x80000000, 1), 0x80000000);
-    assert_eq!(rt; apply(AtomicOp::MinU, 4, 0x80000000, 1), 1);
-    assert_eq!(rt; apply(AtomicOp::Max, 1, 0x80, 0x7f), 0x7f);
-    assert_eq!(rt; apply(AtomicOp::MaxU, 1, 0x80, 0x7f), 0x80);
+    for (op, bytes, old, operand, result) in [
+        (AtomicOp::Add, 4, 0xffffffff, 1, 0),
+        (AtomicOp::Add, 2, 0xffff, 2, 1),
+        (AtomicOp::Min, 8, lowest, 1, lowest),
+        (AtomicOp::MinU, 8, lowest, 1, 1),
+        (AtomicOp::Min, 4, 0x80000000, 1, 0x80000000),
+        (AtomicOp::MinU, 4, 0x80000000, 1, 1),
+        (AtomicOp::Max, 1, 0x80, 0x7f, 0x7f),
+        (AtomicOp::MaxU, 1, 0x80, 0x7f, 0x80),
+    ] {
+        same(
+            &rt,
+            (op, bytes, old),
+            apply(op, bytes, old, operand),
+            result,
+        );
+    }
 }
 
 #[test]
 fn results_of_logic(rt: HostRuntime) {
-    assert_eq!(rt; apply(AtomicOp::Xor, 1, 0x0c, 0x0a), 0x06);
-    assert_eq!(rt; apply(AtomicOp::Or, 1, 0x0c, 0x0a), 0x0e);
-    assert_eq!(rt; apply(AtomicOp::And, 1, 0x0c, 0x0a), 0x08);
-    assert_eq!(rt; apply(AtomicOp::Swap, 1, 0x0c, 0x0a), 0x0a);
+    for (op, result) in [
+        (AtomicOp::Xor, 0x06),
+        (AtomicOp::Or, 0x0e),
+        (AtomicOp::And, 0x08),
+        (AtomicOp::Swap, 0x0a),
+    ] {
+        same(&rt, op, apply(op, 1, 0x0c, 0x0a), result);
+    }
 }

@@ -1,4 +1,5 @@
 //! Scripts of events on a memory alone, and the lists that it refuses.
+use super::same;
 use axi_beats::{ArBeat, AwBeat, BBeat, BurstBox, RBeat, Resp, WBeat};
 use axi_checker::AxiRule;
 use std::alloc::Global;
@@ -17,7 +18,7 @@ enum Burst<'a> {
 }
 
 /// What became of a burst that was to be sent.
-#[derive(Clone, Copy, Debug, PartialEq, Eq)]
+#[derive(Clone, Copy, PartialEq, Eq)]
 enum Sent {
     Serial(u64),
     /// It breaks this rule, and its box came back as it was.
@@ -134,7 +135,10 @@ fn holds_write(burst: &BurstBox, aw: AwBeat, beats: &[Data]) -> bool {
         return false;
     }
     for k in 0..burst.w_beats() {
-        if beats.get(usize::from(k)).map(|beat| data(*beat)) != Some(burst.w(k)) {
+        let Some(beat) = beats.get(usize::from(k)) else {
+            return false;
+        };
+        if data(*beat) != burst.w(k) {
             return false;
         }
     }
@@ -166,15 +170,15 @@ fn boxed(alloc: Global, burst: Burst<'_>) -> Option<BurstBox> {
 
 /// The same of a write.
 fn boxed_write(alloc: Global, aw: AwBeat, beats: &[Data]) -> Option<BurstBox> {
-    let mut copied = [data((0, 0, false)); 256];
-    if beats.len() > copied.len() {
+    let mut copied = Vec::new(alloc);
+    for beat in beats {
+        copied.push(data(*beat)).ok()?;
+    }
+    if copied.len() > 256 {
         return None;
     }
-    for (to, from) in copied.iter_mut().zip(beats) {
-        *to = data(*from);
-    }
     let mut made = BurstBox::new(alloc).ok()?;
-    made.set_write(aw, &copied[..beats.len()]);
+    made.set_write(aw, copied.as_slice());
     Some(made)
 }
 
@@ -633,27 +637,27 @@ const FOUR_BYTES: &[Script] = &[
 
 #[test]
 fn order(rt: HostRuntime) {
-    assert_eq!(rt; failing(rt.alloc(), ORDER), None);
+    same(&rt, "first failing", failing(rt.alloc(), ORDER), None);
 }
 
 #[test]
 fn errors(rt: HostRuntime) {
-    assert_eq!(rt; failing(rt.alloc(), ERRORS), None);
+    same(&rt, "first failing", failing(rt.alloc(), ERRORS), None);
 }
 
 #[test]
 fn refusals(rt: HostRuntime) {
-    assert_eq!(rt; failing(rt.alloc(), REFUSALS), None);
+    same(&rt, "first failing", failing(rt.alloc(), REFUSALS), None);
 }
 
 #[test]
 fn lanes(rt: HostRuntime) {
-    assert_eq!(rt; failing(rt.alloc(), LANES), None);
+    same(&rt, "first failing", failing(rt.alloc(), LANES), None);
 }
 
 #[test]
 fn four_bytes(rt: HostRuntime) {
-    assert_eq!(rt; failing(rt.alloc(), FOUR_BYTES), None);
+    same(&rt, "first failing", failing(rt.alloc(), FOUR_BYTES), None);
 }
 
 /// Whether as many bursts were sent as may be open: a write and a read of each ID four times over, in turn of transfers of
@@ -677,13 +681,17 @@ fn room_for_all(rt: HostRuntime) {
     let mut device = Device::new(rt.alloc(), 8, PLAIN.pages, &[]).expect(&rt, "memory");
     let mut beats = [(0, 0, false); 256];
     beats[255] = (0, 0, true);
-    assert!(rt; fills(rt.alloc(), &mut device, &beats));
-    assert!(rt; shows(&device, Counts(128, 32768, 0)));
+    let all = fills(rt.alloc(), &mut device, &beats);
+    same(&rt, "all are sent", all, true);
+    let counts = shows(&device, Counts(128, 32768, 0));
+    same(&rt, "counts of all", counts, true);
     // The beats, an answer for each write, and one for each beat of a read.
-    assert_eq!(rt; device.work_left(), 32768 + 64 + 64 * 256);
-    assert_eq!(rt; device.perform(127, 255), Done);
-    assert!(rt; shows(&device, Counts(128, 32767, 1)));
-    assert_eq!(rt; device.work_left(), 32767 + 64 + 64 * 256);
+    let work = 32768 + 64 + 64 * 256;
+    same(&rt, "work of all", device.work_left(), work);
+    same(&rt, "the last beat", device.perform(127, 255), Done);
+    let counts = shows(&device, Counts(128, 32767, 1));
+    same(&rt, "counts after it", counts, true);
+    same(&rt, "work after it", device.work_left(), work - 1);
 }
 
 const GOOD: PageKind = PageKind::Good;
@@ -727,8 +735,10 @@ fn refuses_lists(rt: HostRuntime) {
             Some(DeviceFault::BadWord(1)),
         ),
     ] {
-        assert_eq!(rt; device_fault(&pages, &bad), fault);
+        let [(first, _), (second, _)] = pages;
+        same(&rt, (first, second, bad), device_fault(&pages, &bad), fault);
     }
     let twice = Device::new(rt.alloc(), 8, &[(1, GOOD), (1, GOOD)], &[]);
-    assert_eq!(rt; twice.err(), Some(DeviceFault::PageTwice(1)));
+    let fault = Some(DeviceFault::PageTwice(1));
+    same(&rt, "a memory of a page twice", twice.err(), fault);
 }

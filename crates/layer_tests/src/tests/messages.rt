@@ -1,30 +1,9 @@
+use super::same;
+use super::writers::Writer;
 use std::io;
 use std::io::{ErrorKind, Write};
 use std::test::Fail;
 use tl_messages::{ABeat, AtomicOp, DBeat, Operation, ReplyBox, Request, a_line, beats_of, d_line};
-
-/// A writer to memory whose call number `fails`, from 0, fails.
-#[derive(Drop)]
-struct Writer {
-    text: Vec<u8>,
-    calls: u32,
-    fails: u32,
-}
-
-impl Write for Writer {
-    fn write(&mut self, buf: &[u8]) -> io::Result<usize> {
-        let call = self.calls;
-        self.calls = call.saturating_add(1);
-        if call == self.fails {
-            return Err(io::Error::from(ErrorKind::BrokenPipe));
-        }
-        self.text.write(buf)
-    }
-
-    fn flush(&mut self) -> io::Result<()> {
-        Ok(())
-    }
-}
 
 const PUT: ABeat = ABeat {
     opcode: 0,
@@ -72,7 +51,7 @@ D 0 0 0 3 5 0 0000000000000000 0
 fn writes_lines(rt: HostRuntime) -> Result<(), Fail> {
     let mut text = Vec::new(rt.alloc());
     all_lines(&mut text)?;
-    assert_eq!(rt; text.as_slice(), ALL_LINES);
+    same(&rt, "all lines", text.as_slice(), ALL_LINES);
     text.clear();
     a_line(0, &GET_OF_A_PAGE, &mut text)?;
     let denied = true;
@@ -90,29 +69,35 @@ fn writes_lines(rt: HostRuntime) -> Result<(), Fail> {
     let wanted = b"A 0 4 0 12 0 00001000 ff 0000000000000000 0
 D 7 1 0 3 5 1 0000000000000000 1
 ";
-    assert_eq!(rt; text.as_slice(), wanted.as_slice());
+    same(&rt, "other lines", text.as_slice(), wanted.as_slice());
     Ok(())
 }
 
 #[test]
-fn answers_the_writers_fault(rt: HostRuntime) -> Result<(), Fail> {
+fn answers_the_writers_fault(rt: HostRuntime) {
     let mut faults = 0u32;
-    for k in 0..1000 {
-        let mut writer = Writer {
-            text: Vec::new(rt.alloc()),
-            calls: 0,
-            fails: k,
+    for call in 0..1000 {
+        let mut writer = Writer::failing_at(rt.alloc(), call);
+        let Err(fault) = all_lines(&mut writer) else {
+            break;
         };
-        match all_lines(&mut writer) {
-            Ok(()) => break,
-            Err(fault) => assert_eq!(rt; fault.kind(), ErrorKind::BrokenPipe, "call {k}"),
-        }
-        let written = writer.text.as_slice();
-        assert!(rt; ALL_LINES.starts_with(written), "call {k}");
+        same(&rt, ("call", call), fault.kind(), ErrorKind::BrokenPipe);
+        let is_front = ALL_LINES.starts_with(writer.text.as_slice());
+        same(&rt, ("text before call", call), is_front, true);
         faults = faults.saturating_add(1);
     }
-    assert!(rt; faults >= 2 && faults < 1000, "{faults} faults");
-    Ok(())
+    same(&rt, ("faults", faults), faults >= 2 && faults < 1000, true);
+}
+
+/// An operation's opcode and param; whether it carries data; its reply's opcode, and whether that carries data.
+fn seen_of(operation: Operation) -> (u8, u8, bool, u8, bool) {
+    (
+        operation.opcode(),
+        operation.param(),
+        operation.has_data(),
+        operation.reply_opcode(),
+        operation.reply_has_data(),
+    )
 }
 
 #[test]
@@ -134,18 +119,13 @@ fn operations(rt: HostRuntime) {
         (5, 0, Operation::Intent(false), false, 2, false),
         (5, 1, Operation::Intent(true), false, 2, false),
     ] {
-        assert_eq!(rt;
-            Operation::named(opcode, param),
-            Some(operation),
-            "{opcode} {param}"
-        );
-        assert_eq!(rt; (operation.opcode(), operation.param()), (opcode, param));
-        assert_eq!(rt; operation.has_data(), data, "{opcode} {param}");
-        assert_eq!(rt; operation.reply_opcode(), reply, "{opcode} {param}");
-        assert_eq!(rt; operation.reply_has_data(), reply_data, "{opcode} {param}");
+        let named = Operation::named(opcode, param);
+        same(&rt, (opcode, param), named, Some(operation));
+        let wanted = (opcode, param, data, reply, reply_data);
+        same(&rt, (opcode, param), seen_of(operation), wanted);
     }
     for (opcode, param) in [(0, 1), (1, 1), (2, 5), (3, 4), (4, 1), (5, 2), (6, 0)] {
-        assert_eq!(rt; Operation::named(opcode, param), None, "{opcode} {param}");
+        same(&rt, (opcode, param), Operation::named(opcode, param), None);
     }
     for (size, data, beats) in [
         (0, true, 1),
@@ -154,63 +134,96 @@ fn operations(rt: HostRuntime) {
         (12, true, 512),
         (12, false, 1),
     ] {
-        assert_eq!(rt; beats_of(size, data), beats, "size {size}");
+        same(&rt, ("beats of", size, data), beats_of(size, data), beats);
     }
 }
+
+/// A request's client, source, size, address and operation, and how many of its beats came.
+fn head_of(request: &Request) -> (u8, u8, u8, u32, Operation, u16) {
+    (
+        request.client(),
+        request.source(),
+        request.size(),
+        request.address(),
+        request.operation(),
+        request.beats(),
+    )
+}
+
+/// The word of a beat and its mask; none where that beat hasn't come.
+fn word_at(request: &Request, place: u16) -> Option<(u64, u8)> {
+    if place < request.beats() {
+        Some((request.word(place), request.mask(place)))
+    } else {
+        None
+    }
+}
+
+/// A beat of a Put of 16 bytes at 0.
+const PUT_OF_TWO: ABeat = ABeat {
+    size: 4,
+    address: 0,
+    ..PUT
+};
+
+/// A corrupt one.
+const CORRUPT: ABeat = ABeat {
+    payload: 1,
+    mask: 0x3c,
+    corrupt: true,
+    ..PUT_OF_TWO
+};
 
 #[test]
 fn takes_a_request(rt: HostRuntime) -> Result<(), Fail> {
     let mut request = Request::new(rt.alloc())?;
-    assert_eq!(rt; (request.client(), request.source()), (0, 0));
-    assert_eq!(rt; (request.size(), request.address()), (0, 0));
-    assert_eq!(rt; request.operation(), Operation::Get);
-    assert!(rt; !request.corrupt() && !request.is_whole());
-    assert_eq!(rt; request.beats(), 0);
+    same(
+        &rt,
+        "new",
+        head_of(&request),
+        (0, 0, 0, 0, Operation::Get, 0),
+    );
+    same(
+        &rt,
+        "new",
+        (request.is_whole(), request.corrupt()),
+        (false, false),
+    );
 
     // A Put of 16 bytes, whose second beat is corrupt.
-    request.begin(
-        1,
-        &ABeat {
-            size: 4,
-            address: 0,
-            ..PUT
-        },
+    request.begin(1, &PUT_OF_TWO);
+    same(
+        &rt,
+        "begun",
+        (request.is_whole(), request.corrupt()),
+        (false, false),
     );
-    assert!(rt; !request.is_whole() && !request.corrupt());
     if request.operation().has_data() && request.beats() < beats_of(request.size(), true) {
-        let corrupt = true;
-        let mask = 0x3c;
-        request.add(&ABeat {
-            size: 4,
-            address: 0,
-            payload: 1,
-            mask,
-            corrupt,
-            ..PUT
-        });
+        request.add(&CORRUPT);
     }
-    assert!(rt; request.is_whole() && request.corrupt());
-    assert_eq!(rt; (request.client(), request.source()), (1, 5));
-    assert_eq!(rt; (request.size(), request.address()), (4, 0));
-    assert_eq!(rt; request.operation(), Operation::PutFull);
-    assert_eq!(rt; request.beats(), 2);
-    assert_eq!(rt;
-        (request.word(0), request.mask(0)),
-        (0x1122334455667788, 0xff)
+    same(
+        &rt,
+        "whole",
+        (request.is_whole(), request.corrupt()),
+        (true, true),
     );
-    assert_eq!(rt; (request.word(1), request.mask(1)), (1, 0x3c));
+    let head = (1, 5, 4, 0, Operation::PutFull, 2);
+    same(&rt, "whole", head_of(&request), head);
+    let first = Some((0x1122334455667788, 0xff));
+    same(&rt, "first beat", word_at(&request, 0), first);
+    same(&rt, "second beat", word_at(&request, 1), Some((1, 0x3c)));
 
     let mut copy = Request::new(rt.alloc())?;
     copy.copy_from(&request);
-    assert_eq!(rt; copy.beats(), 2);
-    assert_eq!(rt; (copy.client(), copy.source(), copy.word(1)), (1, 5, 1));
+    same(&rt, "a copy", head_of(&copy), head);
+    same(&rt, "a copy's beat", word_at(&copy, 1), Some((1, 0x3c)));
     Ok(())
 }
 
 #[test]
 fn holds_a_reply(rt: HostRuntime) -> Result<(), Fail> {
     let mut reply = ReplyBox::new(rt.alloc())?;
-    assert_eq!(rt; reply.beats(), 0);
+    same(&rt, "new", reply.beats(), 0);
     for payload in 0..512 {
         if reply.beats() < 512 {
             reply.push(DBeat {
@@ -220,10 +233,16 @@ fn holds_a_reply(rt: HostRuntime) -> Result<(), Fail> {
             });
         }
     }
-    assert_eq!(rt; reply.beats(), 512);
-    assert_eq!(rt; reply.beat(511).payload, 511);
-    assert_eq!(rt; reply.as_slice().len(), 512);
+    same(
+        &rt,
+        "full",
+        (reply.beats(), reply.as_slice().len()),
+        (512, 512),
+    );
+    if reply.beats() == 512 {
+        same(&rt, "last beat", reply.beat(511).payload, 511);
+    }
     reply.clear();
-    assert_eq!(rt; reply.beats(), 0);
+    same(&rt, "cleared", reply.beats(), 0);
     Ok(())
 }

@@ -1,6 +1,7 @@
 ghost use Rattle.std.specs.Prelude.{◌≡◌, None, IsSome};
 ghost use Rattle.axi_checker.specs.OpenBursts.{write_to_fill};
 
+use super::same;
 use axi_beats::{ArBeat, AwBeat, BBeat, BurstBox, RBeat, Resp, WBeat};
 use axi_checker::{AxiRule, Monitor};
 use std::test::Fail;
@@ -138,7 +139,12 @@ fn rules_in_their_order(rt: HostRuntime) -> Result<(), Fail> {
         (read_data(1, Resp::SlvErr, true), 0),
         (read_data(1, Resp::Okay, true), 10),
     ];
-    assert_eq!(rt; first_difference(&mut monitor, &beats), None);
+    same(
+        &rt,
+        "first other beat",
+        first_difference(&mut monitor, &beats),
+        None,
+    );
     Ok(())
 }
 
@@ -153,7 +159,12 @@ fn strobes_of_an_uneven_burst(rt: HostRuntime) -> Result<(), Fail> {
         (Beat::W(data(0x08, false)), 0),
         (Beat::W(data(0xf0, true)), 0),
     ];
-    assert_eq!(rt; first_difference(&mut monitor, &beats), None);
+    same(
+        &rt,
+        "first other beat",
+        first_difference(&mut monitor, &beats),
+        None,
+    );
     Ok(())
 }
 
@@ -191,7 +202,12 @@ fn bursts_of_one_id_in_order(rt: HostRuntime) -> Result<(), Fail> {
         (Beat::W(data(0xf0, true)), 0),
         (response(3, Resp::Okay), 0),
     ];
-    assert_eq!(rt; first_difference(&mut monitor, &beats), None);
+    same(
+        &rt,
+        "first other beat",
+        first_difference(&mut monitor, &beats),
+        None,
+    );
     Ok(())
 }
 
@@ -213,7 +229,12 @@ fn bus_of_four_bytes(rt: HostRuntime) -> Result<(), Fail> {
         (Beat::Ar(read(0, 0x10ffc, 0, 2)), 0),
         (Beat::Ar(read(0, 0x10ffc, 1, 2)), 3),
     ];
-    assert_eq!(rt; first_difference(&mut monitor, &beats), None);
+    same(
+        &rt,
+        "first other beat",
+        first_difference(&mut monitor, &beats),
+        None,
+    );
     Ok(())
 }
 
@@ -224,7 +245,7 @@ fn judges_whole_bursts(rt: HostRuntime) -> Result<(), Fail> {
     let mut held = BurstBox::new(rt.alloc())?;
     let full = data(0xff, false);
     let last = data(0xff, true);
-    for (place, (aw, count, rule)) in [
+    for (aw, count, rule) in [
         // Data that end too early, rightly, and too late.
         (write(0, 0x10000, 1, 3), 0, Some(AxiRule::WLast)),
         (write(0, 0x10000, 1, 3), 1, Some(AxiRule::WLast)),
@@ -238,13 +259,10 @@ fn judges_whole_bursts(rt: HostRuntime) -> Result<(), Fail> {
         (write(0, 0x10ff8, 1, 3), 3, Some(AxiRule::Cross4K)),
         (write(0, 0xfffffff8, 1, 3), 2, Some(AxiRule::Cross4K)),
         (write(0, 0x10000, 1, 2), 3, Some(AxiRule::Strobe)),
-    ]
-    .into_iter()
-    .enumerate()
-    {
+    ] {
         let beats = [full, last, last];
         held.set_write(aw, &beats[..beats.len().min(count)]);
-        assert_eq!(rt; monitor.judge(&held), rule, "burst {place}");
+        same(&rt, (aw, count), monitor.judge(&held), rule);
     }
     for (ar, rule) in [
         (read(0, 0x10ff8, 0, 3), None),
@@ -252,7 +270,7 @@ fn judges_whole_bursts(rt: HostRuntime) -> Result<(), Fail> {
         (read(0, 0x10ff8, 0, 4), Some(AxiRule::Size)),
     ] {
         held.set_read(ar);
-        assert_eq!(rt; monitor.judge(&held), rule, "read");
+        same(&rt, ar, monitor.judge(&held), rule);
     }
     Ok(())
 }
@@ -263,13 +281,14 @@ fn judges_by_what_is_outstanding(rt: HostRuntime) -> Result<(), Fail> {
     let mut monitor = Monitor::new(rt.alloc(), 1, 1, 8)?;
     let mut held = BurstBox::new(rt.alloc())?;
     held.set_read(read(0, 0x10000, 0, 3));
-    assert_eq!(rt; monitor.judge(&held), None);
+    same(&rt, "a read alone", monitor.judge(&held), None);
     let taken = monitor.ar(&read(0, 0x10000, 0, 3));
-    assert!(rt; taken.is_ok());
+    same(&rt, "a read is taken", taken, Ok(()));
     if taken.is_ok() {
-        assert_eq!(rt; monitor.judge(&held), Some(AxiRule::Depth));
+        let depth = Some(AxiRule::Depth);
+        same(&rt, "a second read", monitor.judge(&held), depth);
         held.set_write(write(0, 0x10000, 0, 3), &[data(0xff, true)]);
-        assert_eq!(rt; monitor.judge(&held), None);
+        same(&rt, "a write beside it", monitor.judge(&held), None);
     }
     Ok(())
 }
@@ -294,26 +313,36 @@ fn takes_whole_bursts(rt: HostRuntime) -> Result<(), Fail> {
     let mut held = BurstBox::new(rt.alloc())?;
     let full = data(0xff, false);
     held.set_write(write(0, 0x10000, 1, 3), &[full, data(0xff, true)]);
-    assert!(rt; takes(&mut monitor, &held));
+    same(&rt, "a write", takes(&mut monitor, &held), true);
     held.set_read(read(0, 0x10000, 2, 3));
-    assert!(rt; takes(&mut monitor, &held));
-    assert!(rt; takes(&mut monitor, &held));
-    assert!(rt; !takes(&mut monitor, &held));
+    same(&rt, "a read", takes(&mut monitor, &held), true);
+    same(&rt, "a second read", takes(&mut monitor, &held), true);
+    same(&rt, "a third read", takes(&mut monitor, &held), false);
     let answers = [
         (Beat::W(full), 6),
         (read_data(0, Resp::Okay, false), 0),
         (read_data(0, Resp::Okay, false), 0),
     ];
-    assert_eq!(rt; first_difference(&mut monitor, &answers), None);
-    assert_eq!(rt; monitor.answered_reads(), 2);
+    same(
+        &rt,
+        "first answers",
+        first_difference(&mut monitor, &answers),
+        None,
+    );
+    same(&rt, "answered reads", monitor.answered_reads(), 2);
     let answers = [
         (read_data(0, Resp::Okay, true), 0),
         (read_data(0, Resp::Okay, false), 0),
         (response(0, Resp::Okay), 0),
         (response(0, Resp::Okay), 9),
     ];
-    assert_eq!(rt; first_difference(&mut monitor, &answers), None);
-    assert_eq!(rt; monitor.answered_reads(), 1);
+    same(
+        &rt,
+        "last answers",
+        first_difference(&mut monitor, &answers),
+        None,
+    );
+    same(&rt, "answered reads", monitor.answered_reads(), 1);
     Ok(())
 }
 
@@ -342,9 +371,19 @@ fn clears_what_is_outstanding(rt: HostRuntime) -> Result<(), Fail> {
         (response(0, Resp::Okay), 0),
         (read_data(0, Resp::Okay, true), 0),
     ];
-    assert_eq!(rt; first_difference(&mut monitor, &seen), None);
+    same(
+        &rt,
+        "beats before",
+        first_difference(&mut monitor, &seen),
+        None,
+    );
     monitor.clear();
-    assert_eq!(rt; first_difference(&mut monitor, &later), None);
+    same(
+        &rt,
+        "beats after",
+        first_difference(&mut monitor, &later),
+        None,
+    );
     Ok(())
 }
 
@@ -364,6 +403,6 @@ fn numbers_and_names(rt: HostRuntime) {
         (AxiRule::RLast, 11, "RLAST"),
         (AxiRule::ExOkay, 12, "EXOKAY"),
     ] {
-        assert_eq!(rt; (rule.number(), rule.name()), (number, name));
+        same(&rt, rule, (rule.number(), rule.name()), (number, name));
     }
 }

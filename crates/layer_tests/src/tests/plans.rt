@@ -1,5 +1,6 @@
 ghost use Rattle.std.specs.Prelude.{◌≡◌};
 
+use super::same;
 use axi_beats::WBeat;
 use burst_plan::{MapFault, PageMap, Piece, Plan, Region, region_fault, w_beat};
 use std::test::Fail;
@@ -36,17 +37,21 @@ fn refuses_regions(rt: HostRuntime) {
         (region(0x100001, 0, 0), Some(MapFault::RegionEmpty(1))),
         (region(3, 1, 0x100000), Some(MapFault::RegionRange(1))),
     ] {
-        assert_eq!(rt; region_fault(&[first, second]), fault);
-        assert_eq!(rt; PageMap::new(rt.alloc(), &[first, second]).err(), fault);
+        let case = (second.tl_page, second.pages, second.axi_page);
+        let found = region_fault(&[first, second]);
+        same(&rt, case, found, fault);
+        let refused = PageMap::new(rt.alloc(), &[first, second]).err();
+        same(&rt, ("map", case), refused, fault);
     }
     for (alone, fault) in [
         (region(0, 0, 0x10), Some(MapFault::RegionEmpty(0))),
         (region(0xfffff, 2, 0x10), Some(MapFault::RegionRange(0))),
         (Region::default(), Some(MapFault::RegionEmpty(0))),
     ] {
-        assert_eq!(rt; region_fault(&[alone]), fault);
+        let case = (alone.tl_page, alone.pages, alone.axi_page);
+        same(&rt, ("alone", case), region_fault(&[alone]), fault);
     }
-    assert_eq!(rt; region_fault(&[]), None);
+    same(&rt, "no region", region_fault(&[]), None);
 }
 
 #[test]
@@ -78,10 +83,11 @@ fn leads_to_axi_addresses(rt: HostRuntime) -> Result<(), Fail> {
         (Operation::Intent(false), 0xffffffff, None),
         (Operation::PutFull, 0xfffff000, None),
     ] {
-        assert_eq!(rt; map.translate(operation, address), place, "{address}");
+        let found = map.translate(operation, address);
+        same(&rt, (operation, address), found, place);
     }
     let nowhere = PageMap::new(rt.alloc(), &[])?;
-    assert_eq!(rt; nowhere.translate(Operation::Get, 0), None);
+    same(&rt, "no region", nowhere.translate(Operation::Get, 0), None);
     Ok(())
 }
 
@@ -116,40 +122,43 @@ fn is_in_steps_of(plan: Plan, bytes: u32) -> bool {
 #[test]
 fn plans_of_ranges(rt: HostRuntime) {
     let page = Plan::new_of(0x11000, 12, 16, 8);
-    assert_eq!(rt;
-        (page.address(), page.size(), page.bus_bytes()),
-        (0x11000, 12, 8)
-    );
-    let last = piece(0x11f80, 15, 3);
-    assert_eq!(rt; outline(page), (32, 512, piece(0x11000, 15, 3), last));
-    assert!(rt; is_in_steps_of(page, 0x80));
+    let asked = (page.address(), page.size(), page.bus_bytes());
+    same(&rt, "what a page is asked for", asked, (0x11000, 12, 8));
+    let wanted = (32, 512, piece(0x11000, 15, 3), piece(0x11f80, 15, 3));
+    same(&rt, "page", outline(page), wanted);
+    same(&rt, "page's steps", is_in_steps_of(page, 0x80), true);
     let halves = Plan::new_of(0x11000, 12, 256, 8);
-    let second = piece(0x11800, 255, 3);
-    assert_eq!(rt; outline(halves), (2, 512, piece(0x11000, 255, 3), second));
+    let wanted = (2, 512, piece(0x11000, 255, 3), piece(0x11800, 255, 3));
+    same(&rt, "halves", outline(halves), wanted);
     let singles = Plan::new_of(0x10040, 6, 1, 8);
-    let last = piece(0x10078, 0, 3);
-    assert_eq!(rt; outline(singles), (8, 8, piece(0x10040, 0, 3), last));
-    assert!(rt; is_in_steps_of(singles, 8));
+    let wanted = (8, 8, piece(0x10040, 0, 3), piece(0x10078, 0, 3));
+    same(&rt, "singles", outline(singles), wanted);
+    same(&rt, "singles' steps", is_in_steps_of(singles, 8), true);
     let narrow = piece(0x10014, 0, 2);
     let four_bytes = Plan::new_of(0x10014, 2, 16, 8);
-    assert_eq!(rt; outline(four_bytes), (1, 1, narrow, narrow));
+    same(
+        &rt,
+        "four bytes",
+        outline(four_bytes),
+        (1, 1, narrow, narrow),
+    );
 }
 
 #[test]
 fn plans_on_a_bus_of_four(rt: HostRuntime) {
     let page = Plan::new_of(0x11000, 12, 256, 4);
-    let last = piece(0x11c00, 255, 2);
-    assert_eq!(rt; outline(page), (4, 1024, piece(0x11000, 255, 2), last));
-    assert!(rt; is_in_steps_of(page, 0x400));
+    let wanted = (4, 1024, piece(0x11000, 255, 2), piece(0x11c00, 255, 2));
+    same(&rt, "page", outline(page), wanted);
+    same(&rt, "page's steps", is_in_steps_of(page, 0x400), true);
     let words = piece(0x10000, 7, 2);
     let read = Plan::new_of(0x10000, 5, 16, 4);
-    assert_eq!(rt; outline(read), (1, 8, words, words));
-    let two_transfers = piece(0x10008, 1, 2);
+    same(&rt, "words", outline(read), (1, 8, words, words));
+    let two = piece(0x10008, 1, 2);
     let eight_bytes = Plan::new_of(0x10008, 3, 4, 4);
-    assert_eq!(rt; outline(eight_bytes), (1, 2, two_transfers, two_transfers));
-    let one_byte = piece(0x1000d, 0, 0);
+    same(&rt, "eight bytes", outline(eight_bytes), (1, 2, two, two));
+    let one = piece(0x1000d, 0, 0);
     let put = Plan::new_of(0x1000d, 0, 16, 4);
-    assert_eq!(rt; outline(put), (1, 1, one_byte, one_byte));
+    same(&rt, "one byte", outline(put), (1, 1, one, one));
 }
 
 fn word(word: u64, mask: u8) -> MaskedWord {
@@ -166,38 +175,31 @@ fn beat(payload: u64, strobes: u8, last: bool) -> WBeat {
 
 #[test]
 fn beats_of_writes(rt: HostRuntime) {
-    let byte = word(0x00000000aa000000, 0x08);
-    assert_eq!(rt;
-        w_beat(&piece(0x1000b, 0, 0), 1, 8, byte),
-        beat(0x00000000aa000000, 0x08, true)
-    );
+    let byte = w_beat(&piece(0x1000b, 0, 0), 1, 8, word(0x00000000aa000000, 0x08));
+    same(&rt, "byte", byte, beat(0x00000000aa000000, 0x08, true));
     let eight = piece(0x10008, 0, 3);
-    assert_eq!(rt; w_beat(&eight, 1, 8, word(u64::MAX, 0)), beat(0, 0, true));
+    let none = w_beat(&eight, 1, 8, word(u64::MAX, 0));
+    same(&rt, "no lane", none, beat(0, 0, true));
     let full = 0x1122334455667788;
-    assert_eq!(rt;
-        w_beat(&eight, 1, 8, word(full, 0x3c)),
-        beat(0x0000334455660000, 0x3c, true)
-    );
+    let middle = w_beat(&eight, 1, 8, word(full, 0x3c));
+    same(&rt, "middle", middle, beat(0x0000334455660000, 0x3c, true));
     let four = piece(0x10014, 0, 2);
-    assert_eq!(rt; w_beat(&four, 1, 8, word(0, 0xf0)), beat(0, 0xf0, true));
-    assert_eq!(rt; w_beat(&four, 1, 4, word(0, 0xf0)), beat(0, 0x0f, true));
+    let upper = w_beat(&four, 1, 8, word(0, 0xf0));
+    same(&rt, "upper half", upper, beat(0, 0xf0, true));
+}
+
+#[test]
+fn beats_of_writes_on_a_bus_of_four(rt: HostRuntime) {
+    let four = w_beat(&piece(0x10014, 0, 2), 1, 4, word(0, 0xf0));
+    same(&rt, "upper half", four, beat(0, 0x0f, true));
+    let full = word(0x1122334455667788, 0xff);
     let two_halves = piece(0x10008, 1, 2);
-    assert_eq!(rt;
-        w_beat(&two_halves, 1, 4, word(full, 0xff)),
-        beat(0x55667788, 0x0f, false)
-    );
-    assert_eq!(rt;
-        w_beat(&two_halves, 2, 4, word(full, 0xff)),
-        beat(0x11223344, 0x0f, true)
-    );
-    let byte = word(0x0000bb0000000000, 0x20);
-    assert_eq!(rt;
-        w_beat(&piece(0x1000d, 0, 0), 1, 4, byte),
-        beat(0xbb00, 0x02, true)
-    );
-    let lowest = word(0x8000000000000000, 0xc0);
-    assert_eq!(rt;
-        w_beat(&piece(0x10016, 0, 1), 1, 4, lowest),
-        beat(0x80000000, 0x0c, true)
-    );
+    let first = w_beat(&two_halves, 1, 4, full);
+    same(&rt, "first of two", first, beat(0x55667788, 0x0f, false));
+    let second = w_beat(&two_halves, 2, 4, full);
+    same(&rt, "second of two", second, beat(0x11223344, 0x0f, true));
+    let byte = w_beat(&piece(0x1000d, 0, 0), 1, 4, word(0x0000bb0000000000, 0x20));
+    same(&rt, "byte", byte, beat(0xbb00, 0x02, true));
+    let highest = w_beat(&piece(0x10016, 0, 1), 1, 4, word(0x8000000000000000, 0xc0));
+    same(&rt, "two bytes", highest, beat(0x80000000, 0x0c, true));
 }

@@ -1,5 +1,6 @@
 ghost use Rattle.std.specs.Prelude.{◌≡◌, None};
 
+use super::same;
 use std::test::Fail;
 use tl_checker::{Level, Port, Progress, TlRule, check_reply};
 use tl_messages::{ABeat, DBeat, Request};
@@ -55,7 +56,10 @@ const ON_UL: [Row; 8] = [
 fn first_other(port: &Port, rows: &[Row]) -> Option<usize>
     requires { port.now.whole ≡ None }
 {
-    rows.iter().position(|(opcode, param, size, address, mask, corrupt, busy, wanted)| {
+    for (place, (opcode, param, size, address, mask, corrupt, busy, wanted)) in rows
+        .iter()
+        .enumerate()
+    {
         let beat = ABeat {
             opcode: *opcode,
             param: *param,
@@ -66,19 +70,33 @@ fn first_other(port: &Port, rows: &[Row]) -> Option<usize>
             payload: 0,
             corrupt: *corrupt,
         };
-        port.judge(&beat, *busy) != *wanted
-    })
+        if port.judge(&beat, *busy) != *wanted {
+            return Some(place);
+        }
+    }
+    None
 }
 
 #[test]
 fn first_beats(rt: HostRuntime) -> Result<(), Fail> {
     let port = Port::new(rt.alloc(), 0, Level::Uh, 12)?;
-    assert_eq!(rt; first_other(&port, ON_UH.as_slice()), None);
+    same(
+        &rt,
+        "row on TL-UH",
+        first_other(&port, ON_UH.as_slice()),
+        None,
+    );
     let port = Port::new(rt.alloc(), 0, Level::Ul, 12)?;
-    assert_eq!(rt; first_other(&port, ON_UL.as_slice()), None);
+    same(
+        &rt,
+        "row on TL-UL",
+        first_other(&port, ON_UL.as_slice()),
+        None,
+    );
     let port = Port::new(rt.alloc(), 0, Level::Uh, 3)?;
-    assert_eq!(rt; port.judge(&PUT, false), Err(TlRule::Size));
-    assert_eq!(rt; port.judge(&GET, false), Ok(Progress::Whole));
+    for (beat, wanted) in [(PUT, Err(TlRule::Size)), (GET, Ok(Progress::Whole))] {
+        same(&rt, beat, port.judge(&beat, false), wanted);
+    }
     Ok(())
 }
 
@@ -111,6 +129,16 @@ fn answer(port: &mut Port, beat: ABeat) -> Result<Progress, TlRule> {
     port.take_beat(&beat, false)
 }
 
+/// The word of a request's last beat; none where it has no beats.
+fn last_word(request: &Request) -> Option<u64> {
+    let last = request.beats().saturating_sub(1);
+    if last < request.beats() {
+        Some(request.word(last))
+    } else {
+        None
+    }
+}
+
 #[test]
 fn bursts(rt: HostRuntime) -> Result<(), Fail> {
     let mut port = Port::new(rt.alloc(), 3, Level::Uh, 12)?;
@@ -138,19 +166,17 @@ fn bursts(rt: HostRuntime) -> Result<(), Fail> {
             Ok(Progress::Whole),
         ),
     ] {
-        assert_eq!(rt; answer(&mut port, beat), wanted, "{beat:?}");
+        same(&rt, beat, answer(&mut port, beat), wanted);
     }
     let request = port.whole().expect(&rt, "a request stands");
-    assert!(rt; request.corrupt());
-    assert_eq!(rt; request.client(), 3);
-    let last = request.beats().saturating_sub(1);
-    assert!(rt; last < request.beats());
-    assert_eq!(rt; (last, request.word(last)), (1, 7));
+    let head = (request.client(), request.corrupt(), request.beats());
+    same(&rt, "the request", head, (3, true, 2));
+    same(&rt, "its last word", last_word(request), Some(7));
     port.clear_whole();
-    assert!(rt; port.whole().is_none());
+    same(&rt, "none stands", port.whole().is_none(), true);
     for (mask, wanted) in [(0x00, Ok(Progress::More)), (0x81, Ok(Progress::Whole))] {
         let beat = ABeat { mask, ..PARTIAL };
-        assert_eq!(rt; answer(&mut port, beat), wanted, "mask {mask:02x}");
+        same(&rt, ("mask", mask), answer(&mut port, beat), wanted);
     }
     Ok(())
 }
@@ -158,18 +184,17 @@ fn bursts(rt: HostRuntime) -> Result<(), Fail> {
 #[test]
 fn a_request_moves_out(rt: HostRuntime) -> Result<(), Fail> {
     let mut port = Port::new(rt.alloc(), 3, Level::Uh, 12)?;
-    assert_eq!(rt; answer(&mut port, PUT), Ok(Progress::More));
-    assert_eq!(rt; answer(&mut port, PUT), Ok(Progress::Whole));
+    for wanted in [Progress::More, Progress::Whole] {
+        same(&rt, wanted, answer(&mut port, PUT), Ok(wanted));
+    }
     let mut request = Request::new(rt.alloc())?;
     if port.whole().is_some() {
         port.take_whole(&mut request);
     }
-    assert_eq!(rt;
-        (request.client(), request.size(), request.beats()),
-        (3, 4, 2)
-    );
-    assert!(rt; port.whole().is_none());
-    assert_eq!(rt; answer(&mut port, GET), Ok(Progress::Whole));
+    let head = (request.client(), request.size(), request.beats());
+    same(&rt, "the request", head, (3, 4, 2));
+    same(&rt, "none stands", port.whole().is_none(), true);
+    same(&rt, "the next", answer(&mut port, GET), Ok(Progress::Whole));
     Ok(())
 }
 
@@ -198,7 +223,7 @@ fn replies(rt: HostRuntime) -> Result<(), Fail> {
         source: 2,
         ..GET
     };
-    assert_eq!(rt; answer(&mut port, get), Ok(Progress::Whole));
+    same(&rt, "a Get", answer(&mut port, get), Ok(Progress::Whole));
     let request = port.whole().expect(&rt, "a request stands");
     let other = DBeat { opcode: 0, ..REPLY };
     let short = DBeat { size: 3, ..REPLY };
@@ -231,10 +256,10 @@ fn replies(rt: HostRuntime) -> Result<(), Fail> {
         (&[DBeat { source: 1, ..REPLY }, short], Err(TlRule::DSize)),
         (&[DBeat { source: 1, ..REPLY }], Err(TlRule::DSource)),
     ] {
-        assert_eq!(rt; check_reply(request, beats), wanted, "{beats:?}");
+        same(&rt, beats, check_reply(request, beats), wanted);
     }
     let put = ABeat { size: 3, ..PUT };
-    assert_eq!(rt; answer(&mut port, put), Ok(Progress::Whole));
+    same(&rt, "a Put", answer(&mut port, put), Ok(Progress::Whole));
     let request = port.whole().expect(&rt, "a request stands");
     let ack = DBeat {
         opcode: 0,
@@ -243,12 +268,13 @@ fn replies(rt: HostRuntime) -> Result<(), Fail> {
         denied: true,
         ..REPLY
     };
-    assert_eq!(rt; check_reply(request, &[ack]), Ok(()));
+    same(&rt, ack, check_reply(request, &[ack]), Ok(()));
     let corrupt = DBeat {
         corrupt: true,
         ..ack
     };
-    assert_eq!(rt; check_reply(request, &[corrupt]), Err(TlRule::DCorrupt));
+    let refused = Err(TlRule::DCorrupt);
+    same(&rt, corrupt, check_reply(request, &[corrupt]), refused);
     Ok(())
 }
 
@@ -272,7 +298,6 @@ fn numbers_and_names(rt: HostRuntime) {
         (TlRule::DDenied, 15, "D_DENIED"),
         (TlRule::DCorrupt, 16, "D_CORRUPT"),
     ] {
-        assert_eq!(rt; rule.number(), number);
-        assert_eq!(rt; rule.name(), name);
+        same(&rt, rule, (rule.number(), rule.name()), (number, name));
     }
 }

@@ -1,3 +1,4 @@
+use super::same;
 use axi_beats::{RBeat, Resp};
 use responses::Gather;
 use std::alloc::{AllocError, Global};
@@ -54,6 +55,16 @@ fn shows(size: u8, source: u8, payload: Option<u64>) -> DBeat {
         payload: payload.unwrap_or(0),
         corrupt: payload.is_none(),
     }
+}
+
+/// The beats of a reply to source 0 of four words, each none where it is corrupt.
+fn four([a, b, c, d]: [Option<u64>; 4]) -> [DBeat; 4] {
+    [
+        shows(5, 0, a),
+        shows(5, 0, b),
+        shows(5, 0, c),
+        shows(5, 0, d),
+    ]
 }
 
 /// The beat of a denied reply with data.
@@ -156,7 +167,8 @@ fn acknowledges_puts_and_hints(rt: HostRuntime) -> Result<(), Fail> {
             old_value: None,
             beats: &[acknowledges(opcode, request.size, request.source, wanted)],
         };
-        assert!(rt; is_right(rt.alloc(), &case)?);
+        let right = is_right(rt.alloc(), &case)?;
+        same(&rt, (request, denied, writes), right, true);
     }
     Ok(())
 }
@@ -186,10 +198,22 @@ fn shows_what_was_read(rt: HostRuntime) -> Result<(), Fail> {
     let alloc = rt.alloc();
     let get = asked(4, 0, 3, 0, 0x1000);
     let full = 0x1122334455667788;
-    assert!(rt; get_shows(alloc, 8, get, &[okay(0, full)], &[shows(3, 0, Some(full))])?);
-    assert!(rt; get_shows(alloc, 8, get, &[bad(0)], &[shows(3, 0, None)])?);
-    assert!(rt; get_shows(alloc, 8, get, &[absent(0)], &[denies(3, 0)])?);
-    // In no region.
+    let byte = asked(4, 0, 0, 2, 0x0b);
+    let lowest = shows(0, 2, Some(0xff000000));
+    let upper = asked(4, 0, 0, 2, 0x0d);
+    let second = shows(0, 2, Some(0xbb0000000000));
+    for (bus_bytes, request, read, beat) in [
+        (8, get, okay(0, full), shows(3, 0, Some(full))),
+        (8, get, bad(0), shows(3, 0, None)),
+        (8, get, absent(0), denies(3, 0)),
+        // Bits outside the lanes aren't shown.
+        (8, byte, okay(0, u64::MAX), lowest),
+        (4, byte, okay(0, u64::MAX), lowest),
+        (4, upper, okay(0, 0xbb00), second),
+    ] {
+        let right = get_shows(alloc, bus_bytes, request, &[read], &[beat])?;
+        same(&rt, (bus_bytes, request, read), right, true);
+    }
     let nowhere = Case {
         bus_bytes: 8,
         request: get,
@@ -199,15 +223,7 @@ fn shows_what_was_read(rt: HostRuntime) -> Result<(), Fail> {
         old_value: None,
         beats: &[denies(3, 0)],
     };
-    assert!(rt; is_right(alloc, &nowhere)?);
-    // Bits outside the lanes aren't shown.
-    let byte = asked(4, 0, 0, 2, 0x0b);
-    let shown = [shows(0, 2, Some(0xff000000))];
-    assert!(rt; get_shows(alloc, 8, byte, &[okay(0, u64::MAX)], &shown)?);
-    assert!(rt; get_shows(alloc, 4, byte, &[okay(0, u64::MAX)], &shown)?);
-    let upper = asked(4, 0, 0, 2, 0x0d);
-    let shown = [shows(0, 2, Some(0xbb0000000000))];
-    assert!(rt; get_shows(alloc, 4, upper, &[okay(0, 0xbb00)], &shown)?);
+    same(&rt, "in no region", is_right(alloc, &nowhere)?, true);
     Ok(())
 }
 
@@ -217,10 +233,17 @@ fn shows_each_word_at_its_place(rt: HostRuntime) -> Result<(), Fail> {
     let get = asked(4, 0, 5, 0, 0);
     // A bad word, and reads that come in another order than their places.
     let reads = [okay(2, 3), bad(1), okay(3, 4), okay(0, 1)];
-    let [a, b, c, d] = [Some(1), None, Some(3), Some(4)].map(|word| shows(5, 0, word));
-    assert!(rt; get_shows(alloc, 8, get, &reads, &[a, b, c, d])?);
+    let right = get_shows(
+        alloc,
+        8,
+        get,
+        &reads,
+        &four([Some(1), None, Some(3), Some(4)]),
+    )?;
+    same(&rt, "another order", right, true);
     let reads = [okay(0, 1), okay(1, 2), absent(2), okay(3, 4)];
-    assert!(rt; get_shows(alloc, 8, get, &reads, &[denies(5, 0); 4])?);
+    let right = get_shows(alloc, 8, get, &reads, &[denies(5, 0); 4])?;
+    same(&rt, "an absent page", right, true);
     // On a bus of four bytes one half of a word that fails is enough.
     let reads = [
         okay(0, 0x55667788),
@@ -233,8 +256,8 @@ fn shows_each_word_at_its_place(rt: HostRuntime) -> Result<(), Fail> {
         okay(7, 7),
     ];
     let words = [Some(0x1122334455667788), None, Some(0x700000000), None];
-    let [a, b, c, d] = words.map(|word| shows(5, 0, word));
-    assert!(rt; get_shows(alloc, 4, get, &reads, &[a, b, c, d])?);
+    let right = get_shows(alloc, 4, get, &reads, &four(words))?;
+    same(&rt, "halves of words", right, true);
     Ok(())
 }
 
@@ -278,17 +301,9 @@ fn gives_old_values(rt: HostRuntime) -> Result<(), Fail> {
     ] {
         let reads = [okay(0, payload)];
         let done = Some(Resp::Okay);
-        assert!(rt;
-            atomic_shows(
-                rt.alloc(),
-                bus_bytes,
-                request,
-                &reads,
-                done,
-                Some(old),
-                shown
-            )?
-        );
+        let old = Some(old);
+        let right = atomic_shows(rt.alloc(), bus_bytes, request, &reads, done, old, shown)?;
+        same(&rt, (bus_bytes, request), right, true);
     }
     Ok(())
 }
@@ -313,7 +328,8 @@ fn gives_none_where_an_atomic_fails(rt: HostRuntime) -> Result<(), Fail> {
         (8, [bad(0)].as_slice(), None, None, shows(3, 0, None)),
         (8, [absent(0)].as_slice(), None, None, denies(3, 0)),
     ] {
-        assert!(rt; atomic_shows(rt.alloc(), bus_bytes, add, reads, write, old, shown)?);
+        let right = atomic_shows(rt.alloc(), bus_bytes, add, reads, write, old, shown)?;
+        same(&rt, (bus_bytes, reads, write), right, true);
     }
     Ok(())
 }
