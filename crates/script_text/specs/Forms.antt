@@ -1,5 +1,5 @@
 -- The forms of a script's lines, and the fields of set-up lines (this project's profile).
-use Rattle.std.specs.Prelude.{ℕ, ◌==◌, Bool, true, false, Result, Ok, Err, ◌&&◌, ◌||◌, List, [], ◌∷◌, length, Option, Some, None, find, option_map, nat_le, codes}
+use Rattle.std.specs.Prelude.{ℕ, ◌==◌, false, Result, Ok, Err, ◌&&◌, ◌||◌, List, [], ◌∷◌, length, Option, find, option_map, nat_le, codes}
 use Rattle.std.specs.List.{list_all}
 use Rattle.std.specs.Str.{bytes_eq}
 use Rattle.std.specs.Str.Parse.{digits_value}
