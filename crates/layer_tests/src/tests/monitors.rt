@@ -139,12 +139,8 @@ fn rules_in_their_order(rt: HostRuntime) -> Result<(), Fail> {
         (read_data(1, Resp::SlvErr, true), 0),
         (read_data(1, Resp::Okay, true), 10),
     ];
-    same(
-        &rt,
-        "first other beat",
-        first_difference(&mut monitor, &beats),
-        None,
-    );
+    let other = first_difference(&mut monitor, &beats);
+    same(&rt, "first other beat", other, None);
     Ok(())
 }
 
