@@ -1,6 +1,7 @@
 //! What is refused before a thread starts.
 use super::gates::Shut;
 use super::given::*;
+use super::same;
 use crate::{Fault, Limits, Who, run_threads};
 use bridge_core::Config;
 use std::test::Fail;
@@ -86,18 +87,9 @@ fn refusals(rt: HostRuntime) -> Result<(), Fail> {
             &gate,
             case.limits,
         );
-        assert_eq!(rt;
-            answer.err(),
-            Some(case.fault),
-            "{:?}",
-            (
-                case.max_len,
-                case.scripts,
-                case.beats,
-                case.words,
-                case.limits
-            )
-        );
+        let asked = (case.max_len, case.scripts, case.beats, case.words);
+        let fault = Some(case.fault);
+        same(&rt, (asked, case.limits), answer.err(), fault);
     }
     Ok(())
 }

@@ -1,6 +1,7 @@
 //! Whole runs in threads.
 use super::gates::{Holding, Meeting, Open, Shut};
 use super::given::*;
+use super::same;
 use crate::{Fault, Limits, Who};
 use bridge_core::Config;
 use std::alloc::Global;
@@ -89,6 +90,16 @@ fn received(alloc: Global, config: Config, report: &Report, client: u8, beats: &
         && receipts.beats.as_slice() == beats
 }
 
+/// How many steps and clients a run of two clients tells of, and whether each took its two replies.
+fn shown(alloc: Global, report: &Report) -> (usize, usize, bool, bool) {
+    (
+        report.steps.len(),
+        report.receipts.len(),
+        received(alloc, TWO_CLIENTS, report, 0, &[PUT_REPLY, GET_REPLY]),
+        received(alloc, TWO_CLIENTS, report, 1, &[PUT_REPLY, OTHER_REPLY]),
+    )
+}
+
 /// Two clients and one memory thread, or four, of whom each waits for all others before each of its first four turns. One
 /// after another they would wait in vain.
 #[test]
@@ -101,22 +112,26 @@ fn threads_meet(rt: HostRuntime) {
             ..TWO_SCRIPTS
         };
         let answer = ran(&rt, alloc, asked, &gate);
-        assert_eq!(rt;
-            (gate.met(), gate.shut()),
-            (4, 0),
-            "{} memory threads",
-            words.len()
+        let met = (gate.met(), gate.shut());
+        same(&rt, ("memory threads", words.len()), met, (4, 0));
+        let report = answer.expect(&rt, "a run ends well");
+        let found = shown(alloc, &report);
+        same(
+            &rt,
+            ("memory threads", words.len()),
+            found,
+            (20, 2, true, true),
         );
-        match answer {
-            Ok(report) => {
-                assert_eq!(rt; report.steps.len(), 20);
-                assert_eq!(rt; report.receipts.len(), 2);
-                assert!(rt; received(alloc, TWO_CLIENTS, &report, 0, &[PUT_REPLY, GET_REPLY]));
-                assert!(rt; received(alloc, TWO_CLIENTS, &report, 1, &[PUT_REPLY, OTHER_REPLY]));
-            }
-            Err(fault) => assert_eq!(rt; Some(fault), None),
-        }
     }
+}
+
+/// How many steps and clients a run tells of, and a byte that it wrote.
+fn counts(report: &Report) -> (usize, usize, Option<u8>) {
+    (
+        report.steps.len(),
+        report.receipts.len(),
+        report.world.byte(0x10008),
+    )
 }
 
 /// The same run of one client, whatever the words and the threads are.
@@ -134,21 +149,14 @@ fn one_client(rt: HostRuntime) {
             source,
             ..GET_REPLY
         };
-        match ran(&rt, alloc, asked, &Open) {
-            Ok(report) => {
-                assert_eq!(rt; report.steps.len(), 10);
-                assert_eq!(rt; report.receipts.len(), 1);
-                assert_eq!(rt;
-                    report.receipts[0].heads.as_slice(),
-                    [(0u64, 1u16), (1, 1)].as_slice()
-                );
-                assert_eq!(rt;
-                    report.receipts[0].beats.as_slice(),
-                    [PUT_REPLY, second].as_slice()
-                );
-                assert_eq!(rt; report.world.byte(0x10008), Some(0x88));
-            }
-            Err(fault) => assert_eq!(rt; Some(fault), None),
+        let case = (words.len(), source, steps);
+        let report = ran(&rt, alloc, asked, &Open).expect(&rt, "a run ends well");
+        same(&rt, case, counts(&report), (10, 1, Some(0x88)));
+        for receipts in &report.receipts {
+            let heads = receipts.heads.as_slice();
+            same(&rt, case, heads, [(0u64, 1u16), (1, 1)].as_slice());
+            let beats = receipts.beats.as_slice();
+            same(&rt, case, beats, [PUT_REPLY, second].as_slice());
         }
     }
 }
@@ -156,26 +164,27 @@ fn one_client(rt: HostRuntime) {
 /// Where there is nothing to do.
 #[test]
 fn nothing_to_do(rt: HostRuntime) {
-    let alloc = rt.alloc();
     let asked = Asked {
         scripts: &[&[], &[]],
         words: &[&[]],
         ..TWO_SCRIPTS
     };
-    match ran(&rt, alloc, asked, &Open) {
-        Ok(report) => {
-            assert_eq!(rt; report.steps.len(), 0);
-            assert_eq!(rt; report.receipts.len(), 2);
-            for receipts in &report.receipts {
-                assert_eq!(rt; (receipts.heads.len(), receipts.beats.len()), (0, 0));
-            }
-        }
-        Err(fault) => assert_eq!(rt; Some(fault), None),
+    let report = ran(&rt, rt.alloc(), asked, &Open).expect(&rt, "a run ends well");
+    let lengths = (report.steps.len(), report.receipts.len());
+    same(&rt, "steps and clients", lengths, (0, 2));
+    for receipts in &report.receipts {
+        let lengths = (receipts.heads.len(), receipts.beats.len());
+        same(&rt, "replies of a client", lengths, (0, 0));
     }
 }
 
 /// A Get of eight bytes at 4.
 const UNALIGNED: ABeat = ABeat { address: 4, ..GET };
+
+const REFUSED: Asked = Asked {
+    scripts: &[&[UNALIGNED], &[]],
+    ..TWO_SCRIPTS
+};
 
 /// One client that puts a word.
 const ONE_PUT: Asked = Asked {
@@ -183,39 +192,30 @@ const ONE_PUT: Asked = Asked {
     ..ONE_SCRIPT
 };
 
+const ONE_STEP: Asked = Asked {
+    limits: Limits { steps: 1, ..WIDE },
+    ..ONE_PUT
+};
+
+const IMPATIENT: Asked = Asked {
+    limits: Limits { idle: 10, ..WIDE },
+    ..ONE_PUT
+};
+
 #[test]
 fn faults(rt: HostRuntime) {
     let alloc = rt.alloc();
-    let refused = Asked {
-        scripts: &[&[UNALIGNED], &[]],
-        ..TWO_SCRIPTS
-    };
     let beat_refused = Fault::BeatRefused {
         client: 0,
         index: 0,
         rule: TlRule::Align,
     };
-    assert_eq!(rt; ran(&rt, alloc, refused, &Open).err(), Some(beat_refused));
-    let one_step = Asked {
-        limits: Limits { steps: 1, ..WIDE },
-        ..ONE_PUT
-    };
-    assert_eq!(rt;
-        ran(&rt, alloc, one_step, &Open).err(),
-        Some(Fault::HistoryFull)
-    );
-    let shut = Shut(Who::Memory(0));
-    assert_eq!(rt;
-        ran(&rt, alloc, ONE_PUT, &shut).err(),
-        Some(Fault::GateShut)
-    );
-    let impatient = Asked {
-        limits: Limits { idle: 10, ..WIDE },
-        ..ONE_PUT
-    };
-    let gate = Holding::new();
-    assert_eq!(rt;
-        ran(&rt, alloc, impatient, &gate).err(),
-        Some(Fault::IdleLimit)
-    );
+    for (asked, fault) in [(REFUSED, beat_refused), (ONE_STEP, Fault::HistoryFull)] {
+        let found = ran(&rt, alloc, asked, &Open).err();
+        same(&rt, "an open gate", found, Some(fault));
+    }
+    let found = ran(&rt, alloc, ONE_PUT, &Shut(Who::Memory(0))).err();
+    same(&rt, "a shut gate", found, Some(Fault::GateShut));
+    let found = ran(&rt, alloc, IMPATIENT, &Holding::new()).err();
+    same(&rt, "a gate that holds", found, Some(Fault::IdleLimit));
 }

@@ -1,5 +1,6 @@
 //! What lies under the lock, without threads.
 use super::given::*;
+use super::same;
 use crate::turns::{Turn, WorkerFault, hold};
 use crate::{HistoryFull, Shared};
 use bridge_core::Config;
@@ -36,28 +37,25 @@ const DENIED: DBeat = DBeat {
 
 #[test]
 fn refused_set_ups(rt: HostRuntime) {
-    let alloc = rt.alloc();
     let bad_config = set_up(Config {
         max_len: 3,
         ..TWO_CLIENTS
     });
-    assert_eq!(rt;
-        Shared::new(alloc, &bad_config, 1).err(),
-        Some(SetupFault::BadConfig)
-    );
     let mut overlapping = set_up(TWO_CLIENTS);
-    assert!(rt; overlapping.regions.try_push(FOUR_PAGES).is_ok());
-    let overlap = SetupFault::Map(MapFault::RegionOverlap(1));
-    assert_eq!(rt; Shared::new(alloc, &overlapping, 1).err(), Some(overlap));
+    let pushed = overlapping.regions.try_push(FOUR_PAGES).is_ok();
+    same(&rt, "room for a region", pushed, true);
     let mut page_twice = set_up(TWO_CLIENTS);
-    assert!(rt;
-        page_twice
-            .pages
-            .try_push((0x13, PageKind::SlaveError))
-            .is_ok()
-    );
-    let twice = SetupFault::Device(DeviceFault::PageTwice(4));
-    assert_eq!(rt; Shared::new(alloc, &page_twice, 1).err(), Some(twice));
+    let page = (0x13, PageKind::SlaveError);
+    let pushed = page_twice.pages.try_push(page).is_ok();
+    same(&rt, "room for a page", pushed, true);
+    for (setup, fault) in [
+        (&bad_config, SetupFault::BadConfig),
+        (&overlapping, SetupFault::Map(MapFault::RegionOverlap(1))),
+        (&page_twice, SetupFault::Device(DeviceFault::PageTwice(4))),
+    ] {
+        let found = Shared::new(rt.alloc(), setup, 1).err();
+        same(&rt, fault, found, Some(fault));
+    }
 }
 
 /// Steps, what they are answered where two may be stored, and how many are stored after each.
@@ -79,21 +77,15 @@ const TURNS: [(Step, Result<Answer, HistoryFull>, usize); 7] = [
 fn turns(rt: HostRuntime) -> Result<(), Fail> {
     let alloc = rt.alloc();
     let mut reply = ReplyBox::new(alloc)?;
-    match Shared::new(alloc, &set_up(TWO_CLIENTS), 2) {
-        Ok(mut shared) => {
-            for (step, answer, stored) in TURNS {
-                assert_eq!(rt; shared.turn(&step, &mut reply), answer, "{step:?}");
-                assert_eq!(rt; shared.steps().len(), stored, "{step:?}");
-            }
-            assert_eq!(rt;
-                shared.steps(),
-                [Step::Offer(1, OUTSIDE), Step::Take(1)].as_slice()
-            );
-            assert_eq!(rt; reply.as_slice(), [DENIED].as_slice());
-            assert!(rt; !shared.world().first_done(1));
-        }
-        Err(fault) => assert_eq!(rt; Some(fault), None),
+    let mut shared = Shared::new(alloc, &set_up(TWO_CLIENTS), 2).expect(&rt, "a set-up");
+    for (step, answer, stored) in TURNS {
+        same(&rt, step, shared.turn(&step, &mut reply), answer);
+        same(&rt, ("stored", step), shared.steps().len(), stored);
     }
+    let steps = [Step::Offer(1, OUTSIDE), Step::Take(1)];
+    same(&rt, "steps", shared.steps(), steps.as_slice());
+    same(&rt, "reply", reply.as_slice(), [DENIED].as_slice());
+    same(&rt, "done", shared.world().first_done(1), false);
     Ok(())
 }
 
@@ -102,22 +94,17 @@ fn turns(rt: HostRuntime) -> Result<(), Fail> {
 fn full_in_a_hold(rt: HostRuntime) -> Result<(), Fail> {
     let alloc = rt.alloc();
     let mut reply = ReplyBox::new(alloc)?;
-    match Shared::new(alloc, &set_up(TWO_CLIENTS), 3) {
-        Ok(mut shared) => {
-            let offer = Step::Offer(0, TWO_BEATS);
-            assert_eq!(rt; shared.turn(&offer, &mut reply), Ok(Answer::Accepted(0)));
-            let mut place = 0usize;
-            let turn = hold(&mut shared, &[4, 5, 6], &mut place, &mut reply);
-            assert_eq!(rt; turn, Turn::Failed(WorkerFault::HistoryFull));
-            assert_eq!(rt;
-                shared.steps(),
-                [offer, Step::Pump, Step::Perform(0, 1)].as_slice()
-            );
-            assert_eq!(rt; place, 2);
-            assert_eq!(rt; shared.world().work_left(), 3);
-        }
-        Err(fault) => assert_eq!(rt; Some(fault), None),
-    }
+    let mut shared = Shared::new(alloc, &set_up(TWO_CLIENTS), 3).expect(&rt, "a set-up");
+    let offer = Step::Offer(0, TWO_BEATS);
+    let answer = shared.turn(&offer, &mut reply);
+    same(&rt, "offer", answer, Ok(Answer::Accepted(0)));
+    let mut place = 0usize;
+    let turn = hold(&mut shared, &[4, 5, 6], &mut place, &mut reply);
+    same(&rt, "hold", turn, Turn::Failed(WorkerFault::HistoryFull));
+    let steps = [offer, Step::Pump, Step::Perform(0, 1)];
+    same(&rt, "steps", shared.steps(), steps.as_slice());
+    same(&rt, "place", place, 2);
+    same(&rt, "work left", shared.world().work_left(), 3);
     Ok(())
 }
 
@@ -126,18 +113,20 @@ fn full_in_a_hold(rt: HostRuntime) -> Result<(), Fail> {
 fn a_million_steps(rt: HostRuntime) -> Result<(), Fail> {
     let alloc = rt.alloc();
     let mut reply = ReplyBox::new(alloc)?;
-    match Shared::new(alloc, &set_up(TWO_CLIENTS), 1_000_000) {
-        Ok(mut shared) => {
-            for number in 0..500_000u64 {
-                let offered = shared.turn(&Step::Offer(1, OUTSIDE), &mut reply);
-                assert_eq!(rt; offered, Ok(Answer::Accepted(number)));
-                let taken = shared.turn(&Step::Take(1), &mut reply);
-                assert_eq!(rt; taken, Ok(Answer::Reply(number)));
-            }
-            assert_eq!(rt; shared.turn(&Step::Pump, &mut reply), Err(HistoryFull));
-            assert_eq!(rt; shared.steps().len(), 1_000_000);
-        }
-        Err(fault) => assert_eq!(rt; Some(fault), None),
+    let mut shared = Shared::new(alloc, &set_up(TWO_CLIENTS), 1_000_000).expect(&rt, "a set-up");
+    for number in 0..500_000u64 {
+        let offered = shared.turn(&Step::Offer(1, OUTSIDE), &mut reply);
+        same(
+            &rt,
+            ("offer", number),
+            offered,
+            Ok(Answer::Accepted(number)),
+        );
+        let taken = shared.turn(&Step::Take(1), &mut reply);
+        same(&rt, ("take", number), taken, Ok(Answer::Reply(number)));
     }
+    let beyond = shared.turn(&Step::Pump, &mut reply);
+    same(&rt, "beyond", beyond, Err(HistoryFull));
+    same(&rt, "stored", shared.steps().len(), 1_000_000);
     Ok(())
 }

@@ -1,4 +1,5 @@
 //! What the faults are called.
+use super::same;
 use crate::Fault;
 use std::test::Fail;
 use tl_checker::TlRule;
@@ -38,7 +39,8 @@ const TEXTS: [(Fault, &str); 9] = [
 #[test]
 fn texts(rt: HostRuntime) -> Result<(), Fail> {
     for (fault, text) in TEXTS {
-        assert_eq!(rt; fault.to_string(rt.alloc())?.as_str(), text);
+        let told = fault.to_string(rt.alloc())?;
+        same(&rt, fault, told.as_str(), text);
     }
     Ok(())
 }
