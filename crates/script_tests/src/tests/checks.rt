@@ -1,3 +1,4 @@
+use super::same;
 use check_script::check_text;
 use script_text::ScriptFault;
 use std::io;
@@ -42,8 +43,8 @@ fn scripts(rt: HostRuntime) -> Result<(), Fail> {
     for (script, wanted, trace) in SCRIPTS {
         let mut output = Vec::new(alloc);
         let ending = check_text(alloc, &mut script.as_bytes(), &mut output);
-        assert!(rt; ending == wanted, "{script}");
-        assert!(rt; output.as_slice() == trace.as_bytes(), "{script}");
+        same(&rt, script, ending, wanted);
+        same(&rt, script, output.as_slice(), trace.as_bytes());
     }
     Ok(())
 }
@@ -94,14 +95,15 @@ fn reads_and_writes_that_fail(rt: HostRuntime) -> Result<(), Fail> {
         };
         let mut output = Vec::new(alloc);
         let ending = check_text(alloc, &mut reader, &mut output);
-        assert!(rt; matches!(ending, Err(ScriptFault::Read)), "{count} lines");
-        assert!(rt; output.as_slice() == text.as_bytes(), "{count} lines");
+        same(&rt, ("lines", count), ending, Err(ScriptFault::Read));
+        let trace = output.as_slice();
+        same(&rt, ("trace of lines", count), trace, text.as_bytes());
     }
     let ending = check_text(
         alloc,
         &mut b"config 1 1 1 1 1 12 h\nfree 0 0\n".as_slice(),
         &mut Full,
     );
-    assert!(rt; matches!(ending, Err(ScriptFault::Write)));
+    same(&rt, "a full writer", ending, Err(ScriptFault::Write));
     Ok(())
 }

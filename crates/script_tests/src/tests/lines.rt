@@ -1,3 +1,4 @@
+use super::same;
 use line_text::{
     Words, WriteFault, client_line, drained_line, mem_line, offer_line, ok_line, refused_line,
     reply_line, work_line,
@@ -29,10 +30,10 @@ const FIELDS: [(&str, Option<u8>, Option<u16>, Option<u32>, Option<bool>); 12] =
 fn fields(rt: HostRuntime) -> Result<(), Fail> {
     for (word, byte, short, address, flag) in FIELDS {
         let words = Words::of(word.as_bytes());
-        assert_eq!(rt; words.byte(1).ok(), byte, "{word:?}");
-        assert_eq!(rt; words.short(1).ok(), short, "{word:?}");
-        assert_eq!(rt; words.address(1).ok(), address, "{word:?}");
-        assert_eq!(rt; words.flag(1).ok(), flag, "{word:?}");
+        let numbers = (words.byte(1).ok(), words.short(1).ok());
+        same(&rt, ("numbers", word), numbers, (byte, short));
+        let others = (words.address(1).ok(), words.flag(1).ok());
+        same(&rt, ("address and flag", word), others, (address, flag));
     }
     Ok(())
 }
@@ -40,17 +41,25 @@ fn fields(rt: HostRuntime) -> Result<(), Fail> {
 #[test]
 fn words_of_lines(rt: HostRuntime) -> Result<(), Fail> {
     let words = Words::of(b"  take   7 ");
-    assert_eq!(rt; words.at(1), b"take".as_slice());
-    assert_eq!(rt; words.at(2), b"7".as_slice());
-    assert_eq!(rt; words.at(3), b"".as_slice());
-    assert_eq!(rt; (words.end(1), words.end(2)), (Err(2), Ok(())));
-    assert!(rt; !words.are_skipped());
-    for skipped in ["", "   ", "#", " # take 7", "#take"] {
-        assert!(rt; Words::of(skipped.as_bytes()).are_skipped(), "{skipped:?}");
+    for (place, word) in [(1, b"take".as_slice()), (2, b"7"), (3, b"")] {
+        same(&rt, ("word", place), words.at(place), word);
+    }
+    let ends = (words.end(1), words.end(2));
+    same(&rt, "ends after a word", ends, (Err(2), Ok(())));
+    for (line, skipped) in [
+        ("  take   7 ", false),
+        ("", true),
+        ("   ", true),
+        ("#", true),
+        (" # take 7", true),
+        ("#take", true),
+    ] {
+        let found = Words::of(line.as_bytes()).are_skipped();
+        same(&rt, ("skipped", line), found, skipped);
     }
     // The mask has a digit that is none.
     let offered = offer_line(&Words::of(b"a 0 0 0 3 5 8 fg 0 0"));
-    assert_eq!(rt; offered, Err(8));
+    same(&rt, "a mask of no digit", offered, Err(8));
     Ok(())
 }
 
@@ -70,18 +79,17 @@ fn trace_lines(rt: HostRuntime) -> Result<(), Fail> {
     ok_line(&mut text)?;
     let wanted =
         "= accepted 7\n= refused 5 ALIGN\n= refused 10 BURST_CONTROL\n= reply 0\n= mem 08\n= mem --\n= drained 12\n= work 0\n= reply 18446744073709551615\nclient 7\n= ok\n";
-    assert_eq!(rt; text.as_slice(), wanted.as_bytes());
+    same(&rt, "lines", text.as_slice(), wanted.as_bytes());
     Ok(())
 }
 
 #[test]
 fn faults_as_text(rt: HostRuntime) -> Result<(), Fail> {
     let fault = ScriptFault::Script { line: 5, word: 8 };
-    assert_eq!(rt;
-        fault.to_string(rt.alloc())?.as_str(),
-        "script fault: line 5, word 8"
-    );
-    assert_eq!(rt; WriteFault.to_string(rt.alloc())?.as_str(), "write fault");
+    let text = fault.to_string(rt.alloc())?;
+    same(&rt, fault, text.as_str(), "script fault: line 5, word 8");
+    let text = WriteFault.to_string(rt.alloc())?;
+    same(&rt, "a writer's", text.as_str(), "write fault");
     Ok(())
 }
 
@@ -142,8 +150,8 @@ fn a_script_answers_what_it_says(rt: HostRuntime) -> Result<(), Fail> {
         let script = LastLine { number: 0 };
         let mut output = Vec::new(rt.alloc());
         let ended = read_script(script, rt.alloc(), &mut text.as_bytes(), &mut output);
-        assert_eq!(rt; ended, answer, "{text:?}");
-        assert!(rt; output.is_empty());
+        same(&rt, text, ended, answer);
+        same(&rt, ("output", text), output.len(), 0);
     }
     Ok(())
 }

@@ -1,6 +1,8 @@
+use super::same;
 use burst_plan::MapFault;
 use run_script::run_text;
 use script_text::ScriptFault;
+use std::alloc::{AllocError, Global};
 use std::io;
 use std::io::{ErrorKind, Read, Write};
 use std::test::Fail;
@@ -62,8 +64,8 @@ fn scripts(rt: HostRuntime) -> Result<(), Fail> {
     for (script, wanted, trace) in SCRIPTS {
         let mut output = Vec::new(alloc);
         let ending = run_text(alloc, &mut script.as_bytes(), &mut output);
-        assert!(rt; ending == wanted, "{script}");
-        assert!(rt; output.as_slice() == trace.as_bytes(), "{script}");
+        same(&rt, script, ending, wanted);
+        same(&rt, script, output.as_slice(), trace.as_bytes());
     }
     Ok(())
 }
@@ -98,6 +100,17 @@ struct Writer {
 }
 
 impl Writer {
+    /// Before its first call.
+    fn failing_at(alloc: Global, fails: u32) -> Writer {
+        Writer {
+            text: Vec::new(alloc),
+            calls: 0,
+            fails,
+            flushes: 0,
+        }
+    }
+
+    /// Counts a call.
     fn called(&mut self) -> io::Result<()> {
         let call = self.calls;
         self.calls = call.saturating_add(1);
@@ -121,10 +134,18 @@ impl Write for Writer {
     }
 }
 
-#[test]
-fn reads_and_writes_that_fail(rt: HostRuntime) -> Result<(), Fail> {
-    let alloc = rt.alloc();
+/// The trace of so many lines.
+fn trace_of(alloc: Global, count: usize) -> Result<Vec<u8>, AllocError> {
     let mut trace = Vec::new(alloc);
+    for (_, text) in FIRST.iter().take(count) {
+        trace.extend_from_slice(text.as_bytes())?;
+    }
+    Ok(trace)
+}
+
+#[test]
+fn reads_that_fail(rt: HostRuntime) -> Result<(), Fail> {
+    let alloc = rt.alloc();
     for count in 0..FIRST.len() {
         let mut reader = Lines {
             left: &FIRST[..count],
@@ -132,33 +153,45 @@ fn reads_and_writes_that_fail(rt: HostRuntime) -> Result<(), Fail> {
         };
         let mut output = Vec::new(alloc);
         let ending = run_text(alloc, &mut reader, &mut output);
-        assert!(rt; matches!(ending, Err(ScriptFault::Read)), "{count} lines");
-        assert!(rt; output == trace, "{count} lines");
-        trace.extend_from_slice(FIRST[count].1.as_bytes())?;
+        same(&rt, ("lines", count), ending, Err(ScriptFault::Read));
+        let trace = trace_of(alloc, count)?;
+        same(
+            &rt,
+            ("trace of lines", count),
+            output.as_slice(),
+            trace.as_slice(),
+        );
     }
+    Ok(())
+}
+
+#[test]
+fn writes_that_fail(rt: HostRuntime) -> Result<(), Fail> {
+    let alloc = rt.alloc();
+    let trace = trace_of(alloc, FIRST.len())?;
     let mut writes = 0u32;
     for fails in 0..1_000u32 {
         let mut reader = Lines {
             left: &FIRST,
             ends: true,
         };
-        let mut writer = Writer {
-            text: Vec::new(alloc),
-            calls: 0,
-            fails,
-            flushes: 0,
-        };
+        let mut writer = Writer::failing_at(alloc, fails);
         let ending = run_text(alloc, &mut reader, &mut writer);
         if writer.calls <= fails {
-            assert!(rt; matches!(ending, Ok(false)));
-            assert!(rt; writer.text == trace);
+            same(&rt, "no write fails", ending, Ok(false));
+            same(&rt, "trace", writer.text.as_slice(), trace.as_slice());
             // One for each of the six commands, before the next line is read, and none for the set-up's lines.
-            assert!(rt; writer.flushes == 6);
+            same(&rt, "flushes", writer.flushes, 6);
             break;
         }
-        assert!(rt; matches!(ending, Err(ScriptFault::Write)), "write {fails}");
+        same(&rt, ("write", fails), ending, Err(ScriptFault::Write));
         writes = writes.saturating_add(1);
     }
-    assert!(rt; 16 <= writes && writes < 1_000, "{writes} writes");
+    same(
+        &rt,
+        ("writes", writes),
+        16 <= writes && writes < 1_000,
+        true,
+    );
     Ok(())
 }
