@@ -5,11 +5,18 @@ use bridge_core::Config;
 use burst_plan::{MapFault, PageMap, Region};
 use scoreboard::{ReplyRule, Scoreboard, Seen, SerialMemory, Wrong, observed};
 use std::alloc::Global;
+use std::fmt::Debug;
+use std::process::Abort;
 use std::test::Fail;
 use subordinate::{PageKind, device_fault};
 use tl_checker::{Level, Port, Progress, TlRule};
 use tl_messages::{ABeat, DBeat, ReplyBox};
 use world_run::{Setup, SetupFault, Step};
+
+/// Has the test fail where two values differ; `case` says of what they are.
+fn same<C: Debug + Drop, T: Debug + Drop + PartialEq>(rt: &impl Abort, case: C, got: T, wanted: T) {
+    assert_eq!(rt; got, wanted, "{case:?}");
+}
 
 /// TileLink pages 0 to 3 lead to AXI pages 0x10 to 0x13.
 const REGION: Region = Region {
@@ -430,31 +437,36 @@ fn failing(alloc: Global, histories: &[History]) -> Option<(&'static str, Option
 
 #[test]
 fn replies(rt: HostRuntime) {
-    assert_eq!(rt; failing(rt.alloc(), &REPLIES), None);
+    same(&rt, "first failing", failing(rt.alloc(), &REPLIES), None);
 }
 
 #[test]
 fn memory(rt: HostRuntime) {
-    assert_eq!(rt; failing(rt.alloc(), &MEMORY), None);
+    same(&rt, "first failing", failing(rt.alloc(), &MEMORY), None);
 }
 
 #[test]
 fn ports(rt: HostRuntime) {
-    assert_eq!(rt; failing(rt.alloc(), &PORTS), None);
+    same(&rt, "first failing", failing(rt.alloc(), &PORTS), None);
 }
 
 #[test]
 fn right_beats_and_bytes(rt: HostRuntime) {
     let setup = set_up(REGION).expect(&rt, "room");
     let mut board = Scoreboard::new(rt.alloc(), &setup).expect(&rt, "memory");
-    assert_eq!(rt; first_difference(&mut board, &RIGHT), None);
+    same(
+        &rt,
+        "right beats",
+        first_difference(&mut board, &RIGHT),
+        None,
+    );
     for (address, byte) in [
         (0x10007, Some(0)),
         (0x10008, Some(0x88)),
         (0x1000f, Some(0x11)),
         (0x14000, None),
     ] {
-        assert_eq!(rt; board.byte(address), byte, "{address}");
+        same(&rt, ("byte", address), board.byte(address), byte);
     }
 }
 
@@ -507,19 +519,21 @@ fn what_a_run_shows(rt: HostRuntime) {
         D(1, (1, 2, 7, false, 0x1122334400000000, false)),
     ];
     let beats = observed(rt.alloc(), &setup, &steps).expect(&rt, "memory");
-    assert_eq!(rt; beats.len(), shown.len());
+    same(&rt, "beats", beats.len(), shown.len());
     for (place, beat) in shown.iter().enumerate() {
-        assert_eq!(rt; beats.get(place), Some(&seen(*beat)), "{place}");
+        let wanted = seen(*beat);
+        same(&rt, ("beat", place), beats.get(place), Some(&wanted));
     }
     let mut board = Scoreboard::new(rt.alloc(), &setup).expect(&rt, "memory");
-    assert_eq!(rt; first_wrong(&mut board, &beats), None);
+    same(&rt, "first wrong", first_wrong(&mut board, &beats), None);
 }
 
 #[test]
 fn refused_set_up(rt: HostRuntime) {
     let setup = set_up(Region { pages: 0, ..REGION }).expect(&rt, "room");
     let fault = Scoreboard::new(rt.alloc(), &setup).err();
-    assert_eq!(rt; fault, Some(SetupFault::Map(MapFault::RegionEmpty(0))));
+    let empty = SetupFault::Map(MapFault::RegionEmpty(0));
+    same(&rt, "a region of no pages", fault, Some(empty));
 }
 
 #[test]
@@ -528,7 +542,7 @@ fn a_request_alone(rt: HostRuntime) -> Result<(), Fail> {
     let map = PageMap::new(alloc, &[REGION])?;
     let mut reply = ReplyBox::new(alloc)?;
     let mut port = Port::new(alloc, 0, Level::Uh, 12)?;
-    assert_eq!(rt; device_fault(&PAGES, &[]), None);
+    same(&rt, "pages", device_fault(&PAGES, &[]), None);
     let mut memory = SerialMemory::new(alloc, map, &PAGES, &[])?;
     let beat = ABeat {
         opcode: 0,
@@ -540,12 +554,13 @@ fn a_request_alone(rt: HostRuntime) -> Result<(), Fail> {
         payload: WORD,
         corrupt: false,
     };
-    assert_eq!(rt; port.take_beat(&beat, false), Ok(Progress::Whole));
+    let taken = port.take_beat(&beat, false);
+    same(&rt, "a Put", taken, Ok(Progress::Whole));
     if let Some(request) = port.whole() {
         memory.carry_out(request, &mut reply);
     }
-    assert_eq!(rt; reply.as_slice(), [d_beat(ACK)].as_slice());
-    assert_eq!(rt; memory.byte(0x1000f), Some(0x11));
+    same(&rt, "its reply", reply.as_slice(), [d_beat(ACK)].as_slice());
+    same(&rt, "its last byte", memory.byte(0x1000f), Some(0x11));
     Ok(())
 }
 
@@ -556,7 +571,6 @@ fn rules_have_names(rt: HostRuntime) {
         (ReplyRule::Interleaved, 2, "INTERLEAVED"),
         (ReplyRule::Payload, 7, "PAYLOAD"),
     ] {
-        assert_eq!(rt; rule.number(), number);
-        assert_eq!(rt; rule.name(), name);
+        same(&rt, rule, (rule.number(), rule.name()), (number, name));
     }
 }
