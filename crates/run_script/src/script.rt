@@ -7,7 +7,9 @@ ghost use Rattle.script_text.specs.Stages.{Opening};
 ghost use Rattle.run_script.specs.Run.{before_answer, commanded, event_text, run_reading};
 
 use crate::lines::{Command, command_of};
-use line_text::{Words, WriteFault, a_line, burst_lines, drained_line, mem_line, reply_lines, work_line};
+use line_text::{
+    Words, WriteFault, a_line, burst_lines, drained_line, mem_line, reply_lines, work_line,
+};
 use script_text::{Form, Kind, ScriptFault, StagedScript, answer_line, read_script};
 use std::alloc::Global;
 use std::io::{Read, Write};
