@@ -3,12 +3,10 @@
 #![tactic(auto)]
 
 mod beat_lines;
-mod lanes;
 mod line;
 mod numbers;
 mod offer_parser;
 mod plain;
-mod spaces;
 mod trace_lines;
 mod words;
 mod writing;

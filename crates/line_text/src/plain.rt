@@ -1,11 +1,13 @@
 //! Which bytes may stand in a line.
 ghost use Rattle.std.specs.Prelude.{◌≡◌, ◌≤◌, ◌<◌, ◌+◌, true, length, take, slice_index_or, IfSome};
 ghost use Rattle.std.specs.List.{list_all};
-ghost use Rattle.line_text.specs.PlainRuns.{PassesIn};
+ghost use Rattle.line_text.specs.PlainRuns.{PassesIn, first_set};
 ghost use Rattle.line_text.specs.Words.{is_plain_byte, is_plain_line};
 
-use crate::lanes::{LANES, first_set};
 use std::simd::prelude::*;
+
+/// How many bytes are looked at together.
+const LANES: usize = 32;
 
 /// The most bytes of a line without its line feed.
 const LINE_BYTES: usize = 129;
@@ -33,6 +35,18 @@ pub fn may_stand(line: &[u8]) -> bool
     ensures { result ≡ is_plain_line line.now }
 {
     line.len() <= 128 && are_plain(line)
+}
+
+/// The place of a mask's lowest bit that is set, or the number of lanes.
+#[inline(always)]
+fn first_set(mask: u64) -> usize
+    ensures { result ≡ first_set mask LANES }
+{
+    if mask == 0 {
+        LANES
+    } else {
+        mask.trailing_zeros() as usize
+    }
 }
 
 /// How many of the 32 bytes from a place on come before the first of them that may not stand.

@@ -1,12 +1,10 @@
 //! The words of a line, by their places in it, and the fields that they write.
-ghost use Rattle.std.specs.Prelude.{◌≡◌, ◌≢◌, ◌≤◌, ◌<◌, ◌+◌, ℕ, true, false, drop, length, nat_eq, nat_le, slice_index, take, codes, MatchResult, IfOk};
+ghost use Rattle.std.specs.Prelude.{◌≡◌, ◌≢◌, ◌≤◌, ◌<◌, ◌+◌, ℕ, true, false, drop, length, nat_eq, nat_le, slice_index, codes, MatchResult, IfOk};
 ghost use Rattle.std.specs.List.{starts_with};
-ghost use Rattle.line_text.specs.PlainRuns.{LacksSpace};
 ghost use Rattle.line_text.specs.Words.{words_of, word_at, is_skipped, dec_at, hex_at, is_dec_to, is_hex_to};
 ghost use Rattle.line_text.specs.Fields.{Reads, byte_field, short_field, long_field, address_field, flag_field, is_set};
 
 use crate::numbers::{decimal, hexadecimal};
-use crate::spaces::{space_from, space_in};
 use std::marker::Model;
 
 /// How many words have their places held. Those behind them are looked for.
@@ -49,17 +47,31 @@ fn word_from(line: &[u8], at: usize) -> usize
     line.len()
 }
 
-/// Where the word ends that begins at a place of the line that a text begins with.
+/// Where the next space stands, or the line's end where there is none.
+fn space_from(line: &[u8], at: usize) -> usize
+    requires { at ≤ length line.now }
+    ensures within { (at ≤ result) × (result ≤ length line.now) }
+    ensures before { (k : ℕ) → at ≤ k → k < result → slice_index line.now k ≢ 32 }
+    ensures found { result < length line.now → slice_index line.now result ≡ 32 }
+{
+    for place in at..line.len() {
+        if line[place] == b' ' {
+            return place;
+        }
+    }
+    line.len()
+}
+
+/// Where the word ends that begins at a place.
 #[inline(always)]
-fn word_end(text: &[u8], line: &[u8], start: usize) -> usize
-    requires front { line.now ≡ take (length line.now) text.now }
+fn word_end(line: &[u8], start: usize) -> usize
     requires within { start < length line.now }
     requires found { slice_index line.now start ≢ 32 }
     ensures within { (start ≤ result) × (result ≤ length line.now) }
-    ensures before { LacksSpace line.now start result }
+    ensures before { (k : ℕ) → start ≤ k → k < result → slice_index line.now k ≢ 32 }
     ensures found { result < length line.now → slice_index line.now result ≡ 32 }
 {
-    space_in(text, line, start + 1)
+    space_from(line, start + 1)
 }
 
 /// Where the next word begins behind one that ends at a place, or the line's end where there is none.
@@ -114,13 +126,11 @@ pub fn is_comment(text: &[u8]) -> bool
 }
 
 impl<'a> Words<'a> {
-    /// The words of the line of so many bytes, at most 128, that a text begins with. What follows it plays no part.
-    pub fn of(text: &'a [u8], bytes: usize) -> Words<'a>
-        requires within { bytes ≤ length text.now }
-        requires short { bytes ≤ 128 }
-        ensures { result ≡ words_of (take bytes text.now) }
+    /// The words of a line of at most 128 bytes.
+    pub fn of(line: &'a [u8]) -> Words<'a>
+        requires { length line.now ≤ 128 }
+        ensures { result ≡ words_of line.now }
     {
-        let line = &text[..bytes];
         let mut starts = [0; HELD];
         let mut ends = [0; HELD];
         let mut start = word_from(line, 0);
@@ -133,7 +143,7 @@ impl<'a> Words<'a> {
                     count,
                 };
             }
-            let end = word_end(text, line, start);
+            let end = word_end(line, start);
             starts[count] = start as u8;
             ends[count] = end as u8;
             start = word_after(line, end);

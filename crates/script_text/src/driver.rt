@@ -1,5 +1,5 @@
 //! How a script is read and carried out, line by line, whatever its lines do.
-ghost use Rattle.std.specs.Prelude.{◌≡◌, ◌≤◌, ◌<◌, true, false, length, take, MatchOption};
+ghost use Rattle.std.specs.Prelude.{◌≡◌, ◌≤◌, ◌<◌, true, false, MatchOption};
 ghost use Rattle.std.specs.Str.Lines.{strip_carriage_return};
 ghost use Rattle.script_text.specs.Reads.{IsOneLine};
 ghost use Rattle.line_text.specs.Words.{is_plain_line};
@@ -64,24 +64,22 @@ fn without_return(line: &[u8]) -> &[u8]
     line.strip_suffix(b"\r").unwrap_or(line)
 }
 
-/// Carries out a line that may stand: as many bytes as a text begins with. The answer is whether it wrote something.
+/// Carries out a line that may stand. The answer is whether it wrote something.
 fn take_plain<S: Script, W: Write>(
     script: &mut S,
     alloc: Global,
     number: u32,
     text: &[u8],
-    bytes: usize,
     writer: &mut W,
 ) -> Result<bool, ScriptFault>
     requires number { number ≤ S.reading.most_lines }
-    requires within { bytes ≤ length text.now }
-    requires plain { is_plain_line (take bytes text.now) ≡ true }
-    ensures { TakesStep S.reading (line_step S.reading (S.state script.old) number (take bytes text.now)) S.is_silent (S.state script.old) (S.state script.new) (W.contents writer.old) (W.contents writer.new) result }
+    requires plain { is_plain_line text.now ≡ true }
+    ensures { TakesStep S.reading (line_step S.reading (S.state script.old) number text.now) S.is_silent (S.state script.old) (S.state script.new) (W.contents writer.old) (W.contents writer.new) result }
 {
-    if is_comment(&text[..bytes]) {
+    if is_comment(text) {
         return Ok(false);
     }
-    let words = &Words::of(text, bytes);
+    let words = &Words::of(text);
     if words.are_skipped() {
         return Ok(false);
     }
@@ -107,7 +105,7 @@ fn take_line<S: Script, W: Write>(
             word: 0,
         });
     }
-    take_plain(script, alloc, number, text, text.len(), writer)
+    take_plain(script, alloc, number, text, writer)
 }
 
 /// Carries out the line of a block that was read last.
@@ -122,8 +120,7 @@ fn take_read<S: Script, W: Write>(
     ensures { TakesStep S.reading (line_step S.reading (S.state script.old) number (strip_carriage_return block.now.line)) S.is_silent (S.state script.old) (S.state script.new) (W.contents writer.old) (W.contents writer.new) result }
 {
     if block.has_plain_line() {
-        let (text, bytes) = block.text();
-        return take_plain(script, alloc, number, text, bytes, writer);
+        return take_plain(script, alloc, number, block.line(), writer);
     }
     take_line(script, alloc, number, block.line(), writer)
 }

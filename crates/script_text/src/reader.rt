@@ -123,17 +123,6 @@ impl Block {
         &self.bytes[self.start..self.end]
     }
 
-    /// A text that begins with the line that was read last, and how many of its bytes are the line.
-    pub fn text(&self) -> (&[u8], usize)
-        ensures within { result.1 ≤ length result.0.now }
-        ensures line { take result.1 result.0.now ≡ self.now.line }
-    {
-        if self.is_apart {
-            return (self.apart.as_slice(), self.apart.len());
-        }
-        (&self.bytes[self.start..], self.end - self.start)
-    }
-
     /// Reads the next block. Text that was written since the last one is flushed before the reader is asked.
     #[inline(never)]
     fn fill<R: Read, W: Write>(&mut self, reader: &mut R, writer: &mut W) -> Result<(), ScriptFault>

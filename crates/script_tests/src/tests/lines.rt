@@ -29,8 +29,7 @@ const FIELDS: [(&str, Option<u8>, Option<u16>, Option<u32>, Option<bool>); 12] =
 #[test]
 fn fields(rt: HostRuntime) -> Result<(), Fail> {
     for (word, byte, short, address, flag) in FIELDS {
-        let line = word.as_bytes();
-        let words = Words::of(line, line.len());
+        let words = Words::of(word.as_bytes());
         let numbers = (words.byte(1).ok(), words.short(1).ok());
         same(&rt, ("numbers", word), numbers, (byte, short));
         let others = (words.address(1).ok(), words.flag(1).ok());
@@ -41,8 +40,7 @@ fn fields(rt: HostRuntime) -> Result<(), Fail> {
 
 #[test]
 fn words_of_lines(rt: HostRuntime) -> Result<(), Fail> {
-    // What follows the line plays no part, wherever the next space stands.
-    let words = Words::of(b"  take   7 8 and more than thirty-two bytes", 11);
+    let words = Words::of(b"  take   7 ");
     for (place, word) in [(1, b"take".as_slice()), (2, b"7"), (3, b"")] {
         same(&rt, ("word", place), words.at(place), word);
     }
@@ -56,12 +54,11 @@ fn words_of_lines(rt: HostRuntime) -> Result<(), Fail> {
         (" # take 7", true),
         ("#take", true),
     ] {
-        let bytes = line.as_bytes();
-        let found = Words::of(bytes, bytes.len()).are_skipped();
+        let found = Words::of(line.as_bytes()).are_skipped();
         same(&rt, ("skipped", line), found, skipped);
     }
     // The mask has a digit that is none.
-    let offered = offer_line(&Words::of(b"a 0 0 0 3 5 8 fg 0 0", 20));
+    let offered = offer_line(&Words::of(b"a 0 0 0 3 5 8 fg 0 0"));
     same(&rt, "a mask of no digit", offered, Err(8));
     Ok(())
 }

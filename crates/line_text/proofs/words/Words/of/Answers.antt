@@ -1,4 +1,4 @@
-use Rattle.std.proofs.Common.{drop, take, length-drop, length-take, length-set, arith, ◌∙◌}
+use Rattle.std.proofs.Common.{drop, length-drop, length-set, arith, ◌∙◌}
 use Rattle.line_text.proofs.WordParts.{words_of-few}
 use Rattle.line_text.proofs.WordPlaces.{all_counted, next_word, places-more}
 use Rattle.line_text.proofs.words.Words.of.Goals as goal
@@ -7,7 +7,7 @@ pub loop-count-preserved : goal.loop-count-preserved
 loop-count-preserved c =
     let l = c.loop-count in
     let word =
-    next_word (take c.args.bytes c.args.text.now) l.count l.start c.word_end-end.result l.invariant.rest c.if-start-line.false (l.invariant.found c.if-start-line.false) c.word_end-end.ensures.within c.word_end-end.ensures.before
+    next_word c.args.line.now l.count l.start c.word_end-end.result l.invariant.rest c.if-start-line.false (l.invariant.found c.if-start-line.false) c.word_end-end.ensures.within c.word_end-end.ensures.before
     c.word_end-end.ensures.found in
     record {
       room_s = omega (arith, length-set l.starts l.count l.start, l.invariant.room_s);
@@ -15,7 +15,7 @@ loop-count-preserved c =
       within = c.word_after-start.ensures.within.1;
       found = c.word_after-start.ensures.found;
       places =
-          places-more (take c.args.bytes c.args.text.now) l.starts l.ends l.count l.start c.word_end-end.result (omega (arith, c.loop-count-test.true, l.invariant.room_s)) (omega (arith, c.loop-count-test.true, l.invariant.room_e)) l.invariant.places
+          places-more c.args.line.now l.starts l.ends l.count l.start c.word_end-end.result (omega (arith, c.loop-count-test.true, l.invariant.room_s)) (omega (arith, c.loop-count-test.true, l.invariant.room_e)) l.invariant.places
           c.word_end-end.ensures.within.0 c.word_end-end.ensures.within.1 word.is;
       rest = word.rest ∙ c.word_after-start.ensures.same;
       counted = omega (arith, word.counted);
@@ -23,7 +23,7 @@ loop-count-preserved c =
 
 pub invariant_of-result : goal.invariant_of-result
 invariant_of-result c =
-    let all = all_counted (take c.args.bytes c.args.text.now) c.loop-count.count c.loop-count.start c.loop-count.invariant.rest c.if-start-line.true in
+    let all = all_counted c.args.line.now c.loop-count.count c.loop-count.start c.loop-count.invariant.rest c.if-start-line.true in
     record {
       places = λ k below held. c.loop-count.invariant.places k below;
       counted = omega (arith, all, c.loop-count.invariant.counted);
@@ -31,4 +31,4 @@ invariant_of-result c =
 
 pub overflow_add-result : goal.overflow_add-result
 overflow_add-result c =
-    omega (arith, c.words_from.ensures, words_of-few (drop c.loop-count.start (take c.args.bytes c.args.text.now)), length-drop c.loop-count.start (take c.args.bytes c.args.text.now), length-take c.args.bytes c.args.text.now, c.requires)
+    omega (arith, c.words_from.ensures, words_of-few (drop c.loop-count.start c.args.line.now), length-drop c.loop-count.start c.args.line.now, c.requires)
