@@ -1,7 +1,7 @@
 -- What digits write, digit by digit.
-use Rattle.std.proofs.Common.{◌≡◌, ◌<◌, ◌≤◌, ℕ, suc, ◌+◌, ◌*◌, ◌^◌, List, [], ◌∷◌, length, take, drop, get_or, Bool, true, false, ◌&&◌, nat_le, nat_lt, Some, None, refl, sym, ap, ◌∙◌, arith, if◌then◌else◌, length-take-le, take_all, take-append-drop, rules}
+use Rattle.std.proofs.Common.{T, eqb, eqb→eq, min, subst, ◌≡◌, ◌<◌, ◌≤◌, ℕ, suc, ◌+◌, ◌*◌, ◌^◌, List, [], ◌∷◌, length, take, drop, get_or, Bool, true, false, ◌&&◌, nat_le, nat_lt, Some, None, refl, sym, ap, ◌∙◌, arith, if◌then◌else◌, length-take-le, take_all, take-append-drop, rules}
 use Rattle.std.proofs.Math.Nat.{pow-le-pow_right, mul-le-mul_right, pow-suc, add-mul, le_trans}
-use Rattle.std.proofs.lemmas.Bool.{and_parts}
+use Rattle.std.proofs.lemmas.Bool.{agree_below_at, and_parts}
 use Rattle.std.proofs.lemmas.Bool.Decides.{nat_tests}
 use Rattle.std.proofs.lemmas.Int.Digits.{digits_value-lt, digits_value_more}
 use Rattle.std.proofs.lemmas.List.Folds.{list_all_more, list_all-append}
@@ -9,6 +9,11 @@ use Rattle.std.specs.Char.{is_digit, digit_value}
 use Rattle.std.specs.List.{list_all}
 use Rattle.std.specs.Str.Parse.{AllDigits, digits_value}
 use Rattle.line_text.specs.Words.{are_digits, number_of}
+use Rattle.line_text.specs.declared.numbers.TheConstants.{DIGITS}
+
+-- the value of each byte as a digit, as it is looked up
+pub digit_held : (byte : ℕ) → byte < 256 → get_or DIGITS.now byte 0 ≡ min (digit_value byte) 16
+digit_held byte below = eqb→eq _ _ (subst T (sym (agree_below_at (λ b. eqb (get_or DIGITS.now b 0) (min (digit_value b) 16)) (λ b. true) 256 byte refl below)) tt)
 
 -- whether each byte is a digit
 abbrev pub all_digits : ℕ → List ℕ → Bool

@@ -1,5 +1,5 @@
 //! The lines of beats in a trace.
-ghost use Rattle.std.specs.Prelude.{◌≡◌, ◌≤◌, OnErr, OnOk, length};
+ghost use Rattle.std.specs.Prelude.{◌≡◌, ◌≤◌, ◌∷◌, [], OnErr, OnOk, length};
 ghost use Rattle.std.specs.Io.KnownBytes.{Appends};
 ghost use Rattle.line_text.specs.Writing.{StopsShort};
 ghost use Rattle.tl_messages.specs.Lines.{a_text, d_text};
@@ -12,10 +12,11 @@ use std::io::Write;
 use tl_messages::{ABeat, DBeat};
 
 /// `A CLIENT OPCODE PARAM SIZE SOURCE ADDRESS MASK PAYLOAD CORRUPT`.
-fn a_text(client: u8, beat: &ABeat) -> LineText
-    ensures { result ≡ a_text client beat.now }
+fn a_text(text: &mut LineText, client: u8, beat: &ABeat)
+    requires start { text.old ≡ 10 ∷ [] }
+    ensures { text.new ≡ a_text client beat.now }
 {
-    let mut text = LineText::ending_in_flag(beat.corrupt);
+    text.put_last_flag(beat.corrupt);
     text.put_hex(16, beat.payload);
     text.put_hex(2, u64::from(beat.mask));
     text.put_hex(8, u64::from(beat.address));
@@ -25,7 +26,6 @@ fn a_text(client: u8, beat: &ABeat) -> LineText
     text.put_byte(beat.opcode);
     text.put_byte(client);
     text.put_word(b"A");
-    text
 }
 
 /// Writes the line of a beat that a client offers.
@@ -33,14 +33,17 @@ pub fn a_line<W: Write>(client: u8, beat: &ABeat, writer: &mut W) -> Result<(), 
     ensures all { OnOk result (Appends (W.contents writer.old) (W.contents writer.new) (a_text client beat.now)) }
     ensures front { OnErr result (StopsShort (a_text client beat.now) (W.contents writer.old) (W.contents writer.new)) }
 {
-    write_text(a_text(client, beat).as_slice(), writer)
+    let mut text = LineText::new();
+    a_text(&mut text, client, beat);
+    write_text(text.as_slice(), writer)
 }
 
 /// `D CLIENT OPCODE PARAM SIZE SOURCE DENIED PAYLOAD CORRUPT`.
-fn d_text(client: u8, beat: &DBeat) -> LineText
-    ensures { result ≡ d_text client beat.now }
+fn d_text(text: &mut LineText, client: u8, beat: &DBeat)
+    requires start { text.old ≡ 10 ∷ [] }
+    ensures { text.new ≡ d_text client beat.now }
 {
-    let mut text = LineText::ending_in_flag(beat.corrupt);
+    text.put_last_flag(beat.corrupt);
     text.put_hex(16, beat.payload);
     text.put_flag(beat.denied);
     text.put_byte(beat.source);
@@ -49,7 +52,6 @@ fn d_text(client: u8, beat: &DBeat) -> LineText
     text.put_byte(beat.opcode);
     text.put_byte(client);
     text.put_word(b"D");
-    text
 }
 
 /// Writes the line of a beat of a reply.
@@ -57,7 +59,9 @@ pub(crate) fn d_line<W: Write>(client: u8, beat: &DBeat, writer: &mut W) -> Resu
     ensures all { OnOk result (Appends (W.contents writer.old) (W.contents writer.new) (d_text client beat.now)) }
     ensures front { OnErr result (StopsShort (d_text client beat.now) (W.contents writer.old) (W.contents writer.new)) }
 {
-    write_text(d_text(client, beat).as_slice(), writer)
+    let mut text = LineText::new();
+    d_text(&mut text, client, beat);
+    write_text(text.as_slice(), writer)
 }
 
 /// A response's name.
@@ -74,17 +78,16 @@ fn resp_word(resp: Resp) -> &'static [u8]
 }
 
 /// `AW ID ADDRESS LEN SIZE BURST`.
-fn aw_text(beat: &AwBeat) -> LineText
-    ensures { result ≡ aw_text beat.now }
+fn aw_text(text: &mut LineText, beat: &AwBeat)
+    requires start { text.old ≡ 10 ∷ [] }
+    ensures { text.new ≡ aw_text beat.now }
 {
-    let mut text = LineText::new();
     text.put_decimal(u64::from(beat.burst));
     text.put_byte(beat.size);
     text.put_byte(beat.len);
     text.put_hex(8, u64::from(beat.address));
     text.put_byte(beat.id);
     text.put_word(b"AW");
-    text
 }
 
 /// Writes the line of a write's address.
@@ -92,21 +95,22 @@ pub(crate) fn aw_line<W: Write>(beat: &AwBeat, writer: &mut W) -> Result<(), Wri
     ensures all { OnOk result (Appends (W.contents writer.old) (W.contents writer.new) (aw_text beat.now)) }
     ensures front { OnErr result (StopsShort (aw_text beat.now) (W.contents writer.old) (W.contents writer.new)) }
 {
-    write_text(aw_text(beat).as_slice(), writer)
+    let mut text = LineText::new();
+    aw_text(&mut text, beat);
+    write_text(text.as_slice(), writer)
 }
 
 /// `AR ID ADDRESS LEN SIZE BURST`.
-fn ar_text(beat: &ArBeat) -> LineText
-    ensures { result ≡ ar_text beat.now }
+fn ar_text(text: &mut LineText, beat: &ArBeat)
+    requires start { text.old ≡ 10 ∷ [] }
+    ensures { text.new ≡ ar_text beat.now }
 {
-    let mut text = LineText::new();
     text.put_decimal(u64::from(beat.burst));
     text.put_byte(beat.size);
     text.put_byte(beat.len);
     text.put_hex(8, u64::from(beat.address));
     text.put_byte(beat.id);
     text.put_word(b"AR");
-    text
 }
 
 /// Writes the line of a read's address.
@@ -114,18 +118,20 @@ pub(crate) fn ar_line<W: Write>(beat: &ArBeat, writer: &mut W) -> Result<(), Wri
     ensures all { OnOk result (Appends (W.contents writer.old) (W.contents writer.new) (ar_text beat.now)) }
     ensures front { OnErr result (StopsShort (ar_text beat.now) (W.contents writer.old) (W.contents writer.new)) }
 {
-    write_text(ar_text(beat).as_slice(), writer)
+    let mut text = LineText::new();
+    ar_text(&mut text, beat);
+    write_text(text.as_slice(), writer)
 }
 
 /// `W PAYLOAD STROBES LAST`.
-fn w_text(beat: &WBeat) -> LineText
-    ensures { result ≡ w_text beat.now }
+fn w_text(text: &mut LineText, beat: &WBeat)
+    requires start { text.old ≡ 10 ∷ [] }
+    ensures { text.new ≡ w_text beat.now }
 {
-    let mut text = LineText::ending_in_flag(beat.last);
+    text.put_last_flag(beat.last);
     text.put_hex(2, u64::from(beat.strobes));
     text.put_hex(16, beat.payload);
     text.put_word(b"W");
-    text
 }
 
 /// Writes the line of a write's data.
@@ -133,18 +139,19 @@ pub(crate) fn w_line<W: Write>(beat: &WBeat, writer: &mut W) -> Result<(), Write
     ensures all { OnOk result (Appends (W.contents writer.old) (W.contents writer.new) (w_text beat.now)) }
     ensures front { OnErr result (StopsShort (w_text beat.now) (W.contents writer.old) (W.contents writer.new)) }
 {
-    write_text(w_text(beat).as_slice(), writer)
+    let mut text = LineText::new();
+    w_text(&mut text, beat);
+    write_text(text.as_slice(), writer)
 }
 
 /// `B ID RESP`.
-fn b_text(beat: &BBeat) -> LineText
-    ensures { result ≡ b_text beat.now }
+fn b_text(text: &mut LineText, beat: &BBeat)
+    requires start { text.old ≡ 10 ∷ [] }
+    ensures { text.new ≡ b_text beat.now }
 {
-    let mut text = LineText::new();
     text.put_text(resp_word(beat.resp));
     text.put_byte(beat.id);
     text.put_word(b"B");
-    text
 }
 
 /// Writes the line of a write's response.
@@ -153,19 +160,21 @@ pub fn b_line<W: Write>(beat: &BBeat, writer: &mut W) -> Result<(), WriteFault>
     ensures all { OnOk result (Appends (W.contents writer.old) (W.contents writer.new) (b_text beat.now)) }
     ensures front { OnErr result (StopsShort (b_text beat.now) (W.contents writer.old) (W.contents writer.new)) }
 {
-    write_text(b_text(beat).as_slice(), writer)
+    let mut text = LineText::new();
+    b_text(&mut text, beat);
+    write_text(text.as_slice(), writer)
 }
 
 /// `R ID PAYLOAD RESP LAST`.
-fn r_text(beat: &RBeat) -> LineText
-    ensures { result ≡ r_text beat.now }
+fn r_text(text: &mut LineText, beat: &RBeat)
+    requires start { text.old ≡ 10 ∷ [] }
+    ensures { text.new ≡ r_text beat.now }
 {
-    let mut text = LineText::ending_in_flag(beat.last);
+    text.put_last_flag(beat.last);
     text.put_word(resp_word(beat.resp));
     text.put_hex(16, beat.payload);
     text.put_byte(beat.id);
     text.put_word(b"R");
-    text
 }
 
 /// Writes the line of a read's data.
@@ -174,5 +183,7 @@ pub fn r_line<W: Write>(beat: &RBeat, writer: &mut W) -> Result<(), WriteFault>
     ensures all { OnOk result (Appends (W.contents writer.old) (W.contents writer.new) (r_text beat.now)) }
     ensures front { OnErr result (StopsShort (r_text beat.now) (W.contents writer.old) (W.contents writer.new)) }
 {
-    write_text(r_text(beat).as_slice(), writer)
+    let mut text = LineText::new();
+    r_text(&mut text, beat);
+    write_text(text.as_slice(), writer)
 }

@@ -6,6 +6,7 @@ use crate::words::Words;
 use tl_messages::ABeat;
 
 /// The client and the beat of `a CLIENT OPCODE PARAM SIZE SOURCE ADDRESS MASK PAYLOAD CORRUPT`, or its first wrong word.
+#[inline(always)]
 pub fn offer_line(words: &Words<'_>) -> Result<(u8, ABeat), u32>
     ensures { result ≡ offer_line words.now }
 {

@@ -16,15 +16,14 @@ use tl_messages::DBeat;
 
 /// `= refused NUMBER NAME`.
 #[tactic(auto, using(crate::proofs::TraceTexts::short_name))]
-fn refused_text(rule: TlRule) -> LineText
-    ensures { result ≡ refused_text rule }
+fn refused_text(text: &mut LineText, rule: TlRule)
+    requires start { text.old ≡ 10 ∷ [] }
+    ensures { text.new ≡ refused_text rule }
 {
-    let mut text = LineText::new();
     text.put_text(rule.name().as_bytes());
     text.put_byte(rule.number());
     text.put_word(b"refused");
     text.put_word(b"=");
-    text
 }
 
 /// Writes the line of a refused beat.
@@ -33,20 +32,21 @@ pub fn refused_line<W: Write>(rule: TlRule, writer: &mut W) -> Result<(), WriteF
     ensures all { OnOk result (Appends (W.contents writer.old) (W.contents writer.new) (refused_text rule)) }
     ensures front { OnErr result (StopsShort (refused_text rule) (W.contents writer.old) (W.contents writer.new)) }
 {
-    write_text(refused_text(rule).as_slice(), writer)
+    let mut text = LineText::new();
+    refused_text(&mut text, rule);
+    write_text(text.as_slice(), writer)
 }
 
 /// `= WORD NUMBER`.
 #[inline(always)]
-fn number_text(word: &[u8], number: u64) -> LineText
-    requires { length word.now ≤ 8 }
-    ensures { result ≡ answer_line (word.now ∷ decimal number ∷ []) }
+fn number_text(text: &mut LineText, word: &[u8], number: u64)
+    requires start { text.old ≡ 10 ∷ [] }
+    requires short { length word.now ≤ 8 }
+    ensures { text.new ≡ answer_line (word.now ∷ decimal number ∷ []) }
 {
-    let mut text = LineText::new();
     text.put_decimal(number);
     text.put_word(word);
     text.put_word(b"=");
-    text
 }
 
 /// Writes a line of a word and a number. It is apart, as other lines with fields are, since a function clears the room for
@@ -57,7 +57,9 @@ pub fn number_line<W: Write>(word: &[u8], number: u64, writer: &mut W) -> Result
     ensures all { OnOk result (Appends (W.contents writer.old) (W.contents writer.new) (answer_line (word.now ∷ decimal number ∷ []))) }
     ensures front { OnErr result (StopsShort (answer_line (word.now ∷ decimal number ∷ [])) (W.contents writer.old) (W.contents writer.new)) }
 {
-    write_text(number_text(word, number).as_slice(), writer)
+    let mut text = LineText::new();
+    number_text(&mut text, word, number);
+    write_text(text.as_slice(), writer)
 }
 
 /// Writes the line of a reply, by its request's number.
@@ -77,13 +79,12 @@ pub fn ok_line<W: Write>(writer: &mut W) -> Result<(), WriteFault>
 }
 
 /// `client NUMBER`.
-fn client_text(client: u8) -> LineText
-    ensures { result ≡ client_text client }
+fn client_text(text: &mut LineText, client: u8)
+    requires start { text.old ≡ 10 ∷ [] }
+    ensures { text.new ≡ client_text client }
 {
-    let mut text = LineText::new();
     text.put_decimal(u64::from(client));
     text.put_word(b"client");
-    text
 }
 
 /// Writes the line that names a client, whose lines follow.
@@ -91,7 +92,9 @@ pub fn client_line<W: Write>(client: u8, writer: &mut W) -> Result<(), WriteFaul
     ensures all { OnOk result (Appends (W.contents writer.old) (W.contents writer.new) (client_text client)) }
     ensures front { OnErr result (StopsShort (client_text client) (W.contents writer.old) (W.contents writer.new)) }
 {
-    write_text(client_text(client).as_slice(), writer)
+    let mut text = LineText::new();
+    client_text(&mut text, client);
+    write_text(text.as_slice(), writer)
 }
 
 /// Writes the line of each W beat of a write.
@@ -132,14 +135,13 @@ pub fn reply_lines<W: Write>(client: u8, beats: &[DBeat], writer: &mut W) -> Res
 }
 
 /// `= mem BYTE`.
-fn byte_text(byte: u8) -> LineText
-    ensures { result ≡ mem_text (Some byte) }
+fn byte_text(text: &mut LineText, byte: u8)
+    requires start { text.old ≡ 10 ∷ [] }
+    ensures { text.new ≡ mem_text (Some byte) }
 {
-    let mut text = LineText::new();
     text.put_digits(2, u64::from(byte));
     text.put_word(b"mem");
     text.put_word(b"=");
-    text
 }
 
 /// Writes the line of a byte of the memory.
@@ -148,7 +150,11 @@ pub fn mem_line<W: Write>(byte: Option<u8>, writer: &mut W) -> Result<(), WriteF
     ensures front { OnErr result (StopsShort (mem_text byte) (W.contents writer.old) (W.contents writer.new)) }
 {
     match byte {
-        Some(byte) => write_text(byte_text(byte).as_slice(), writer),
+        Some(byte) => {
+            let mut text = LineText::new();
+            byte_text(&mut text, byte);
+            write_text(text.as_slice(), writer)
+        }
         None => write_text(b"= mem --\n", writer),
     }
 }

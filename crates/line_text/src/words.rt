@@ -1,5 +1,5 @@
 //! The words of a line, by their places in it, and the fields that they write.
-ghost use Rattle.std.specs.Prelude.{◌≡◌, ◌≢◌, ◌≤◌, ◌<◌, ◌+◌, ℕ, true, false, drop, length, nat_eq, nat_le, slice_index, codes, MatchResult, IfOk};
+ghost use Rattle.std.specs.Prelude.{[], ◌≡◌, ◌≢◌, ◌≤◌, ◌<◌, ◌+◌, ℕ, true, false, drop, length, nat_eq, nat_le, slice_index, codes, MatchResult, IfOk};
 ghost use Rattle.std.specs.List.{starts_with};
 ghost use Rattle.line_text.specs.Words.{words_of, word_at, is_skipped, dec_at, hex_at, is_dec_to, is_hex_to};
 ghost use Rattle.line_text.specs.Fields.{Reads, byte_field, short_field, long_field, address_field, flag_field, is_set};
@@ -126,34 +126,36 @@ pub fn is_comment(text: &[u8]) -> bool
 }
 
 impl<'a> Words<'a> {
-    /// The words of a line of at most 128 bytes.
-    pub fn of(line: &'a [u8]) -> Words<'a>
-        requires { length line.now ≤ 128 }
-        ensures { result ≡ words_of line.now }
+    /// No words: those of an empty line.
+    pub fn new() -> Words<'a>
+        ensures { result ≡ [] }
     {
-        let mut starts = [0; HELD];
-        let mut ends = [0; HELD];
+        Words {
+            line: &[],
+            starts: [0; HELD],
+            ends: [0; HELD],
+            count: 0,
+        }
+    }
+
+    /// Holds the words of a line of at most 128 bytes, in place of those that it held.
+    pub fn read(&mut self, line: &'a [u8])
+        requires { length line.now ≤ 128 }
+        ensures { self.new ≡ words_of line.now }
+    {
+        self.line = line;
         let mut start = word_from(line, 0);
         for count in 0..HELD {
             if start >= line.len() {
-                return Words {
-                    line,
-                    starts,
-                    ends,
-                    count,
-                };
+                self.count = count;
+                return;
             }
             let end = word_end(line, start);
-            starts[count] = start as u8;
-            ends[count] = end as u8;
+            self.starts[count] = start as u8;
+            self.ends[count] = end as u8;
             start = word_after(line, end);
         }
-        Words {
-            line,
-            starts,
-            ends,
-            count: HELD + words_from(line, start),
-        }
+        self.count = HELD + words_from(line, start);
     }
 
     /// Whether a line of these words is skipped: it has none, or its first begins with `#`.

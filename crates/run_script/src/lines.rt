@@ -1,6 +1,7 @@
 //! The lines of `tlbridge run`.
 ghost use Rattle.std.specs.Prelude.{◌≡◌, []};
 ghost use Rattle.line_text.specs.Fields.{read_as};
+ghost use Rattle.script_text.specs.declared.keywords.Form.TheVariants as forms;
 ghost use Rattle.run_script.specs.Run.{byte_line, command_of, mem_line, perform_line};
 
 use line_text::{Words, offer_line};
@@ -18,6 +19,14 @@ pub(crate) enum Command {
     Mem(u32),
     /// Show the work that is left.
     Work,
+}
+
+/// `a CLIENT OPCODE PARAM SIZE SOURCE ADDRESS MASK PAYLOAD CORRUPT`.
+fn offer(words: &Words<'_>) -> Result<Command, u32>
+    ensures { result ≡ command_of forms.Offer words.now }
+{
+    let (client, beat) = offer_line(words)?;
+    Ok(Command::Event(Step::Offer(client, beat)))
 }
 
 /// `do SERIAL BEAT`.
@@ -61,10 +70,7 @@ pub(crate) fn command_of(form: Form, words: &Words<'_>) -> Result<Command, u32>
     ensures { result ≡ command_of form words.now }
 {
     match form {
-        Form::Offer => {
-            let (client, beat) = offer_line(words)?;
-            Ok(Command::Event(Step::Offer(client, beat)))
-        }
+        Form::Offer => offer(words),
         Form::Pump => bare(words, Command::Event(Step::Pump)),
         Form::Perform => Ok(Command::Event(perform(words)?)),
         Form::AnswerB => Ok(Command::Event(Step::AnswerB(one_byte(words)?))),

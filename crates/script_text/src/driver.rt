@@ -79,11 +79,12 @@ fn take_plain<S: Script, W: Write>(
     if is_comment(text) {
         return Ok(false);
     }
-    let words = &Words::of(text);
+    let mut words = Words::new();
+    words.read(text);
     if words.are_skipped() {
         return Ok(false);
     }
-    script.take_words(alloc, number, words, writer)
+    script.take_words(alloc, number, &words, writer)
 }
 
 /// Carries out one line, which has no line feed but may end with a carriage return. The answer is whether it wrote

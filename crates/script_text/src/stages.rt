@@ -261,10 +261,17 @@ impl<K: Kind + Drop> Script for StagedScript<K> {
         if is_setup_form(form) {
             return self.take_setup_line(number, form, words, writer);
         }
-        match K::command_of(form, words) {
-            Err(word) => Err(ScriptFault::Script { line: number, word }),
-            Ok(command) => self.carry_out(alloc, number, &command, writer),
-        }
+        let read = K::command_of(form, words);
+        let command = match &read {
+            Err(word) => {
+                return Err(ScriptFault::Script {
+                    line: number,
+                    word: *word,
+                });
+            }
+            Ok(command) => command,
+        };
+        self.carry_out(alloc, number, command, writer)
     }
 
     fn end<W: Write>(

@@ -28,8 +28,9 @@ const FIELDS: [(&str, Option<u8>, Option<u16>, Option<u32>, Option<bool>); 12] =
 
 #[test]
 fn fields(rt: HostRuntime) -> Result<(), Fail> {
+    let mut words = Words::new();
     for (word, byte, short, address, flag) in FIELDS {
-        let words = Words::of(word.as_bytes());
+        words.read(word.as_bytes());
         let numbers = (words.byte(1).ok(), words.short(1).ok());
         same(&rt, ("numbers", word), numbers, (byte, short));
         let others = (words.address(1).ok(), words.flag(1).ok());
@@ -40,7 +41,8 @@ fn fields(rt: HostRuntime) -> Result<(), Fail> {
 
 #[test]
 fn words_of_lines(rt: HostRuntime) -> Result<(), Fail> {
-    let words = Words::of(b"  take   7 ");
+    let mut words = Words::new();
+    words.read(b"  take   7 ");
     for (place, word) in [(1, b"take".as_slice()), (2, b"7"), (3, b"")] {
         same(&rt, ("word", place), words.at(place), word);
     }
@@ -54,12 +56,12 @@ fn words_of_lines(rt: HostRuntime) -> Result<(), Fail> {
         (" # take 7", true),
         ("#take", true),
     ] {
-        let found = Words::of(line.as_bytes()).are_skipped();
-        same(&rt, ("skipped", line), found, skipped);
+        words.read(line.as_bytes());
+        same(&rt, ("skipped", line), words.are_skipped(), skipped);
     }
     // The mask has a digit that is none.
-    let offered = offer_line(&Words::of(b"a 0 0 0 3 5 8 fg 0 0"));
-    same(&rt, "a mask of no digit", offered, Err(8));
+    words.read(b"a 0 0 0 3 5 8 fg 0 0");
+    same(&rt, "a mask of no digit", offer_line(&words), Err(8));
     Ok(())
 }
 

@@ -14,12 +14,12 @@ returns-then-is_setup_form g c =
     (λ line. TakesStep (reading_of g.K.Kind.rules) (step_of_line g.K.Kind.rules c.args.self.now c.args.number line) nothing_written c.args.self.now c.take_setup_line.new.self (g.W.Write.contents c.args.writer.now) (g.W.Write.contents c.take_setup_line.new._writer) c.take_setup_line.result)
     (sym (line_in-form g.K.Kind.rules c.args.self.now c.args.words.now c.in-Some.form named fits)) c.take_setup_line.ensures
 
-pub returns-in-Ok : goal.returns-in-Ok
-returns-in-Ok g c =
+pub returns : goal.returns
+returns g c =
     let named : form_of (word_at c.args.words.now 1) ≡ Some c.in-Some.form = ap form_of (sym c.at.ensures) ∙ sym c.named.ensures ∙ c.in-Some.is in
     let fits : is_misplaced c.args.self.now c.in-Some.form c.args.words.now ≡ false = sym c.is_misplaced.ensures ∙ c.if-is_misplaced.false in
     let other = sym c.is_setup_form.ensures ∙ c.if-is_setup_form.false in
-    let says = line_of_form-command g.K.Kind.rules c.in-Some.form c.args.words.now c.in-Ok.command other (sym c.command_of.ensures ∙ c.in-Ok.is) in
+    let says = line_of_form-command g.K.Kind.rules c.in-Some.form c.args.words.now c.in-Ok.command other (sym c.command_of-read.ensures ∙ c.in-Ok.is) in
     subst
     (λ line. TakesStep (reading_of g.K.Kind.rules) (step_of_line g.K.Kind.rules c.args.self.now c.args.number line) nothing_written c.args.self.now c.carry_out.new.self (g.W.Write.contents c.args.writer.now) (g.W.Write.contents c.carry_out.new.writer) c.carry_out.result)
     (sym (line_in-form g.K.Kind.rules c.args.self.now c.args.words.now c.in-Some.form named fits ∙ says)) c.carry_out.ensures
