@@ -1,0 +1,4 @@
+pub mod Boards
+pub mod InsideBoards
+pub mod InsideRaces
+pub mod Races
