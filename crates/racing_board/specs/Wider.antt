@@ -1,4 +1,4 @@
--- What a racing board finds right, beside a scoreboard that compares each byte: all that this one finds right.
+-- What a racing board says of beats, beside a scoreboard that compares each byte: no more than this one, and nothing of beats that are right.
 use Rattle.std.specs.Prelude.{◌≡◌, ◌⊎◌, Bool, true, false, List, [], ◌∷◌, ◌++◌, Option, Some, None}
 use Rattle.tl_checker.specs.declared.TlRule.TheVariants.{SourceBusy}
 use Rattle.world_run.specs.Setups.{SetupLists}
@@ -10,7 +10,7 @@ use Rattle.scoreboard.specs.declared.ReplyRule.TheVariants.{Payload}
 use Rattle.scoreboard.specs.declared.Seen.{Seen}
 use Rattle.scoreboard.specs.declared.Wrong.{Wrong}
 use Rattle.scoreboard.specs.declared.Wrong.TheVariants.{Reply, Request}
-use Rattle.racing_board.specs.Boards.{IsReached, RacingBoard, opening_racing}
+use Rattle.racing_board.specs.Boards.{RacingBoard, after_seen, opening_racing}
 use Rattle.racing_board.specs.Races.{Races}
 
 -- a racing board that holds what a scoreboard does, and some requests in flight
@@ -28,28 +28,43 @@ racing_on board races =
 
 -- ---- one beat
 
--- what a scoreboard says of a beat, and a racing board need not: that its source is busy, and that its payload is another
-abbrev pub may_pass : Option Wrong → Bool
-may_pass (Some (Request SourceBusy)) = true
-may_pass (Some (Reply Payload due)) = true
-may_pass verdict = false
+-- whether a verdict is that the source is busy
+abbrev pub tells_busy : Option Wrong → Bool
+tells_busy (Some (Request SourceBusy)) = true
+tells_busy verdict = false
 
--- a scoreboard's verdict of a beat, and a racing board's: the same, or nothing where the first need not be shared
+-- whether a verdict is that the payload is another
+abbrev pub tells_payload : Option Wrong → Bool
+tells_payload (Some (Reply Payload due)) = true
+tells_payload verdict = false
+
+-- a racing board's verdict of a beat tells no more than a scoreboard's: it is the same, or nothing where the scoreboard's is that the source is
+-- busy or that the payload is another
 abbrev pub TellsNoMore : Option Wrong → Option Wrong → Type 0
-TellsNoMore strict_verdict verdict = (verdict ≡ strict_verdict) ⊎ ((may_pass strict_verdict ≡ true) × (verdict ≡ None))
+TellsNoMore compared verdict = (verdict ≡ compared) ⊎ (((tells_busy compared ≡ true) ⊎ (tells_payload compared ≡ true)) × (verdict ≡ None))
 
 -- ---- lists of beats
 
--- a verdict of the beat after those by which a board was reached tells no more than that of a scoreboard which they reach too: of any list that a
--- scoreboard finds right, a racing board finds nothing wrong, and of its first beat that a scoreboard finds wrong it says the same, but for a
--- busy source and another payload
-abbrev pub TellsNoMoreThanStrict : RacingBoard → Seen → Option Wrong → Type 0
-TellsNoMoreThanStrict board seen verdict =
-    (setup : SetupLists) (before : List Seen) (strict_board : Board) → IsReached (opening_racing setup) before board → strict.IsReached (opening_board setup) before strict_board
-    → TellsNoMore (strict.wrong_at strict_board seen) verdict
+-- a racing board after beats, whatever it finds of each
+abbrev pub after_all : RacingBoard → List Seen → RacingBoard
+after_all board [] = board
+after_all board (seen ∷ rest) = after_all (after_seen board seen) rest
 
--- nothing is found wrong with the beat after those by which a board was reached, where what was observed with it is right: where each reply is
--- that of its request carried out whole in its turn, in order of acceptance, and all the rules are kept
+-- a scoreboard after beats of which it finds none of a busy source, whatever else it finds
+abbrev pub IsFollowed : Board → List Seen → Board → Type 0
+IsFollowed start [] board = board ≡ start
+IsFollowed start (seen ∷ rest) board =
+    (next : Board) × (tells_busy (strict.wrong_at start seen) ≡ false) × strict.IsAfter start seen next × IsFollowed next rest board
+
+-- of any beats, right or wrong: until a scoreboard finds one of a busy source, and of that one too, the verdict of each tells no more than the
+-- scoreboard's
+abbrev pub TellsNoMoreAlong : RacingBoard → Seen → Option Wrong → Type 0
+TellsNoMoreAlong board seen verdict =
+    (setup : SetupLists) (before : List Seen) (compared : Board) → board ≡ after_all (opening_racing setup) before
+    → IsFollowed (opening_board setup) before compared → TellsNoMore (strict.wrong_at compared seen) verdict
+
+-- of beats that are right: nothing is found wrong with the last of them, where all of them are right: where each reply is that of its request
+-- carried out whole in its turn, in order of acceptance, and every rule is kept
 abbrev pub LetsRightPass : RacingBoard → Seen → Option Wrong → Type 0
 LetsRightPass board seen verdict =
-    (setup : SetupLists) (before : List Seen) → IsReached (opening_racing setup) before board → IsRight setup (before ++ seen ∷ []) → verdict ≡ None
+    (setup : SetupLists) (before : List Seen) → board ≡ after_all (opening_racing setup) before → IsRight setup (before ++ seen ∷ []) → verdict ≡ None
