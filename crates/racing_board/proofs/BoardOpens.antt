@@ -1,6 +1,5 @@
 -- A board at the start.
-use Rattle.std.proofs.Common.{◌≡◌, ℕ, ◌*◌, ◌≤◌, Bool, true, false, List, length, map, Option, Some, None, if◌then◌else◌, refl, sym, ◌∙◌, ap, arith}
-use Rattle.std.specs.List.{range_with_len}
+use Rattle.std.proofs.Common.{◌≡◌, ℕ, ◌*◌, ◌≤◌, Bool, true, false, List, length, map, Option, Some, None, if◌then◌else◌, refl, sym, ◌∙◌, ap}
 use Rattle.std.specs.Option.{option_or, option_map}
 use Rattle.std.proofs.Math.Path.{fun_ext}
 use Rattle.std.proofs.lemmas.List.FromFn.{length-map-range_with_len}
@@ -13,10 +12,9 @@ use Rattle.world_run.specs.Setups.{SetupLists, setup_fault}
 use Rattle.world_run.specs.declared.SetupFault.{SetupFault}
 use Rattle.world_run.specs.declared.SetupFault.TheVariants.{BadConfig, Device}
 use Rattle.scoreboard.specs.Boards.{ClientBoard, opening_board, opening_client}
-use Rattle.scoreboard.specs.InsideSerial.{bytes_in}
 use Rattle.scoreboard.specs.SerialMemory.{SerialState}
 use Rattle.scoreboard.proofs.BoardClients.{few_clients}
-use Rattle.racing_board.specs.Boards.{RacingBoard, RacingState, opening_races, opening_racing, racing_board}
+use Rattle.racing_board.specs.Boards.{RacingState, opening_races, opening_racing, racing_board}
 use Rattle.racing_board.specs.InsideRaces.{IsOpening, RacesState, racer_of, races_of}
 use Rattle.racing_board.specs.Races.{Racer, Races}
 

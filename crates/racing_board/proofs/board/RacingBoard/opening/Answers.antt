@@ -1,8 +1,7 @@
 -- Each part is that of the opening.
-use Rattle.std.proofs.Common.{◌≡◌, ◌*◌, None, ap, refl, rules, sym, subst, ◌∙◌}
+use Rattle.std.proofs.Common.{◌≡◌, ◌*◌, ap, refl, sym, ◌∙◌}
 use Rattle.axi_checker.specs.Monitors.{MonitorState}
-use Rattle.subordinate.specs.Faults.{Faults}
-use Rattle.world_run.specs.Setups.{SetupLists, lists_of}
+use Rattle.world_run.specs.Setups.{lists_of}
 use Rattle.scoreboard.specs.Boards.{opening_board}
 use Rattle.scoreboard.specs.SerialMemory.{SerialState}
 use Rattle.racing_board.specs.Boards.{RacingState}
@@ -21,8 +20,7 @@ invariant_of-result c =
     let setup = lists_of c.args.setup.now in
     let opens : IsOpening c.in_ok-races.races (c.from.result * 257) setup.pages setup.bad_words = rw (← c.as_slice-pages.ensures.value, ← c.as_slice-bad.ensures.value) c.in_ok-races.ensures in
     let pages : c.in_ok-serial.serial.pages.faults ≡ record { pages = setup.pages; bad_words = setup.bad_words } =
-    ap (λ (s : SerialState). s.pages.faults) c.in_ok-serial.ensures ∙ rw (c.as_slice-pages.ensures.value, c.as_slice-bad.ensures.value) refl in
-    (
+    ap (λ (s : SerialState). s.pages.faults) c.in_ok-serial.ensures ∙ rw (c.as_slice-pages.ensures.value, c.as_slice-bad.ensures.value) refl in (
       rw c.in_ok-clients.ensures (at_most_eight setup c.requires),
       slots_of setup c.in_ok-clients.clients.items c.in_ok-races.races c.from.result (c.from.result * 257) c.in_ok-clients.ensures c.from.ensures refl opens,
       opens.faults ∙ sym pages,
