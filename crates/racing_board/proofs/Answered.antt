@@ -1,7 +1,5 @@
 -- A board after a port's answer to a beat, by what became of its parts.
-use Rattle.std.proofs.Common.{◌≡◌, ℕ, List, Option, Some, None, Result, Ok, Err, slice_get, slice_set, length, refl, ap, subst, sym, ◌∙◌}
-use Rattle.axi_checker.specs.OpenBursts.{OpenBursts}
-use Rattle.axi_checker.specs.Rules.{AxiPortLimits}
+use Rattle.std.proofs.Common.{◌≡◌, ℕ, List, Option, Some, None, Result, Ok, Err, slice_set, length, ap, subst, ◌∙◌}
 use Rattle.burst_plan.specs.declared.Region.{Region}
 use Rattle.responses.specs.Shown.{shown}
 use Rattle.scoreboard.specs.Boards.{ClientBoard, DueBoard}

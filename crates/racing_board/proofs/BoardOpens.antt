@@ -1,8 +1,8 @@
 -- A board at the start.
-use Rattle.std.proofs.Common.{◌≡◌, ℕ, ◌*◌, ◌≤◌, Bool, true, false, List, length, map, Option, Some, None, if◌then◌else◌, refl, sym, ◌∙◌, ap, arith}
-use Rattle.std.specs.List.{range_with_len}
+use Rattle.std.proofs.Common.{◌≡◌, ℕ, ◌*◌, ◌≤◌, Bool, true, false, List, length, map, Option, Some, None, if◌then◌else◌, refl, sym, ◌∙◌, ap}
 use Rattle.std.specs.Option.{option_or, option_map}
 use Rattle.std.proofs.Math.Path.{fun_ext}
+use Rattle.std.proofs.lemmas.List.FromFn.{length-map-range_with_len}
 use Rattle.axi_checker.specs.OpenBursts.{OpenBursts, nothing_open}
 use Rattle.axi_checker.specs.Rules.{AxiPortLimits}
 use Rattle.bridge_core.specs.Configs.{is_valid}
@@ -11,10 +11,10 @@ use Rattle.subordinate.specs.declared.DeviceFault.{DeviceFault}
 use Rattle.world_run.specs.Setups.{SetupLists, setup_fault}
 use Rattle.world_run.specs.declared.SetupFault.{SetupFault}
 use Rattle.world_run.specs.declared.SetupFault.TheVariants.{BadConfig, Device}
-use Rattle.scoreboard.specs.Boards.{ClientBoard, opening_board}
-use Rattle.scoreboard.specs.InsideSerial.{bytes_in}
+use Rattle.scoreboard.specs.Boards.{ClientBoard, opening_board, opening_client}
 use Rattle.scoreboard.specs.SerialMemory.{SerialState}
-use Rattle.racing_board.specs.Boards.{RacingBoard, RacingState, opening_races, opening_racing, racing_board}
+use Rattle.scoreboard.proofs.BoardClients.{few_clients}
+use Rattle.racing_board.specs.Boards.{RacingState, opening_races, opening_racing, racing_board}
 use Rattle.racing_board.specs.InsideRaces.{IsOpening, RacesState, racer_of, races_of}
 use Rattle.racing_board.specs.Races.{Racer, Races}
 
@@ -39,6 +39,18 @@ pub config_fine : (setup : SetupLists) → setup_fault setup ≡ None → is_val
 config_fine setup none = valid_if (is_valid setup.config) (none_of _ _ none).0
 
 -- ---- its board
+
+-- as many clients as it says, and at most eight
+pub count_of : (setup : SetupLists) → length (opening_board setup).clients ≡ setup.config.clients
+count_of setup = length-map-range_with_len (opening_client setup.config) 0 setup.config.clients
+
+pub at_most_eight : (setup : SetupLists) → setup_fault setup ≡ None → length (opening_board setup).clients ≤ 8
+at_most_eight setup none = few_clients setup none
+
+-- for each of them 257 slots
+pub slots_of : (setup : SetupLists) (clients : List ClientBoard) (races : RacesState) (n slots : ℕ) → clients ≡ (opening_board setup).clients → n ≡ setup.config.clients → slots ≡ n * 257
+    → IsOpening races slots setup.pages setup.bad_words → length races.racers ≡ length clients * 257
+slots_of setup clients races n slots made count all opens = opens.filled ∙ all ∙ ap (λ k. k * 257) (count ∙ sym (ap length made ∙ count_of setup))
 
 races_open : (races : RacesState) (setup : SetupLists) → IsOpening races (setup.config.clients * 257) setup.pages setup.bad_words → races_of races ≡ opening_races setup.config.clients
 races_open races setup opens =

@@ -1,6 +1,6 @@
 -- The bytes in doubt, as one after another is marked.
-use Rattle.std.proofs.Common.{◌≡◌, ℕ, zero, suc, ◌+◌, ◌-◌, ◌*◌, ◌/◌, ◌%◌, ◌^◌, ◌<◌, ◌≤◌, ◌==◌, Bool, true, false, ◌&&◌, ◌||◌, not, List, [], ◌∷◌, Option, Some, None, length, map, take, get_or, if◌then◌else◌, refl, sym, ◌∙◌, ap, arith, inl, inr}
-use Rattle.std.specs.Prelude.{is_some, nat_le, nat_lt, slice_get}
+use Rattle.std.proofs.Common.{◌≡◌, ℕ, zero, suc, ◌+◌, ◌%◌, ◌<◌, ◌≤◌, ◌==◌, Bool, true, false, ◌&&◌, ◌||◌, not, List, [], ◌∷◌, Option, None, length, take, get_or, if◌then◌else◌, refl, sym, ◌∙◌, ap, arith, inl, inr}
+use Rattle.std.specs.Prelude.{is_some, nat_le, nat_lt}
 use Rattle.std.specs.List.{list_any}
 use Rattle.std.proofs.Math.Path.{fun_ext}
 use Rattle.std.proofs.lemmas.Bool.{cases_lt}
@@ -8,7 +8,6 @@ use Rattle.std.proofs.lemmas.Bool.Decides.{nat_tests}
 use Rattle.std.proofs.lemmas.List.Folds.{list_any_more}
 use Rattle.bus_words.specs.Lanes.{given_at, has_lane, lane_byte}
 use Rattle.tl_messages.specs.Lanes.{in_lanes}
-use Rattle.tl_messages.specs.declared.MaskedWord.{MaskedWord}
 use Rattle.subordinate.specs.Effects.{strobes_byte}
 use Rattle.world_run.specs.Meaning.{Bytes}
 use Rattle.scoreboard.specs.InsideSerial.{data_of, put_in_word, write_at}

@@ -1,9 +1,9 @@
 -- A request that joins those in flight.
-use Rattle.std.proofs.Common.{◌≡◌, ℕ, ◌%◌, Bool, true, List, Option, Some, None, IfSome, map, set, refl, sym, ◌∙◌, ap, subst}
+use Rattle.std.proofs.Common.{◌≡◌, ℕ, ◌%◌, Bool, true, List, Option, Some, None, IfSome, map, set, sym, ◌∙◌, ap, subst}
 use Rattle.std.proofs.lemmas.List.{map-set}
 use Rattle.subordinate.specs.Faults.{Faults, is_good, standing_at}
 use Rattle.subordinate.specs.InsidePages.{PagesState}
-use Rattle.tl_messages.specs.Requests.{HeldMessage, WholeRequest, request_of}
+use Rattle.tl_messages.specs.Requests.{HeldMessage, WholeRequest}
 use Rattle.scoreboard.specs.InsideSerial.{IsMemoryRange}
 use Rattle.scoreboard.specs.SerialMemory.{IsCheckedRequest}
 use Rattle.scoreboard.proofs.RequestWords.{range}

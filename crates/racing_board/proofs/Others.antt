@@ -4,7 +4,7 @@ use Rattle.std.specs.Prelude.{replicate}
 use Rattle.std.specs.List.{list_any, swap}
 use Rattle.std.proofs.Math.Path.{fun_ext}
 use Rattle.std.proofs.lemmas.List.{get_or-map, length-set, map-set}
-use Rattle.std.proofs.lemmas.List.Folds.{list_any-append, list_any_more}
+use Rattle.std.proofs.lemmas.List.Folds.{list_any_more}
 use Rattle.subordinate.specs.Faults.{Faults}
 use Rattle.racing_board.specs.InsideRaces.{AreOnGoodPages, IsOnGoodPage, RacerState, racer_of}
 use Rattle.racing_board.specs.Races.{Racer, at_rest, beside, beside_all, may_write, no_racer}
@@ -25,8 +25,8 @@ pub beside_more : (r : Racer) (others : List Racer) (i : ℕ) → i < length oth
 beside_more r others i below =
     ap (λ (f : ℕ → Bool). record r { settled = f })
     (fun_ext (λ x.
-        and_not (r.settled x) (list_any (λ other. may_write other x) (take i others)) (may_write (get_or others i no_racer) x)
-        ∙ ap (λ b. r.settled x && not b) (sym (list_any_more (λ other. may_write other x) others i no_racer below))))
+    and_not (r.settled x) (list_any (λ other. may_write other x) (take i others)) (may_write (get_or others i no_racer) x)
+    ∙ ap (λ b. r.settled x && not b) (sym (list_any_more (λ other. may_write other x) others i no_racer below))))
 
 -- ---- a racer of a list
 

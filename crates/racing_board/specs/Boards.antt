@@ -1,6 +1,6 @@
 -- What a racing board holds, what it says of a beat, and what it holds after it. It is a scoreboard but for three things: a source is free from
 -- its reply's first beat on, a payload is compared where it tells a settled byte, and which bytes are settled is kept.
-use Rattle.std.specs.Prelude.{ℕ, ◌≡◌, ◌+◌, ◌-◌, ◌*◌, ◌==◌, Bool, true, false, ◌&&◌, not, List, [], ◌∷◌, map, length, sum_by, slice_index_or, Option, Some, None, Result, Ok, Err, if◌then◌else◌, slice_get, slice_set, replicate}
+use Rattle.std.specs.Prelude.{ℕ, ◌≡◌, ◌+◌, ◌-◌, ◌*◌, ◌==◌, Bool, true, false, ◌&&◌, not, List, [], ◌∷◌, length, sum_by, slice_index_or, Option, Some, None, Result, Ok, Err, if◌then◌else◌, slice_get, slice_set, replicate}
 use Rattle.std.specs.List.{list_any, range_with_len, swap}
 use Rattle.bus_words.specs.Lanes.{lane_byte, word_address}
 use Rattle.bus_words.specs.Tables.{first_broken}

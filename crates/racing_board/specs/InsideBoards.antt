@@ -1,5 +1,5 @@
 -- What becomes of the parts of a board with a beat on channel A.
-use Rattle.std.specs.Prelude.{◌≡◌, ℕ, List, length, Option, Some, None, Result, Ok, Err}
+use Rattle.std.specs.Prelude.{◌≡◌, ℕ, length, Some, Result, Ok, Err}
 use Rattle.tl_messages.specs.Requests.{HeldMessage, request_of}
 use Rattle.tl_messages.specs.declared.ABeat.{ABeat}
 use Rattle.tl_checker.specs.Ports.{joined}

@@ -117,7 +117,12 @@ impl Client {
     }
 
     /// Judges a beat on channel D.
-    pub(crate) fn judge_reply(&mut self, number: u8, races: &mut Races, beat: &DBeat) -> Option<Wrong>
+    pub(crate) fn judge_reply(
+        &mut self,
+        number: u8,
+        races: &mut Races,
+        beat: &DBeat,
+    ) -> Option<Wrong>
         requires slots { (number + 1) * 257 ≤ length races.old.racers }
         ensures wrong { result ≡ wrong_reply (racer_in (races_of races.old) (next_slot number self.old beat.now.source)) (next_reply self.old.replies beat.now.source) beat.now }
         ensures client { self.new ≡ record self.old { replies = after_reply_beat self.old.replies beat.now } }

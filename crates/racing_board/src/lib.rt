@@ -1,4 +1,4 @@
-//! A scoreboard for bridges that let requests in flight overtake each other: what TileLink lets any hardware do is right.
+//! A scoreboard for bridges that let requests in flight overtake each other.
 #![tactic(auto)]
 
 mod board;
@@ -6,7 +6,5 @@ mod clients;
 mod payloads;
 mod racer;
 mod races;
-#[cfg(test)]
-mod tests;
 
 pub use board::RacingBoard;

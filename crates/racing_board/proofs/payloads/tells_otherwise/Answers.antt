@@ -1,5 +1,5 @@
 -- A lane that tells otherwise is one of the eight.
-use Rattle.std.proofs.Common.{◌≡◌, Bool, true, false, ap, arith, refl, sym, ◌∙◌}
+use Rattle.std.proofs.Common.{◌≡◌, true, ap, arith, refl, sym, ◌∙◌}
 use Rattle.racing_board.specs.Boards.{differs_in}
 use Rattle.racing_board.specs.InsideRaces.{racer_of}
 use Rattle.racing_board.proofs.Ranges.{none_passes, one_passes}

@@ -1,5 +1,5 @@
 -- A payload is wrong where it tells otherwise of a settled byte.
-use Rattle.std.proofs.Common.{◌≡◌, ◌-◌, ◌&&◌, not, Bool, true, false, Some, ap, length, refl, sym, ◌∙◌}
+use Rattle.std.proofs.Common.{◌≡◌, ◌-◌, true, false, ap, length, refl, sym, ◌∙◌}
 use Rattle.tl_messages.specs.Operations.{beats_of}
 use Rattle.racing_board.specs.Boards.{is_payload, tells_otherwise}
 use Rattle.racing_board.specs.InsideRaces.{racer_of}

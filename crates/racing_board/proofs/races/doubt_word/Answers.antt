@@ -1,5 +1,4 @@
 -- Each byte is one, or zero.
-use Rattle.std.proofs.Common.{◌∙◌}
 use Rattle.racing_board.proofs.Doubts.{ones}
 use Rattle.racing_board.proofs.races.doubt_word.Goals as goal
 

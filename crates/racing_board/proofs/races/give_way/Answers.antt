@@ -1,5 +1,5 @@
 -- One of them more.
-use Rattle.std.proofs.Common.{◌≡◌, ◌<◌, ap, get_or, length, map, refl, set, sym, ◌∙◌}
+use Rattle.std.proofs.Common.{◌<◌, ap, get_or, length, map, refl, set, sym, ◌∙◌}
 use Rattle.std.proofs.lemmas.List.{length-map, length-set, map-set}
 use Rattle.racing_board.specs.InsideRaces.{RacerState, racer_of}
 use Rattle.racing_board.specs.Races.{Racer, beside, no_racer}
@@ -16,8 +16,7 @@ loop-racer-preserved c =
     let old = map racer_of c.args.racers.now in
     let inside : i < length c.loop-racer.racers = rw c.loop-racer.invariant.0 c.loop-racer-test.true in
     let below : i < length old = rw (length-map c.args.racers.now racer_of) c.loop-racer-test.true in
-    let item = sym (racer_at c.loop-racer.racers i c.racer-item.result inside c.racer-item.is) ∙ ap (λ rs. get_or rs i no_racer) c.loop-racer.invariant.1 ∙ next_of change old i in
-    (
+    let item = sym (racer_at c.loop-racer.racers i c.racer-item.result inside c.racer-item.is) ∙ ap (λ rs. get_or rs i no_racer) c.loop-racer.invariant.1 ∙ next_of change old i in (
       length-set c.loop-racer.racers i c.give_way.new.self ∙ c.loop-racer.invariant.0,
       map-set racer_of c.loop-racer.racers i c.give_way.new.self
           ∙ ap (λ rs. set rs i (racer_of c.give_way.new.self)) c.loop-racer.invariant.1

@@ -1,7 +1,5 @@
 -- The byte is a lane of one of the request's beats.
-use Rattle.std.proofs.Common.{◌≡◌, ◌+◌, ◌-◌, ◌/◌, ◌%◌, ◌<◌, ◌^◌, Some, ap, arith, length, sym, ◌∙◌}
-use Rattle.tl_messages.specs.Operations.{beats_of, has_data}
-use Rattle.tl_messages.specs.Requests.{beat_at}
+use Rattle.std.proofs.Common.{◌∙◌}
 use Rattle.racing_board.proofs.Given.{byte_given_at, enough_beats}
 use Rattle.racing_board.proofs.races.gives.Goals as goal
 

@@ -1,6 +1,6 @@
 -- One byte more.
-use Rattle.std.proofs.Common.{◌≡◌, ◌+◌, ◌<◌, ◌≤◌, ◌^◌, ℕ, ◌||◌, Bool, true, if◌then◌else◌, ◌==◌, refl, ap, arith, ◌∙◌}
-use Rattle.subordinate.specs.Faults.{Faults, is_good, standing_at}
+use Rattle.std.proofs.Common.{◌≡◌, ◌+◌, ◌^◌, ◌||◌, true, if◌then◌else◌, ◌==◌, refl, ap, arith, ◌∙◌}
+use Rattle.subordinate.specs.Faults.{is_good}
 use Rattle.world_run.proofs.SerialReplies.{standing_of}
 use Rattle.racing_board.specs.InsideRaces.{doubt_in}
 use Rattle.racing_board.proofs.Doubts.{among_first, none_of_all, one_more_of_all}
@@ -20,11 +20,10 @@ mark-requires c =
 
 pub loop-i-preserved : goal.loop-i-preserved
 loop-i-preserved c =
-    let racer = c.args.racer.now in
-    (
+    let racer = c.args.racer.now in (
       c.mark.ensures.faults ∙ c.loop-i.invariant.0,
       (λ x. one_more_of_all (doubt_in c.args.doubts.now) (doubt_in c.loop-i.doubts) (doubt_in c.mark.new.doubts) racer.address c.loop-i.i c.loop-i.invariant.1
-      (λ y. c.mark.ensures.bytes y ∙ ap (λ a. if y == a then true else doubt_in c.loop-i.doubts y) c.address_of.ensures) x),
+          (λ y. c.mark.ensures.bytes y ∙ ap (λ a. if y == a then true else doubt_in c.loop-i.doubts y) c.address_of.ensures) x),
     )
 
 pub returns-clause-bytes : goal.returns-clause-bytes

@@ -1,10 +1,9 @@
 -- One request more.
-use Rattle.std.proofs.Common.{◌≡◌, ◌<◌, ◌≤◌, ◌||◌, ◌&&◌, get_or, length, map, take, refl, ap, arith, subst, sym, ◌∙◌}
+use Rattle.std.proofs.Common.{◌<◌, ◌||◌, ◌&&◌, length, map, refl, ap, subst, sym, ◌∙◌}
 use Rattle.std.proofs.Math.Path.{fun_ext}
 use Rattle.std.proofs.lemmas.List.{length-map, take_all}
-use Rattle.subordinate.specs.Faults.{Faults}
-use Rattle.racing_board.specs.InsideRaces.{AreOnGoodPages, IsOnGoodPage, RacerState, doubt_in, racer_of}
-use Rattle.racing_board.specs.Races.{Racer, covers, depends_on, doubts_beside, no_racer}
+use Rattle.racing_board.specs.InsideRaces.{IsOnGoodPage, doubt_in, racer_of}
+use Rattle.racing_board.specs.Races.{Racer, covers, depends_on, doubts_beside}
 use Rattle.racing_board.proofs.Doubts.{marked_beside, nobody_beside}
 use Rattle.racing_board.proofs.Others.{good_at, racer_at}
 use Rattle.racing_board.proofs.races.mark_beside.Goals as goal
@@ -23,11 +22,10 @@ loop-racer-preserved c =
     let racers = map racer_of c.args.racers.now in
     let other = racer_of c.args.other.now in
     let below : c.loop-racer.racer-index < length racers = rw (length-map c.args.racers.now racer_of) c.loop-racer-test.true in
-    let is = racer_at c.args.racers.now c.loop-racer.racer-index c.racer-item.result c.loop-racer-test.true c.racer-item.is in
-    (
+    let is = racer_at c.args.racers.now c.loop-racer.racer-index c.racer-item.result c.loop-racer-test.true c.racer-item.is in (
       c.mark_dependent.ensures.faults ∙ c.loop-racer.invariant.0,
       (λ x. marked_beside (doubt_in c.args.doubts.now) (doubt_in c.loop-racer.doubts) (doubt_in c.mark_dependent.new.doubts) other racers c.loop-racer.racer-index below c.loop-racer.invariant.1
-      (λ y. c.mark_dependent.ensures.bytes y ∙ ap (λ (r : Racer). doubt_in c.loop-racer.doubts y || depends_on r other && covers r y) (sym is)) x),
+          (λ y. c.mark_dependent.ensures.bytes y ∙ ap (λ (r : Racer). doubt_in c.loop-racer.doubts y || depends_on r other && covers r y) (sym is)) x),
     )
 
 pub returns-clause-bytes : goal.returns-clause-bytes

@@ -1,12 +1,11 @@
 -- The byte at its place is marked where it is given.
-use Rattle.std.proofs.Common.{◌≡◌, ◌+◌, ◌<◌, ◌^◌, ◌&&◌, ◌==◌, not, Bool, true, false, if◌then◌else◌, ap, arith, refl, sym, ◌∙◌}
+use Rattle.std.proofs.Common.{◌≡◌, ◌+◌, ◌==◌, not, true, false, if◌then◌else◌, ap, refl, sym, ◌∙◌}
 use Rattle.std.specs.Prelude.{is_some}
 use Rattle.bus_words.specs.Lanes.{given_at}
-use Rattle.subordinate.specs.Faults.{is_good, standing_at}
+use Rattle.subordinate.specs.Faults.{is_good}
 use Rattle.tl_messages.specs.Requests.{bytes_given}
 use Rattle.world_run.proofs.SerialReplies.{standing_of}
-use Rattle.racing_board.specs.InsideRaces.{doubt_in, racer_of, settled_in}
-use Rattle.racing_board.specs.Races.{doubts_after, is_fixed}
+use Rattle.racing_board.specs.InsideRaces.{doubt_in, racer_of}
 use Rattle.racing_board.proofs.Doubts.{given_marked, not_marked}
 use Rattle.racing_board.proofs.RacerBytes.{byte_in_page}
 use Rattle.racing_board.proofs.races.mark_byte.Goals as goal

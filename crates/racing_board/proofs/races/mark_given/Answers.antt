@@ -1,6 +1,5 @@
 -- One byte more.
-use Rattle.std.proofs.Common.{◌≡◌, ◌<◌, ◌≤◌, ◌^◌, length, refl, ap, arith, sym, ◌∙◌}
-use Rattle.subordinate.specs.Faults.{Faults, is_good, standing_at}
+use Rattle.std.proofs.Common.{◌≤◌, length, refl, arith, sym, ◌∙◌}
 use Rattle.tl_messages.specs.Requests.{bytes_given}
 use Rattle.scoreboard.proofs.PutWords.{length-bytes_given}
 use Rattle.racing_board.specs.InsideRaces.{doubt_in, racer_of}
@@ -14,7 +13,7 @@ pub loop-i-preserved : goal.loop-i-preserved
 loop-i-preserved c = (
   c.mark_byte.ensures.faults ∙ c.loop-i.invariant.0,
   (λ x. one_more_marked (doubt_in c.args.doubts.now) (doubt_in c.loop-i.doubts) (doubt_in c.mark_byte.new.doubts) (racer_of c.args.racer.now) (bytes_given c.args.request.now) c.loop-i.i
-  c.loop-i.invariant.1 c.mark_byte.ensures.bytes x),
+      c.loop-i.invariant.1 c.mark_byte.ensures.bytes x),
 )
 
 pub returns-clause-bytes : goal.returns-clause-bytes

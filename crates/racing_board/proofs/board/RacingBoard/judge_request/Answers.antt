@@ -1,6 +1,6 @@
 -- The client that is there answers.
-use Rattle.std.proofs.Common.{◌≡◌, ◌*◌, ◌<◌, ◌≤◌, Some, ap, length, refl, rules, subst, sym, ◌∙◌}
-use Rattle.std.specs.Prelude.{slice_get, slice_set}
+use Rattle.std.proofs.Common.{◌≡◌, ◌<◌, Some, ap, length, refl, rules, subst, sym, ◌∙◌}
+use Rattle.std.specs.Prelude.{slice_get}
 use Rattle.std.proofs.lemmas.List.{length-set}
 use Rattle.std.proofs.lemmas.Option.{slice_get_read}
 use Rattle.racing_board.specs.Boards.{RacingState, a_wrong, after_request, answer_to, racing_board}

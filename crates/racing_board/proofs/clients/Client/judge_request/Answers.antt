@@ -1,5 +1,5 @@
 -- The request that stands is the one that the beat completed.
-use Rattle.std.proofs.Common.{◌≡◌, ap, refl, subst, sym, ◌∙◌}
+use Rattle.std.proofs.Common.{◌≡◌, ap, subst, ◌∙◌}
 use Rattle.tl_messages.specs.Requests.{request_of}
 use Rattle.scoreboard.specs.Boards.{ClientBoard}
 use Rattle.scoreboard.specs.SerialMemory.{place_in}

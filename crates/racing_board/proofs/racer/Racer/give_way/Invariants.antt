@@ -1,6 +1,6 @@
 -- The bytes before this one are settled or not as they have to be, and those from it on as they were.
 use Rattle.std.proofs.Common.{◌≡◌, ◌<◌, ◌≤◌, ◌+◌, ◌&&◌, not, ℕ, get_or, false}
-use Rattle.racing_board.specs.InsideRaces.{racer_of, settled_in}
+use Rattle.racing_board.specs.InsideRaces.{racer_of}
 use Rattle.racing_board.specs.Races.{covers}
 use Rattle.racing_board.proofs.racer.Racer.give_way.Given as goal
 

@@ -1,8 +1,8 @@
 -- One of them more.
-use Rattle.std.proofs.Common.{◌≡◌, ◌<◌, ◌≤◌, ap, arith, get_or, length, map, subst, sym, take, ◌∙◌}
+use Rattle.std.proofs.Common.{◌<◌, ap, length, map, sym, take, ◌∙◌}
 use Rattle.std.proofs.lemmas.List.{length-map, take_all}
-use Rattle.racing_board.specs.InsideRaces.{RacerState, racer_of}
-use Rattle.racing_board.specs.Races.{Racer, beside, beside_all, no_racer}
+use Rattle.racing_board.specs.InsideRaces.{racer_of}
+use Rattle.racing_board.specs.Races.{Racer, beside, beside_all}
 use Rattle.racing_board.proofs.Others.{beside_more, beside_none, racer_at}
 use Rattle.racing_board.proofs.racer.Racer.give_way_to_all.Goals as goal
 

@@ -1,6 +1,5 @@
 -- One byte more; and at the end all of them.
-use Rattle.std.proofs.Common.{◌≡◌, ◌+◌, ◌&&◌, not, Bool, ap, refl, sym, subst, ◌∙◌, below_more, arith, ℕ}
-use Rattle.std.proofs.Math.Path.{fun_ext}
+use Rattle.std.proofs.Common.{◌+◌, ◌&&◌, not, ap, ◌∙◌, below_more, arith}
 use Rattle.racing_board.specs.InsideRaces.{RacerState, doubt_in}
 use Rattle.racing_board.proofs.racer.Racer.settle.Goals as goal
 

@@ -1,9 +1,9 @@
 -- What becomes of doubts and racers.
-use Rattle.std.proofs.Common.{◌≡◌, ℕ, IfSome, List, ap, map, refl, rules, set, subst, sym, true, ◌∙◌}
+use Rattle.std.proofs.Common.{◌≡◌, IfSome, List, ap, map, rules, set, subst, sym, true, ◌∙◌}
 use Rattle.std.proofs.lemmas.List.{places, with_items_is}
 use Rattle.std.specs.Vec.{with_items}
 use Rattle.subordinate.specs.Faults.{Faults, is_good, standing_at}
-use Rattle.tl_messages.specs.Requests.{bytes_given, request_of}
+use Rattle.tl_messages.specs.Requests.{request_of}
 use Rattle.racing_board.specs.InsideRaces.{AreOnGoodPages, RacerState, RacesState, doubt_in, racer_of, races_of}
 use Rattle.racing_board.specs.Races.{after_joining, beside, beside_all, doubts_after, doubts_beside}
 use Rattle.racing_board.proofs.Joining.{Joins, joined, joined_pages, range_at}

@@ -1,6 +1,5 @@
 -- Nothing is in flight, and each byte of the pages is zero.
-use Rattle.std.proofs.Common.{◌≡◌, ◌==◌, not, ap, length, map, refl, subst, sym, ◌∙◌}
-use Rattle.std.specs.Prelude.{replicate}
+use Rattle.std.proofs.Common.{◌==◌, not, ap, length, subst, sym, ◌∙◌}
 use Rattle.std.proofs.lemmas.List.{length-map, length-replicate}
 use Rattle.subordinate.specs.InsidePages.{PagesState}
 use Rattle.world_run.proofs.OrderOpens.{zero_byte}

@@ -1,5 +1,5 @@
 -- A slot rests.
-use Rattle.std.proofs.Common.{◌≡◌, ◌<◌, ap, get_or, length, map, set, subst, sym, ◌∙◌}
+use Rattle.std.proofs.Common.{◌<◌, ap, get_or, length, map, set, subst, sym, ◌∙◌}
 use Rattle.racing_board.specs.InsideRaces.{AreOnGoodPages, RacesState, racer_of}
 use Rattle.racing_board.specs.Races.{at_rest, no_racer}
 use Rattle.racing_board.proofs.Others.{good_set, rest_set}

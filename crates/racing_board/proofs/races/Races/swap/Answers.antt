@@ -1,10 +1,9 @@
 -- The racers change places.
-use Rattle.std.proofs.Common.{◌≡◌, ap, map, subst, sym, ◌∙◌}
+use Rattle.std.proofs.Common.{ap, map, subst, sym, ◌∙◌}
 use Rattle.std.specs.List.{swap}
 use Rattle.racing_board.specs.InsideRaces.{AreOnGoodPages, RacesState, racer_of}
 use Rattle.racing_board.proofs.Others.{good_swap, map_swap}
 use Rattle.racing_board.proofs.races.Races.swap.Goals as goal
-
 
 pub invariant_of-self : goal.invariant_of-self
 invariant_of-self c =
