@@ -8,3 +8,9 @@ pub mod Judgements
 pub mod Others
 pub mod RacerBytes
 pub mod Ranges
+pub mod RightObserved
+pub mod RightReplies
+pub mod RightRequests
+pub mod RightRuns
+pub mod WiderRuns
+pub mod WiderVerdicts

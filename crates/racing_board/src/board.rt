@@ -79,6 +79,8 @@ fn outstanding_of(clients: &[Client]) -> u16
 }
 
 impl RacingBoard {
+    ghost use Rattle.scoreboard.specs.InsideBoards.{HasSource};
+    ghost use Rattle.racing_board.specs.Wider.{LetsRightPass, TellsNoMoreAlong};
     ghost use Rattle.racing_board.specs.Boards.{a_wrong, after_reply, after_request, after_seen, bursts_open, byte_at, d_wrong, opening_racing, racing_board, replies_open, wrong_at};
 
     /// A racing board of a set-up, of which nothing was observed: its clients, limits and regions are those that the observed
@@ -121,9 +123,23 @@ impl RacingBoard {
     }
 
     /// What is wrong with the next beat that was observed; none where nothing is.
+    ///
+    /// Nothing is wrong with beats that are right in order of acceptance. What is said of any beat is what a `Scoreboard` that got the
+    /// same beats says of it, or nothing where that is SOURCE_BUSY or PAYLOAD, up to the first SOURCE_BUSY.
     pub fn judge(&mut self, seen: &Seen) -> Option<Wrong>
         ensures answer { result ≡ wrong_at (racing_board self.old) seen.now }
         ensures state { racing_board self.new ≡ after_seen (racing_board self.old) seen.now }
+        ensures right { LetsRightPass (racing_board self.old) seen.now result }
+        ensures wider { TellsNoMoreAlong (racing_board self.old) seen.now result }
+    {
+        self.judge_by_board(seen)
+    }
+
+    /// What is wrong with a beat, by what the board holds.
+    fn judge_by_board(&mut self, seen: &Seen) -> Option<Wrong>
+        ensures answer { result ≡ wrong_at (racing_board self.old) seen.now }
+        ensures state { racing_board self.new ≡ after_seen (racing_board self.old) seen.now }
+        ensures source { HasSource seen.now }
     {
         match seen {
             Seen::A(client, beat) => self.judge_request(*client, beat),
@@ -161,7 +177,10 @@ impl RacingBoard {
     fn judge_reply(&mut self, client: u8, beat: &DBeat) -> Option<Wrong>
         ensures answer { result ≡ d_wrong (races_of self.old.races) client (slice_get self.old.clients client) beat.now }
         ensures state { racing_board self.new ≡ after_reply (racing_board self.old) client (slice_get self.old.clients client) beat.now }
+        ensures source { beat.now.source < 256 }
     {
+        // A source is below 256.
+        let _source = beat.source;
         let RacingBoard { clients, races, .. } = self;
         let Some(found) = clients.get_mut(usize::from(client)) else {
             return Some(Wrong::NoClient);
