@@ -16,7 +16,7 @@ use Rattle.scoreboard.specs.declared.Wrong.{Wrong}
 use Rattle.racing_board.specs.Boards.{IsReached, RacingBoard, after_reply, after_request, after_seen, opening_racing, wrong_at}
 use Rattle.racing_board.specs.Boards.{bytes_after, client_after, races_after}
 use Rattle.racing_board.specs.Races.{Races}
-use Rattle.racing_board.specs.Wider.{IsFollowed, TellsNoMore, TellsNoMoreAlong, after_all, racing_on, tells_busy}
+use Rattle.racing_board.specs.Wider.{IsFollowed, TellsNoMore, IsWiderAlong, after_all, racing_on, tells_busy}
 use Rattle.racing_board.proofs.WiderVerdicts.{none_told, same_answer, tells_no_more}
 
 -- a racing board that holds what a scoreboard does
@@ -105,9 +105,14 @@ pub reached_racing : (setup : SetupLists) (beats : List Seen) (board : Board) �
     → (later : Races) × IsReached (opening_racing setup) beats (racing_on board later)
 reached_racing setup beats board reached = reached_on (opening_board setup) (opening_racing setup).races beats board reached
 
--- any beats, until one is of a busy source: a verdict of the next tells no more than the scoreboard's
-pub tells_no_more_along : (board : RacingBoard) (seen : Seen) (verdict : Option Wrong) → verdict ≡ wrong_at board seen → TellsNoMoreAlong board seen verdict
-tells_no_more_along board seen verdict answers setup before compared is followed =
+-- any beats, until one is of a busy source: what is held after them, and what is said of the next
+pub wider_along : (board : RacingBoard) (seen : Seen) (verdict : Option Wrong) → verdict ≡ wrong_at board seen → IsWiderAlong board seen verdict
+wider_along board seen verdict answers setup before compared is followed =
     let (races, on) = followed_on (opening_board setup) (opening_racing setup).races before compared followed in
-    subst (TellsNoMore (strict.wrong_at compared seen)) (sym (answers ∙ ap (λ (racing : RacingBoard). wrong_at racing seen) (is ∙ on)))
-    (tells_no_more compared races seen)
+    let same : board ≡ racing_on compared races = is ∙ on in
+    record {
+      holds = same ∙ ap (racing_on compared) (sym (ap (λ (racing : RacingBoard). racing.races) same));
+      tells =
+          subst (TellsNoMore (strict.wrong_at compared seen)) (sym (answers ∙ ap (λ (racing : RacingBoard). wrong_at racing seen) same))
+          (tells_no_more compared races seen);
+    }

@@ -56,12 +56,17 @@ IsFollowed start [] board = board ≡ start
 IsFollowed start (seen ∷ rest) board =
     (next : Board) × (tells_busy (strict.wrong_at start seen) ≡ false) × strict.IsAfter start seen next × IsFollowed next rest board
 
--- of any beats, right or wrong: until a scoreboard finds one of a busy source, and of that one too, the verdict of each tells no more than the
--- scoreboard's
-abbrev pub TellsNoMoreAlong : RacingBoard → Seen → Option Wrong → Type 0
-TellsNoMoreAlong board seen verdict =
+-- a racing board holds what a scoreboard does, but for the requests in flight, and its verdict of a beat tells no more
+pub record IsWiderThan (compared : Board) (board : RacingBoard) (seen : Seen) (verdict : Option Wrong) : Type 0 where
+  pub holds : board ≡ racing_on compared board.races
+  pub tells : TellsNoMore (strict.wrong_at compared seen) verdict
+
+-- of any beats, right or wrong: a racing board is so beside a scoreboard that got the same ones, until this one finds one of a busy source, and of
+-- that one too
+abbrev pub IsWiderAlong : RacingBoard → Seen → Option Wrong → Type 0
+IsWiderAlong board seen verdict =
     (setup : SetupLists) (before : List Seen) (compared : Board) → board ≡ after_all (opening_racing setup) before
-    → IsFollowed (opening_board setup) before compared → TellsNoMore (strict.wrong_at compared seen) verdict
+    → IsFollowed (opening_board setup) before compared → IsWiderThan compared board seen verdict
 
 -- of beats that are right: nothing is found wrong with the last of them, where all of them are right: where each reply is that of its request
 -- carried out whole in its turn, in order of acceptance, and every rule is kept

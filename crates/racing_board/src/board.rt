@@ -80,7 +80,7 @@ fn outstanding_of(clients: &[Client]) -> u16
 
 impl RacingBoard {
     ghost use Rattle.scoreboard.specs.InsideBoards.{HasSource};
-    ghost use Rattle.racing_board.specs.Wider.{LetsRightPass, TellsNoMoreAlong};
+    ghost use Rattle.racing_board.specs.Wider.{LetsRightPass, IsWiderAlong};
     ghost use Rattle.racing_board.specs.Boards.{a_wrong, after_reply, after_request, after_seen, bursts_open, byte_at, d_wrong, opening_racing, racing_board, replies_open, wrong_at};
 
     /// A racing board of a set-up, of which nothing was observed: its clients, limits and regions are those that the observed
@@ -130,7 +130,7 @@ impl RacingBoard {
         ensures answer { result ≡ wrong_at (racing_board self.old) seen.now }
         ensures state { racing_board self.new ≡ after_seen (racing_board self.old) seen.now }
         ensures right { LetsRightPass (racing_board self.old) seen.now result }
-        ensures wider { TellsNoMoreAlong (racing_board self.old) seen.now result }
+        ensures wider { IsWiderAlong (racing_board self.old) seen.now result }
     {
         self.judge_by_board(seen)
     }
