@@ -9,5 +9,4 @@ mod script;
 
 pub use findings::{Finding, finding_line, last_line};
 pub use lines::{Channel, is_withdrawal, seen_line};
-pub use profiles::Profile;
 pub use script::score_text;

@@ -4,7 +4,7 @@ ghost use Rattle.line_text.specs.Fields.{Reads};
 ghost use Rattle.line_text.specs.Words.{word_at};
 ghost use Rattle.world_run.specs.Setups.{lists_of, setup_fault};
 ghost use Rattle.world_run.specs.declared.SetupFault.TheVariants.{NoMemory};
-ghost use Rattle.score_script.specs.Profiles.{after_seen, bursts_open, byte_in, opening_board, profile_field, profile_in, profile_line, profile_of, replies_open, wrong_in};
+ghost use Rattle.score_script.specs.Profiles.{after_seen, bursts_open, byte_in, opening_board, profile_field, profile_in, profile_line, replies_open, wrong_in};
 ghost use Rattle.score_script.specs.ScoreStates.{board_of};
 ghost use Rattle.score_script.specs.SeenBoards.{after_seen as after_compared, seen_board, wrong_in as wrong_compared};
 
@@ -16,21 +16,11 @@ use world_run::{Setup, SetupFault};
 
 /// What is asked of a bridge.
 #[derive(Clone, Copy, Debug, PartialEq, Eq)]
-pub enum Profile {
+pub(crate) enum Profile {
     /// What this project's own bridge gives: requests are carried out in order of acceptance.
     Bridge,
     /// What TileLink asks of any hardware: requests in flight together may take effect in any order.
     TileLink,
-}
-
-/// The profile of a set-up, by the one that a line of it names.
-pub(crate) fn profile_of(named: Option<Profile>) -> Profile
-    ensures { result ≡ profile_of named }
-{
-    match named {
-        None => Profile::Bridge,
-        Some(profile) => profile,
-    }
 }
 
 /// The profile that a word names.

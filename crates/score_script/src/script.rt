@@ -5,13 +5,12 @@ ghost use Rattle.script_text.specs.Scripts.{EndsAs, text_before_failure, text_of
 ghost use Rattle.script_text.specs.Stages.{MayStand, OpensAs, OpensStage, is_misplaced, with_setup_line};
 ghost use Rattle.script_text.specs.Steps.{TakesRest, TakesStep};
 ghost use Rattle.script_text.specs.declared.keywords.Form.TheVariants as forms;
-ghost use Rattle.score_script.specs.Profiles.{profile_of};
 ghost use Rattle.score_script.specs.Scores.{answer_step, beat_step, command_step, ending_of, form_step, is_opening, is_silent, opened, opening_state, placed_step, profile_step, score_at, score_reading, takes_profile};
 ghost use Rattle.score_script.specs.ScoreStates.{made_score, stage_of, state_of};
 
 use crate::findings::findings_lines;
 use crate::lines::{Channel, address_line, is_withdrawal, seen_line};
-use crate::profiles::{Board, Profile, profile_line, profile_of};
+use crate::profiles::{Board, Profile, profile_line};
 use crate::score::{Command, Score};
 use line_text::Words;
 use scoreboard::Seen;
@@ -100,7 +99,6 @@ impl ScoreScript {
         ensures stage { OpensStage true (score_at (state_of self.old) number) (is_silent (state_of self.old)) (stage_of self.new.stage) result }
         ensures profile { self.new.profile ≡ self.old.profile }
     {
-        let profile = profile_of(self.profile);
         let setup = match &self.stage {
             Stage::Opening => {
                 return Err(ScriptFault::Script {
@@ -111,6 +109,7 @@ impl ScoreScript {
             Stage::Running(_) => return Ok(()),
             Stage::SettingUp(setup) => setup,
         };
+        let profile = self.profile.unwrap_or(Profile::Bridge);
         match opening_score(alloc, profile, setup) {
             Ok(score) => {
                 self.stage = Stage::Running(score);
