@@ -120,7 +120,11 @@ STATEMENTS = (
         "`scoreboard::Scoreboard::judge`, clauses `answer` and `state`, and the board that `right` begins with.",
         (("scoreboard", "Boards", "wrong_at"), ("scoreboard", "Boards", "IsAfter"), ("scoreboard", "Boards", "IsReached")),
     ),
-    ("The text of the scoreboard", "`score_script::score_text`.", (("score_script", "Scores", "score_reading"),)),
+    (
+        "The text of the scoreboard",
+        "`score_script::score_text`.",
+        (("score_script", "Scores", "score_reading"), ("score_script", "Scores", "opening_state")),
+    ),
 )
 
 PUBLIC = re.compile(r"^(?:abbrev pub|unfoldable pub|pub record|pub data|pub) (.*)$")

@@ -6,8 +6,9 @@ use Rattle.std.specs.Io.KnownBytes.{Appends}
 use Rattle.std.proofs.KnownBytes.{Appends-nil, Keeps-refl}
 use Rattle.score_script.proofs.FindingLines.{closing_some}
 use Rattle.score_script.specs.FindingTexts.{WritesText, optional_text}
-use Rattle.score_script.specs.Scores.{Finds, Score, closing, command_step, ending_of, finds, finds_text, placed_step, score_at, score_reading, settling, setup_step}
+use Rattle.score_script.specs.Scores.{Finds, Score, ScoreState, closing, command_step, ending_of, finds, finds_text, is_silent, placed_step, score_at, score_reading, settling, setup_step}
 use Rattle.score_script.specs.declared.findings.Finding.{Finding}
+use Rattle.score_script.specs.declared.profiles.Profile.{Profile}
 use Rattle.score_script.specs.declared.score.Command.{Command}
 use Rattle.line_text.proofs.TraceTexts.{some_after}
 use Rattle.script_text.specs.Scripts.{LineStep}
@@ -19,30 +20,38 @@ use Rattle.script_text.specs.declared.keywords.Form.{Form}
 use Rattle.script_text.specs.declared.keywords.Form.TheVariants as form
 use Rattle.script_text.specs.declared.setup_parser.SetupLine.{SetupLine}
 
-gives : (opened : Result Score ScriptFault) (number : ℕ) (command : Command) → IsOk opened → GivesText score_reading (command_step opened number command)
-gives (Ok score) number command ok = (
-  record { text = finds_text (finds score number command); next = Running (finds score number command).after; step_is = refl; may_end = λ n. refl },
+gives : (state : ScoreState) (opened : Result Score ScriptFault) (number : ℕ) (command : Command) → IsOk opened → GivesText score_reading (command_step state opened number command)
+gives state (Ok score) number command ok = (
+  record {
+    text = finds_text (finds score number command);
+    next = record state { stage = Running (finds score number command).after };
+    step_is = refl;
+    may_end = λ n. refl;
+  },
   λ n. some_after (finds_text (finds score number command)) _ (closing_some (settling (finds score number command).after)),
 )
-gives (Err fault) number command ok = search rules
+gives state (Err fault) number command ok = search rules
 
--- the scoreboard wasn't made
-pub TakesStep-unopened : (stage next : Stage Score) (number : ℕ) (command : Command) (writer : Option (List ℕ)) (fault : ScriptFault) → OpensStage true (score_at stage number) (nothing_written stage) next (Err fault)
-    → TakesStep score_reading (command_step (score_at stage number) number command) nothing_written stage next writer writer (Err fault)
-TakesStep-unopened stage next number command writer (Script line word) refused = (ap (λ opened. command_step opened number command) refused, Keeps-refl writer)
-TakesStep-unopened stage next number command writer (Setup fault) refused = (ap (λ opened. command_step opened number command) refused, Keeps-refl writer)
-TakesStep-unopened stage next number command writer Read refused = refused
-TakesStep-unopened stage next number command writer Write refused = absurd refused
-TakesStep-unopened stage next number command writer NoMemory (silent, asks, ok) = (silent, gives (score_at stage number) number command ok, Keeps-refl writer)
+-- the board wasn't made
+pub TakesStep-unopened : (state next : ScoreState) (stage : Stage Score) (number : ℕ) (command : Command) (writer : Option (List ℕ)) (fault : ScriptFault)
+    → OpensStage true (score_at state number) (is_silent state) stage (Err fault) → TakesStep score_reading (command_step state (score_at state number) number command) is_silent state next writer writer (Err fault)
+TakesStep-unopened state next stage number command writer (Script line word) refused = (ap (λ opened. command_step state opened number command) refused, Keeps-refl writer)
+TakesStep-unopened state next stage number command writer (Setup fault) refused = (ap (λ opened. command_step state opened number command) refused, Keeps-refl writer)
+TakesStep-unopened state next stage number command writer Read refused = refused
+TakesStep-unopened state next stage number command writer Write refused = absurd refused
+TakesStep-unopened state next stage number command writer NoMemory (silent, asks, ok) = (silent, gives state (score_at state number) number command ok, Keeps-refl writer)
 
 -- what a line finds was written
-pub TakesStep-written : (stage : Stage Score) (number : ℕ) (score next : Score) (command : Command) (before after : Option (List ℕ)) (wrote : Bool) → score_at stage number ≡ Ok score
-    → next ≡ (finds score number command).after → WritesText {E = ScriptFault} (finds_text (finds score number command)) before after (Ok wrote)
-    → TakesStep score_reading (command_step (score_at stage number) number command) nothing_written stage (Running next) before after (Ok wrote)
-TakesStep-written stage number score next command before after wrote opened is (written, quiet, speaks) =
+pub TakesStep-written : (state : ScoreState) (profile : Option Profile) (number : ℕ) (score next : Score) (command : Command) (before after : Option (List ℕ)) (wrote : Bool) → profile ≡ state.profile
+    → score_at state number ≡ Ok score → next ≡ (finds score number command).after → WritesText {E = ScriptFault} (finds_text (finds score number command)) before after (Ok wrote)
+    → TakesStep score_reading (command_step state (score_at state number) number command) is_silent state (record { profile = profile; stage = Running next }) before after (Ok wrote)
+TakesStep-written state profile number score next command before after wrote same opened is (written, quiet, speaks) =
     record {
       text = finds_text (finds score number command);
-      step_is = ap (λ s. command_step s number command) opened ∙ ap (λ s. Ok (finds_text (finds score number command), Running s)) (sym is);
+      step_is =
+          ap (λ s. command_step state s number command) opened
+          ∙ (ap (λ s. Ok (finds_text (finds score number command), record { profile = state.profile; stage = Running s })) (sym is)
+          ∙ ap (λ p. Ok (finds_text (finds score number command), record { profile = p; stage = Running next })) (sym same));
       written = written;
       quiet = quiet;
       speaks = λ some. (speaks some, λ n. refl);
@@ -50,13 +59,13 @@ TakesStep-written stage number score next command before after wrote opened is (
     }
 
 -- the writer failed at what a line finds
-pub TakesStep-unwritten : (stage next : Stage Score) (number : ℕ) (score : Score) (command : Command) (before after : Option (List ℕ)) → score_at stage number ≡ Ok score → finds_text (finds score number command) ≢ []
-    → TakesStep score_reading (command_step (score_at stage number) number command) nothing_written stage next before after (Err Write)
-TakesStep-unwritten stage next number score command before after opened some = (
+pub TakesStep-unwritten : (state next : ScoreState) (number : ℕ) (score : Score) (command : Command) (before after : Option (List ℕ)) → score_at state number ≡ Ok score → finds_text (finds score number command) ≢ []
+    → TakesStep score_reading (command_step state (score_at state number) number command) is_silent state next before after (Err Write)
+TakesStep-unwritten state next number score command before after opened some = (
   record {
     text = finds_text (finds score number command);
-    next = Running (finds score number command).after;
-    step_is = ap (λ s. command_step s number command) opened;
+    next = record state { stage = Running (finds score number command).after };
+    step_is = ap (λ s. command_step state s number command) opened;
     may_end = λ n. refl;
   },
   some,
@@ -76,22 +85,22 @@ found_unwritten given held own h o some = subst (λ text. text ≢ []) (said giv
 
 -- ---- lines of the set-up
 
-pub placed_as : (stage : Stage Score) (number : ℕ) (words : List (List ℕ)) (f : Form) → f ≢ form.Mem → placed_step stage number words f ≡ setup_step stage number (setup_line f words)
-placed_as stage number words form.Config other = refl
-placed_as stage number words form.Region other = refl
-placed_as stage number words form.Page other = refl
-placed_as stage number words form.BadWord other = refl
-placed_as stage number words form.Offer other = refl
-placed_as stage number words form.Pump other = refl
-placed_as stage number words form.Perform other = refl
-placed_as stage number words form.AnswerB other = refl
-placed_as stage number words form.AnswerR other = refl
-placed_as stage number words form.Take other = refl
-placed_as stage number words form.Drain other = refl
-placed_as stage number words form.Mem other = absurd (other refl)
-placed_as stage number words form.Work other = refl
-placed_as stage number words form.Free other = refl
-placed_as stage number words form.Word other = refl
+pub placed_as : (state : ScoreState) (number : ℕ) (words : List (List ℕ)) (f : Form) → f ≢ form.Mem → placed_step state number words f ≡ setup_step state number (setup_line f words)
+placed_as state number words form.Config other = refl
+placed_as state number words form.Region other = refl
+placed_as state number words form.Page other = refl
+placed_as state number words form.BadWord other = refl
+placed_as state number words form.Offer other = refl
+placed_as state number words form.Pump other = refl
+placed_as state number words form.Perform other = refl
+placed_as state number words form.AnswerB other = refl
+placed_as state number words form.AnswerR other = refl
+placed_as state number words form.Take other = refl
+placed_as state number words form.Drain other = refl
+placed_as state number words form.Mem other = absurd (other refl)
+placed_as state number words form.Work other = refl
+placed_as state number words form.Free other = refl
+placed_as state number words form.Word other = refl
 
 silent_before : (stage : Stage Score) (line : SetupLine) → MayStand stage line → nothing_written stage ≡ true
 silent_before Opening line stands = refl
@@ -99,16 +108,16 @@ silent_before (SettingUp setup) line stands = refl
 silent_before (Running score) line stands = absurd stands
 
 -- a set-up line has no text
-pub TakesStep-set_up : (stage next : Stage Score) (line : SetupLine) (step : LineStep (Stage Score)) (writer : Option (List ℕ)) → step ≡ Ok ([], with_setup_line stage line) → next ≡ with_setup_line stage line
-    → MayStand stage line → TakesStep score_reading step nothing_written stage next writer writer (Ok false)
-TakesStep-set_up stage next line step writer is becomes stands =
+pub TakesStep-set_up : (state next : ScoreState) (line : SetupLine) (step : LineStep ScoreState) (writer : Option (List ℕ)) → step ≡ Ok ([], record state { stage = with_setup_line state.stage line })
+    → next ≡ record state { stage = with_setup_line state.stage line } → MayStand state.stage line → TakesStep score_reading step is_silent state next writer writer (Ok false)
+TakesStep-set_up state next line step writer is becomes stands =
     record {
       text = [];
       step_is = is ∙ ap (λ s. Ok ([], s)) (sym becomes);
       written = Appends-nil writer;
       quiet = λ none. refl;
       speaks = λ wrong. absurd (false≢true wrong);
-      silent = λ still. (silent_before stage line stands, refl);
+      silent = λ still. (silent_before state.stage line stands, refl);
     }
 
 -- ---- the end

@@ -1,5 +1,6 @@
 pub mod FindingTexts
 pub mod ObservedLines
+pub mod Profiles
 pub mod ScoreStates
 pub mod Scores
 pub mod SeenBoards

@@ -3,10 +3,11 @@ use Rattle.std.specs.Prelude.{ℕ, ◌+◌, ◌^◌, ◌-◌, Bool, true, false,
 use Rattle.std.specs.Str.{bytes_eq}
 use Rattle.score_script.specs.FindingTexts.{last_text, optional_text}
 use Rattle.score_script.specs.ObservedLines.{address_line, channel_of, is_withdrawal, seen_line}
-use Rattle.score_script.specs.SeenBoards.{SeenBoard, after_seen, bursts_open, byte_in, opening_seen, replies_open, wrong_in}
+use Rattle.score_script.specs.Profiles.{ProfileBoard, after_seen, bursts_open, byte_in, opening_board, profile_line, profile_of, replies_open, wrong_in}
 use Rattle.score_script.specs.declared.findings.Finding.{Finding}
 use Rattle.score_script.specs.declared.findings.Finding.TheVariants as finding
 use Rattle.score_script.specs.declared.lines.Channel.{Channel}
+use Rattle.score_script.specs.declared.profiles.Profile.{Profile}
 use Rattle.score_script.specs.declared.score.Command.{Command}
 use Rattle.score_script.specs.declared.score.Command.TheVariants as command
 use Rattle.score_script.specs.declared.score.HeldBeat.{HeldBeat}
@@ -15,7 +16,7 @@ use Rattle.scoreboard.specs.declared.Seen.TheVariants.{A, D, Aw, W, B, Ar, R, Dr
 use Rattle.scoreboard.specs.declared.Wrong.{Wrong}
 use Rattle.script_text.specs.Forms.{form_of}
 use Rattle.script_text.specs.Scripts.{LineStep, Reading, TextResult, ended}
-use Rattle.script_text.specs.Stages.{Opening, Running, SettingUp, Stage, is_misplaced, set_up_as, setup_line, with_setup_line}
+use Rattle.script_text.specs.Stages.{Opening, Running, SettingUp, Stage, is_misplaced, nothing_written, set_up_as, setup_line, with_setup_line}
 use Rattle.line_text.specs.Words.{word_at}
 use Rattle.script_text.specs.declared.faults.ScriptFault.{ScriptFault}
 use Rattle.script_text.specs.declared.faults.ScriptFault.TheVariants.{Script}
@@ -25,16 +26,29 @@ use Rattle.script_text.specs.declared.setup_parser.SetupLine.{SetupLine}
 use Rattle.world_run.specs.Setups.{SetupLists, setup_fault}
 use Rattle.world_run.specs.declared.SetupFault.{SetupFault}
 
--- the scoreboard; the beat that is held; and how many beats were judged, and how many of them are wrong
+-- the board; the beat that is held; and how many beats were judged, and how many of them are wrong
 pub record Score : Type 0 where
-  pub board : SeenBoard
+  pub board : ProfileBoard
   pub held : Option HeldBeat
   pub judged : ℕ
   pub wrong : ℕ
 
 -- a score of which nothing was observed
-abbrev pub opening_score : SetupLists → Score
-opening_score setup = record { board = opening_seen setup; held = None; judged = 0; wrong = 0 }
+abbrev pub opening_score : Profile → SetupLists → Score
+opening_score profile setup = record { board = opening_board profile setup; held = None; judged = 0; wrong = 0 }
+
+-- how far an observation has come, and the profile that a line of its set-up named, if one did
+pub record ScoreState : Type 0 where
+  pub profile : Option Profile
+  pub stage : Stage Score
+
+-- no line was read
+abbrev pub opening_state : ScoreState
+opening_state = record { profile = None; stage = Opening }
+
+-- whether nothing was judged so far
+abbrev pub is_silent : ScoreState → Bool
+is_silent state = nothing_written state.stage
 
 -- ---- judging
 
@@ -119,32 +133,37 @@ finds_text given = optional_text given.held ++ optional_text given.own
 -- ---- lines
 
 -- a score of a set-up, or why that is refused
-abbrev pub opened : SetupLists → Option SetupFault → Result Score SetupFault
-opened setup None = Ok (opening_score setup)
-opened setup (Some fault) = Err fault
+abbrev pub opened : Profile → SetupLists → Option SetupFault → Result Score SetupFault
+opened profile setup None = Ok (opening_score profile setup)
+opened profile setup (Some fault) = Err fault
 
 -- what a command finds: a score, which is made for the first; without a `config` line word 1 of this line is at fault
-abbrev pub score_at : Stage Score → ℕ → Result Score ScriptFault
-score_at Opening number = Err (Script number 1)
-score_at (SettingUp setup) number = set_up_as (opened setup (setup_fault setup))
-score_at (Running score) number = Ok score
+abbrev pub score_in : Profile → Stage Score → ℕ → Result Score ScriptFault
+score_in profile Opening number = Err (Script number 1)
+score_in profile (SettingUp setup) number = set_up_as (opened profile setup (setup_fault setup))
+score_in profile (Running score) number = Ok score
 
--- what a command writes, and the stage after it
-abbrev pub command_step : Result Score ScriptFault → ℕ → Command → LineStep (Stage Score)
-command_step (Err fault) number command = Err fault
-command_step (Ok score) number command = Ok (finds_text (finds score number command), Running (finds score number command).after)
+-- the same of a state: its profile is the one that a line named, else `bridge`
+abbrev pub score_at : ScoreState → ℕ → Result Score ScriptFault
+score_at state number = score_in (profile_of state.profile) state.stage number
+
+-- what a command writes, and the state after it
+abbrev pub command_step : ScoreState → Result Score ScriptFault → ℕ → Command → LineStep ScoreState
+command_step state (Err fault) number command = Err fault
+command_step state (Ok score) number command =
+    Ok (finds_text (finds score number command), record state { stage = Running (finds score number command).after })
 
 -- a line that says a command, or its first wrong word
-abbrev pub told_step : Stage Score → ℕ → Result Command ℕ → LineStep (Stage Score)
-told_step stage number (Err word) = Err (Script number word)
-told_step stage number (Ok command) = command_step (score_at stage number) number command
+abbrev pub told_step : ScoreState → ℕ → Result Command ℕ → LineStep ScoreState
+told_step state number (Err word) = Err (Script number word)
+told_step state number (Ok command) = command_step state (score_at state number) number command
 
 -- an answer, by the word after `=`: it withdraws the beat before it, says that AXI beats went unobserved, or is skipped
-abbrev pub answer_step : Stage Score → ℕ → List ℕ → LineStep (Stage Score)
-answer_step stage number word =
+abbrev pub answer_step : ScoreState → ℕ → List ℕ → LineStep ScoreState
+answer_step state number word =
     if is_withdrawal word
-    then command_step (score_at stage number) number command.Withdrawal
-    else (if bytes_eq word (codes "drained") then command_step (score_at stage number) number (command.Seen Drained) else Ok ([], stage))
+    then command_step state (score_at state number) number command.Withdrawal
+    else (if bytes_eq word (codes "drained") then command_step state (score_at state number) number (command.Seen Drained) else Ok ([], state))
 
 -- whether `config` is still to come
 abbrev pub is_opening : Stage Score → Bool
@@ -158,9 +177,9 @@ beat_of (Ok seen) = Ok (command.Seen seen)
 beat_of (Err word) = Err word
 
 -- a line of a channel, which comes behind `config`
-abbrev pub beat_step : Stage Score → ℕ → List (List ℕ) → Channel → LineStep (Stage Score)
-beat_step stage number words channel =
-    if is_opening stage then Err (Script number 1) else told_step stage number (beat_of (seen_line channel words))
+abbrev pub beat_step : ScoreState → ℕ → List (List ℕ) → Channel → LineStep ScoreState
+beat_step state number words channel =
+    if is_opening state.stage then Err (Script number 1) else told_step state number (beat_of (seen_line channel words))
 
 -- a question as a command
 abbrev pub question_of : Result ℕ ℕ → Result Command ℕ
@@ -168,32 +187,50 @@ question_of (Ok address) = Ok (command.Byte address)
 question_of (Err word) = Err word
 
 -- a set-up line adds to the set-up, and writes nothing
-abbrev pub setup_step : Stage Score → ℕ → Result SetupLine ℕ → LineStep (Stage Score)
-setup_step stage number (Ok line) = Ok ([], with_setup_line stage line)
-setup_step stage number (Err word) = Err (Script number word)
+abbrev pub setup_step : ScoreState → ℕ → Result SetupLine ℕ → LineStep ScoreState
+setup_step state number (Ok line) = Ok ([], record state { stage = with_setup_line state.stage line })
+setup_step state number (Err word) = Err (Script number word)
 
 -- a line of a form that may stand here: a question, or a set-up line; there are no other forms
-abbrev pub placed_step : Stage Score → ℕ → List (List ℕ) → Form → LineStep (Stage Score)
-placed_step stage number words form.Mem = told_step stage number (question_of (address_line words))
-placed_step stage number words form = setup_step stage number (setup_line form words)
+abbrev pub placed_step : ScoreState → ℕ → List (List ℕ) → Form → LineStep ScoreState
+placed_step state number words form.Mem = told_step state number (question_of (address_line words))
+placed_step state number words form = setup_step state number (setup_line form words)
 
 -- a line whose first word names no channel: there has to be such a form, and it has to be able to stand here
-abbrev pub form_step : Stage Score → ℕ → List (List ℕ) → Option Form → LineStep (Stage Score)
-form_step stage number words None = Err (Script number 1)
-form_step stage number words (Some form) =
-    if is_misplaced stage form words then Err (Script number 1) else placed_step stage number words form
+abbrev pub form_step : ScoreState → ℕ → List (List ℕ) → Option Form → LineStep ScoreState
+form_step state number words None = Err (Script number 1)
+form_step state number words (Some form) =
+    if is_misplaced state.stage form words then Err (Script number 1) else placed_step state number words form
 
--- a line whose first word isn't `=`
-abbrev pub channel_step : Stage Score → ℕ → List (List ℕ) → Option Channel → LineStep (Stage Score)
-channel_step stage number words None = form_step stage number words (form_of (word_at words 1))
-channel_step stage number words (Some channel) = beat_step stage number words channel
+-- a line whose first word is neither `=` nor `profile`
+abbrev pub channel_step : ScoreState → ℕ → List (List ℕ) → Option Channel → LineStep ScoreState
+channel_step state number words None = form_step state number words (form_of (word_at words 1))
+channel_step state number words (Some channel) = beat_step state number words channel
+
+-- whether a `profile` line may stand here: among the set-up lines behind `config`, and once
+abbrev pub takes_profile : Option Profile → Stage Score → Bool
+takes_profile None (SettingUp setup) = true
+takes_profile named stage = false
+
+-- a profile that a line names, which writes nothing
+abbrev pub named_step : ScoreState → ℕ → Result Profile ℕ → LineStep ScoreState
+named_step state number (Ok profile) = Ok ([], record state { profile = Some profile })
+named_step state number (Err word) = Err (Script number word)
+
+-- a `profile` line
+abbrev pub profile_step : ScoreState → ℕ → List (List ℕ) → LineStep ScoreState
+profile_step state number words =
+    if takes_profile state.profile state.stage then named_step state number (profile_line words) else Err (Script number 1)
 
 -- a line, by its words
-abbrev pub score_step : Stage Score → ℕ → List (List ℕ) → LineStep (Stage Score)
-score_step stage number words =
+abbrev pub score_step : ScoreState → ℕ → List (List ℕ) → LineStep ScoreState
+score_step state number words =
     if bytes_eq (word_at words 1) (codes "=")
-    then answer_step stage number (word_at words 2)
-    else channel_step stage number words (channel_of (word_at words 1))
+    then answer_step state number (word_at words 2)
+    else
+    (if bytes_eq (word_at words 1) (codes "profile")
+    then profile_step state number words
+    else channel_step state number words (channel_of (word_at words 1)))
 
 -- ---- a whole observation
 
@@ -207,12 +244,12 @@ closing settled =
       result = Ok (nat_lt 0 settled.1.wrong);
     }
 
--- the end of an observation whose scoreboard was made
+-- the end of an observation whose board was made
 abbrev pub ending_of : Result Score ScriptFault → TextResult Bool
 ending_of (Ok score) = closing (settling score)
 ending_of (Err fault) = ended (Err fault)
 
--- an observation as it is read: a scoreboard is made at the end where none was
-abbrev pub score_reading : Reading (Stage Score) Bool
+-- an observation as it is read: a board is made at the end where none was
+abbrev pub score_reading : Reading ScoreState Bool
 score_reading =
-    record { most_lines = 4294967294; step = score_step; ending = λ stage number. ending_of (score_at stage number) }
+    record { most_lines = 4294967294; step = score_step; ending = λ state number. ending_of (score_at state number) }

@@ -3,6 +3,7 @@
 
 mod findings;
 mod lines;
+mod profiles;
 mod score;
 mod script;
 

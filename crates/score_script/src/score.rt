@@ -3,11 +3,11 @@ ghost use Rattle.std.specs.Prelude.{◌≡◌, ◌++◌, None, if◌then◌else�
 ghost use Rattle.script_text.specs.Stages.{WritesEnd};
 ghost use Rattle.score_script.specs.Scores.{beats_judged, client_of, closing, counted, finds, found, judging, observing, settling};
 ghost use Rattle.score_script.specs.ScoreStates.{score_of};
-ghost use Rattle.score_script.specs.SeenBoards.{after_seen, byte_in, bursts_open, replies_open, seen_board, wrong_in};
 
 use crate::findings::{Finding, Findings, last_line, optional_line};
+use crate::profiles::Board;
 use line_text::WriteFault;
-use scoreboard::{Scoreboard, Seen, Wrong};
+use scoreboard::{Seen, Wrong};
 use std::io::Write;
 use tl_messages::ABeat;
 
@@ -33,9 +33,9 @@ pub(crate) struct HeldBeat {
     pub(crate) beat: ABeat,
 }
 
-/// A scoreboard, the beat that is held, and how many beats were judged and are wrong.
+/// The board, the beat that is held, and how many beats were judged and are wrong.
 pub(crate) struct Score {
-    board: Scoreboard,
+    board: Board,
     held: Option<HeldBeat>,
     judged: u64,
     wrong: u64,
@@ -100,17 +100,9 @@ fn counted_wrong(count: u64, verdict: Option<Wrong>) -> u64
     }
 }
 
-/// Judges what was observed: the board is said by its bytes.
-fn judged_by(board: &mut Scoreboard, seen: &Seen) -> Option<Wrong>
-    ensures verdict { result ≡ wrong_in (seen_board board.old) seen.now }
-    ensures state { seen_board board.new ≡ after_seen (seen_board board.old) seen.now }
-{
-    board.judge(seen)
-}
-
 impl Score {
     /// Nothing was observed.
-    pub(crate) fn opening(board: Scoreboard) -> Score
+    pub(crate) fn opening(board: Board) -> Score
         ensures { result ≡ record { board = board; held = None; judged = 0; wrong = 0 } }
     {
         Score {
@@ -126,7 +118,7 @@ impl Score {
         ensures found { result ≡ (judging (score_of self.old) number seen.now).0 }
         ensures state { score_of self.new ≡ (judging (score_of self.old) number seen.now).1 }
     {
-        let verdict = judged_by(&mut self.board, seen);
+        let verdict = self.board.judge(seen);
         self.judged = beats_judged(self.judged, seen);
         self.wrong = counted_wrong(self.wrong, verdict);
         found(number, seen, verdict)
@@ -163,13 +155,6 @@ impl Score {
         Findings { held, own }
     }
 
-    /// The byte at an address, as the requests accepted so far leave it; none outside good pages.
-    fn byte(&self, address: u32) -> Option<u8>
-        ensures { result ≡ byte_in (seen_board self.now.board) address }
-    {
-        self.board.byte(address)
-    }
-
     /// Withdraws the beat that is held.
     fn withdraw(&mut self)
         ensures { score_of self.new ≡ record (score_of self.old) { held = None } }
@@ -187,7 +172,7 @@ impl Score {
             Command::Seen(seen) => self.observe(number, seen),
             Command::Byte(address) => {
                 let held = self.settle();
-                let own = Some(Finding::Byte(self.byte(*address)));
+                let own = Some(Finding::Byte(self.board.byte(*address)));
                 Findings { held, own }
             }
             Command::Withdrawal => {
@@ -200,13 +185,6 @@ impl Score {
         }
     }
 
-    /// How many AXI bursts are open.
-    fn open_bursts(&self) -> u8
-        ensures { result ≡ bursts_open (seen_board self.now.board) }
-    {
-        self.board.open_bursts()
-    }
-
     /// Judges the beat that is held, and writes the last line. The answer is whether a beat is wrong.
     pub(crate) fn close<W: Write>(&mut self, writer: &mut W) -> Result<bool, WriteFault>
         ensures { WritesEnd ((closing (settling (score_of self.old))).output, nat_lt 0 (settling (score_of self.old)).1.wrong) (W.contents writer.old) (W.contents writer.new) result }
@@ -217,7 +195,7 @@ impl Score {
             self.judged,
             self.wrong,
             self.board.outstanding(),
-            self.open_bursts(),
+            self.board.open_bursts(),
             writer,
         )?;
         Ok(self.wrong > 0)

@@ -2,17 +2,18 @@
 ghost use Rattle.std.specs.Prelude.{◌≡◌, ◌≢◌, false, true};
 ghost use Rattle.world_run.specs.Setups.{lists_of, setup_fault};
 ghost use Rattle.script_text.specs.Scripts.{EndsAs, text_before_failure, text_of};
-ghost use Rattle.script_text.specs.Stages.{MayStand, Opening, OpensAs, OpensStage, is_misplaced, nothing_written, with_setup_line};
+ghost use Rattle.script_text.specs.Stages.{MayStand, OpensAs, OpensStage, is_misplaced, with_setup_line};
 ghost use Rattle.script_text.specs.Steps.{TakesRest, TakesStep};
 ghost use Rattle.script_text.specs.declared.keywords.Form.TheVariants as forms;
-ghost use Rattle.score_script.specs.Scores.{answer_step, beat_step, command_step, ending_of, form_step, is_opening, opened, placed_step, score_at, score_reading, setup_step, told_step};
-ghost use Rattle.score_script.specs.ScoreStates.{made_score, state_of};
+ghost use Rattle.score_script.specs.Scores.{answer_step, beat_step, command_step, ending_of, form_step, is_opening, is_silent, opened, opening_state, placed_step, profile_step, score_at, score_reading, takes_profile};
+ghost use Rattle.score_script.specs.ScoreStates.{made_score, stage_of, state_of};
 
 use crate::findings::findings_lines;
 use crate::lines::{Channel, address_line, is_withdrawal, seen_line};
+use crate::profiles::{Board, Profile, profile_line};
 use crate::score::{Command, Score};
 use line_text::Words;
-use scoreboard::{Scoreboard, Seen};
+use scoreboard::Seen;
 use script_text::{
     Form, Script, ScriptFault, SetupLine, add_setup_line, has_no_room, is_setup_form, read_script,
     setup_line,
@@ -35,23 +36,27 @@ enum Stage {
     Running(Score),
 }
 
-/// An observation, and how far it has come.
+/// An observation, how far it has come, and the profile that a line of its set-up named, if one did.
 pub(crate) struct ScoreScript {
+    profile: Option<Profile>,
     stage: Stage,
 }
 
 // Written out, so that what lets go of one calls this, and proves nothing of its parts.
 impl Drop for ScoreScript {
     fn drop(self) {
-        let ScoreScript { stage: _ } = self;
+        let ScoreScript {
+            profile: _,
+            stage: _,
+        } = self;
     }
 }
 
-/// A scoreboard of a set-up, of which nothing was observed.
-fn opening_score(alloc: Global, setup: &Setup) -> Result<Score, SetupFault>
-    ensures { OpensAs true (opened (lists_of setup.now) (setup_fault (lists_of setup.now))) (made_score result) }
+/// A score of a profile and a set-up, of which nothing was observed.
+fn opening_score(alloc: Global, profile: Profile, setup: &Setup) -> Result<Score, SetupFault>
+    ensures { OpensAs true (opened profile (lists_of setup.now) (setup_fault (lists_of setup.now))) (made_score result) }
 {
-    match Scoreboard::new(alloc, setup) {
+    match Board::new(alloc, profile, setup) {
         Ok(board) => Ok(Score::opening(board)),
         Err(fault) => Err(fault),
     }
@@ -59,14 +64,14 @@ fn opening_score(alloc: Global, setup: &Setup) -> Result<Score, SetupFault>
 
 impl ScoreScript {
     fn is_opening(&self) -> bool
-        ensures { result ≡ is_opening (state_of self.now) }
+        ensures { result ≡ is_opening (stage_of self.now.stage) }
     {
         matches!(self.stage, Stage::Opening)
     }
 
     /// Whether a line of this form may not stand here.
     fn is_misplaced(&self, form: Form, words: &Words<'_>) -> bool
-        ensures { result ≡ is_misplaced (state_of self.now) form words.now }
+        ensures { result ≡ is_misplaced (stage_of self.now.stage) form words.now }
     {
         match &self.stage {
             Stage::Opening => !matches!(form, Form::Config),
@@ -76,8 +81,8 @@ impl ScoreScript {
     }
 
     fn set_up(&mut self, line: SetupLine)
-        requires { MayStand (state_of self.old) line }
-        ensures { state_of self.new ≡ with_setup_line (state_of self.old) line }
+        requires { MayStand (stage_of self.old.stage) line }
+        ensures { state_of self.new ≡ record (state_of self.old) { stage = with_setup_line (stage_of self.old.stage) line } }
     {
         if let SetupLine::Config(config) = line {
             self.stage = Stage::SettingUp(Setup::new(config));
@@ -89,9 +94,10 @@ impl ScoreScript {
         add_setup_line(setup, line);
     }
 
-    /// Makes the scoreboard where there is none yet.
+    /// Makes the board where there is none yet.
     fn open(&mut self, alloc: Global, number: u32) -> Result<(), ScriptFault>
-        ensures { OpensStage true (score_at (state_of self.old) number) (nothing_written (state_of self.old)) (state_of self.new) result }
+        ensures stage { OpensStage true (score_at (state_of self.old) number) (is_silent (state_of self.old)) (stage_of self.new.stage) result }
+        ensures profile { self.new.profile ≡ self.old.profile }
     {
         let setup = match &self.stage {
             Stage::Opening => {
@@ -103,7 +109,8 @@ impl ScoreScript {
             Stage::Running(_) => return Ok(()),
             Stage::SettingUp(setup) => setup,
         };
-        match opening_score(alloc, setup) {
+        let profile = self.profile.unwrap_or(Profile::Bridge);
+        match opening_score(alloc, profile, setup) {
             Ok(score) => {
                 self.stage = Stage::Running(score);
                 Ok(())
@@ -120,7 +127,7 @@ impl ScoreScript {
         command: &Command,
         writer: &mut W,
     ) -> Result<bool, ScriptFault>
-        ensures { TakesStep score_reading (command_step (score_at (state_of self.old) number) number command.now) nothing_written (state_of self.old) (state_of self.new) (W.contents writer.old) (W.contents writer.new) result }
+        ensures { TakesStep score_reading (command_step (state_of self.old) (score_at (state_of self.old) number) number command.now) is_silent (state_of self.old) (state_of self.new) (W.contents writer.old) (W.contents writer.new) result }
     {
         self.open(alloc, number)?;
         let Stage::Running(score) = &mut self.stage else {
@@ -141,7 +148,7 @@ impl ScoreScript {
         word: &[u8],
         writer: &mut W,
     ) -> Result<bool, ScriptFault>
-        ensures { TakesStep score_reading (answer_step (state_of self.old) number word.now) nothing_written (state_of self.old) (state_of self.new) (W.contents writer.old) (W.contents writer.new) result }
+        ensures { TakesStep score_reading (answer_step (state_of self.old) number word.now) is_silent (state_of self.old) (state_of self.new) (W.contents writer.old) (W.contents writer.new) result }
     {
         if is_withdrawal(word) {
             return self.carry_out(alloc, number, &Command::Withdrawal, writer);
@@ -161,7 +168,7 @@ impl ScoreScript {
         channel: Channel,
         writer: &mut W,
     ) -> Result<bool, ScriptFault>
-        ensures { TakesStep score_reading (beat_step (state_of self.old) number words.now channel) nothing_written (state_of self.old) (state_of self.new) (W.contents writer.old) (W.contents writer.new) result }
+        ensures { TakesStep score_reading (beat_step (state_of self.old) number words.now channel) is_silent (state_of self.old) (state_of self.new) (W.contents writer.old) (W.contents writer.new) result }
     {
         if self.is_opening() {
             return Err(ScriptFault::Script {
@@ -183,7 +190,7 @@ impl ScoreScript {
         words: &Words<'_>,
         writer: &mut W,
     ) -> Result<bool, ScriptFault>
-        ensures { TakesStep score_reading (placed_step (state_of self.old) number words.now forms.Mem) nothing_written (state_of self.old) (state_of self.new) (W.contents writer.old) (W.contents writer.new) result }
+        ensures { TakesStep score_reading (placed_step (state_of self.old) number words.now forms.Mem) is_silent (state_of self.old) (state_of self.new) (W.contents writer.old) (W.contents writer.new) result }
     {
         match address_line(words) {
             Err(word) => Err(ScriptFault::Script { line: number, word }),
@@ -199,14 +206,45 @@ impl ScoreScript {
         form: Form,
         _writer: &mut W,
     ) -> Result<bool, ScriptFault>
-        requires place { is_misplaced (state_of self.old) form words.now ≡ false }
+        requires place { is_misplaced (stage_of self.old.stage) form words.now ≡ false }
         requires other { form ≢ forms.Mem }
-        ensures { TakesStep score_reading (placed_step (state_of self.old) number words.now form) nothing_written (state_of self.old) (state_of self.new) (W.contents _writer.old) (W.contents _writer.new) result }
+        ensures { TakesStep score_reading (placed_step (state_of self.old) number words.now form) is_silent (state_of self.old) (state_of self.new) (W.contents _writer.old) (W.contents _writer.new) result }
     {
         match setup_line(form, words) {
             Err(word) => Err(ScriptFault::Script { line: number, word }),
             Ok(line) => {
                 self.set_up(line);
+                Ok(false)
+            }
+        }
+    }
+
+    /// Whether a `profile` line may stand here.
+    fn takes_profile(&self) -> bool
+        ensures { result ≡ takes_profile self.now.profile (stage_of self.now.stage) }
+    {
+        self.profile.is_none() && matches!(self.stage, Stage::SettingUp(_))
+    }
+
+    /// Takes a `profile` line.
+    fn take_profile<W: Write>(
+        &mut self,
+        number: u32,
+        words: &Words<'_>,
+        _writer: &mut W,
+    ) -> Result<bool, ScriptFault>
+        ensures { TakesStep score_reading (profile_step (state_of self.old) number words.now) is_silent (state_of self.old) (state_of self.new) (W.contents _writer.old) (W.contents _writer.new) result }
+    {
+        if !self.takes_profile() {
+            return Err(ScriptFault::Script {
+                line: number,
+                word: 1,
+            });
+        }
+        match profile_line(words) {
+            Err(word) => Err(ScriptFault::Script { line: number, word }),
+            Ok(profile) => {
+                self.profile = Some(profile);
                 Ok(false)
             }
         }
@@ -221,7 +259,7 @@ impl ScoreScript {
         form: Option<Form>,
         writer: &mut W,
     ) -> Result<bool, ScriptFault>
-        ensures { TakesStep score_reading (form_step (state_of self.old) number words.now form) nothing_written (state_of self.old) (state_of self.new) (W.contents writer.old) (W.contents writer.new) result }
+        ensures { TakesStep score_reading (form_step (state_of self.old) number words.now form) is_silent (state_of self.old) (state_of self.new) (W.contents writer.old) (W.contents writer.new) result }
     {
         let wrong = ScriptFault::Script {
             line: number,
@@ -239,14 +277,14 @@ impl ScoreScript {
         self.take_setup_line(number, words, form, writer)
     }
 
-    /// Judges the beat that is held, and writes the last line; the scoreboard is made where there is none yet.
+    /// Judges the beat that is held, and writes the last line; the board is made where there is none yet.
     fn end_stage<W: Write>(
         &mut self,
         alloc: Global,
         number: u32,
         writer: &mut W,
     ) -> Result<bool, ScriptFault>
-        ensures { TakesRest (ending_of (score_at (state_of self.old) number)) (nothing_written (state_of self.old)) (W.contents writer.old) (W.contents writer.new) result }
+        ensures { TakesRest (ending_of (score_at (state_of self.old) number)) (is_silent (state_of self.old)) (W.contents writer.old) (W.contents writer.new) result }
     {
         self.open(alloc, number)?;
         let Stage::Running(score) = &mut self.stage else {
@@ -260,20 +298,19 @@ impl ScoreScript {
 }
 
 impl Script for ScoreScript {
-    ghost use Rattle.script_text.specs.Stages.{Stage as StageOf, nothing_written};
     ghost use Rattle.score_script.specs.ScoreStates.{state_of};
-    ghost use Rattle.score_script.specs.Scores.{Score as ScoreSaid, score_reading};
+    ghost use Rattle.score_script.specs.Scores.{ScoreState, is_silent, score_reading};
 
     /// Whether a beat is wrong.
     type Answer = bool;
 
-    ghost State = { StageOf ScoreSaid };
+    ghost State = { ScoreState };
 
     ghost state = { state_of };
 
     ghost reading = { score_reading };
 
-    ghost is_silent = { nothing_written };
+    ghost is_silent = { is_silent };
 
     fn most_lines() -> u32 {
         MOST_LINES
@@ -289,6 +326,9 @@ impl Script for ScoreScript {
         let first = words.at(1);
         if first == b"=".as_slice() {
             return self.take_answer(alloc, number, words.at(2), writer);
+        }
+        if first == b"profile".as_slice() {
+            return self.take_profile(number, words, writer);
         }
         match Channel::named(first) {
             Some(channel) => self.take_beat(alloc, number, words, channel, writer),
@@ -315,9 +355,10 @@ pub fn score_text<R: Read, W: Write>(
     reader: &mut R,
     writer: &mut W,
 ) -> Result<bool, ScriptFault>
-    ensures { EndsAs 4294967294 (text_of score_reading Opening) (text_before_failure score_reading Opening) (R.remaining reader.old) (R.remaining reader.new) (W.contents writer.old) (W.contents writer.new) result }
+    ensures { EndsAs 4294967294 (text_of score_reading opening_state) (text_before_failure score_reading opening_state) (R.remaining reader.old) (R.remaining reader.new) (W.contents writer.old) (W.contents writer.new) result }
 {
     let script = ScoreScript {
+        profile: None,
         stage: Stage::Opening,
     };
     read_script(script, alloc, reader, writer)

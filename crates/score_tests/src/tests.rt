@@ -1,4 +1,7 @@
 //! Histories of observed beats, with what has to be said of each.
+mod profiles;
+mod racing;
+
 use axi_beats::{ArBeat, AwBeat, BBeat, RBeat, Resp, WBeat};
 use axi_checker::AxiRule;
 use bridge_core::Config;

@@ -25,7 +25,7 @@ given_past bytes start x above =
     let after : nat_le start x ≡ true = grind (arith, nat_tests) in
     rw (after, slice_get_past bytes (x - start) (omega (arith, above))) refl
 
-length-bytes_given : (held : HeldMessage) → length (bytes_given held) ≡ 2 ^ held.size
+pub length-bytes_given : (held : HeldMessage) → length (bytes_given held) ≡ 2 ^ held.size
 length-bytes_given held = length-map-range_with_len (λ i. if has_data held.operation then byte_given held.address held.beats i else None) 0 (2 ^ held.size)
 
 -- whether the write of a word has a byte

@@ -13,7 +13,7 @@ use std::alloc::{AllocError, Global};
 use std::marker::Model;
 
 /// The AXI4 port: its monitor, and how many bursts are outstanding on it, at most 128. All room is taken by `new`.
-pub(crate) struct AxiPort {
+pub struct AxiPort {
     monitor: Monitor,
     count: u8,
 }
@@ -41,7 +41,7 @@ impl Drop for AxiPort {
 
 impl AxiPort {
     /// A port within these limits, on which nothing is outstanding. The one error is that memory was refused.
-    pub(crate) fn new(alloc: Global, config: &Config) -> Result<Self, AllocError>
+    pub fn new(alloc: Global, config: &Config) -> Result<Self, AllocError>
         requires { is_valid config.now ≡ true }
         ensures { IfOk result (λ port. port ≡ record { port = axi_port_of config.now; open_bursts = nothing_open }) }
     {
@@ -50,14 +50,14 @@ impl AxiPort {
     }
 
     /// How many bursts are outstanding.
-    pub(crate) fn open_bursts(&self) -> u8
+    pub fn open_bursts(&self) -> u8
         ensures { result ≡ open_count self.now.open_bursts }
     {
         self.count
     }
 
     /// Nothing is outstanding any more: what went unobserved has closed all bursts.
-    pub(crate) fn clear(&mut self)
+    pub fn clear(&mut self)
         ensures { self.new ≡ record self.old { open_bursts = nothing_open } }
     {
         self.monitor.clear();
@@ -65,7 +65,7 @@ impl AxiPort {
     }
 
     /// Judges a write's address.
-    pub(crate) fn aw(&mut self, beat: &AwBeat) -> Option<Wrong>
+    pub fn aw(&mut self, beat: &AwBeat) -> Option<Wrong>
         ensures wrong { result ≡ wrong_axi (axi_fault self.old.port self.old.open_bursts (OnAw beat.now)) }
         ensures state { self.new ≡ record self.old { open_bursts = bursts_after self.old.open_bursts (OnAw beat.now) (axi_fault self.old.port self.old.open_bursts (OnAw beat.now)) } }
     {
@@ -77,7 +77,7 @@ impl AxiPort {
     }
 
     /// Judges a write's data.
-    pub(crate) fn w(&mut self, beat: &WBeat) -> Option<Wrong>
+    pub fn w(&mut self, beat: &WBeat) -> Option<Wrong>
         ensures wrong { result ≡ wrong_axi (axi_fault self.old.port self.old.open_bursts (OnW beat.now)) }
         ensures state { self.new ≡ record self.old { open_bursts = bursts_after self.old.open_bursts (OnW beat.now) (axi_fault self.old.port self.old.open_bursts (OnW beat.now)) } }
     {
@@ -88,7 +88,7 @@ impl AxiPort {
     }
 
     /// Judges a write's response, which closes its burst.
-    pub(crate) fn b(&mut self, beat: &BBeat) -> Option<Wrong>
+    pub fn b(&mut self, beat: &BBeat) -> Option<Wrong>
         ensures wrong { result ≡ wrong_axi (axi_fault self.old.port self.old.open_bursts (OnB beat.now)) }
         ensures state { self.new ≡ record self.old { open_bursts = bursts_after self.old.open_bursts (OnB beat.now) (axi_fault self.old.port self.old.open_bursts (OnB beat.now)) } }
     {
@@ -100,7 +100,7 @@ impl AxiPort {
     }
 
     /// Judges a read's address.
-    pub(crate) fn ar(&mut self, beat: &ArBeat) -> Option<Wrong>
+    pub fn ar(&mut self, beat: &ArBeat) -> Option<Wrong>
         ensures wrong { result ≡ wrong_axi (axi_fault self.old.port self.old.open_bursts (OnAr beat.now)) }
         ensures state { self.new ≡ record self.old { open_bursts = bursts_after self.old.open_bursts (OnAr beat.now) (axi_fault self.old.port self.old.open_bursts (OnAr beat.now)) } }
     {
@@ -112,7 +112,7 @@ impl AxiPort {
     }
 
     /// Judges a read's data, of which the last close their burst.
-    pub(crate) fn r(&mut self, beat: &RBeat) -> Option<Wrong>
+    pub fn r(&mut self, beat: &RBeat) -> Option<Wrong>
         ensures wrong { result ≡ wrong_axi (axi_fault self.old.port self.old.open_bursts (OnR beat.now)) }
         ensures state { self.new ≡ record self.old { open_bursts = bursts_after self.old.open_bursts (OnR beat.now) (axi_fault self.old.port self.old.open_bursts (OnR beat.now)) } }
     {

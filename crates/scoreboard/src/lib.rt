@@ -11,9 +11,11 @@ mod serial;
 
 use axi_beats::{ArBeat, AwBeat, BBeat, RBeat, WBeat};
 use axi_checker::AxiRule;
+pub use axi_port::AxiPort;
 pub use board::Scoreboard;
+pub use replies::DueReplies;
 pub use runs::observed;
-pub use serial::SerialMemory;
+pub use serial::{SerialMemory, put_word};
 use tl_checker::TlRule;
 use tl_messages::{ABeat, DBeat};
 

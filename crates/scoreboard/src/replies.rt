@@ -15,7 +15,7 @@ use tl_messages::{DBeat, ReplyBox, Request};
 
 /// The replies that are due to a client: of each source that of its request, of which no beat came, and the one that has
 /// begun. All room is taken by `new`.
-pub(crate) struct DueReplies {
+pub struct DueReplies {
     due: Vec<ReplyBox>,
     begun: ReplyBox,
     came: u16,
@@ -85,10 +85,10 @@ fn boxes_with_beats(replies: &[ReplyBox]) -> u16
 }
 
 impl DueReplies {
-    ghost use Rattle.scoreboard.specs.Boards.{after_begun, after_reply_beat, begin_reply, is_busy, next_reply, opening_due, replies_left, wrong_reply};
+    ghost use Rattle.scoreboard.specs.Boards.{after_begun, after_reply_beat, begin_reply, due_of, is_busy, next_reply, opening_due, replies_left, wrong_reply};
 
     /// No reply is due. The one error is that memory was refused.
-    pub(crate) fn new(alloc: Global) -> Result<Self, AllocError>
+    pub fn new(alloc: Global) -> Result<Self, AllocError>
         ensures { IfOk result (λ replies. replies ≡ opening_due) }
     {
         let mut due = Vec::with_capacity(alloc, 256)?;
@@ -113,8 +113,33 @@ impl DueReplies {
         Some(self.begun.beat(self.came))
     }
 
+    /// Whether a reply has begun and isn't whole.
+    pub fn has_begun(&self) -> bool
+        ensures { result ≡ not (none_left self.now.begun) }
+    {
+        self.next_begun().is_some()
+    }
+
+    /// Whether a reply is due to a source of which no beat came.
+    pub fn is_due(&self, source: u8) -> bool
+        ensures { result ≡ not (none_left (due_of self.now source)) }
+    {
+        has_beats(&self.due[usize::from(source)])
+    }
+
+    /// How many beats are left of the reply whose next one a beat of a source may be: of that which has begun, else of the one
+    /// that is due to the source.
+    pub fn left(&self, source: u8) -> u16
+        ensures { result ≡ length (next_reply self.now source) }
+    {
+        if self.has_begun() {
+            return self.begun.beats() - self.came;
+        }
+        self.due[usize::from(source)].beats()
+    }
+
     /// Whether the whole reply to a source's request is still to be seen.
-    pub(crate) fn is_busy(&self, source: u8) -> bool
+    pub fn is_busy(&self, source: u8) -> bool
         ensures { result ≡ is_busy self.now source }
     {
         if self.due[usize::from(source)].beats() > 0 {
@@ -127,7 +152,7 @@ impl DueReplies {
     }
 
     /// How many replies aren't whole.
-    pub(crate) fn outstanding(&self) -> u16
+    pub fn outstanding(&self) -> u16
         ensures count { result ≡ replies_left self.now }
         ensures most { result ≤ 257 }
     {
@@ -139,7 +164,7 @@ impl DueReplies {
     }
 
     /// Carries a request out, whose reply is due from then on.
-    pub(crate) fn carry_out(&mut self, serial: &mut SerialMemory, request: &Request)
+    pub fn carry_out(&mut self, serial: &mut SerialMemory, request: &Request)
         requires { IsCheckedRequest request.now }
         ensures serial { IsCarriedOut serial.old serial.new (request_of request.now) }
         ensures replies { self.new ≡ record self.old {
@@ -190,7 +215,7 @@ impl DueReplies {
     }
 
     /// Judges a beat on channel D.
-    pub(crate) fn judge(&mut self, beat: &DBeat) -> Option<Wrong>
+    pub fn judge(&mut self, beat: &DBeat) -> Option<Wrong>
         ensures wrong { result ≡ wrong_reply (next_reply self.old beat.now.source) beat.now }
         ensures state { self.new ≡ after_reply_beat self.old beat.now }
     {

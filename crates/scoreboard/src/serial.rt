@@ -65,7 +65,7 @@ fn read_words(pages: &Pages, gather: &mut Gather, address: u32, size: u8)
 }
 
 /// Sets the bytes of a word that its mask has, of `2^size` bytes at an address of a good page.
-fn put_word(pages: &mut Pages, address: u32, size: u8, word: MaskedWord)
+pub fn put_word(pages: &mut Pages, address: u32, size: u8, word: MaskedWord)
     requires range { IsMemoryRange address size }
     requires size { size ≤ 3 }
     requires good { is_good (standing_at pages.old.faults address) ≡ true }
@@ -248,7 +248,7 @@ impl Drop for SerialMemory {
 }
 
 impl SerialMemory {
-    ghost use Rattle.scoreboard.specs.SerialMemory.{IsCarriedOut, meaning_now, opening_serial};
+    ghost use Rattle.scoreboard.specs.SerialMemory.{IsCarriedOut, meaning_now, opening_serial, place_in};
 
     /// The memory behind a page map, of these pages and bad words, which `device_fault` doesn't refuse; all bytes are zero.
     ///
@@ -272,6 +272,19 @@ impl SerialMemory {
         ensures { result ≡ (if is_good (standing_at self.now.pages.faults address) then Some (bytes_in self.now.pages address) else None) }
     {
         self.pages.byte(address)
+    }
+
+    /// The address of a good page at which a request acts; none where it acts on no good page.
+    pub fn place(&self, request: &Request) -> Option<u32>
+        ensures place { result ≡ place_in self.now (request_of request.now) }
+        ensures same_byte { IfSome result (λ address. address % 4096 ≡ request.now.address % 4096) }
+        ensures good { IfSome result (λ address. is_good (standing_at self.now.pages.faults address) ≡ true) }
+    {
+        let address = place_of(&self.map, request)?;
+        if self.byte(address).is_none() {
+            return None;
+        }
+        Some(address)
     }
 
     /// Carries out a request that a checker let pass, whole and at once, and puts the beats of its reply into a box.

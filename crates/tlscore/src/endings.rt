@@ -2,8 +2,7 @@
 ghost use Rattle.std.specs.Prelude.{◌≡◌, ◌⊎◌, [], Err};
 ghost use Rattle.std.specs.Io.Buffered.{writer_buffer, writer_contents};
 ghost use Rattle.script_text.specs.Scripts.{EndsAs, text_before_failure, text_of};
-ghost use Rattle.script_text.specs.Stages.{Opening};
-ghost use Rattle.score_script.specs.Scores.{score_reading};
+ghost use Rattle.score_script.specs.Scores.{opening_state, score_reading};
 ghost use Rattle.tlscore.specs.Endings.{Flushes, status_of};
 
 use burst_plan::MapFault;
@@ -21,7 +20,7 @@ pub(crate) fn scored<R: Read, W: Write + Drop>(
     reader: &mut R,
     writer: &mut BufWriter<W>,
 ) -> Result<bool, ScriptFault>
-    ensures ends { Flushes (EndsAs 4294967294 (text_of score_reading Opening) (text_before_failure score_reading Opening) (R.remaining reader.old) (R.remaining reader.new) (writer_contents W.contents writer.old) (writer_contents W.contents writer.new)) result }
+    ensures ends { Flushes (EndsAs 4294967294 (text_of score_reading opening_state) (text_before_failure score_reading opening_state) (R.remaining reader.old) (R.remaining reader.new) (writer_contents W.contents writer.old) (writer_contents W.contents writer.new)) result }
 
     // Nothing is left in the buffer, but where a write failed.
     ensures flushed { (result ≡ Err ScriptFault.Write) ⊎ (writer_buffer writer.new ≡ []) }

@@ -1,0 +1,217 @@
+-- The bytes in doubt, as one after another is marked.
+use Rattle.std.proofs.Common.{◌≡◌, ℕ, zero, suc, ◌+◌, ◌%◌, ◌<◌, ◌≤◌, ◌==◌, Bool, true, false, ◌&&◌, ◌||◌, not, List, [], ◌∷◌, Option, None, length, take, get_or, if◌then◌else◌, refl, sym, ◌∙◌, ap, arith, inl, inr}
+use Rattle.std.specs.Prelude.{is_some, nat_le, nat_lt}
+use Rattle.std.specs.List.{list_any}
+use Rattle.std.proofs.Math.Path.{fun_ext}
+use Rattle.std.proofs.lemmas.Bool.{cases_lt}
+use Rattle.std.proofs.lemmas.Bool.Decides.{nat_tests}
+use Rattle.std.proofs.lemmas.List.Folds.{list_any_more}
+use Rattle.bus_words.specs.Lanes.{given_at, has_lane, lane_byte}
+use Rattle.tl_messages.specs.Lanes.{in_lanes}
+use Rattle.subordinate.specs.Effects.{strobes_byte}
+use Rattle.world_run.specs.Meaning.{Bytes}
+use Rattle.scoreboard.specs.InsideSerial.{data_of, put_in_word, write_at}
+use Rattle.scoreboard.proofs.PutWords.{given_before, given_past, in_word, out_of_word}
+use Rattle.racing_board.specs.Races.{Racer, covers, depends_on, doubts_after, doubts_beside, is_fixed, meets, no_racer}
+
+-- ---- one byte
+
+data Sides (x p : ℕ) : Type 0 where
+  Below : x < p → Sides x p
+  Here : x ≡ p → Sides x p
+  Above : p < x → Sides x p
+
+sides : (x p : ℕ) → Sides x p
+sides x p = elim (cases_lt x p) [
+  | inl low ↦ Below low
+  | inr high ↦ elim (cases_lt p x) [
+    | inl more ↦ Above more
+    | inr less ↦ Here (omega (arith, high, less))
+  ]
+]
+
+apart : (x p : ℕ) → (x ≡ p → ⊥) → (x == p) ≡ false
+apart x p out = elim (sides x p) [ Below low ↦ grind (arith, nat_tests) | Here is ↦ absurd (out is) | Above high ↦ grind (arith, nat_tests) ]
+
+same : (x p : ℕ) → x ≡ p → (x == p) ≡ true
+same x p is = grind (arith, nat_tests)
+
+lane_of_one : (address lane : ℕ) → address % 8 ≡ lane → in_lanes address 0 lane ≡ true
+lane_of_one address lane is = rw (same (address % 8) lane is) refl
+
+-- a byte is set where the word of one byte is put
+pub one_marked : (m new : Bytes) (address word mask : ℕ) (doubtful : Bool) → new ≡ put_in_word address 0 (record { word = word; mask = mask }) m
+    → ((lane : ℕ) → lane < 8 → has_lane mask lane ≡ in_lanes address 0 lane) → ((lane : ℕ) → lane < 8 → lane_byte word lane ≡ (if doubtful then 1 else 0)) → (x : ℕ)
+    → not (new x == 0) ≡ (if x == address then doubtful else not (m x == 0))
+one_marked m new address word mask doubtful is lanes flags x = ap (λ (f : Bytes). not (f x == 0)) is ∙ by_side (sides x address)
+  where
+    flag : (d : Bool) → not ((if d then 1 else 0) == 0) ≡ d
+    flag true = refl
+    flag false = refl
+
+    elsewhere : (x ≡ address → ⊥) → not (put_in_word address 0 (record { word = word; mask = mask }) m x == 0) ≡ (if x == address then doubtful else not (m x == 0))
+    elsewhere out =
+        let none : strobes_byte 8 (write_at address 0) 1 (data_of (record { word = word; mask = mask })) x ≡ false =
+        out_of_word address 0 (record { word = word; mask = mask }) x (omega arith) (λ low high. out (omega (arith, low, high))) in
+        rw (none, apart x address out) refl
+
+    by_side : Sides x address → not (put_in_word address 0 (record { word = word; mask = mask }) m x == 0) ≡ (if x == address then doubtful else not (m x == 0))
+    by_side (Below low) = elsewhere (λ e. omega (arith, low, e))
+    by_side (Above high) = elsewhere (λ e. omega (arith, high, e))
+    by_side (Here e) =
+        let strobe : strobes_byte 8 (write_at address 0) 1 (data_of (record { word = word; mask = mask })) x ≡ true =
+        in_word address 0 (record { word = word; mask = mask }) x (omega arith) (omega (arith, e)) (omega (arith, e)) ∙ lanes (x % 8) (omega arith) ∙ lane_of_one address (x % 8) (ap (λ y. y % 8) (sym e)) in
+        rw (strobe, same x address e, flags (x % 8) (omega arith)) (flag doubtful)
+
+-- ---- what a request gives
+
+-- the byte at a place is marked, or stays
+pub given_marked : (d new : ℕ → Bool) (racer : Racer) (bytes : List (Option ℕ)) (i : ℕ) (doubtful : Bool) → doubtful ≡ doubts_after d racer bytes (racer.address + i)
+    → ((x : ℕ) → new x ≡ (if x == racer.address + i then doubtful else d x)) → (x : ℕ) → new x ≡ (if x == racer.address + i then doubts_after d racer bytes x else d x)
+given_marked d new racer bytes i doubtful is each x = each x ∙ by_side (sides x (racer.address + i))
+  where
+    by_side : Sides x (racer.address + i) → (if x == racer.address + i then doubtful else d x) ≡ (if x == racer.address + i then doubts_after d racer bytes x else d x)
+    by_side (Below low) = rw (apart x (racer.address + i) (λ e. omega (arith, low, e))) refl
+    by_side (Above high) = rw (apart x (racer.address + i) (λ e. omega (arith, high, e))) refl
+    by_side (Here e) = rw (same x (racer.address + i) e) (is ∙ ap (doubts_after d racer bytes) (sym e))
+
+pub not_marked : (d : ℕ → Bool) (racer : Racer) (bytes : List (Option ℕ)) (i : ℕ) → d (racer.address + i) ≡ doubts_after d racer bytes (racer.address + i) → (x : ℕ)
+    → d x ≡ (if x == racer.address + i then doubts_after d racer bytes x else d x)
+not_marked d racer bytes i is x = by_side (sides x (racer.address + i))
+  where
+    by_side : Sides x (racer.address + i) → d x ≡ (if x == racer.address + i then doubts_after d racer bytes x else d x)
+    by_side (Below low) = rw (apart x (racer.address + i) (λ e. omega (arith, low, e))) refl
+    by_side (Above high) = rw (apart x (racer.address + i) (λ e. omega (arith, high, e))) refl
+    by_side (Here e) = rw (same x (racer.address + i) e) (ap d e ∙ is ∙ ap (doubts_after d racer bytes) (sym e))
+
+-- where nothing is given nothing is marked
+unmarked : (d : ℕ → Bool) (racer : Racer) (bytes : List (Option ℕ)) (x : ℕ) → given_at bytes racer.address x ≡ None → doubts_after d racer bytes x ≡ d x
+unmarked d racer bytes x none = rw none (by_writes racer.writes)
+  where
+    by_writes : (writes : Bool) → (if writes && false then not (racer.settled x && is_fixed racer) else d x) ≡ d x
+    by_writes true = refl
+    by_writes false = refl
+
+-- all before a place are marked
+abbrev pub marked_to : (ℕ → Bool) → Racer → List (Option ℕ) → ℕ → ℕ → Bool
+marked_to d racer bytes i x = if nat_lt x (racer.address + i) then doubts_after d racer bytes x else d x
+
+less : (x p : ℕ) → x < p → nat_lt x p ≡ true
+less x p is = grind (arith, nat_tests)
+
+not_less : (x p : ℕ) → p ≤ x → nat_lt x p ≡ false
+not_less x p is = grind (arith, nat_tests)
+
+pub none_marked : (d : ℕ → Bool) (racer : Racer) (bytes : List (Option ℕ)) (x : ℕ) → d x ≡ marked_to d racer bytes 0 x
+none_marked d racer bytes x = elim (cases_lt x (racer.address + 0)) [
+  | inl low ↦ rw (less x (racer.address + 0) low) (sym (unmarked d racer bytes x (given_before bytes racer.address x (omega (arith, low)))))
+  | inr high ↦ rw (not_less x (racer.address + 0) high) refl
+]
+
+pub one_more_marked : (d now new : ℕ → Bool) (racer : Racer) (bytes : List (Option ℕ)) (i : ℕ) → ((x : ℕ) → now x ≡ marked_to d racer bytes i x)
+    → ((x : ℕ) → new x ≡ (if x == racer.address + i then doubts_after now racer bytes x else now x)) → (x : ℕ) → new x ≡ marked_to d racer bytes (i + 1) x
+one_more_marked d now new racer bytes i before step x = step x ∙ by_side (sides x (racer.address + i))
+  where
+    after_of : (a b : Bool) → a ≡ b → (if racer.writes && is_some (given_at bytes racer.address x) then not (racer.settled x && is_fixed racer) else a) ≡ (if racer.writes && is_some (given_at bytes racer.address x) then not (racer.settled x && is_fixed racer) else b)
+    after_of a b e = ap (λ z. if racer.writes && is_some (given_at bytes racer.address x) then not (racer.settled x && is_fixed racer) else z) e
+
+    by_side : Sides x (racer.address + i) → (if x == racer.address + i then doubts_after now racer bytes x else now x) ≡ marked_to d racer bytes (i + 1) x
+    by_side (Below low) =
+        rw (apart x (racer.address + i) (λ e. omega (arith, low, e)), less x (racer.address + (i + 1)) (omega (arith, low)))
+        (before x ∙ rw (less x (racer.address + i) low) refl)
+    by_side (Here e) =
+        rw (same x (racer.address + i) e, less x (racer.address + (i + 1)) (omega (arith, e)))
+        (after_of (now x) (d x) (before x ∙ rw (not_less x (racer.address + i) (omega (arith, e))) refl))
+    by_side (Above high) =
+        rw (apart x (racer.address + i) (λ e. omega (arith, high, e)), not_less x (racer.address + (i + 1)) (omega (arith, high)))
+        (before x ∙ rw (not_less x (racer.address + i) (omega (arith, high))) refl)
+
+pub all_marked : (d now : ℕ → Bool) (racer : Racer) (bytes : List (Option ℕ)) (i : ℕ) → length bytes ≤ i → ((x : ℕ) → now x ≡ marked_to d racer bytes i x) → now ≡ doubts_after d racer bytes
+all_marked d now racer bytes i whole each = fun_ext (λ x. each x ∙ at x)
+  where
+    at : (x : ℕ) → marked_to d racer bytes i x ≡ doubts_after d racer bytes x
+    at x = elim (cases_lt x (racer.address + i)) [
+      | inl low ↦ rw (less x (racer.address + i) low) refl
+      | inr high ↦ rw (not_less x (racer.address + i) high) (sym (unmarked d racer bytes x (given_past bytes racer.address x (omega (arith, whole, high)))))
+    ]
+
+-- ---- all bytes of a request
+
+pub ones : (lane : ℕ) → lane < 8 → lane_byte 72340172838076673 lane ≡ 1
+ones zero below = refl
+ones (suc zero) below = refl
+ones (suc (suc zero)) below = refl
+ones (suc (suc (suc zero))) below = refl
+ones (suc (suc (suc (suc zero)))) below = refl
+ones (suc (suc (suc (suc (suc zero))))) below = refl
+ones (suc (suc (suc (suc (suc (suc zero)))))) below = refl
+ones (suc (suc (suc (suc (suc (suc (suc zero))))))) below = refl
+ones (suc (suc (suc (suc (suc (suc (suc (suc lane)))))))) below = absurd (omega (arith, below))
+
+or_none : (a b : Bool) → b ≡ false → a ≡ (a || b)
+or_none true b is = refl
+or_none false b is = sym is
+
+or_true : (a b : Bool) → b ≡ true → true ≡ (a || b)
+or_true true b is = refl
+or_true false b is = sym is
+
+-- whether a byte is one of the first so many from an address on
+abbrev pub among_first : ℕ → ℕ → ℕ → Bool
+among_first address i x = nat_le address x && nat_lt x (address + i)
+
+none_among : (a : Bool) → (a && false) ≡ false
+none_among true = refl
+none_among false = refl
+
+pub none_of_all : (d : ℕ → Bool) (address x : ℕ) → d x ≡ (d x || among_first address 0 x)
+none_of_all d address x = or_none (d x) (among_first address 0 x) (none address x)
+  where
+    none : (a y : ℕ) → among_first a 0 y ≡ false
+    none a y = grind (arith, nat_tests)
+
+pub one_more_of_all : (d now new : ℕ → Bool) (address i : ℕ) → ((x : ℕ) → now x ≡ (d x || among_first address i x)) → ((x : ℕ) → new x ≡ (if x == address + i then true else now x)) → (x : ℕ)
+    → new x ≡ (d x || among_first address (i + 1) x)
+one_more_of_all d now new address i before step x = step x ∙ by_side (sides x (address + i))
+  where
+    still : (x ≡ address + i → ⊥) → among_first address i x ≡ among_first address (i + 1) x
+    still out = elim (sides x (address + i)) [ Below low ↦ rw (less x (address + i) low, less x (address + (i + 1)) (omega (arith, low))) refl | Here e ↦ absurd (out e) | Above high ↦ rw (not_less x (address + i) (omega (arith, high)), not_less x (address + (i + 1)) (omega (arith, high))) refl ]
+
+    by_side : Sides x (address + i) → (if x == address + i then true else now x) ≡ (d x || among_first address (i + 1) x)
+    by_side (Below low) = rw (apart x (address + i) (λ e. omega (arith, low, e))) (before x ∙ ap (λ b. d x || b) (still (λ e. omega (arith, low, e))))
+    by_side (Above high) = rw (apart x (address + i) (λ e. omega (arith, high, e))) (before x ∙ ap (λ b. d x || b) (still (λ e. omega (arith, high, e))))
+    by_side (Here e) =
+        let start : nat_le address x ≡ true = grind (arith, nat_tests, e) in
+        rw (same x (address + i) e) (or_true (d x) (among_first address (i + 1) x) (rw (start, less x (address + (i + 1)) (omega (arith, e))) refl))
+
+-- ---- requests beside another
+
+pub marked_beside : (d now new : ℕ → Bool) (other : Racer) (racers : List Racer) (i : ℕ) → i < length racers → ((x : ℕ) → now x ≡ doubts_beside d other (take i racers) x)
+    → ((x : ℕ) → new x ≡ (now x || depends_on (get_or racers i no_racer) other && covers (get_or racers i no_racer) x)) → (x : ℕ) → new x ≡ doubts_beside d other (take (i + 1) racers) x
+marked_beside d now new other racers i below before step x =
+    step x
+    ∙ ap (λ b. b || depends_on (get_or racers i no_racer) other && covers (get_or racers i no_racer) x) (before x)
+    ∙ or_or (d x) (list_any (λ racer. depends_on racer other && covers racer x) (take i racers)) (depends_on (get_or racers i no_racer) other && covers (get_or racers i no_racer) x)
+    ∙ ap (λ b. d x || b) (sym (list_any_more (λ racer. depends_on racer other && covers racer x) racers i no_racer below))
+  where
+    or_or : (a b c : Bool) → (a || b || c) ≡ (a || (b || c))
+    or_or true b c = refl
+    or_or false b c = refl
+
+pub nobody_beside : (d : ℕ → Bool) (other : Racer) (x : ℕ) → d x ≡ doubts_beside d other [] x
+nobody_beside d other x = or_none (d x) false refl
+
+-- one that writes nothing leaves all as it is
+pub writes_nothing : (d : ℕ → Bool) (racer : Racer) (bytes : List (Option ℕ)) (racers : List Racer) → racer.writes ≡ false → d ≡ doubts_beside (doubts_after d racer bytes) racer racers
+writes_nothing d racer bytes racers nothing = fun_ext (λ x. or_none (d x) (list_any (λ other. depends_on other racer && covers other x) racers) (none x racers) ∙ rw nothing refl)
+  where
+    not_on : (reads writes meet covered : Bool) → (reads && writes && false && meet && covered) ≡ false
+    not_on true true meet covered = refl
+    not_on true false meet covered = refl
+    not_on false writes meet covered = refl
+
+    none : (x : ℕ) (others : List Racer) → list_any (λ other. depends_on other racer && covers other x) others ≡ false
+    none x [] = refl
+    none x (other ∷ others) =
+        let first : (depends_on other racer && covers other x) ≡ false = rw nothing (not_on other.reads other.writes (meets other racer) (covers other x)) in
+        rw first (none x others)

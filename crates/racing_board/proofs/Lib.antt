@@ -1,0 +1,16 @@
+pub mod Answered
+pub mod Begun
+pub mod BoardOpens
+pub mod Doubts
+pub mod Given
+pub mod Joining
+pub mod Judgements
+pub mod Others
+pub mod RacerBytes
+pub mod Ranges
+pub mod RightObserved
+pub mod RightReplies
+pub mod RightRequests
+pub mod RightRuns
+pub mod WiderRuns
+pub mod WiderVerdicts

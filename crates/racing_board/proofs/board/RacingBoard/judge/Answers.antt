@@ -1,0 +1,12 @@
+-- What is right in order of acceptance isn't wrong, and no more is told than a scoreboard tells.
+use Rattle.racing_board.specs.Boards.{racing_board}
+use Rattle.racing_board.proofs.RightRuns.{lets_right_pass}
+use Rattle.racing_board.proofs.WiderRuns.{wider_along}
+use Rattle.racing_board.proofs.board.RacingBoard.judge.Goals as goal
+
+pub returns-clause-right : goal.returns-clause-right
+returns-clause-right c =
+    lets_right_pass (racing_board c.args.self.now) c.args.seen.now c.judge_by_board.result c.judge_by_board.ensures.source c.judge_by_board.ensures.answer
+
+pub returns-clause-wider : goal.returns-clause-wider
+returns-clause-wider c = wider_along (racing_board c.args.self.now) c.args.seen.now c.judge_by_board.result c.judge_by_board.ensures.answer

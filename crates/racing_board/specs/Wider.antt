@@ -1,0 +1,75 @@
+-- What a racing board says of beats, beside a scoreboard that compares each byte: no more than this one, and nothing of beats that are right.
+use Rattle.std.specs.Prelude.{◌≡◌, ◌⊎◌, Bool, true, false, List, [], ◌∷◌, ◌++◌, Option, Some, None}
+use Rattle.tl_checker.specs.declared.TlRule.TheVariants.{SourceBusy}
+use Rattle.world_run.specs.Setups.{SetupLists}
+use Rattle.scoreboard.specs.Boards as strict
+use Rattle.scoreboard.specs.Boards.{Board, opening_board}
+use Rattle.scoreboard.specs.InsideSerial.{bytes_in}
+use Rattle.scoreboard.specs.Right.{IsRight}
+use Rattle.scoreboard.specs.declared.ReplyRule.TheVariants.{Payload}
+use Rattle.scoreboard.specs.declared.Seen.{Seen}
+use Rattle.scoreboard.specs.declared.Wrong.{Wrong}
+use Rattle.scoreboard.specs.declared.Wrong.TheVariants.{Reply, Request}
+use Rattle.racing_board.specs.Boards.{RacingBoard, after_seen, opening_racing}
+use Rattle.racing_board.specs.Races.{Races}
+
+-- a racing board that holds what a scoreboard does, and some requests in flight
+abbrev pub racing_on : Board → Races → RacingBoard
+racing_on board races =
+    record {
+      clients = board.clients;
+      regions = board.serial.regions;
+      faults = board.serial.pages.faults;
+      bytes = bytes_in board.serial.pages;
+      races = races;
+      port = board.port;
+      open_bursts = board.open_bursts;
+    }
+
+-- ---- one beat
+
+-- whether a verdict is that the source is busy
+abbrev pub tells_busy : Option Wrong → Bool
+tells_busy (Some (Request SourceBusy)) = true
+tells_busy verdict = false
+
+-- whether a verdict is that the payload is another
+abbrev pub tells_payload : Option Wrong → Bool
+tells_payload (Some (Reply Payload due)) = true
+tells_payload verdict = false
+
+-- a racing board's verdict of a beat tells no more than a scoreboard's: it is the same, or nothing where the scoreboard's is that the source is
+-- busy or that the payload is another
+abbrev pub TellsNoMore : Option Wrong → Option Wrong → Type 0
+TellsNoMore compared verdict = (verdict ≡ compared) ⊎ (((tells_busy compared ≡ true) ⊎ (tells_payload compared ≡ true)) × (verdict ≡ None))
+
+-- ---- lists of beats
+
+-- a racing board after beats, whatever it finds of each
+abbrev pub after_all : RacingBoard → List Seen → RacingBoard
+after_all board [] = board
+after_all board (seen ∷ rest) = after_all (after_seen board seen) rest
+
+-- a scoreboard after beats of which it finds none of a busy source, whatever else it finds
+abbrev pub IsFollowed : Board → List Seen → Board → Type 0
+IsFollowed start [] board = board ≡ start
+IsFollowed start (seen ∷ rest) board =
+    (next : Board) × (tells_busy (strict.wrong_at start seen) ≡ false) × strict.IsAfter start seen next × IsFollowed next rest board
+
+-- a racing board holds what a scoreboard does, but for the requests in flight, and its verdict of a beat tells no more
+pub record IsWiderThan (compared : Board) (board : RacingBoard) (seen : Seen) (verdict : Option Wrong) : Type 0 where
+  pub holds : board ≡ racing_on compared board.races
+  pub tells : TellsNoMore (strict.wrong_at compared seen) verdict
+
+-- of any beats, right or wrong: a racing board is so beside a scoreboard that got the same ones, until this one finds one of a busy source, and of
+-- that one too
+abbrev pub IsWiderAlong : RacingBoard → Seen → Option Wrong → Type 0
+IsWiderAlong board seen verdict =
+    (setup : SetupLists) (before : List Seen) (compared : Board) → board ≡ after_all (opening_racing setup) before
+    → IsFollowed (opening_board setup) before compared → IsWiderThan compared board seen verdict
+
+-- of beats that are right: nothing is found wrong with the last of them, where all of them are right: where each reply is that of its request
+-- carried out whole in its turn, in order of acceptance, and every rule is kept
+abbrev pub LetsRightPass : RacingBoard → Seen → Option Wrong → Type 0
+LetsRightPass board seen verdict =
+    (setup : SetupLists) (before : List Seen) → board ≡ after_all (opening_racing setup) before → IsRight setup (before ++ seen ∷ []) → verdict ≡ None

@@ -1,0 +1,70 @@
+-- What is asked of a bridge, and the board that judges beats by it (this project's profile).
+use Rattle.std.specs.Prelude.{ℕ, ◌||◌, List, [], ◌∷◌, Option, Result, if◌then◌else◌, unwrap_or, codes}
+use Rattle.std.specs.Str.{bytes_eq}
+use Rattle.line_text.specs.Fields.{Field, read_as}
+use Rattle.line_text.specs.Words.{word_at}
+use Rattle.racing_board.specs.Boards as racing
+use Rattle.racing_board.specs.Boards.{RacingBoard, opening_racing}
+use Rattle.score_script.specs.SeenBoards as strict
+use Rattle.score_script.specs.SeenBoards.{SeenBoard, opening_seen}
+use Rattle.score_script.specs.declared.profiles.Profile.{Profile}
+use Rattle.score_script.specs.declared.profiles.Profile.TheVariants.{Bridge, TileLink}
+use Rattle.scoreboard.specs.declared.Seen.{Seen}
+use Rattle.scoreboard.specs.declared.Wrong.{Wrong}
+use Rattle.world_run.specs.Setups.{SetupLists}
+
+-- ---- profile PROFILE
+
+-- a profile's name
+abbrev pub profile_field : Field
+profile_field word = bytes_eq word (codes "bridge") || bytes_eq word (codes "tilelink")
+
+-- the profile of a name
+abbrev pub profile_in : List ℕ → Profile
+profile_in word = if bytes_eq word (codes "tilelink") then TileLink else Bridge
+
+-- the profile that a line names, or the first wrong word
+abbrev pub profile_line : List (List ℕ) → Result Profile ℕ
+profile_line words = read_as (profile_field ∷ []) words (profile_in (word_at words 2))
+
+-- the profile of a set-up, by the one that a line of it names, if any does
+abbrev pub profile_of : Option Profile → Profile
+profile_of named = unwrap_or named Bridge
+
+-- ---- boards
+
+-- the board that judges beats: by a scoreboard, for which requests are carried out in order of acceptance, or by a racing board, for which those in
+-- flight together may take effect in any order
+pub data ProfileBoard : Type 0 where
+  OfBridge : SeenBoard → ProfileBoard
+  OfTileLink : RacingBoard → ProfileBoard
+
+-- nothing was observed
+abbrev pub opening_board : Profile → SetupLists → ProfileBoard
+opening_board Bridge setup = OfBridge (opening_seen setup)
+opening_board TileLink setup = OfTileLink (opening_racing setup)
+
+-- what is wrong with a beat, if anything is
+abbrev pub wrong_in : ProfileBoard → Seen → Option Wrong
+wrong_in (OfBridge board) seen = strict.wrong_in board seen
+wrong_in (OfTileLink board) seen = racing.wrong_at board seen
+
+-- the board after a beat
+abbrev pub after_seen : ProfileBoard → Seen → ProfileBoard
+after_seen (OfBridge board) seen = OfBridge (strict.after_seen board seen)
+after_seen (OfTileLink board) seen = OfTileLink (racing.after_seen board seen)
+
+-- the byte at an address of a good page, as the requests accepted so far leave it in order of acceptance; none outside these pages
+abbrev pub byte_in : ProfileBoard → ℕ → Option ℕ
+byte_in (OfBridge board) address = strict.byte_in board address
+byte_in (OfTileLink board) address = racing.byte_at board address
+
+-- how many accepted requests have a reply that isn't whole
+abbrev pub replies_open : ProfileBoard → ℕ
+replies_open (OfBridge board) = strict.replies_open board
+replies_open (OfTileLink board) = racing.replies_open board
+
+-- how many bursts are outstanding on the AXI4 port
+abbrev pub bursts_open : ProfileBoard → ℕ
+bursts_open (OfBridge board) = strict.bursts_open board
+bursts_open (OfTileLink board) = racing.bursts_open board

@@ -1,0 +1,308 @@
+//! Histories that a racing board judges: what requests in flight together may do, and what they may not.
+use super::Said::{Right, Unasked};
+use super::{
+    A, ACK, D, History, PORTS, PUT, REGION, REPLIES, RIGHT, Said, WORD, same, seen, set_up, wrong,
+};
+use burst_plan::{MapFault, Region};
+use racing_board::RacingBoard;
+use scoreboard::ReplyRule;
+use std::alloc::Global;
+use tl_checker::TlRule;
+use world_run::SetupFault;
+
+/// Puts that race with Gets: bytes that a Put in flight may write are read before it or after it.
+const GETS: [History; 5] = [
+    History {
+        name: "a Get beside a Put in flight reads what was there, or what is put",
+        beats: &[
+            (PUT, Right),
+            (A(1, 4, 0, 3, 7, 0x8, 0xff, 0), Right),
+            (A(1, 4, 0, 3, 8, 0x8, 0xff, 0), Right),
+            (D(1, (1, 3, 7, false, 0, false)), Right),
+            (D(1, (1, 3, 8, false, WORD, false)), Right),
+            (D(0, ACK), Right),
+        ],
+        outstanding: 0,
+        open: 0,
+    },
+    History {
+        name: "a Put that comes after a Get, whose reply is still to be seen",
+        beats: &[
+            (A(1, 4, 0, 3, 7, 0x8, 0xff, 0), Right),
+            (A(1, 4, 0, 3, 8, 0x10, 0xff, 0), Right),
+            (PUT, Right),
+            (D(0, ACK), Right),
+            (D(1, (1, 3, 7, false, WORD, false)), Right),
+            (
+                D(1, (1, 3, 8, false, WORD, false)),
+                Said::Reply(ReplyRule::Payload, (1, 3, 8, false, 0, false)),
+            ),
+        ],
+        outstanding: 0,
+        open: 0,
+    },
+    History {
+        name: "a Get after a Put whose whole reply was seen reads what was put",
+        beats: &[
+            (PUT, Right),
+            (D(0, ACK), Right),
+            (A(1, 4, 0, 3, 7, 0x8, 0xff, 0), Right),
+            (
+                D(1, (1, 3, 7, false, 0, false)),
+                Said::Reply(ReplyRule::Payload, (1, 3, 7, false, WORD, false)),
+            ),
+        ],
+        outstanding: 0,
+        open: 0,
+    },
+    History {
+        name: "bytes outside the Put stay settled, in the same word and in another",
+        beats: &[
+            (A(0, 0, 0, 2, 5, 0x8, 0x0f, 0x55667788), Right),
+            (A(1, 4, 0, 3, 7, 0x8, 0xff, 0), Right),
+            (A(1, 4, 0, 3, 8, 0x8, 0xff, 0), Right),
+            (A(1, 4, 0, 4, 9, 0, 0xff, 0), Right),
+            (D(1, (1, 3, 7, false, 0, false)), Right),
+            (
+                D(1, (1, 3, 8, false, 0x100000000, false)),
+                Said::Reply(ReplyRule::Payload, (1, 3, 8, false, 0x55667788, false)),
+            ),
+            (
+                D(1, (1, 4, 9, false, 1, false)),
+                Said::Reply(ReplyRule::Payload, (1, 4, 9, false, 0, false)),
+            ),
+            (D(1, (1, 4, 9, false, 0, false)), Right),
+        ],
+        outstanding: 1,
+        open: 0,
+    },
+    History {
+        name: "lanes that a Get doesn't ask for, payloads of beats that are corrupt",
+        beats: &[
+            (A(0, 4, 0, 2, 6, 0xc, 0xf0, 0), Right),
+            (D(0, (1, 2, 6, false, 0x00000000ffffffff, false)), Right),
+            (A(0, 4, 0, 2, 6, 0xc, 0xf0, 0), Right),
+            (
+                D(0, (1, 2, 6, false, 0x0000000100000000, false)),
+                Said::Reply(ReplyRule::Payload, (1, 2, 6, false, 0, false)),
+            ),
+            (A(0, 4, 0, 3, 6, 0x5000, 0xff, 0), Right),
+            (D(0, (1, 3, 6, true, WORD, true)), Right),
+            (A(0, 4, 0, 3, 6, 0x5000, 0xff, 0), Right),
+            (
+                D(0, (1, 3, 6, false, 0, true)),
+                Said::Reply(ReplyRule::Denied, (1, 3, 6, true, 0, true)),
+            ),
+            (A(0, 4, 0, 3, 6, 0x18, 0xff, 0), Right),
+            (D(0, (1, 3, 6, false, WORD, true)), Right),
+        ],
+        outstanding: 0,
+        open: 0,
+    },
+];
+
+/// Requests that race with others which write, and what they leave.
+const WRITES: [History; 4] = [
+    History {
+        name: "two Puts leave their bytes in doubt, until a Put is alone",
+        beats: &[
+            (PUT, Right),
+            (A(1, 0, 0, 3, 6, 0x8, 0xff, 1), Right),
+            (D(1, (0, 3, 6, false, 0, false)), Right),
+            (D(0, ACK), Right),
+            (A(1, 4, 0, 3, 7, 0x8, 0xff, 0), Right),
+            (D(1, (1, 3, 7, false, WORD, false)), Right),
+            (A(1, 4, 0, 3, 7, 0x8, 0xff, 0), Right),
+            (D(1, (1, 3, 7, false, 1, false)), Right),
+            (A(0, 0, 0, 2, 5, 0x8, 0x0f, 2), Right),
+            (D(0, (0, 2, 5, false, 0, false)), Right),
+            (A(1, 4, 0, 3, 7, 0x8, 0xff, 0), Right),
+            (D(1, (1, 3, 7, false, 0x1122334400000002, false)), Right),
+            (A(1, 4, 0, 3, 7, 0x8, 0xff, 0), Right),
+            (
+                D(1, (1, 3, 7, false, 3, false)),
+                Said::Reply(ReplyRule::Payload, (1, 3, 7, false, 2, false)),
+            ),
+        ],
+        outstanding: 0,
+        open: 0,
+    },
+    History {
+        name: "an atomic beside a Put in flight leaves all that it writes in doubt",
+        beats: &[
+            (A(0, 0, 0, 0, 5, 0x8, 0x01, 0xff), Right),
+            (D(0, (0, 0, 5, false, 0, false)), Right),
+            (A(0, 0, 0, 0, 5, 0x8, 0x01, 0), Right),
+            (A(1, 2, 4, 3, 2, 0x8, 0xff, 1), Right),
+            (D(1, (1, 3, 2, false, 0xff, false)), Right),
+            (D(0, (0, 0, 5, false, 0, false)), Right),
+            (A(1, 4, 0, 3, 7, 0x8, 0xff, 0), Right),
+            (D(1, (1, 3, 7, false, 0x100, false)), Right),
+            (A(1, 4, 0, 3, 7, 0x10, 0xff, 0), Right),
+            (
+                D(1, (1, 3, 7, false, 0x100, false)),
+                Said::Reply(ReplyRule::Payload, (1, 3, 7, false, 0, false)),
+            ),
+        ],
+        outstanding: 0,
+        open: 0,
+    },
+    History {
+        name: "a Put beside an atomic in flight leaves all that the atomic writes in doubt",
+        beats: &[
+            (A(0, 0, 0, 0, 5, 0x8, 0x01, 0xff), Right),
+            (D(0, (0, 0, 5, false, 0, false)), Right),
+            (A(1, 2, 4, 3, 2, 0x8, 0xff, 1), Right),
+            (A(0, 0, 0, 0, 5, 0x8, 0x01, 0), Right),
+            (
+                D(1, (1, 3, 2, false, 0x100, false)),
+                Said::Reply(ReplyRule::Payload, (1, 3, 2, false, 0xff, false)),
+            ),
+            (D(0, (0, 0, 5, false, 0, false)), Right),
+            (A(1, 4, 0, 3, 7, 0x8, 0xff, 0), Right),
+            (D(1, (1, 3, 7, false, 1, false)), Right),
+        ],
+        outstanding: 0,
+        open: 0,
+    },
+    History {
+        name: "an atomic that is alone leaves no byte in doubt",
+        beats: &[
+            (A(0, 0, 0, 3, 5, 0x8, 0xff, 0xff), Right),
+            (D(0, ACK), Right),
+            (A(1, 2, 4, 3, 2, 0x8, 0xff, 1), Right),
+            (D(1, (1, 3, 2, false, 0xff, false)), Right),
+            (A(1, 4, 0, 3, 7, 0x8, 0xff, 0), Right),
+            (
+                D(1, (1, 3, 7, false, 1, false)),
+                Said::Reply(ReplyRule::Payload, (1, 3, 7, false, 0x100, false)),
+            ),
+        ],
+        outstanding: 0,
+        open: 0,
+    },
+];
+
+/// A source's next request comes while its reply goes on.
+const SOURCES: [History; 2] = [
+    History {
+        name: "a source is free from its reply's first beat on",
+        beats: &[
+            (A(0, 4, 0, 5, 1, 0x40, 0xff, 0), Right),
+            (
+                A(0, 0, 0, 3, 1, 0x48, 0xff, WORD),
+                Said::Request(TlRule::SourceBusy),
+            ),
+            (D(0, (1, 5, 1, false, 0, false)), Right),
+            (A(0, 0, 0, 3, 1, 0x48, 0xff, WORD), Right),
+            (D(0, (1, 5, 1, false, WORD, false)), Right),
+            (
+                D(0, (1, 5, 1, false, WORD, false)),
+                Said::Reply(ReplyRule::Payload, (1, 5, 1, false, 0, false)),
+            ),
+            (D(0, (1, 5, 1, false, 0, false)), Right),
+            (A(1, 4, 0, 3, 7, 0x48, 0xff, 0), Right),
+            (D(1, (1, 3, 7, false, 0, false)), Right),
+            (D(0, (0, 3, 1, false, 0, false)), Right),
+            (A(1, 4, 0, 3, 7, 0x48, 0xff, 0), Right),
+            (
+                D(1, (1, 3, 7, false, 0, false)),
+                Said::Reply(ReplyRule::Payload, (1, 3, 7, false, WORD, false)),
+            ),
+        ],
+        outstanding: 0,
+        open: 0,
+    },
+    History {
+        name: "a reply that nobody asked for takes no request out of flight",
+        beats: &[
+            (PUT, Right),
+            (D(1, ACK), Unasked),
+            (D(0, (0, 3, 4, false, 0, false)), Unasked),
+            (D(2, ACK), Said::NoClient),
+            (A(1, 4, 0, 3, 7, 0x8, 0xff, 0), Right),
+            (D(1, (1, 3, 7, false, 0, false)), Right),
+        ],
+        outstanding: 1,
+        open: 0,
+    },
+];
+
+/// The place of the first beat of which something else is said than stands beside it, or of the end where something else
+/// is left.
+fn first_difference(board: &mut RacingBoard, history: &History) -> Option<usize> {
+    for (place, (beat, said)) in history.beats.iter().enumerate() {
+        if board.judge(&seen(*beat)) != wrong(*said) {
+            return Some(place);
+        }
+    }
+    if board.outstanding() != history.outstanding || board.open_bursts() != history.open {
+        return Some(history.beats.len());
+    }
+    None
+}
+
+/// The first history of which a racing board says something else, and where; the place is none where there is no board.
+fn failing(alloc: Global, histories: &[History]) -> Option<(&'static str, Option<usize>)> {
+    for history in histories {
+        let Some(setup) = set_up(REGION) else {
+            return Some((history.name, None));
+        };
+        let Ok(mut board) = RacingBoard::new(alloc, &setup) else {
+            return Some((history.name, None));
+        };
+        if let Some(place) = first_difference(&mut board, history) {
+            return Some((history.name, Some(place)));
+        }
+    }
+    None
+}
+
+#[test]
+fn gets_that_race(rt: HostRuntime) {
+    same(&rt, "first failing", failing(rt.alloc(), &GETS), None);
+}
+
+#[test]
+fn writes_that_race(rt: HostRuntime) {
+    same(&rt, "first failing", failing(rt.alloc(), &WRITES), None);
+}
+
+#[test]
+fn sources(rt: HostRuntime) {
+    same(&rt, "first failing", failing(rt.alloc(), &SOURCES), None);
+}
+
+#[test]
+fn replies_and_ports_as_a_scoreboard(rt: HostRuntime) {
+    same(&rt, "first failing", failing(rt.alloc(), &REPLIES), None);
+    same(&rt, "first failing", failing(rt.alloc(), &PORTS), None);
+}
+
+#[test]
+fn right_beats_and_bytes(rt: HostRuntime) {
+    let setup = set_up(REGION).expect(&rt, "room");
+    let mut board = RacingBoard::new(rt.alloc(), &setup).expect(&rt, "memory");
+    same(
+        &rt,
+        "right beats",
+        first_difference(&mut board, &RIGHT),
+        None,
+    );
+    for (address, byte) in [
+        (0x10007, Some(0)),
+        (0x10008, Some(0x88)),
+        (0x1000f, Some(0x11)),
+        (0x14000, None),
+    ] {
+        same(&rt, ("byte", address), board.byte(address), byte);
+    }
+}
+
+#[test]
+fn refused_set_up(rt: HostRuntime) {
+    let setup = set_up(Region { pages: 0, ..REGION }).expect(&rt, "room");
+    let fault = RacingBoard::new(rt.alloc(), &setup).err();
+    let empty = SetupFault::Map(MapFault::RegionEmpty(0));
+    same(&rt, "a region of no pages", fault, Some(empty));
+}
