@@ -1,5 +1,5 @@
 -- A board at the start.
-use Rattle.std.proofs.Common.{◌≡◌, ℕ, ◌*◌, ◌≤◌, Bool, true, false, List, length, map, Option, Some, None, if◌then◌else◌, refl, sym, ◌∙◌, ap}
+use Rattle.std.proofs.Common.{◌≡◌, ℕ, ◌*◌, Bool, true, false, List, length, map, Option, Some, None, if◌then◌else◌, refl, sym, ◌∙◌, ap}
 use Rattle.std.specs.Option.{option_or, option_map}
 use Rattle.std.proofs.Math.Path.{fun_ext}
 use Rattle.std.proofs.lemmas.List.FromFn.{length-map-range_with_len}
@@ -13,7 +13,6 @@ use Rattle.world_run.specs.declared.SetupFault.{SetupFault}
 use Rattle.world_run.specs.declared.SetupFault.TheVariants.{BadConfig, Device}
 use Rattle.scoreboard.specs.Boards.{ClientBoard, opening_board, opening_client}
 use Rattle.scoreboard.specs.SerialMemory.{SerialState}
-use Rattle.scoreboard.proofs.BoardClients.{few_clients}
 use Rattle.racing_board.specs.Boards.{RacingState, opening_races, opening_racing, racing_board}
 use Rattle.racing_board.specs.InsideRaces.{IsOpening, RacesState, racer_of, races_of}
 use Rattle.racing_board.specs.Races.{Racer, Races}
@@ -40,12 +39,9 @@ config_fine setup none = valid_if (is_valid setup.config) (none_of _ _ none).0
 
 -- ---- its board
 
--- as many clients as it says, and at most eight
-pub count_of : (setup : SetupLists) → length (opening_board setup).clients ≡ setup.config.clients
+-- as many clients as it says
+count_of : (setup : SetupLists) → length (opening_board setup).clients ≡ setup.config.clients
 count_of setup = length-map-range_with_len (opening_client setup.config) 0 setup.config.clients
-
-pub at_most_eight : (setup : SetupLists) → setup_fault setup ≡ None → length (opening_board setup).clients ≤ 8
-at_most_eight setup none = few_clients setup none
 
 -- for each of them 257 slots
 pub slots_of : (setup : SetupLists) (clients : List ClientBoard) (races : RacesState) (n slots : ℕ) → clients ≡ (opening_board setup).clients → n ≡ setup.config.clients → slots ≡ n * 257

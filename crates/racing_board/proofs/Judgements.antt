@@ -20,13 +20,13 @@ not_differing verdict racer (due ∷ rest) beat is none = by_broken (first_broke
     by_broken : (broken : Option ReplyRule) → verdict ≡ wrong_by due broken
         → verdict ≡ wrong_by due (unless_unsettled (tells_otherwise racer (beats_of racer.size true - length (due ∷ rest)) due beat) broken)
     by_broken None is = is
-    by_broken (Some rule) is = absurd (cc (ap due_in is, none))
+    by_broken (Some rule) is = absurd (cc (sym (ap due_in is) ∙ none))
 
 -- one did, and it differs: by the rule, and by whether the beat tells otherwise
 pub by_rule : (verdict : Option Wrong) (racer : Racer) (dues : List DBeat) (beat : DBeat) (rule : ReplyRule) (due : DBeat) (right : Bool) → verdict ≡ strict.wrong_reply dues beat
     → due_in verdict ≡ Some (rule, due) → (is_payload rule && not (tells_otherwise racer (beats_of racer.size true - length dues) due beat)) ≡ right
     → (if right then None else verdict) ≡ wrong_reply racer dues beat
-by_rule verdict racer [] beat rule due right is differs test = absurd (cc (ap due_in is, differs))
+by_rule verdict racer [] beat rule due right is differs test = absurd (cc (sym (ap due_in is) ∙ differs))
 by_rule verdict racer (first ∷ rest) beat rule due right is differs test = by_broken (first_broken (reply_rules first beat)) is
   where
     told : (b : Bool) (v : Option Wrong) (r : ReplyRule) → b ≡ right → v ≡ wrong_by first (Some r) → (if right then None else v) ≡ wrong_by first (if b then None else Some r)
@@ -35,7 +35,7 @@ by_rule verdict racer (first ∷ rest) beat rule due right is differs test = by_
 
     by_broken : (broken : Option ReplyRule) → verdict ≡ wrong_by first broken
         → (if right then None else verdict) ≡ wrong_by first (unless_unsettled (tells_otherwise racer (beats_of racer.size true - length (first ∷ rest)) first beat) broken)
-    by_broken None w = absurd (cc (ap due_in w, differs))
+    by_broken None w = absurd (cc (sym (ap due_in w) ∙ differs))
     by_broken (Some r) w =
         let pair : Some (r, first) ≡ Some (rule, due) = sym (ap due_in w) ∙ differs in
         let same_rule : r ≡ rule = ap (λ (o : Option (ReplyRule × DBeat)). (unwrap_or o (r, first)).0) pair in

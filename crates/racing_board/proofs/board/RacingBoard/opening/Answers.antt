@@ -4,9 +4,10 @@ use Rattle.axi_checker.specs.Monitors.{MonitorState}
 use Rattle.world_run.specs.Setups.{lists_of}
 use Rattle.scoreboard.specs.Boards.{opening_board}
 use Rattle.scoreboard.specs.SerialMemory.{SerialState}
+use Rattle.scoreboard.proofs.BoardClients.{few_clients}
 use Rattle.racing_board.specs.Boards.{RacingState}
 use Rattle.racing_board.specs.InsideRaces.{IsOpening}
-use Rattle.racing_board.proofs.BoardOpens.{at_most_eight, config_fine, device_fine, opened, slots_of}
+use Rattle.racing_board.proofs.BoardOpens.{config_fine, device_fine, opened, slots_of}
 use Rattle.racing_board.proofs.board.RacingBoard.opening.Goals as goal
 
 pub new-requires-3 : goal.new-requires-3
@@ -21,7 +22,7 @@ invariant_of-result c =
     let opens : IsOpening c.in_ok-races.races (c.from.result * 257) setup.pages setup.bad_words = rw (← c.as_slice-pages.ensures.value, ← c.as_slice-bad.ensures.value) c.in_ok-races.ensures in
     let pages : c.in_ok-serial.serial.pages.faults ≡ record { pages = setup.pages; bad_words = setup.bad_words } =
     ap (λ (s : SerialState). s.pages.faults) c.in_ok-serial.ensures ∙ rw (c.as_slice-pages.ensures.value, c.as_slice-bad.ensures.value) refl in (
-      rw c.in_ok-clients.ensures (at_most_eight setup c.requires),
+      rw c.in_ok-clients.ensures (few_clients setup c.requires),
       slots_of setup c.in_ok-clients.clients.items c.in_ok-races.races c.from.result (c.from.result * 257) c.in_ok-clients.ensures c.from.ensures refl opens,
       opens.faults ∙ sym pages,
     )
