@@ -408,27 +408,61 @@ const PORTS: [History; 3] = [
     },
 ];
 
+/// A board, by what the histories ask of it.
+trait Judge: Sized {
+    fn opening(alloc: Global, setup: &Setup) -> Result<Self, SetupFault>;
+
+    /// What is wrong with the next beat.
+    fn says(&mut self, seen: &Seen) -> Option<Wrong>;
+
+    /// How many replies and how many bursts are left.
+    fn left(&self) -> (u16, u8);
+
+    fn holds(&self, address: u32) -> Option<u8>;
+}
+
+impl Judge for Scoreboard {
+    fn opening(alloc: Global, setup: &Setup) -> Result<Self, SetupFault> {
+        Scoreboard::new(alloc, setup)
+    }
+
+    fn says(&mut self, seen: &Seen) -> Option<Wrong> {
+        self.judge(seen)
+    }
+
+    fn left(&self) -> (u16, u8) {
+        (self.outstanding(), self.open_bursts())
+    }
+
+    fn holds(&self, address: u32) -> Option<u8> {
+        self.byte(address)
+    }
+}
+
 /// The place of the first beat of which something else is said than stands beside it, or of the end where something else
 /// is left.
-fn first_difference(board: &mut Scoreboard, history: &History) -> Option<usize> {
+fn first_difference<B: Judge>(board: &mut B, history: &History) -> Option<usize> {
     for (place, (beat, said)) in history.beats.iter().enumerate() {
-        if board.judge(&seen(*beat)) != wrong(*said) {
+        if board.says(&seen(*beat)) != wrong(*said) {
             return Some(place);
         }
     }
-    if board.outstanding() != history.outstanding || board.open_bursts() != history.open {
+    if board.left() != (history.outstanding, history.open) {
         return Some(history.beats.len());
     }
     None
 }
 
-/// The first history of which a scoreboard says something else, and where; the place is none where there is no scoreboard.
-fn failing(alloc: Global, histories: &[History]) -> Option<(&'static str, Option<usize>)> {
+/// The first history of which a board says something else, and where; the place is none where there is no board.
+fn failing<B: Judge + Drop>(
+    alloc: Global,
+    histories: &[History],
+) -> Option<(&'static str, Option<usize>)> {
     for history in histories {
         let Some(setup) = set_up(REGION) else {
             return Some((history.name, None));
         };
-        let Ok(mut board) = Scoreboard::new(alloc, &setup) else {
+        let Ok(mut board) = B::opening(alloc, &setup) else {
             return Some((history.name, None));
         };
         if let Some(place) = first_difference(&mut board, history) {
@@ -438,19 +472,45 @@ fn failing(alloc: Global, histories: &[History]) -> Option<(&'static str, Option
     None
 }
 
+/// The first address of which a board has another byte than the Put of `RIGHT` leaves there.
+fn wrong_byte<B: Judge>(board: &B) -> Option<u32> {
+    for (address, byte) in [
+        (0x10007, Some(0)),
+        (0x10008, Some(0x88)),
+        (0x1000f, Some(0x11)),
+        (0x14000, None),
+    ] {
+        if board.holds(address) != byte {
+            return Some(address);
+        }
+    }
+    None
+}
+
+/// What a board says of a set-up whose region has no pages.
+fn refusal<B: Judge + Drop>(alloc: Global) -> Option<SetupFault> {
+    let setup = set_up(Region { pages: 0, ..REGION })?;
+    B::opening(alloc, &setup).err()
+}
+
+const EMPTY_REGION: SetupFault = SetupFault::Map(MapFault::RegionEmpty(0));
+
 #[test]
 fn replies(rt: HostRuntime) {
-    same(&rt, "first failing", failing(rt.alloc(), &REPLIES), None);
+    let found = failing::<Scoreboard>(rt.alloc(), &REPLIES);
+    same(&rt, "first failing", found, None);
 }
 
 #[test]
 fn memory(rt: HostRuntime) {
-    same(&rt, "first failing", failing(rt.alloc(), &MEMORY), None);
+    let found = failing::<Scoreboard>(rt.alloc(), &MEMORY);
+    same(&rt, "first failing", found, None);
 }
 
 #[test]
 fn ports(rt: HostRuntime) {
-    same(&rt, "first failing", failing(rt.alloc(), &PORTS), None);
+    let found = failing::<Scoreboard>(rt.alloc(), &PORTS);
+    same(&rt, "first failing", found, None);
 }
 
 #[test]
@@ -463,14 +523,7 @@ fn right_beats_and_bytes(rt: HostRuntime) {
         first_difference(&mut board, &RIGHT),
         None,
     );
-    for (address, byte) in [
-        (0x10007, Some(0)),
-        (0x10008, Some(0x88)),
-        (0x1000f, Some(0x11)),
-        (0x14000, None),
-    ] {
-        same(&rt, ("byte", address), board.byte(address), byte);
-    }
+    same(&rt, "first wrong byte", wrong_byte(&board), None);
 }
 
 /// A beat that its client offers; anything else is no step of a client, and a Pump stands for it.
@@ -533,10 +586,8 @@ fn what_a_run_shows(rt: HostRuntime) {
 
 #[test]
 fn refused_set_up(rt: HostRuntime) {
-    let setup = set_up(Region { pages: 0, ..REGION }).expect(&rt, "room");
-    let fault = Scoreboard::new(rt.alloc(), &setup).err();
-    let empty = SetupFault::Map(MapFault::RegionEmpty(0));
-    same(&rt, "a region of no pages", fault, Some(empty));
+    let fault = refusal::<Scoreboard>(rt.alloc());
+    same(&rt, "a region of no pages", fault, Some(EMPTY_REGION));
 }
 
 #[test]

@@ -1,14 +1,14 @@
 //! Histories that a racing board judges: what requests in flight together may do, and what they may not.
 use super::Said::{Right, Unasked};
 use super::{
-    A, ACK, D, History, PORTS, PUT, REGION, REPLIES, RIGHT, Said, WORD, same, seen, set_up, wrong,
+    A, ACK, D, EMPTY_REGION, History, Judge, PORTS, PUT, REGION, REPLIES, RIGHT, Said, WORD,
+    failing, first_difference, refusal, same, set_up, wrong_byte,
 };
-use burst_plan::{MapFault, Region};
 use racing_board::RacingBoard;
-use scoreboard::ReplyRule;
+use scoreboard::{ReplyRule, Seen, Wrong};
 use std::alloc::Global;
 use tl_checker::TlRule;
-use world_run::SetupFault;
+use world_run::{Setup, SetupFault};
 
 /// Puts that race with Gets: bytes that a Put in flight may write are read before it or after it.
 const GETS: [History; 5] = [
@@ -228,55 +228,36 @@ const SOURCES: [History; 2] = [
     },
 ];
 
-/// The place of the first beat of which something else is said than stands beside it, or of the end where something else
-/// is left.
-fn first_difference(board: &mut RacingBoard, history: &History) -> Option<usize> {
-    for (place, (beat, said)) in history.beats.iter().enumerate() {
-        if board.judge(&seen(*beat)) != wrong(*said) {
-            return Some(place);
-        }
+impl Judge for RacingBoard {
+    fn opening(alloc: Global, setup: &Setup) -> Result<Self, SetupFault> {
+        RacingBoard::new(alloc, setup)
     }
-    if board.outstanding() != history.outstanding || board.open_bursts() != history.open {
-        return Some(history.beats.len());
+
+    fn says(&mut self, seen: &Seen) -> Option<Wrong> {
+        self.judge(seen)
     }
-    None
-}
 
-/// The first history of which a racing board says something else, and where; the place is none where there is no board.
-fn failing(alloc: Global, histories: &[History]) -> Option<(&'static str, Option<usize>)> {
-    for history in histories {
-        let Some(setup) = set_up(REGION) else {
-            return Some((history.name, None));
-        };
-        let Ok(mut board) = RacingBoard::new(alloc, &setup) else {
-            return Some((history.name, None));
-        };
-        if let Some(place) = first_difference(&mut board, history) {
-            return Some((history.name, Some(place)));
-        }
+    fn left(&self) -> (u16, u8) {
+        (self.outstanding(), self.open_bursts())
     }
-    None
+
+    fn holds(&self, address: u32) -> Option<u8> {
+        self.byte(address)
+    }
 }
 
 #[test]
-fn gets_that_race(rt: HostRuntime) {
-    same(&rt, "first failing", failing(rt.alloc(), &GETS), None);
-}
-
-#[test]
-fn writes_that_race(rt: HostRuntime) {
-    same(&rt, "first failing", failing(rt.alloc(), &WRITES), None);
-}
-
-#[test]
-fn sources(rt: HostRuntime) {
-    same(&rt, "first failing", failing(rt.alloc(), &SOURCES), None);
-}
-
-#[test]
-fn replies_and_ports_as_a_scoreboard(rt: HostRuntime) {
-    same(&rt, "first failing", failing(rt.alloc(), &REPLIES), None);
-    same(&rt, "first failing", failing(rt.alloc(), &PORTS), None);
+fn histories(rt: HostRuntime) {
+    for table in [
+        GETS.as_slice(),
+        WRITES.as_slice(),
+        SOURCES.as_slice(),
+        REPLIES.as_slice(),
+        PORTS.as_slice(),
+    ] {
+        let found = failing::<RacingBoard>(rt.alloc(), table);
+        same(&rt, "first failing", found, None);
+    }
 }
 
 #[test]
@@ -289,20 +270,11 @@ fn right_beats_and_bytes(rt: HostRuntime) {
         first_difference(&mut board, &RIGHT),
         None,
     );
-    for (address, byte) in [
-        (0x10007, Some(0)),
-        (0x10008, Some(0x88)),
-        (0x1000f, Some(0x11)),
-        (0x14000, None),
-    ] {
-        same(&rt, ("byte", address), board.byte(address), byte);
-    }
+    same(&rt, "first wrong byte", wrong_byte(&board), None);
 }
 
 #[test]
 fn refused_set_up(rt: HostRuntime) {
-    let setup = set_up(Region { pages: 0, ..REGION }).expect(&rt, "room");
-    let fault = RacingBoard::new(rt.alloc(), &setup).err();
-    let empty = SetupFault::Map(MapFault::RegionEmpty(0));
-    same(&rt, "a region of no pages", fault, Some(empty));
+    let fault = refusal::<RacingBoard>(rt.alloc());
+    same(&rt, "a region of no pages", fault, Some(EMPTY_REGION));
 }
