@@ -21,8 +21,8 @@ use Rattle.scoreboard.specs.declared.Wrong.{Wrong}
 use Rattle.scoreboard.proofs.ReplySteps.{reply_right}
 use Rattle.scoreboard.proofs.RequestSteps.{request_right}
 use Rattle.scoreboard.proofs.SeenLists.{axi_fault-append, observed-append, open_after_all-append}
-use Rattle.racing_board.specs.Boards.{RacingBoard, a_wrong, after_axi, after_reply, after_request, after_seen, opening_racing, wrong_at}
-use Rattle.racing_board.specs.Wider.{LetsRightPass, after_all, tells_busy}
+use Rattle.racing_board.specs.Boards.{a_wrong, after_all, after_axi, after_reply, after_request, after_seen, opening_racing, wrong_at, RacingBoard}
+use Rattle.racing_board.specs.Wider.{LetsRightPass, tells_busy}
 use Rattle.racing_board.proofs.RightObserved.{IsRacingOf, racing_opens}
 use Rattle.racing_board.proofs.RightReplies.{step_reply}
 use Rattle.racing_board.proofs.RightRequests.{step_answer}

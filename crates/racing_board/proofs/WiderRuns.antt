@@ -13,10 +13,10 @@ use Rattle.scoreboard.specs.SerialMemory.{SerialState}
 use Rattle.scoreboard.specs.declared.Seen.{Seen}
 use Rattle.scoreboard.specs.declared.Seen.TheVariants.{A, D, Aw, W, B, Ar, R, Drained}
 use Rattle.scoreboard.specs.declared.Wrong.{Wrong}
-use Rattle.racing_board.specs.Boards.{IsReached, RacingBoard, after_reply, after_request, after_seen, opening_racing, wrong_at}
+use Rattle.racing_board.specs.Boards.{after_all, after_reply, after_request, after_seen, opening_racing, wrong_at, IsReached, RacingBoard}
 use Rattle.racing_board.specs.Boards.{bytes_after, client_after, races_after}
 use Rattle.racing_board.specs.Races.{Races}
-use Rattle.racing_board.specs.Wider.{IsFollowed, TellsNoMore, IsWiderAlong, after_all, racing_on, tells_busy}
+use Rattle.racing_board.specs.Wider.{IsFollowed, TellsNoMore, IsWiderAlong, racing_on, tells_busy}
 use Rattle.racing_board.proofs.WiderVerdicts.{none_told, same_answer, tells_no_more}
 
 -- a racing board that holds what a scoreboard does

@@ -246,6 +246,11 @@ byte_at board address = if is_good (standing_at board.faults address) then Some 
 
 -- ---- lists of beats
 
+-- the board after beats, whatever it finds of each
+abbrev pub after_all : RacingBoard → List Seen → RacingBoard
+after_all board [] = board
+after_all board (seen ∷ rest) = after_all (after_seen board seen) rest
+
 -- the board after beats of which none was wrong
 abbrev pub IsReached : RacingBoard → List Seen → RacingBoard → Type 0
 IsReached start [] board = board ≡ start

@@ -1,5 +1,7 @@
 pub mod Boards
 pub mod InsideBoards
 pub mod InsideRaces
+pub mod Orders
 pub mod Races
+pub mod RealTime
 pub mod Wider

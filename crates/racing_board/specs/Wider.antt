@@ -10,7 +10,7 @@ use Rattle.scoreboard.specs.declared.ReplyRule.TheVariants.{Payload}
 use Rattle.scoreboard.specs.declared.Seen.{Seen}
 use Rattle.scoreboard.specs.declared.Wrong.{Wrong}
 use Rattle.scoreboard.specs.declared.Wrong.TheVariants.{Reply, Request}
-use Rattle.racing_board.specs.Boards.{RacingBoard, after_seen, opening_racing}
+use Rattle.racing_board.specs.Boards.{RacingBoard, after_all, opening_racing}
 use Rattle.racing_board.specs.Races.{Races}
 
 -- a racing board that holds what a scoreboard does, and some requests in flight
@@ -44,11 +44,6 @@ abbrev pub TellsNoMore : Option Wrong → Option Wrong → Type 0
 TellsNoMore compared verdict = (verdict ≡ compared) ⊎ (((tells_busy compared ≡ true) ⊎ (tells_payload compared ≡ true)) × (verdict ≡ None))
 
 -- ---- lists of beats
-
--- a racing board after beats, whatever it finds of each
-abbrev pub after_all : RacingBoard → List Seen → RacingBoard
-after_all board [] = board
-after_all board (seen ∷ rest) = after_all (after_seen board seen) rest
 
 -- a scoreboard after beats of which it finds none of a busy source, whatever else it finds
 abbrev pub IsFollowed : Board → List Seen → Board → Type 0

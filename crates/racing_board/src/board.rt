@@ -80,6 +80,7 @@ fn outstanding_of(clients: &[Client]) -> u16
 
 impl RacingBoard {
     ghost use Rattle.scoreboard.specs.InsideBoards.{HasSource};
+    ghost use Rattle.racing_board.specs.RealTime.{JudgesRightly};
     ghost use Rattle.racing_board.specs.Wider.{LetsRightPass, IsWiderAlong};
     ghost use Rattle.racing_board.specs.Boards.{a_wrong, after_reply, after_request, after_seen, bursts_open, byte_at, d_wrong, opening_racing, racing_board, replies_open, wrong_at};
 
@@ -125,12 +126,15 @@ impl RacingBoard {
     /// What is wrong with the next beat that was observed; none where nothing is.
     ///
     /// Nothing is wrong with beats that are right in order of acceptance. What is said of any beat is what a `Scoreboard` that got the
-    /// same beats says of it, or nothing where that is SOURCE_BUSY or PAYLOAD, up to the first SOURCE_BUSY.
+    /// same beats says of it, or nothing where that is SOURCE_BUSY or PAYLOAD, up to the first SOURCE_BUSY. A beat of a reply that
+    /// is found wrong is wrong, by that rule, in each order of the accepted requests in which none stands behind one that was
+    /// accepted after its whole reply had come.
     pub fn judge(&mut self, seen: &Seen) -> Option<Wrong>
         ensures answer { result ≡ wrong_at (racing_board self.old) seen.now }
         ensures state { racing_board self.new ≡ after_seen (racing_board self.old) seen.now }
         ensures right { LetsRightPass (racing_board self.old) seen.now result }
         ensures wider { IsWiderAlong (racing_board self.old) seen.now result }
+        ensures rightly { JudgesRightly (racing_board self.old) seen.now result }
     {
         self.judge_by_board(seen)
     }

@@ -1,5 +1,6 @@
--- What is right in order of acceptance isn't wrong, and no more is told than a scoreboard tells.
+-- What is right in order of acceptance isn't wrong, no more is told than a scoreboard tells, and what is blamed is wrong in every order.
 use Rattle.racing_board.specs.Boards.{racing_board}
+use Rattle.racing_board.proofs.JudgedRightly.{judges_rightly}
 use Rattle.racing_board.proofs.RightRuns.{lets_right_pass}
 use Rattle.racing_board.proofs.WiderRuns.{wider_along}
 use Rattle.racing_board.proofs.board.RacingBoard.judge.Goals as goal
@@ -10,3 +11,6 @@ returns-clause-right c =
 
 pub returns-clause-wider : goal.returns-clause-wider
 returns-clause-wider c = wider_along (racing_board c.args.self.now) c.args.seen.now c.judge_by_board.result c.judge_by_board.ensures.answer
+
+pub returns-clause-rightly : goal.returns-clause-rightly
+returns-clause-rightly c = judges_rightly (racing_board c.args.self.now) c.args.seen.now c.judge_by_board.result c.judge_by_board.ensures.answer

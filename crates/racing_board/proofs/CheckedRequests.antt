@@ -1,0 +1,162 @@
+-- Requests that a checker lets pass: their bytes are as many as they have, and an atomic gives them all. And what a port holds goes with it.
+use Rattle.std.proofs.Common.{◌≡◌, ℕ, ◌+◌, ◌/◌, ◌^◌, ◌<◌, Bool, true, false, not, List, [], ◌∷◌, ◌++◌, Option, Some, None, Ok, IfSome, if◌then◌else◌, refl, sym, ◌∙◌, ap, subst, arith}
+use Rattle.std.specs.Prelude.{is_some, option_and_then, slice_get}
+use Rattle.std.specs.Option.{option_flatten}
+use Rattle.std.proofs.lemmas.Bool.{not-false}
+use Rattle.std.proofs.lemmas.List.FromFn.{get_or-map-range_with_len}
+use Rattle.std.proofs.lemmas.Option.{slice_get-get_or, slice_get_within}
+use Rattle.bus_words.specs.Lanes.{has_lane, lane_byte}
+use Rattle.tl_messages.specs.Lanes.{lane_of}
+use Rattle.tl_messages.specs.Operations.{has_data}
+use Rattle.tl_messages.specs.Requests.{HeldMessage, byte_given, bytes_given, given_in, held_of, request_of}
+use Rattle.tl_messages.specs.declared.ABeat.{ABeat}
+use Rattle.tl_messages.specs.declared.AtomicOp.{AtomicOp}
+use Rattle.tl_messages.specs.declared.AtomicOp.TheVariants.{Min, Max, MinU, MaxU, Add, Xor, Or, And, Swap}
+use Rattle.tl_messages.specs.declared.MaskedWord.{MaskedWord}
+use Rattle.tl_messages.specs.declared.Operation.TheVariants.{PutPartial, Atomic}
+use Rattle.tl_checker.specs.Ports.{IsFrontOf, joined, judged}
+use Rattle.tl_checker.specs.Requests.{TlPortLimits}
+use Rattle.tl_checker.specs.Sound.{IsSound}
+use Rattle.tl_checker.specs.declared.Progress.{Progress}
+use Rattle.tl_checker.specs.declared.Progress.TheVariants.{More, Whole}
+use Rattle.tl_checker.proofs.BeatRules.{first_none}
+use Rattle.tl_checker.proofs.Fronts.{none_front}
+use Rattle.tl_checker.proofs.RequestLaws.{spelled_sound}
+use Rattle.tl_checker.proofs.SpellingLaws.{all_given}
+use Rattle.tl_checker.proofs.Taking.{answered_parts}
+use Rattle.data_unit.proofs.NumberLaws.{lane_byte-lt}
+use Rattle.scoreboard.specs.Boards.{ClientBoard, due_of, none_left}
+use Rattle.scoreboard.proofs.PutWords.{length-bytes_given}
+use Rattle.scoreboard.proofs.RequestBeats.{ends_here, goes_on, held_with}
+use Rattle.racing_board.specs.Boards.{answer_to}
+use Rattle.racing_board.proofs.RequestActs.{IsWell}
+
+-- ---- its bytes
+
+-- byte i of a message, where it is among the bytes that it has
+byte_of : (held : HeldMessage) (i : ℕ) → i < 2 ^ held.size
+    → slice_get (bytes_given held) i ≡ Some (if has_data held.operation then byte_given held.address held.beats i else None)
+byte_of held i below =
+    let byte : ℕ → Option ℕ = λ k. if has_data held.operation then byte_given held.address held.beats k else None in
+    slice_get-get_or (bytes_given held) i None (omega (arith, below, length-bytes_given held))
+    ∙ ap (λ (o : Option ℕ). Some o) (get_or-map-range_with_len byte 0 (2 ^ held.size) i i None below (omega arith))
+
+given_small : (held : HeldMessage) (i b : ℕ) → byte_given held.address held.beats i ≡ Some b → b < 256
+given_small held i b is = by_beat (slice_get held.beats (i / 8)) is
+  where
+    by_lane : (beat : MaskedWord) (has : Bool) → (if has then Some (lane_byte beat.word (lane_of (held.address + i))) else None) ≡ Some b → b < 256
+    by_lane beat true given = let same : lane_byte beat.word (lane_of (held.address + i)) ≡ b = cc (given) in
+        omega (arith, same, lane_byte-lt beat.word (lane_of (held.address + i)))
+    by_lane beat false given = absurd (cc (given))
+
+    by_beat : (o : Option MaskedWord) → option_and_then (given_in (lane_of (held.address + i))) o ≡ Some b → b < 256
+    by_beat None given = absurd (cc (given))
+    by_beat (Some beat) given = by_lane beat (has_lane beat.mask (lane_of (held.address + i))) given
+
+atomic_data : (op : AtomicOp) → has_data (Atomic op) ≡ true
+atomic_data Min = refl
+atomic_data Max = refl
+atomic_data MinU = refl
+atomic_data MaxU = refl
+atomic_data Add = refl
+atomic_data Xor = refl
+atomic_data Or = refl
+atomic_data And = refl
+atomic_data Swap = refl
+
+pub sound_well : (limits : TlPortLimits) (held : HeldMessage) → IsSound limits held → IsWell (request_of held)
+sound_well limits held sound = record { count = length-bytes_given held; small = small; full = full }
+  where
+    small : (i b : ℕ) → slice_get (bytes_given held) i ≡ Some (Some b) → b < 256
+    small i b is =
+        let below = slice_get_within (bytes_given held) i (Some b) is in
+        let within : i < 2 ^ held.size = omega (arith, below, length-bytes_given held) in
+        let whole = sym (byte_of held i within) ∙ is in
+        by_data (has_data held.operation) (of_some (if has_data held.operation then byte_given held.address held.beats i else None) (Some b) whole)
+      where
+        of_some : (o p : Option ℕ) → Some o ≡ Some p → o ≡ p
+        of_some o p same = cc
+
+        by_data : (d : Bool) → (if d then byte_given held.address held.beats i else None) ≡ Some b → b < 256
+        by_data true given = given_small held i b given
+        by_data false given = absurd (cc (given))
+
+    full : (op : AtomicOp) → held.operation ≡ Atomic op → (i : ℕ) → i < 2 ^ held.size → is_some (option_flatten (slice_get (bytes_given held) i)) ≡ true
+    full op is i below =
+        let carries : has_data held.operation ≡ true = ap has_data is ∙ atomic_data op in
+        ap (λ (o : Option (Option ℕ)). is_some (option_flatten o)) (byte_of held i below)
+        ∙ ap (λ (d : Bool). is_some (if d then byte_given held.address held.beats i else None)) carries
+        ∙ all_given limits held i sound carries (λ partial. not_partial (sym partial ∙ is)) below
+      where
+        not_partial : PutPartial ≡ Atomic op → ⊥
+        not_partial same = absurd (cc (same))
+
+-- ---- what a port holds
+
+-- what a client has begun came of beats, and nothing is due to its source
+pub record IsFrontRight (client : ClientBoard) : Type 0 where
+  pub heard : (beats : List ABeat) × IsFrontOf client.limits beats client.front
+  pub free : IfSome client.front (λ held. (held.source < 256) × (none_left (due_of client.replies held.source) ≡ true))
+
+-- the message with a beat that a port takes is of a source to which nothing is due
+pub joined_free : (client : ClientBoard) (beat : ABeat) (told : Progress) → beat.source < 256 → IsFrontRight client → answer_to client beat ≡ Ok told
+    → ((joined client.limits client.front beat).source < 256) × (none_left (due_of client.replies (joined client.limits client.front beat).source) ≡ true)
+joined_free client beat told small right is = by_front client.front right.free is
+  where
+    by_front : (front : Option HeldMessage) → IfSome front (λ held. (held.source < 256) × (none_left (due_of client.replies held.source) ≡ true))
+        → judged client.limits front beat (not (none_left (due_of client.replies beat.source))) ≡ Ok told
+        → ((joined client.limits front beat).source < 256) × (none_left (due_of client.replies (joined client.limits front beat).source) ≡ true)
+    by_front None free answer =
+        let fine = (answered_parts _ _ told answer).0 in (
+          small,
+          not-false (none_left (due_of client.replies beat.source))
+              (first_none client.limits beat (not (none_left (due_of client.replies beat.source))) fine).1,
+        )
+    by_front (Some held) free answer = free
+
+held_answer : (client : ClientBoard) (beat : ABeat) (beats : List ABeat) (told : Progress) → held_of client.limits.client beats ≡ client.front
+    → answer_to client beat ≡ Ok told
+    → judged client.limits (held_of client.limits.client beats) beat (not (none_left (due_of client.replies beat.source))) ≡ Ok told
+held_answer client beat beats told held is =
+    ap (λ (front : Option HeldMessage). judged client.limits front beat (not (none_left (due_of client.replies beat.source)))) held ∙ is
+
+-- with one more beat
+pub front_next : (client : ClientBoard) (beat : ABeat) → beat.source < 256 → IsFrontRight client → answer_to client beat ≡ Ok More
+    → IsFrontRight (record client { front = Some (joined client.limits client.front beat) })
+front_next client beat small right is =
+    let beats = right.heard.0 in
+    let fits = right.heard.1 in
+    let goes = goes_on client.limits beats beat (not (none_left (due_of client.replies beat.source))) fits.begins
+    (held_answer client beat beats More fits.held is) in
+    record {
+      heard = (
+        beats ++ beat ∷ [],
+        record {
+          begins = goes.front;
+          held =
+              held_with client.limits beats beat ∙ ap (λ (front : Option HeldMessage). Some (joined client.limits front beat)) fits.held;
+        },
+      );
+      free = joined_free client beat More small right is;
+    }
+
+-- a message that is whole is sound
+pub whole_sound : (client : ClientBoard) (beat : ABeat) → IsFrontRight client → answer_to client beat ≡ Ok Whole
+    → IsSound client.limits (joined client.limits client.front beat)
+whole_sound client beat right is =
+    let beats = right.heard.0 in
+    let fits = right.heard.1 in
+    let ends = ends_here client.limits beats beat (not (none_left (due_of client.replies beat.source))) fits.begins
+    (held_answer client beat beats Whole fits.held is) in
+    subst (λ (front : Option HeldMessage). IsSound client.limits (joined client.limits front beat)) fits.held
+    (spelled_sound client.limits (joined client.limits (held_of client.limits.client beats) beat)
+    (beats ++ beat ∷ [], record { spells = ends.spells; held = held_with client.limits beats beat }))
+
+-- nothing has begun
+pub front_none : (client : ClientBoard) → client.front ≡ None → IsFrontRight client
+front_none client none =
+    record {
+      heard = ([], record { begins = none_front client.limits; held = sym none });
+      free = subst (λ (front : Option HeldMessage). IfSome front (λ held. (held.source < 256) × (none_left (due_of client.replies held.source) ≡ true)))
+          (sym none) tt;
+    }

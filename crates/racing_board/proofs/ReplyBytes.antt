@@ -1,0 +1,131 @@
+-- What a reply tells of bytes: either it is the same whatever they are, or it tells each byte of a range as it is, but for some of which it tells
+-- nothing.
+use Rattle.std.proofs.Common.{◌≡◌, ℕ, zero, suc, ◌+◌, ◌-◌, ◌/◌, ◌%◌, ◌^◌, ◌<◌, ◌≤◌, Bool, true, false, ◌&&◌, List, ◌∷◌, map, Option, Some, None, if◌then◌else◌, ◌⊎◌, inl, inr, refl, ◌∙◌, ap, arith}
+use Rattle.std.specs.Prelude.{find, nat_le, nat_lt, option_and_then, slice_get}
+use Rattle.std.specs.List.{range_with_len}
+use Rattle.std.specs.Option.{option_flatten}
+use Rattle.std.proofs.lemmas.Bool.{cases_lt, le-leb, lt-leb, le-ltb, lt-ltb}
+use Rattle.std.proofs.lemmas.List.FromFn.{get_or-map-range_with_len, length-map-range_with_len}
+use Rattle.std.proofs.lemmas.Option.{slice_get-get_or, slice_get_past}
+use Rattle.bus_words.specs.Lanes.{given_at}
+use Rattle.tl_messages.specs.Operations.{reply_has_data}
+use Rattle.tl_messages.specs.Requests.{WholeRequest}
+use Rattle.tl_messages.specs.declared.Operation.{Operation}
+use Rattle.tl_messages.specs.declared.Operation.TheVariants.{PutFull, PutPartial, Atomic, Get, Intent}
+use Rattle.burst_plan.specs.PageMap.{address_in, holds_page, permits, translated_address}
+use Rattle.burst_plan.specs.declared.Region.{Region}
+use Rattle.bridge_core.specs.Requests.{address_of}
+use Rattle.responses.specs.Shown.{Reply}
+use Rattle.subordinate.specs.Faults.{Faults, Standing, IsGood, IsSlaveError, IsAbsent, is_bad, standing_at}
+use Rattle.world_run.specs.Meaning.{Bytes, Effect, acknowledged, bytes_at, denied, effect, meaning, no_byte_given}
+use Rattle.scoreboard.specs.SerialMemory.{on_good_page}
+use Rattle.scoreboard.proofs.Meanings.{meaning_none, meaning_some}
+
+-- the bytes of a range as they are, but for the hidden ones
+abbrev pub told_bytes : (ℕ → Bool) → Bytes → ℕ → ℕ → List (Option ℕ)
+told_bytes hidden m a n = map (λ x. if hidden x then None else Some (m x)) (range_with_len a n)
+
+pub record Tells (faults : Faults) (regions : List Region) (q : WholeRequest) : Type 0 where
+  pub place : ℕ
+  pub hidden : ℕ → Bool
+  pub acts : on_good_page faults (address_of regions q) ≡ Some place
+  pub lanes : place % 8 ≡ q.address % 8
+  pub carries : reply_has_data q.operation ≡ true
+  pub reply : (m : Bytes) → (meaning faults regions q m).reply ≡ record { denied = false; bytes = told_bytes hidden m place (2 ^ q.size) }
+
+pub data Kind (faults : Faults) (regions : List Region) (q : WholeRequest) : Type 0 where
+  Fixed : (reply : Reply) → ((m : Bytes) → (meaning faults regions q m).reply ≡ reply) → Kind faults regions q
+  Told : Tells faults regions q → Kind faults regions q
+
+-- ---- where a request acts
+
+same_page : (regions : List Region) (q : WholeRequest) (a : ℕ) → address_of regions q ≡ Some a → a % 4096 ≡ q.address % 4096
+same_page regions q a is = by_corrupt q.corrupt is
+  where
+    by_permit : (region : Region) (b : Bool) → (if b then Some (address_in region q.address) else None) ≡ Some a → a % 4096 ≡ q.address % 4096
+    by_permit region true found = let same : address_in region q.address ≡ a = cc (found) in omega (arith, same)
+    by_permit region false found = absurd (cc (found))
+
+    by_region : (o : Option Region) → option_and_then (λ region. if permits region q.operation then Some (address_in region q.address) else None) o ≡ Some a
+        → a % 4096 ≡ q.address % 4096
+    by_region None found = absurd (cc (found))
+    by_region (Some region) found = by_permit region (permits region q.operation) found
+
+    by_corrupt : (b : Bool) → (if b then None else translated_address regions q) ≡ Some a → a % 4096 ≡ q.address % 4096
+    by_corrupt true found = absurd (cc (found))
+    by_corrupt false found = by_region (find (holds_page (q.address / 4096)) regions) found
+
+same_lanes : (a b : ℕ) → a % 4096 ≡ b % 4096 → a % 8 ≡ b % 8
+same_lanes a b same = omega (arith, same)
+
+all_told : (m : Bytes) (a n : ℕ) → map (λ (b : ℕ). Some b) (bytes_at m a n) ≡ told_bytes (λ x. false) m a n
+all_told m a zero = refl
+all_told m a (suc n) = ap (λ (rest : List (Option ℕ)). Some (m a) ∷ rest) (all_told m (a + 1) n)
+
+-- ---- each kind of request
+
+by_kind : (faults : Faults) (regions : List Region) (q : WholeRequest) (a : ℕ) (op : Operation) (standing : Standing) (bad : Bool)
+    → address_of regions q ≡ Some a → q.operation ≡ op → standing_at faults a ≡ standing
+    → ((m : Bytes) → meaning faults regions q m ≡ effect faults q m a op standing bad) → Kind faults regions q
+by_kind faults regions q a (Intent write) standing bad at is there same = Fixed acknowledged (λ m. ap (λ (e : Effect). e.reply) (same m))
+by_kind faults regions q a PutFull IsAbsent bad at is there same = Fixed denied (λ m. ap (λ (e : Effect). e.reply) (same m))
+by_kind faults regions q a PutPartial IsAbsent bad at is there same = Fixed denied (λ m. ap (λ (e : Effect). e.reply) (same m))
+by_kind faults regions q a Get IsAbsent bad at is there same = Fixed denied (λ m. ap (λ (e : Effect). e.reply) (same m))
+by_kind faults regions q a (Atomic op) IsAbsent bad at is there same = Fixed denied (λ m. ap (λ (e : Effect). e.reply) (same m))
+by_kind faults regions q a PutFull IsSlaveError bad at is there same = Fixed denied (λ m. ap (λ (e : Effect). e.reply) (same m))
+by_kind faults regions q a PutPartial IsSlaveError bad at is there same = Fixed denied (λ m. ap (λ (e : Effect). e.reply) (same m))
+by_kind faults regions q a Get IsSlaveError bad at is there same = Fixed (no_byte_given (2 ^ q.size)) (λ m. ap (λ (e : Effect). e.reply) (same m))
+by_kind faults regions q a (Atomic op) IsSlaveError bad at is there same = Fixed (no_byte_given (2 ^ q.size)) (λ m. ap (λ (e : Effect). e.reply) (same m))
+by_kind faults regions q a PutFull IsGood bad at is there same = Fixed acknowledged (λ m. ap (λ (e : Effect). e.reply) (same m))
+by_kind faults regions q a PutPartial IsGood bad at is there same = Fixed acknowledged (λ m. ap (λ (e : Effect). e.reply) (same m))
+by_kind faults regions q a (Atomic op) IsGood true at is there same = Fixed (no_byte_given (2 ^ q.size)) (λ m. ap (λ (e : Effect). e.reply) (same m))
+by_kind faults regions q a Get IsGood bad at is there same =
+    Told (record {
+      place = a;
+      hidden = is_bad faults;
+      acts = rw (at, there) refl;
+      lanes = same_lanes a q.address (same_page regions q a at);
+      carries = ap reply_has_data is;
+      reply = λ m. ap (λ (e : Effect). e.reply) (same m);
+    })
+by_kind faults regions q a (Atomic op) IsGood false at is there same =
+    Told (record {
+      place = a;
+      hidden = λ x. false;
+      acts = rw (at, there) refl;
+      lanes = same_lanes a q.address (same_page regions q a at);
+      carries = ap reply_has_data is;
+      reply = λ m. ap (λ (e : Effect). e.reply) (same m)
+          ∙ ap (λ (bytes : List (Option ℕ)). record { denied = false; bytes = bytes }) (all_told m a (2 ^ q.size));
+    })
+
+pub kind : (faults : Faults) (regions : List Region) (q : WholeRequest) → Kind faults regions q
+kind faults regions q = by_address (address_of regions q) refl
+  where
+    by_address : (address : Option ℕ) → address_of regions q ≡ address → Kind faults regions q
+    by_address None is = Fixed denied (λ m. ap (λ (e : Effect). e.reply) (meaning_none faults regions q m is))
+    by_address (Some a) is =
+        by_kind faults regions q a q.operation (standing_at faults a) (is_bad faults a) is refl refl (λ m. meaning_some faults regions q m a is)
+
+-- ---- a byte that is told
+
+-- the byte at an address of the request
+pub told_at : (hidden : ℕ → Bool) (m : Bytes) (a n start x : ℕ)
+    → given_at (told_bytes hidden m a n) start
+    x ≡ (if nat_le start x && nat_lt (x - start) n then (if hidden (a + (x - start)) then None else Some (m (a + (x - start)))) else None)
+told_at hidden m a n start x = elim (cases_lt x start) [ inl below ↦ rw (lt-leb start x below) refl | inr low ↦ by_end low (cases_lt (x - start) n) ]
+  where
+    by_end : start ≤ x → (x - start < n) ⊎ (n ≤ x - start)
+        → given_at (told_bytes hidden m a n) start
+        x ≡ (if nat_le start x && nat_lt (x - start) n then (if hidden (a + (x - start)) then None else Some (m (a + (x - start)))) else None)
+    by_end low (inl within) =
+        let byte : ℕ → Option ℕ = λ y. if hidden y then None else Some (m y) in
+        let entry : slice_get (told_bytes hidden m a n) (x - start) ≡ Some (byte (a + (x - start))) =
+        slice_get-get_or (told_bytes hidden m a n) (x - start) None (omega (arith, within, length-map-range_with_len byte a n))
+        ∙ ap (λ (o : Option ℕ). Some o) (get_or-map-range_with_len byte a n (x - start) (a + (x - start)) None within refl) in
+        rw (le-leb start x low, lt-ltb (x - start) n within) (ap option_flatten entry)
+    by_end low (inr past) =
+        let byte : ℕ → Option ℕ = λ y. if hidden y then None else Some (m y) in
+        let entry : slice_get (told_bytes hidden m a n) (x - start) ≡ None =
+        slice_get_past (told_bytes hidden m a n) (x - start) (omega (arith, past, length-map-range_with_len byte a n)) in
+        rw (le-leb start x low, le-ltb (x - start) n past) (ap option_flatten entry)

@@ -1,0 +1,184 @@
+-- The orders in which accepted requests may have taken effect. A request takes effect between its acceptance and the last beat of its reply; so
+-- one whose whole reply was seen before another was accepted comes before it. Nothing else is asked of an order: this is real time.
+use Rattle.std.specs.Prelude.{ℕ, ◌≡◌, ◌+◌, ◌<◌, ◌==◌, ⊤, Bool, false, ◌&&◌, not, List, [], ◌∷◌, ◌++◌, map, drop, Option, Some, None, Result, Ok, Err, if◌then◌else◌, nat_le, nat_lt, slice_get}
+use Rattle.std.specs.List.{AllByRecursion, list_any}
+use Rattle.tl_messages.specs.Operations.{beats_of, reply_has_data}
+use Rattle.tl_messages.specs.Requests.{HeldMessage, WholeRequest, request_of}
+use Rattle.tl_messages.specs.declared.ABeat.{ABeat}
+use Rattle.tl_messages.specs.declared.DBeat.{DBeat}
+use Rattle.tl_checker.specs.Ports.{joined}
+use Rattle.tl_checker.specs.declared.Progress.{Progress}
+use Rattle.tl_checker.specs.declared.Progress.TheVariants.{More, Whole}
+use Rattle.tl_checker.specs.declared.TlRule.{TlRule}
+use Rattle.responses.specs.Shown.{shown}
+use Rattle.world_run.specs.Meaning.{Bytes, Effect, bytes_after_all, meaning, zeros}
+use Rattle.world_run.specs.Setups.{SetupLists, faults_of}
+use Rattle.scoreboard.specs.Boards as strict
+use Rattle.scoreboard.specs.Boards.{ClientBoard}
+use Rattle.scoreboard.specs.declared.Seen.{Seen}
+use Rattle.scoreboard.specs.declared.Seen.TheVariants.{A, D, Aw, W, B, Ar, R, Drained}
+use Rattle.scoreboard.specs.declared.Wrong.{Wrong}
+use Rattle.scoreboard.specs.declared.Wrong.TheVariants.{NoClient, Request, Reply, Axi}
+use Rattle.racing_board.specs.Boards.{RacingBoard, after_all, after_seen, answer_to, opening_racing, wrong_at}
+
+-- ---- accepted requests
+
+-- an accepted request of a client, and how many beats of its reply came up to now
+pub record Entry : Type 0 where
+  pub client : ℕ
+  pub request : WholeRequest
+  pub came : ℕ
+
+-- all that were accepted, in an order in which they may take effect
+abbrev pub Order : Type 0
+Order = List Entry
+
+-- how many beats the reply to a request has
+abbrev pub reply_beats : WholeRequest → ℕ
+reply_beats q = beats_of q.size (reply_has_data q.operation)
+
+-- whether the whole reply came
+abbrev pub has_ended : Entry → Bool
+has_ended entry = nat_le (reply_beats entry.request) entry.came
+
+-- whether some of its beats came, and not all
+abbrev pub has_begun : Entry → Bool
+has_begun entry = nat_lt 0 entry.came && not (has_ended entry)
+
+-- ---- how an order goes on
+
+-- a request that is accepted comes anywhere behind those whose whole reply came
+abbrev pub IsPutIn : Entry → Order → Order → Type 0
+IsPutIn entry old new =
+    (before : Order) × (after : Order) × (old ≡ before ++ after) × (list_any has_ended after ≡ false) × (new ≡ before ++ entry ∷ after)
+
+-- with a port's answer to a beat on channel A, by the message with this beat: a request that is whole is accepted
+abbrev pub IsAnsweredIn : ℕ → HeldMessage → Result Progress TlRule → Order → Order → Type 0
+IsAnsweredIn client message (Err broken) old new = new ≡ old
+IsAnsweredIn client message (Ok More) old new = new ≡ old
+IsAnsweredIn client message (Ok Whole) old new = IsPutIn (record { client = client; request = request_of message; came = 0 }) old new
+
+-- with a beat on channel A; of a client that isn't there none is accepted
+abbrev pub IsAfterA : ℕ → Option ClientBoard → ABeat → Order → Order → Type 0
+IsAfterA number None beat old new = new ≡ old
+IsAfterA number (Some client) beat old new = IsAnsweredIn number (joined client.limits client.front beat) (answer_to client beat) old new
+
+-- whether a client's reply has begun
+abbrev pub begun_to : ℕ → Entry → Bool
+begun_to client entry = entry.client == client && has_begun entry
+
+-- whether a client's next beat of a source is due to a request: to that whose reply has begun, if one has, else to one of that source of whose
+-- reply no beat came
+abbrev pub is_due : Bool → ℕ → ℕ → Entry → Bool
+is_due begun client source entry = entry.client == client && (if begun then has_begun entry else (entry.request.source == source && entry.came == 0))
+
+-- the same, where an order says whether one has begun
+abbrev pub is_due_in : Order → ℕ → ℕ → Entry → Bool
+is_due_in order client source = is_due (list_any (begun_to client) order) client source
+
+-- with a beat on channel D: one more beat came of the reply that it is due to, if it is of the source of that
+abbrev pub with_beat : Bool → ℕ → ℕ → Entry → Entry
+with_beat begun client source entry =
+    if is_due begun client source entry && entry.request.source == source then record entry { came = entry.came + 1 } else entry
+
+-- an order with a beat of a client and source on channel D: the requests stand as they stood
+abbrev pub after_beat : Order → ℕ → ℕ → Order
+after_beat order client source = map (with_beat (list_any (begun_to client) order) client source) order
+
+-- how an order goes on with a beat, on a board on which it comes
+abbrev pub GoesOn : RacingBoard → Seen → Order → Order → Type 0
+GoesOn board (A client beat) old new = IsAfterA client (slice_get board.clients client) beat old new
+GoesOn board (D client beat) old new = new ≡ after_beat old client beat.source
+GoesOn board (Aw beat) old new = new ≡ old
+GoesOn board (W beat) old new = new ≡ old
+GoesOn board (B beat) old new = new ≡ old
+GoesOn board (Ar beat) old new = new ≡ old
+GoesOn board (R beat) old new = new ≡ old
+GoesOn board Drained old new = new ≡ old
+
+-- the orders of what is accepted in a list of beats, on a board and behind an order of what was accepted before
+abbrev pub IsOrderFrom : RacingBoard → Order → List Seen → Order → Type 0
+IsOrderFrom board now [] order = order ≡ now
+IsOrderFrom board now (seen ∷ rest) order = (next : Order) × GoesOn board seen now next × IsOrderFrom (after_seen board seen) next rest order
+
+-- the orders of what is accepted in all beats since the start
+abbrev pub IsOrderOf : SetupLists → List Seen → Order → Type 0
+IsOrderOf setup beats order = IsOrderFrom (opening_racing setup) [] beats order
+
+-- ---- what an order tells
+
+-- what a request means on some bytes
+abbrev pub meaning_on : SetupLists → WholeRequest → Bytes → Effect
+meaning_on setup q m = meaning (faults_of setup) setup.regions q m
+
+-- the beats that are left of the reply to the first request that passes a test, where each is carried out on the bytes that those before it leave
+abbrev pub left_of : SetupLists → (Entry → Bool) → Bytes → Order → List DBeat
+left_of setup test m [] = []
+left_of setup test m (entry ∷ order) =
+    if test entry
+    then drop entry.came (shown entry.request (meaning_on setup entry.request m).reply)
+    else left_of setup test (meaning_on setup entry.request m).after order
+
+-- the beats that are due on a client's channel D, for its source, where the requests take effect in an order, all bytes zero before
+abbrev pub due_beats : SetupLists → Order → ℕ → ℕ → List DBeat
+due_beats setup order client source = left_of setup (is_due_in order client source) zeros order
+
+-- a beat on channel D is wrong in an order: nothing is due there, or a beat that isn't this one
+abbrev pub IsWrongIn : SetupLists → Order → ℕ → DBeat → Type 0
+IsWrongIn setup order client beat = strict.wrong_reply (due_beats setup order client beat.source) beat ≡ None → ⊥
+
+-- a beat on channel D is wrong in an order as it is blamed: by the same rule, whatever beat is due there; and nothing is due where there is no such
+-- client
+abbrev pub IsWrongAs : SetupLists → Order → ℕ → DBeat → Wrong → Type 0
+IsWrongAs setup order client beat NoClient = due_beats setup order client beat.source ≡ []
+IsWrongAs setup order client beat (Request broken) = ⊥
+IsWrongAs setup order client beat (Reply broken due) =
+    (other : Option DBeat) × (strict.wrong_reply (due_beats setup order client beat.source) beat ≡ Some (Reply broken other))
+IsWrongAs setup order client beat (Axi broken) = ⊥
+
+-- the byte at an address, where all requests of an order took effect
+abbrev pub byte_left : SetupLists → Order → ℕ → ℕ
+byte_left setup order x = bytes_after_all (faults_of setup) setup.regions (map (λ entry. entry.request) order) zeros x
+
+-- ---- the laws, of whatever was seen
+
+-- the source of a beat is a byte
+abbrev pub HasByteSource : Seen → Type 0
+HasByteSource (A client beat) = beat.source < 256
+HasByteSource (D client beat) = beat.source < 256
+HasByteSource seen = ⊤
+
+-- the board after all beats since the start
+abbrev pub board_after : SetupLists → List Seen → RacingBoard
+board_after setup before = after_all (opening_racing setup) before
+
+-- a beat on channel D that a racing board blames, be it the first that is wrong or a later one, is wrong in every order of what was accepted
+abbrev pub BlamesRightly : Type 0
+BlamesRightly =
+    (setup : SetupLists) (before : List Seen) (order : Order) (client : ℕ) (beat : DBeat) (wrong : Wrong)
+    → AllByRecursion HasByteSource before
+    → IsOrderOf setup before order
+    → wrong_at (board_after setup before) (D client beat) ≡ Some wrong
+    → IsWrongIn setup order client beat
+
+-- and it is wrong by the very rule that is blamed
+abbrev pub BlamesByRule : Type 0
+BlamesByRule =
+    (setup : SetupLists) (before : List Seen) (order : Order) (client : ℕ) (beat : DBeat) (wrong : Wrong)
+    → AllByRecursion HasByteSource before
+    → IsOrderOf setup before order
+    → wrong_at (board_after setup before) (D client beat) ≡ Some wrong
+    → IsWrongAs setup order client beat wrong
+
+-- a byte that isn't in doubt is what every order leaves
+abbrev pub KnowsBytes : Type 0
+KnowsBytes =
+    (setup : SetupLists) (before : List Seen) (order : Order) (x : ℕ)
+    → AllByRecursion HasByteSource before
+    → IsOrderOf setup before order
+    → (board_after setup before).races.doubtful x ≡ false
+    → byte_left setup order x ≡ (board_after setup before).bytes x
+
+-- there is an order of whatever was accepted
+abbrev pub HasOrder : Type 0
+HasOrder = (setup : SetupLists) (before : List Seen) → (order : Order) × IsOrderOf setup before order
