@@ -121,6 +121,21 @@ STATEMENTS = (
         (("scoreboard", "Boards", "wrong_at"), ("scoreboard", "Boards", "IsAfter"), ("scoreboard", "Boards", "IsReached")),
     ),
     (
+        "What a racing board says",
+        "`racing_board::RacingBoard::judge`, clauses `answer` and `state`.",
+        (("racing_board", "Boards", "wrong_at"), ("racing_board", "Boards", "after_seen"), ("racing_board", "Boards", "racing_board")),
+    ),
+    (
+        "That what it finds wrong is wrong in every order",
+        "`racing_board::RacingBoard::judge`, clause `rightly`.",
+        (("racing_board", "RealTime", "JudgesRightly"),),
+    ),
+    (
+        "What it says beside a scoreboard",
+        "`racing_board::RacingBoard::judge`, clauses `right` and `wider`.",
+        (("racing_board", "Wider", "LetsRightPass"), ("racing_board", "Wider", "IsWiderAlong")),
+    ),
+    (
         "The text of the scoreboard",
         "`score_script::score_text`.",
         (("score_script", "Scores", "score_reading"), ("score_script", "Scores", "opening_state")),
