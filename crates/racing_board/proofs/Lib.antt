@@ -1,3 +1,4 @@
+mod Examples
 pub mod Acceptance
 pub mod AlikeBeats
 pub mod Answered

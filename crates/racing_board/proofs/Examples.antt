@@ -1,0 +1,126 @@
+-- Worked values of orders: what is accepted, what is due in each order of it, and what a board says.
+use Rattle.std.proofs.Common.{◌≡◌, ℕ, true, false, List, [], ◌∷◌, ◌++◌, length, Some, None, refl, arith}
+use Rattle.std.specs.Prelude.{replicate}
+use Rattle.tl_messages.specs.declared.ABeat.{ABeat}
+use Rattle.tl_messages.specs.declared.DBeat.{DBeat}
+use Rattle.tl_checker.specs.declared.Level.TheVariants.{Uh}
+use Rattle.subordinate.specs.Pages.{zero_words}
+use Rattle.subordinate.specs.declared.PageKind.TheVariants.{Good}
+use Rattle.world_run.specs.Setups.{SetupLists}
+use Rattle.scoreboard.specs.declared.ReplyRule.TheVariants.{Payload}
+use Rattle.scoreboard.specs.declared.Seen.{Seen}
+use Rattle.scoreboard.specs.declared.Seen.TheVariants.{A, D}
+use Rattle.scoreboard.specs.declared.Wrong.TheVariants.{Reply}
+use Rattle.racing_board.specs.Boards.{wrong_at}
+use Rattle.racing_board.specs.Orders.{board_after, due_beats}
+use Rattle.racing_board.specs.RealTime.{KeepsRealTime, accepted_in, arranged}
+
+-- two clients and one good page, to which a region leads that permits all
+abbrev setup : SetupLists
+setup =
+    record {
+      config = record { clients = 2; quota = 4; ids = 16; depth = 2; max_len = 16; max_size = 12; levels = replicate 8 Uh; axi_bytes = 8 };
+      regions = record { tl_page = 0; pages = 4; axi_page = 0x10; get = true; put = true; atomic = true; hint = true } ∷ [];
+      pages = (0x10, Good) ∷ [];
+      bad_words = [];
+    }
+
+-- opcode, param, size, source, address, mask and payload
+abbrev a : ℕ → ℕ → ℕ → ℕ → ℕ → ℕ → ℕ → ABeat
+a opcode param size source address mask payload =
+    record { opcode = opcode; param = param; size = size; source = source; address = address; mask = mask; payload = payload; corrupt = false }
+
+-- client 0 puts the byte at 0x0b, client 1 gets its word
+abbrev put : Seen
+put = A 0 (a 0 0 0 5 0x0b 0x08 0xaa000000)
+
+abbrev get : Seen
+get = A 1 (a 4 0 3 2 0x08 0xff 0)
+
+abbrev acknowledged : DBeat
+acknowledged = record { opcode = 0; param = 0; size = 0; source = 5; denied = false; payload = 0; corrupt = false }
+
+abbrev told : ℕ → DBeat
+told payload = record { opcode = 1; param = 0; size = 3; source = 2; denied = false; payload = payload; corrupt = false }
+
+-- ---- both in flight
+
+abbrev race : List Seen
+race = put ∷ get ∷ []
+
+two_accepted : length (accepted_in setup race) ≡ 2
+unfolding zero_words
+two_accepted = refl
+
+put_first : due_beats setup (arranged setup race (0 ∷ 1 ∷ [])) 1 2 ≡ told 0xaa000000 ∷ []
+unfolding zero_words
+put_first = refl
+
+get_first : due_beats setup (arranged setup race (1 ∷ 0 ∷ [])) 1 2 ≡ told 0 ∷ []
+unfolding zero_words
+get_first = refl
+
+-- neither is blamed, nor is another value of the byte that both may have been told
+put_told : wrong_at (board_after setup race) (D 1 (told 0xaa000000)) ≡ None
+unfolding zero_words
+put_told = refl
+
+zero_told : wrong_at (board_after setup race) (D 1 (told 0)) ≡ None
+unfolding zero_words
+zero_told = refl
+
+-- a byte that nobody puts is the same in both orders
+other_told : wrong_at (board_after setup race) (D 1 (told 0xaa000001)) ≡ Some (Reply Payload (Some (told 0xaa000000)))
+unfolding zero_words
+other_told = refl
+
+-- that the put's reply comes first says nothing of their order
+still_told : wrong_at (board_after setup (race ++ D 0 acknowledged ∷ [])) (D 1 (told 0)) ≡ None
+unfolding zero_words
+still_told = refl
+
+-- the byte is in doubt for none of those that come later: the put was alone when it came
+no_doubt : (board_after setup race).races.doubtful 0x1000b ≡ false
+unfolding zero_words
+no_doubt = refl
+
+-- ---- one behind the other
+
+abbrev apart : List Seen
+apart = put ∷ D 0 acknowledged ∷ get ∷ []
+
+zero_blamed : wrong_at (board_after setup apart) (D 1 (told 0)) ≡ Some (Reply Payload (Some (told 0xaa000000)))
+unfolding zero_words
+zero_blamed = refl
+
+-- the order in which it would be right doesn't keep real time
+not_before : KeepsRealTime setup apart (1 ∷ 0 ∷ []) → ⊥
+unfolding zero_words
+not_before keeps =
+    keeps.0 0 refl
+    (record { first = put ∷ D 0 acknowledged ∷ []; rest = get ∷ []; parts = refl; accepted = omega arith; ended = refl; not_yet = omega arith })
+
+-- ---- two puts together
+
+abbrev again : Seen
+again = A 1 (a 0 0 0 6 0x0b 0x08 0xbb000000)
+
+abbrev two_puts : List Seen
+two_puts = put ∷ again ∷ D 0 acknowledged ∷ D 1 (record acknowledged { source = 6 }) ∷ get ∷ []
+
+-- either is the last in an order, so whatever is told of the byte is right
+first_told : wrong_at (board_after setup two_puts) (D 1 (told 0xaa000000)) ≡ None
+unfolding zero_words
+first_told = refl
+
+last_told : wrong_at (board_after setup two_puts) (D 1 (told 0xbb000000)) ≡ None
+unfolding zero_words
+last_told = refl
+
+first_due : due_beats setup (arranged setup two_puts (1 ∷ 0 ∷ 2 ∷ [])) 1 2 ≡ told 0xaa000000 ∷ []
+unfolding zero_words
+first_due = refl
+
+last_due : due_beats setup (arranged setup two_puts (0 ∷ 1 ∷ 2 ∷ [])) 1 2 ≡ told 0xbb000000 ∷ []
+unfolding zero_words
+last_due = refl
