@@ -22,11 +22,11 @@ use Rattle.racing_board.specs.Races.{Races, after_joining}
 -- the parts of a board after its client changed
 abbrev pub parts_after : RacingState → ℕ → ClientBoard → SerialState → RacesState → RacingState
 parts_after old number changed serial races =
-    record { clients = slice_set old.clients number changed; serial = serial; races = races; port = old.port; open_bursts = old.open_bursts }
+    record { clients = slice_set old.clients number changed; serial = serial; races = races; axi = old.axi }
 
 abbrev made : RacingState → List ClientBoard → List Region → Faults → Bytes → Races → RacingBoard
 made old clients regions faults bytes races =
-    record { clients = clients; regions = regions; faults = faults; bytes = bytes; races = races; port = old.port; open_bursts = old.open_bursts }
+    record { clients = clients; regions = regions; faults = faults; bytes = bytes; races = races; axi = old.axi }
 
 assembled : (old : RacingState) (number : ℕ) (changed client : ClientBoard) (serial : SerialState) (races : RacesState) (bytes : Bytes) (said : Races) → changed ≡ client → serial.regions ≡ old.serial.regions
     → serial.pages.faults ≡ old.serial.pages.faults → bytes_in serial.pages ≡ bytes → races_of races ≡ said

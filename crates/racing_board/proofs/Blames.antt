@@ -27,6 +27,7 @@ use Rattle.scoreboard.specs.declared.Seen.TheVariants.{A, D, Aw, W, B, Ar, R, Dr
 use Rattle.scoreboard.specs.declared.Wrong.{Wrong}
 use Rattle.scoreboard.specs.declared.Wrong.TheVariants.{Axi, NoClient, Reply, Request}
 use Rattle.racing_board.specs.Boards.{after_all, after_reply, after_request, after_seen, answer_to, d_wrong, opening_racing, slot_of, tells_otherwise, unless_unsettled, wrong_at, wrong_reply, IsReached, RacingBoard}
+use Rattle.racing_board.specs.EarlyData.{PortBoard}
 use Rattle.racing_board.specs.Orders.{BlamesByRule, BlamesRightly, Entry, GoesOn, HasByteSource, HasOrder, IsAfterA, IsAnsweredIn, IsOrderFrom, IsOrderOf, IsWrongAs, IsWrongIn, KnowsBytes, Order, after_beat, begun_to, board_after, due_beats, is_due_in, has_begun, has_ended, is_due, left_of, meaning_on}
 use Rattle.racing_board.specs.Races.{Racer}
 use Rattle.racing_board.proofs.Acceptance.{of_source}
@@ -266,10 +267,10 @@ module _ (setup : SetupLists) (board : RacingBoard) (order : Order) (number : �
 
 -- ---- along lists of beats
 
--- where nothing but the open bursts changes
-explains_axi : (board : RacingBoard) (order : Order) (bursts : Rattle.axi_checker.specs.OpenBursts.OpenBursts) → Explains board order
-    → Explains (record board { open_bursts = bursts }) order
-explains_axi board order bursts explains =
+-- where nothing but the AXI4 port changes
+explains_axi : (board : RacingBoard) (order : Order) (port : PortBoard) → Explains board order
+    → Explains (record board { axi = port }) order
+explains_axi board order port explains =
     record {
       clients = explains.clients;
       small = explains.small;
@@ -288,17 +289,17 @@ explains_next board (A client beat) old new small goes explains = explains_reque
 explains_next board (D client beat) old new small goes explains =
     subst (Explains (after_seen board (D client beat))) (sym goes) (explains_reply board old client beat small explains)
 explains_next board (Aw beat) old new small goes explains =
-    subst (Explains (after_seen board (Aw beat))) (sym goes) (explains_axi board old (after_seen board (Aw beat)).open_bursts explains)
+    subst (Explains (after_seen board (Aw beat))) (sym goes) (explains_axi board old (after_seen board (Aw beat)).axi explains)
 explains_next board (W beat) old new small goes explains =
-    subst (Explains (after_seen board (W beat))) (sym goes) (explains_axi board old (after_seen board (W beat)).open_bursts explains)
+    subst (Explains (after_seen board (W beat))) (sym goes) (explains_axi board old (after_seen board (W beat)).axi explains)
 explains_next board (B beat) old new small goes explains =
-    subst (Explains (after_seen board (B beat))) (sym goes) (explains_axi board old (after_seen board (B beat)).open_bursts explains)
+    subst (Explains (after_seen board (B beat))) (sym goes) (explains_axi board old (after_seen board (B beat)).axi explains)
 explains_next board (Ar beat) old new small goes explains =
-    subst (Explains (after_seen board (Ar beat))) (sym goes) (explains_axi board old (after_seen board (Ar beat)).open_bursts explains)
+    subst (Explains (after_seen board (Ar beat))) (sym goes) (explains_axi board old (after_seen board (Ar beat)).axi explains)
 explains_next board (R beat) old new small goes explains =
-    subst (Explains (after_seen board (R beat))) (sym goes) (explains_axi board old (after_seen board (R beat)).open_bursts explains)
+    subst (Explains (after_seen board (R beat))) (sym goes) (explains_axi board old (after_seen board (R beat)).axi explains)
 explains_next board Drained old new small goes explains =
-    subst (Explains (after_seen board Drained)) (sym goes) (explains_axi board old (after_seen board Drained).open_bursts explains)
+    subst (Explains (after_seen board Drained)) (sym goes) (explains_axi board old (after_seen board Drained).axi explains)
 
 pub explains_all : (beats : List Seen) (board : RacingBoard) (now order : Order) → AllByRecursion HasByteSource beats → IsOrderFrom board now beats order
     → Explains board now → Explains (after_all board beats) order

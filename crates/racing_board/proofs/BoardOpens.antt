@@ -3,8 +3,7 @@ use Rattle.std.proofs.Common.{◌≡◌, ℕ, ◌*◌, Bool, true, false, List, 
 use Rattle.std.specs.Option.{option_or, option_map}
 use Rattle.std.proofs.Math.Path.{fun_ext}
 use Rattle.std.proofs.lemmas.List.FromFn.{length-map-range_with_len}
-use Rattle.axi_checker.specs.OpenBursts.{OpenBursts, nothing_open}
-use Rattle.axi_checker.specs.Rules.{AxiPortLimits}
+use Rattle.axi_checker.specs.OpenBursts.{nothing_open}
 use Rattle.bridge_core.specs.Configs.{is_valid}
 use Rattle.subordinate.specs.Faults.{device_fault}
 use Rattle.subordinate.specs.declared.DeviceFault.{DeviceFault}
@@ -14,6 +13,7 @@ use Rattle.world_run.specs.declared.SetupFault.TheVariants.{BadConfig, Device}
 use Rattle.scoreboard.specs.Boards.{ClientBoard, opening_board, opening_client}
 use Rattle.scoreboard.specs.SerialMemory.{SerialState}
 use Rattle.racing_board.specs.Boards.{RacingState, opening_races, opening_racing, racing_board}
+use Rattle.racing_board.specs.EarlyData.{PortBoard, none_early}
 use Rattle.racing_board.specs.InsideRaces.{IsOpening, RacesState, racer_of, races_of}
 use Rattle.racing_board.specs.Races.{Racer, Races}
 
@@ -54,10 +54,9 @@ races_open races setup opens =
     ∙ ap {B = Races} (λ (rs : List Racer). record { doubtful = λ x. false; racers = rs }) opens.racers
 
 pub opened : (setup : SetupLists) (state : RacingState) → state.clients ≡ (opening_board setup).clients → state.serial ≡ (opening_board setup).serial
-    → IsOpening state.races (setup.config.clients * 257) setup.pages setup.bad_words → state.port ≡ (opening_board setup).port → state.open_bursts ≡ nothing_open → racing_board state ≡ opening_racing setup
-opened setup state clients serial races port open_bursts =
+    → IsOpening state.races (setup.config.clients * 257) setup.pages setup.bad_words → state.axi ≡ none_early (opening_board setup).port nothing_open → racing_board state ≡ opening_racing setup
+opened setup state clients serial races axi =
     ap (λ (c : List ClientBoard). racing_board (record state { clients = c })) clients
     ∙ (ap (λ (s : SerialState). racing_board (record state { clients = (opening_board setup).clients; serial = s })) serial
     ∙ (ap (λ (r : Races). record (racing_board (record state { clients = (opening_board setup).clients; serial = (opening_board setup).serial })) { races = r }) (races_open state.races setup races)
-    ∙ (ap (λ (p : AxiPortLimits). record (opening_racing setup) { port = p; open_bursts = state.open_bursts }) port
-    ∙ ap (λ (o : OpenBursts). record (opening_racing setup) { open_bursts = o }) open_bursts)))
+    ∙ ap (λ (p : PortBoard). record (opening_racing setup) { axi = p }) axi))

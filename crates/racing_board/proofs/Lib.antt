@@ -9,6 +9,7 @@ pub mod BoardOpens
 pub mod CheckedRequests
 pub mod Doubts
 pub mod DuePlaces
+pub mod EarlyBeats
 pub mod Entries
 pub mod Explained
 pub mod Given

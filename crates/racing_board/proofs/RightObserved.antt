@@ -1,6 +1,6 @@
 -- What a racing board holds, by what was observed, where this is right: of each client what is left to tell it, where the requests are carried out
 -- one at a time in order of acceptance, and the bytes that they leave.
-use Rattle.std.proofs.Common.{◌≡◌, ℕ, List, length, Some, ◌⊎◌, inl, inr, sym, ◌∙◌, ap, subst}
+use Rattle.std.proofs.Common.{◌≡◌, ℕ, List, length, Some, ◌⊎◌, inl, inr, sym, ◌∙◌, ap, ap₂, subst}
 use Rattle.std.specs.Prelude.{◌≢◌, slice_get, slice_set}
 use Rattle.std.proofs.lemmas.Option.{slice_get_within}
 use Rattle.axi_checker.specs.OpenBursts.{nothing_open}
@@ -14,6 +14,7 @@ use Rattle.scoreboard.specs.Observed.{Observed, nothing_observed, requests_in}
 use Rattle.scoreboard.proofs.BoardOf.{IsClientOf, board_opens}
 use Rattle.scoreboard.proofs.Owed.{same_or_not}
 use Rattle.racing_board.specs.Boards.{RacingBoard, opening_racing}
+use Rattle.racing_board.specs.EarlyData.{none_early}
 
 pub record IsRacingOf (setup : SetupLists) (observed : Observed) (board : RacingBoard) : Type 0 where
   pub count : length board.clients ≡ setup.config.clients
@@ -21,8 +22,7 @@ pub record IsRacingOf (setup : SetupLists) (observed : Observed) (board : Racing
   pub regions : board.regions ≡ setup.regions
   pub faults : board.faults ≡ faults_of setup
   pub bytes : board.bytes ≡ bytes_of_all setup (requests_in observed)
-  pub port : board.port ≡ axi_port_of setup.config
-  pub open_bursts : board.open_bursts ≡ open_after_all nothing_open observed.axi
+  pub axi : board.axi ≡ none_early (axi_port_of setup.config) (open_after_all nothing_open observed.axi)
 
 pub racing_opens : (setup : SetupLists) → IsRacingOf setup nothing_observed (opening_racing setup)
 racing_opens setup =
@@ -33,8 +33,7 @@ racing_opens setup =
       regions = of.memory.regions;
       faults = of.memory.faults;
       bytes = of.memory.bytes;
-      port = of.port;
-      open_bursts = of.open_bursts;
+      axi = ap₂ none_early of.port of.open_bursts;
     }
 
 -- what holds of an entry that changed, and still of each other, holds of all

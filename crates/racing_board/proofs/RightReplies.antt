@@ -89,8 +89,7 @@ module _ (setup : SetupLists) (observed : Observed) (number : ℕ) (beat : DBeat
         regions = of.regions;
         faults = of.faults;
         bytes = of.bytes;
-        port = of.port;
-        open_bursts = of.open_bursts;
+        axi = of.axi;
       }
     where
       changed : ClientBoard

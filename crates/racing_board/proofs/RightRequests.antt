@@ -159,8 +159,7 @@ module _ (setup : SetupLists) (observed : Observed) (board : RacingBoard) (numbe
         regions = of.regions;
         faults = of.faults;
         bytes = of.bytes;
-        port = of.port;
-        open_bursts = of.open_bursts;
+        axi = of.axi;
       }
 
   step_whole : IsRacingOf setup observed board → slice_get board.clients number ≡ Some client → EndsHere limits (observed.begun number) beat busy
@@ -179,8 +178,7 @@ module _ (setup : SetupLists) (observed : Observed) (board : RacingBoard) (numbe
             ap (λ effect. effect.after) (meaning_here (request_of message) of)
             ∙ sym (bytes_after_all-append (faults_of setup) setup.regions (requests_in observed) (request_of message) zeros)
             ∙ ap (bytes_of_all setup) (sym requests);
-        port = of.port;
-        open_bursts = of.open_bursts;
+        axi = of.axi;
       }
     where
       own : IsClientOf setup observed number client

@@ -1,17 +1,18 @@
 -- Beats that are right, of which a racing board finds none wrong.
-use Rattle.std.proofs.Common.{◌≡◌, ℕ, zero, suc, ◌<◌, List, [], ◌∷◌, ◌++◌, length, Option, Some, None, Result, refl, sym, ◌∙◌, ap, subst, arith}
+use Rattle.std.proofs.Common.{◌≡◌, ℕ, zero, suc, ◌<◌, Bool, false, List, [], ◌∷◌, ◌++◌, length, Option, Some, None, Result, refl, sym, ◌∙◌, ap, subst, arith}
 use Rattle.std.specs.Prelude.{slice_get}
 use Rattle.std.specs.List.{AllByRecursion}
 use Rattle.std.proofs.lemmas.List.{append-nil, append_assoc}
 use Rattle.tl_messages.specs.declared.ABeat.{ABeat}
 use Rattle.tl_checker.specs.declared.Progress.{Progress}
 use Rattle.tl_checker.specs.declared.TlRule.{TlRule}
-use Rattle.axi_checker.specs.OpenBursts.{AxiBeat, OnAr, OnAw, OnB, OnR, OnW, nothing_open}
-use Rattle.axi_checker.specs.Rules.{axi_fault}
+use Rattle.axi_checker.specs.OpenBursts.{AxiBeat, OnAr, OnAw, OnB, OnR, OnW, OpenBursts, nothing_open}
+use Rattle.axi_checker.specs.Rules.{AxiPortLimits, axi_fault, open_after_all}
+use Rattle.axi_checker.specs.declared.AxiRule.{AxiRule}
 use Rattle.bridge_core.specs.Configs.{axi_port_of}
 use Rattle.world_run.specs.Setups.{SetupLists}
 use Rattle.scoreboard.specs.Boards as strict
-use Rattle.scoreboard.specs.Boards.{ClientBoard, wrong_axi, wrong_request}
+use Rattle.scoreboard.specs.Boards.{ClientBoard, bursts_after, wrong_axi, wrong_request}
 use Rattle.scoreboard.specs.InsideBoards.{HasSource}
 use Rattle.scoreboard.specs.Observed.{Observed, nothing_observed, observed_in, with_axi_beat, with_reply_beat, with_request_beat, with_seen}
 use Rattle.scoreboard.specs.Right.{HasClient, IsContiguous, IsRight, IsRightNow}
@@ -22,7 +23,9 @@ use Rattle.scoreboard.proofs.ReplySteps.{reply_right}
 use Rattle.scoreboard.proofs.RequestSteps.{request_right}
 use Rattle.scoreboard.proofs.SeenLists.{axi_fault-append, observed-append, open_after_all-append}
 use Rattle.racing_board.specs.Boards.{a_wrong, after_all, after_axi, after_reply, after_request, after_seen, opening_racing, wrong_at, RacingBoard}
+use Rattle.racing_board.specs.EarlyData.{PortBoard, drained, none_early, port_after, port_wrong, tells_no_write}
 use Rattle.racing_board.specs.Wider.{LetsRightPass, tells_busy}
+use Rattle.racing_board.proofs.EarlyBeats.{after_as, wrong_as}
 use Rattle.racing_board.proofs.RightObserved.{IsRacingOf, racing_opens}
 use Rattle.racing_board.proofs.RightReplies.{step_reply}
 use Rattle.racing_board.proofs.RightRequests.{step_answer}
@@ -39,10 +42,26 @@ record IsRightNext (setup : SetupLists) (observed : Observed) (seen : Seen) : Ty
 module _ (setup : SetupLists) (observed : Observed) (board : RacingBoard) where
   -- ---- the AXI4 port
 
-  axi_right : (beat : AxiBeat) → IsRacingOf setup observed board → IsRightNow setup observed → IsRightNow setup (with_axi_beat beat observed)
-      → axi_fault board.port board.open_bursts beat ≡ None
-  axi_right beat of before now =
-      rw (of.port, of.open_bursts) (sym (axi_fault-append (axi_port_of setup.config) nothing_open observed.axi beat before.axi) ∙ now.axi)
+  limits : AxiPortLimits
+  limits = axi_port_of setup.config
+
+  opened : OpenBursts
+  opened = open_after_all nothing_open observed.axi
+
+  axi_right : (beat : AxiBeat) → IsRightNow setup observed → IsRightNow setup (with_axi_beat beat observed)
+      → axi_fault limits opened beat ≡ None
+  axi_right beat before now = sym (axi_fault-append limits nothing_open observed.axi beat before.axi) ∙ now.axi
+
+  -- it has a write, if it needs one
+  axi_there : (beat : AxiBeat) → IsRightNow setup observed → IsRightNow setup (with_axi_beat beat observed)
+      → tells_no_write (wrong_axi (axi_fault limits opened beat)) ≡ false
+  axi_there beat before now = ap (λ (fault : Option AxiRule). tells_no_write (wrong_axi fault)) (axi_right beat before now)
+
+  axi_none : (beat : AxiBeat) → IsRacingOf setup observed board → IsRightNow setup observed → IsRightNow setup (with_axi_beat beat observed)
+      → port_wrong board.axi beat ≡ None
+  axi_none beat of before now =
+      ap (λ (port : PortBoard). port_wrong port beat) of.axi ∙ wrong_as limits opened beat (axi_there beat before now)
+      ∙ ap wrong_axi (axi_right beat before now)
 
   step_axi : (beat : AxiBeat) → IsRacingOf setup observed board → IsRightNow setup observed → IsRightNow setup (with_axi_beat beat observed)
       → IsRacingOf setup (with_axi_beat beat observed) (after_axi board beat)
@@ -55,11 +74,14 @@ module _ (setup : SetupLists) (observed : Observed) (board : RacingBoard) where
         regions = of.regions;
         faults = of.faults;
         bytes = of.bytes;
-        port = of.port;
-        open_bursts = rw (axi_right beat of before now, open_after_all-append nothing_open observed.axi beat, of.open_bursts) refl;
+        axi =
+            ap (λ (port : PortBoard). port_after port beat) of.axi
+            ∙ after_as limits opened beat (axi_there beat before now)
+            ∙ ap (λ (fault : Option AxiRule). none_early limits (bursts_after opened beat fault)) (axi_right beat before now)
+            ∙ ap (none_early limits) (sym (open_after_all-append nothing_open observed.axi beat));
       }
 
-  step_drained : IsRacingOf setup observed board → IsRacingOf setup (record observed { axi = [] }) (record board { open_bursts = nothing_open })
+  step_drained : IsRacingOf setup observed board → IsRacingOf setup (record observed { axi = [] }) (record board { axi = drained board.axi })
   step_drained of =
       record {
         count = of.count;
@@ -69,8 +91,7 @@ module _ (setup : SetupLists) (observed : Observed) (board : RacingBoard) where
         regions = of.regions;
         faults = of.faults;
         bytes = of.bytes;
-        port = of.port;
-        open_bursts = refl;
+        axi = ap drained of.axi;
       }
 
   -- ---- a client of the set-up
@@ -97,11 +118,11 @@ module _ (setup : SetupLists) (observed : Observed) (board : RacingBoard) where
       let found = slice_get board.clients number in
       none_told (strict.d_wrong found beat) (wrong_at board (D number beat)) (d_told board.races number found beat)
       (ap (λ (o : Option ClientBoard). strict.d_wrong o beat) there ∙ none)
-  not_wrong (Aw beat) of source right = ap wrong_axi (axi_right (OnAw beat) of right.before right.now)
-  not_wrong (W beat) of source right = ap wrong_axi (axi_right (OnW beat) of right.before right.now)
-  not_wrong (B beat) of source right = ap wrong_axi (axi_right (OnB beat) of right.before right.now)
-  not_wrong (Ar beat) of source right = ap wrong_axi (axi_right (OnAr beat) of right.before right.now)
-  not_wrong (R beat) of source right = ap wrong_axi (axi_right (OnR beat) of right.before right.now)
+  not_wrong (Aw beat) of source right = axi_none (OnAw beat) of right.before right.now
+  not_wrong (W beat) of source right = axi_none (OnW beat) of right.before right.now
+  not_wrong (B beat) of source right = axi_none (OnB beat) of right.before right.now
+  not_wrong (Ar beat) of source right = axi_none (OnAr beat) of right.before right.now
+  not_wrong (R beat) of source right = axi_none (OnR beat) of right.before right.now
   not_wrong Drained of source right = refl
 
   -- ---- what is held after it

@@ -1,5 +1,6 @@
--- What a racing board says of a beat, beside a scoreboard that holds the same: no more, and less only of a busy source and of another payload.
-use Rattle.std.proofs.Common.{◌≡◌, ℕ, Bool, true, false, ◌||◌, not, List, [], ◌∷◌, ◌++◌, take, Option, Some, None, Result, Ok, Err}
+-- What a racing board says of a beat, beside a scoreboard that holds the same: no more, and less only of a busy source, of a W
+-- beat without a write and of another payload.
+use Rattle.std.proofs.Common.{◌≡◌, ℕ, Bool, true, false, ◌&&◌, ◌||◌, not, if◌then◌else◌, List, [], ◌∷◌, ◌++◌, take, Option, Some, None, Result, Ok, Err}
 use Rattle.std.proofs.Common.{◌⊎◌, inl, inr, refl, ◌∙◌, ap}
 use Rattle.bus_words.specs.Tables.{first_broken}
 use Rattle.tl_messages.specs.Requests.{HeldMessage}
@@ -10,6 +11,8 @@ use Rattle.tl_checker.specs.Requests.{TlPortLimits, first_beat_rules, first_faul
 use Rattle.tl_checker.specs.declared.Progress.{Progress}
 use Rattle.tl_checker.specs.declared.TlRule.{TlRule}
 use Rattle.tl_checker.specs.declared.TlRule.TheVariants.{SourceBusy}
+use Rattle.axi_checker.specs.OpenBursts.{OnAw}
+use Rattle.axi_checker.specs.Rules.{axi_fault}
 use Rattle.scoreboard.specs.Boards as strict
 use Rattle.scoreboard.specs.Boards.{Board, ClientBoard, due_of, has_source, next_reply, none_left, reply_rules, wrong_by, wrong_request}
 use Rattle.scoreboard.specs.declared.ReplyRule.{ReplyRule}
@@ -18,13 +21,33 @@ use Rattle.scoreboard.specs.declared.Seen.{Seen}
 use Rattle.scoreboard.specs.declared.Seen.TheVariants.{A, D, Aw, W, B, Ar, R, Drained}
 use Rattle.scoreboard.specs.declared.Wrong.{Wrong}
 use Rattle.racing_board.specs.Boards.{a_wrong, answer_to, d_wrong, next_slot, unless_unsettled, wrong_at, wrong_reply}
+use Rattle.racing_board.specs.EarlyData.{tells_no_write}
 use Rattle.racing_board.specs.Races.{Racer, Races, racer_in}
-use Rattle.racing_board.specs.Wider.{TellsNoMore, racing_on, tells_busy}
+use Rattle.racing_board.specs.Wider.{TellsNoMore, racing_on, tells_apart, tells_busy}
+use Rattle.racing_board.proofs.EarlyBeats.{aw_wrong}
 
 -- where a scoreboard finds nothing wrong, a racing board finds nothing
 pub none_told : (compared verdict : Option Wrong) → TellsNoMore compared verdict → compared ≡ None → verdict ≡ None
 none_told compared verdict (inl same) none = same ∙ none
 none_told compared verdict (inr (passes, nothing)) none = nothing
+
+-- ---- verdicts after which both may hold something else
+
+-- a verdict that isn't one of them is of no busy source
+pub not_busy : (verdict : Option Wrong) → tells_apart verdict ≡ false → tells_busy verdict ≡ false
+not_busy verdict free = by_tests (tells_busy verdict) (tells_no_write verdict) free
+  where
+    by_tests : (busy other : Bool) → (busy || other) ≡ false → busy ≡ false
+    by_tests true other free = absurd (cc (free))
+    by_tests false other free = refl
+
+-- nor of a W beat without a write
+pub no_other : (verdict : Option Wrong) → tells_apart verdict ≡ false → tells_no_write verdict ≡ false
+no_other verdict free = by_tests (tells_busy verdict) (tells_no_write verdict) free
+  where
+    by_tests : (busy other : Bool) → (busy || other) ≡ false → other ≡ false
+    by_tests true other free = absurd (cc (free))
+    by_tests false other free = free
 
 -- ---- channel A
 
@@ -70,7 +93,7 @@ answers_to client beat = by_busy (not (none_left (due_of client.replies beat.sou
 request_told : (busy free : Result Progress TlRule) → AnswersFree busy free → TellsNoMore (wrong_request busy) (wrong_request free)
 request_told busy free (Same same) = inl (ap wrong_request same)
 request_told busy free (ForBusy progress refused taken) =
-    inr (inl (ap (λ (answer : Result Progress TlRule). tells_busy (wrong_request answer)) refused), ap wrong_request taken)
+    inr (inl (ap (λ (answer : Result Progress TlRule). tells_apart (wrong_request answer)) refused), ap wrong_request taken)
 
 a_told : (found : Option ClientBoard) (beat : ABeat) → TellsNoMore (strict.a_wrong found beat) (a_wrong found beat)
 a_told None beat = inl refl
@@ -110,13 +133,27 @@ d_told races number None beat = inl refl
 d_told races number (Some client) beat =
     reply_told (racer_in races (next_slot number client beat.source)) (next_reply client.replies beat.source) beat
 
+-- ---- the AXI4 port
+
+-- a W beat without a write is early, if there is room
+w_told : (verdict : Option Wrong) → TellsNoMore verdict (if tells_no_write verdict && true then None else verdict)
+w_told verdict = by_test (tells_no_write verdict) refl
+  where
+    either : (busy : Bool) → (busy || true) ≡ true
+    either true = refl
+    either false = refl
+
+    by_test : (early : Bool) → tells_no_write verdict ≡ early → TellsNoMore verdict (if early && true then None else verdict)
+    by_test true is = inr (inl (ap (λ (other : Bool). tells_busy verdict || other) is ∙ either (tells_busy verdict)), refl)
+    by_test false is = inl refl
+
 -- ---- any beat
 
 pub tells_no_more : (board : Board) (races : Races) (seen : Seen) → TellsNoMore (strict.wrong_at board seen) (wrong_at (racing_on board races) seen)
 tells_no_more board races (A client beat) = a_told _ beat
 tells_no_more board races (D client beat) = d_told races client _ beat
-tells_no_more board races (Aw beat) = inl refl
-tells_no_more board races (W beat) = inl refl
+tells_no_more board races (Aw beat) = inl (aw_wrong board.port board.open_bursts beat (axi_fault board.port board.open_bursts (OnAw beat)))
+tells_no_more board races (W beat) = w_told (strict.wrong_at board (W beat))
 tells_no_more board races (B beat) = inl refl
 tells_no_more board races (Ar beat) = inl refl
 tells_no_more board races (R beat) = inl refl

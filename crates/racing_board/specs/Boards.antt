@@ -1,5 +1,6 @@
--- What a racing board holds, what it says of a beat, and what it holds after it. It is a scoreboard but for three things: a source is free from
--- its reply's first beat on, a payload is compared where it tells a settled byte, and which bytes are settled is kept.
+-- What a racing board holds, what it says of a beat, and what it holds after it. It is a scoreboard but for four things: a source is free from
+-- its reply's first beat on, a payload is compared where it tells a settled byte, which bytes are settled is kept, and W beats may come before
+-- their AW.
 use Rattle.std.specs.Prelude.{ℕ, ◌≡◌, ◌+◌, ◌-◌, ◌*◌, ◌==◌, Bool, true, false, ◌&&◌, not, List, [], ◌∷◌, length, sum_by, slice_index_or, Option, Some, None, Result, Ok, Err, if◌then◌else◌, slice_get, slice_set, replicate}
 use Rattle.std.specs.List.{list_any, range_with_len, swap}
 use Rattle.bus_words.specs.Lanes.{lane_byte, word_address}
@@ -12,15 +13,14 @@ use Rattle.tl_checker.specs.Ports.{joined, judged}
 use Rattle.tl_checker.specs.declared.Progress.{Progress}
 use Rattle.tl_checker.specs.declared.Progress.TheVariants.{More, Whole}
 use Rattle.tl_checker.specs.declared.TlRule.{TlRule}
-use Rattle.axi_checker.specs.OpenBursts.{AxiBeat, OnAr, OnAw, OnB, OnR, OnW, OpenBursts, nothing_open}
-use Rattle.axi_checker.specs.Rules.{AxiPortLimits, axi_fault}
+use Rattle.axi_checker.specs.OpenBursts.{AxiBeat, OnAr, OnAw, OnB, OnR, OnW}
 use Rattle.burst_plan.specs.declared.Region.{Region}
 use Rattle.responses.specs.Shown.{shown}
 use Rattle.bridge_core.specs.Requests.{address_of}
 use Rattle.subordinate.specs.Faults.{Faults, is_good, standing_at}
 use Rattle.world_run.specs.Meaning.{Bytes, Effect, meaning}
 use Rattle.world_run.specs.Setups.{SetupLists}
-use Rattle.scoreboard.specs.Boards.{Board, ClientBoard, after_reply_beat, bursts_after, due_of, next_reply, none_left, open_count, opening_board, replies_left, reply_rules, with_due, wrong_axi, wrong_by, wrong_request}
+use Rattle.scoreboard.specs.Boards.{Board, ClientBoard, after_reply_beat, due_of, next_reply, none_left, open_count, opening_board, replies_left, reply_rules, with_due, wrong_by, wrong_request}
 use Rattle.scoreboard.specs.InsideSerial.{bytes_in}
 use Rattle.scoreboard.specs.SerialMemory.{SerialState, on_good_page}
 use Rattle.scoreboard.specs.declared.ReplyRule.{ReplyRule}
@@ -29,27 +29,26 @@ use Rattle.scoreboard.specs.declared.Seen.{Seen}
 use Rattle.scoreboard.specs.declared.Seen.TheVariants.{A, D, Aw, W, B, Ar, R, Drained}
 use Rattle.scoreboard.specs.declared.Wrong.{Wrong}
 use Rattle.scoreboard.specs.declared.Wrong.TheVariants.{NoClient, Reply}
+use Rattle.racing_board.specs.EarlyData.{PortBoard, drained, none_early, port_after, port_wrong}
 use Rattle.racing_board.specs.InsideRaces.{RacesState, races_of}
 use Rattle.racing_board.specs.Races.{Racer, Races, after_joining, at_rest, no_racer, racer_in}
 
 -- each client by its number; where addresses lead, the pages, and their bytes as the accepted requests leave them in order of acceptance; the
--- requests in flight; and what is outstanding on the AXI4 port
+-- requests in flight; and what is outstanding on the AXI4 port, and early
 pub record RacingBoard : Type 0 where
   pub clients : List ClientBoard
   pub regions : List Region
   pub faults : Faults
   pub bytes : Bytes
   pub races : Races
-  pub port : AxiPortLimits
-  pub open_bursts : OpenBursts
+  pub axi : PortBoard
 
 -- the same with its bytes and flags as lists
 pub record RacingState : Type 0 where
   pub clients : List ClientBoard
   pub serial : SerialState
   pub races : RacesState
-  pub port : AxiPortLimits
-  pub open_bursts : OpenBursts
+  pub axi : PortBoard
 
 abbrev pub racing_board : RacingState → RacingBoard
 racing_board state =
@@ -59,8 +58,7 @@ racing_board state =
       faults = state.serial.pages.faults;
       bytes = bytes_in state.serial.pages;
       races = races_of state.races;
-      port = state.port;
-      open_bursts = state.open_bursts;
+      axi = state.axi;
     }
 
 -- ---- slots: of each client one for each source from 0 to 255, for the request whose reply is due, and one for that whose reply has begun
@@ -113,7 +111,7 @@ wrong_reply racer (due ∷ rest) beat =
 -- ---- one beat
 
 abbrev pub axi_wrong : RacingBoard → AxiBeat → Option Wrong
-axi_wrong board beat = wrong_axi (axi_fault board.port board.open_bursts beat)
+axi_wrong board beat = port_wrong board.axi beat
 
 abbrev pub a_wrong : Option ClientBoard → ABeat → Option Wrong
 a_wrong None beat = Some NoClient
@@ -199,7 +197,7 @@ after_reply board number (Some client) beat =
     }
 
 abbrev pub after_axi : RacingBoard → AxiBeat → RacingBoard
-after_axi board beat = record board { open_bursts = bursts_after board.open_bursts beat (axi_fault board.port board.open_bursts beat) }
+after_axi board beat = record board { axi = port_after board.axi beat }
 
 -- the board after a beat
 abbrev pub after_seen : RacingBoard → Seen → RacingBoard
@@ -210,7 +208,7 @@ after_seen board (W beat) = after_axi board (OnW beat)
 after_seen board (B beat) = after_axi board (OnB beat)
 after_seen board (Ar beat) = after_axi board (OnAr beat)
 after_seen board (R beat) = after_axi board (OnR beat)
-after_seen board Drained = record board { open_bursts = nothing_open }
+after_seen board Drained = record board { axi = drained board.axi }
 
 -- ---- at the start: nothing is in flight, and no byte is in doubt
 
@@ -225,8 +223,7 @@ opened_on setup board =
       faults = board.serial.pages.faults;
       bytes = bytes_in board.serial.pages;
       races = opening_races setup.config.clients;
-      port = board.port;
-      open_bursts = board.open_bursts;
+      axi = none_early board.port board.open_bursts;
     }
 
 abbrev pub opening_racing : SetupLists → RacingBoard
@@ -238,7 +235,7 @@ abbrev pub replies_open : RacingBoard → ℕ
 replies_open board = sum_by (λ client. replies_left client.replies) board.clients
 
 abbrev pub bursts_open : RacingBoard → ℕ
-bursts_open board = open_count board.open_bursts
+bursts_open board = open_count board.axi.open_bursts
 
 -- the byte at an address of a good page, as the accepted requests leave it in order of acceptance
 abbrev pub byte_at : RacingBoard → ℕ → Option ℕ

@@ -1,4 +1,5 @@
 pub mod Boards
+pub mod EarlyData
 pub mod InsideBoards
 pub mod InsideRaces
 pub mod Orders

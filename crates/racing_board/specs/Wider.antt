@@ -1,5 +1,5 @@
 -- What a racing board says of beats, beside a scoreboard that compares each byte: no more than this one, and nothing of beats that are right.
-use Rattle.std.specs.Prelude.{◌≡◌, ◌⊎◌, Bool, true, false, List, [], ◌∷◌, ◌++◌, Option, Some, None}
+use Rattle.std.specs.Prelude.{◌≡◌, ◌⊎◌, Bool, true, false, ◌||◌, List, [], ◌∷◌, ◌++◌, Option, Some, None}
 use Rattle.tl_checker.specs.declared.TlRule.TheVariants.{SourceBusy}
 use Rattle.world_run.specs.Setups.{SetupLists}
 use Rattle.scoreboard.specs.Boards as strict
@@ -11,9 +11,10 @@ use Rattle.scoreboard.specs.declared.Seen.{Seen}
 use Rattle.scoreboard.specs.declared.Wrong.{Wrong}
 use Rattle.scoreboard.specs.declared.Wrong.TheVariants.{Reply, Request}
 use Rattle.racing_board.specs.Boards.{RacingBoard, after_all, opening_racing}
+use Rattle.racing_board.specs.EarlyData.{none_early, tells_no_write}
 use Rattle.racing_board.specs.Races.{Races}
 
--- a racing board that holds what a scoreboard does, and some requests in flight
+-- a racing board that holds what a scoreboard does, and some requests in flight; no W beat is early
 abbrev pub racing_on : Board → Races → RacingBoard
 racing_on board races =
     record {
@@ -22,8 +23,7 @@ racing_on board races =
       faults = board.serial.pages.faults;
       bytes = bytes_in board.serial.pages;
       races = races;
-      port = board.port;
-      open_bursts = board.open_bursts;
+      axi = none_early board.port board.open_bursts;
     }
 
 -- ---- one beat
@@ -38,26 +38,31 @@ abbrev pub tells_payload : Option Wrong → Bool
 tells_payload (Some (Reply Payload due)) = true
 tells_payload verdict = false
 
+-- whether a verdict is one after which a racing board may hold something else, as it may take the beat: that the source is busy, or that a W beat
+-- has no write to belong to
+abbrev pub tells_apart : Option Wrong → Bool
+tells_apart verdict = tells_busy verdict || tells_no_write verdict
+
 -- a racing board's verdict of a beat tells no more than a scoreboard's: it is the same, or nothing where the scoreboard's is that the source is
--- busy or that the payload is another
+-- busy, that a W beat has no write to belong to, or that the payload is another
 abbrev pub TellsNoMore : Option Wrong → Option Wrong → Type 0
-TellsNoMore compared verdict = (verdict ≡ compared) ⊎ (((tells_busy compared ≡ true) ⊎ (tells_payload compared ≡ true)) × (verdict ≡ None))
+TellsNoMore compared verdict = (verdict ≡ compared) ⊎ (((tells_apart compared ≡ true) ⊎ (tells_payload compared ≡ true)) × (verdict ≡ None))
 
 -- ---- lists of beats
 
--- a scoreboard after beats of which it finds none of a busy source, whatever else it finds
+-- a scoreboard after beats of which it finds none of a busy source, and no W beat without a write, whatever else it finds
 abbrev pub IsFollowed : Board → List Seen → Board → Type 0
 IsFollowed start [] board = board ≡ start
 IsFollowed start (seen ∷ rest) board =
-    (next : Board) × (tells_busy (strict.wrong_at start seen) ≡ false) × strict.IsAfter start seen next × IsFollowed next rest board
+    (next : Board) × (tells_apart (strict.wrong_at start seen) ≡ false) × strict.IsAfter start seen next × IsFollowed next rest board
 
 -- a racing board holds what a scoreboard does, but for the requests in flight, and its verdict of a beat tells no more
 pub record IsWiderThan (compared : Board) (board : RacingBoard) (seen : Seen) (verdict : Option Wrong) : Type 0 where
   pub holds : board ≡ racing_on compared board.races
   pub tells : TellsNoMore (strict.wrong_at compared seen) verdict
 
--- of any beats, right or wrong: a racing board is so beside a scoreboard that got the same ones, until this one finds one of a busy source, and of
--- that one too
+-- of any beats, right or wrong: a racing board is so beside a scoreboard that got the same ones, until this one finds one of a busy source or a W
+-- beat without a write, and of that one too
 abbrev pub IsWiderAlong : RacingBoard → Seen → Option Wrong → Type 0
 IsWiderAlong board seen verdict =
     (setup : SetupLists) (before : List Seen) (compared : Board) → board ≡ after_all (opening_racing setup) before

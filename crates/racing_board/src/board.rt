@@ -8,10 +8,11 @@ ghost use Rattle.scoreboard.specs.Boards.{opening_client, replies_left};
 ghost use Rattle.racing_board.specs.InsideRaces.{races_of};
 
 use crate::clients::Client;
+use crate::port::RacingPort;
 use crate::races::Races;
 use bridge_core::Config;
 use burst_plan::PageMap;
-use scoreboard::{AxiPort, Seen, SerialMemory, Wrong};
+use scoreboard::{Seen, SerialMemory, Wrong};
 use std::alloc::{AllocError, Global};
 use std::marker::Model;
 use tl_messages::{ABeat, DBeat};
@@ -20,15 +21,15 @@ use world_run::{Setup, SetupFault, setup_fault};
 /// Tells of each beat that was observed at the ports of a bridge whether it can be right, if requests in flight together may
 /// take effect in any order: a reply's byte is compared only where it is the same in every order in which a request whose whole
 /// reply was seen before another was accepted comes before it. All else is as a `Scoreboard` has it, but a source is free from
-/// its reply's first beat on.
+/// its reply's first beat on, and W beats may come before their AW.
 ///
-/// A beat that breaks a rule changes nothing, but a beat of a due reply counts as come whatever it shows. All room is taken
-/// by `new`; no other call takes memory.
+/// A beat that breaks a rule changes nothing, but a beat of a due reply counts as come whatever it shows, and an AW that is wrong
+/// for the data before it alone opens its burst. All room is taken by `new`; no other call takes memory.
 pub struct RacingBoard {
     clients: Vec<Client>,
     serial: SerialMemory,
     races: Races,
-    axi: AxiPort,
+    axi: RacingPort,
 }
 
 impl Model for RacingBoard {
@@ -37,7 +38,7 @@ impl Model for RacingBoard {
 
     ghost Value = { RacingState };
 
-    ghost view = { λ b. record { clients = b.clients.items; serial = b.serial; races = b.races; port = b.axi.port; open_bursts = b.axi.open_bursts } };
+    ghost view = { λ b. record { clients = b.clients.items; serial = b.serial; races = b.races; axi = b.axi } };
 
     ghost invariant = { λ b. (length b.clients.items ≤ 8) × (length b.races.racers ≡ length b.clients.items * 257) × (b.races.doubts.faults ≡ b.serial.pages.faults) };
 }
@@ -114,7 +115,7 @@ impl RacingBoard {
         let serial = SerialMemory::new(alloc, map, pages, bad)?;
         let clients = opening_clients(alloc, &setup.config)?;
         let races = Races::new(alloc, u16::from(setup.config.clients) * 257, pages, bad)?;
-        let axi = AxiPort::new(alloc, &setup.config)?;
+        let axi = RacingPort::new(alloc, &setup.config)?;
         Ok(RacingBoard {
             clients,
             serial,
@@ -126,9 +127,9 @@ impl RacingBoard {
     /// What is wrong with the next beat that was observed; none where nothing is.
     ///
     /// Nothing is wrong with beats that are right in order of acceptance. What is said of any beat is what a `Scoreboard` that got the
-    /// same beats says of it, or nothing where that is SOURCE_BUSY or PAYLOAD, up to the first SOURCE_BUSY. A beat of a reply that
-    /// is found wrong is wrong, by that rule, in each order of the accepted requests in which none stands behind one that was
-    /// accepted after its whole reply had come.
+    /// same beats says of it, or nothing where that is SOURCE_BUSY, W_WITHOUT_AW or PAYLOAD, up to the first SOURCE_BUSY or
+    /// W_WITHOUT_AW. A beat of a reply that is found wrong is wrong, by that rule, in each order of the accepted requests in
+    /// which none stands behind one that was accepted after its whole reply had come.
     pub fn judge(&mut self, seen: &Seen) -> Option<Wrong>
         ensures answer { result ≡ wrong_at (racing_board self.old) seen.now }
         ensures state { racing_board self.new ≡ after_seen (racing_board self.old) seen.now }

@@ -4,6 +4,7 @@
 mod board;
 mod clients;
 mod payloads;
+mod port;
 mod racer;
 mod races;
 

@@ -395,7 +395,6 @@ const PORTS: [History; 3] = [
             (Drained, Right),
             (B(0), Said::Axi(AxiRule::BWithoutWrite)),
             (R(3, 0, true), Said::Axi(AxiRule::RWithoutRead)),
-            (W(WORD, 0xff, true), Said::Axi(AxiRule::WWithoutAw)),
             (D(0, ACK), Right),
             (A(1, 0, 0, 4, 1, 0, 0xff, 2), Right),
             (Aw(0, 0x10000, 0, 3), Right),
@@ -407,6 +406,20 @@ const PORTS: [History; 3] = [
         open: 1,
     },
 ];
+
+/// What a scoreboard alone finds wrong.
+const DATA_FIRST: [History; 1] = [History {
+    name: "write data before their address",
+    beats: &[
+        (W(WORD, 0xff, true), Said::Axi(AxiRule::WWithoutAw)),
+        (Aw(0, 0x10008, 0, 3), Right),
+        (B(0), Said::Axi(AxiRule::BWithoutWrite)),
+        (W(WORD, 0xff, true), Right),
+        (B(0), Right),
+    ],
+    outstanding: 0,
+    open: 0,
+}];
 
 /// A board, by what the histories ask of it.
 trait Judge: Sized {
@@ -509,8 +522,10 @@ fn memory(rt: HostRuntime) {
 
 #[test]
 fn ports(rt: HostRuntime) {
-    let found = failing::<Scoreboard>(rt.alloc(), &PORTS);
-    same(&rt, "first failing", found, None);
+    for table in [PORTS.as_slice(), DATA_FIRST.as_slice()] {
+        let found = failing::<Scoreboard>(rt.alloc(), table);
+        same(&rt, "first failing", found, None);
+    }
 }
 
 #[test]

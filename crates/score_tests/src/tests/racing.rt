@@ -1,9 +1,10 @@
 //! Histories that a racing board judges: what requests in flight together may do, and what they may not.
 use super::Said::{Right, Unasked};
 use super::{
-    A, ACK, D, EMPTY_REGION, History, Judge, PORTS, PUT, REGION, REPLIES, RIGHT, Said, WORD,
-    failing, first_difference, refusal, same, set_up, wrong_byte,
+    A, ACK, Aw, B, D, Drained, EMPTY_REGION, History, Judge, PORTS, PUT, REGION, REPLIES, RIGHT,
+    Said, W, WORD, failing, first_difference, refusal, same, seen, set_up, wrong, wrong_byte,
 };
+use axi_checker::AxiRule;
 use racing_board::RacingBoard;
 use scoreboard::{ReplyRule, Seen, Wrong};
 use std::alloc::Global;
@@ -228,6 +229,119 @@ const SOURCES: [History; 2] = [
     },
 ];
 
+/// W beats that come before their AW.
+const EARLY: [History; 8] = [
+    History {
+        name: "the data of a burst, then its address",
+        beats: &[
+            (PUT, Right),
+            (W(WORD, 0xff, true), Right),
+            (Aw(0, 0x10008, 0, 3), Right),
+            (B(0), Right),
+            (D(0, ACK), Right),
+            (B(0), Said::Axi(AxiRule::BWithoutWrite)),
+        ],
+        outstanding: 0,
+        open: 0,
+    },
+    History {
+        name: "the data of two bursts, of four beats and of one",
+        beats: &[
+            (W(1, 0xff, false), Right),
+            (W(2, 0x00, false), Right),
+            (W(3, 0x0f, false), Right),
+            (W(4, 0xff, true), Right),
+            (W(5, 0xf0, true), Right),
+            (B(0), Said::Axi(AxiRule::BWithoutWrite)),
+            (Aw(0, 0x10000, 3, 3), Right),
+            (Aw(1, 0x10104, 0, 2), Right),
+            (B(1), Right),
+            (B(0), Right),
+        ],
+        outstanding: 0,
+        open: 0,
+    },
+    History {
+        name: "the first data of a burst, its address, and the others",
+        beats: &[
+            (W(1, 0xff, false), Right),
+            (Aw(0, 0x10000, 1, 3), Right),
+            (B(0), Said::Axi(AxiRule::BWithoutWrite)),
+            (W(2, 0xff, false), Said::Axi(AxiRule::WLast)),
+            (W(2, 0xff, true), Right),
+            (W(3, 0xff, true), Right),
+            (B(0), Right),
+            (Aw(0, 0x10010, 0, 3), Right),
+            (Aw(1, 0x10010, 0, 3), Right),
+        ],
+        outstanding: 0,
+        open: 2,
+    },
+    History {
+        name: "a last beat too soon is told at the address, and doesn't count",
+        beats: &[
+            (W(1, 0xff, true), Right),
+            (Aw(0, 0x10000, 1, 3), Said::Axi(AxiRule::WLast)),
+            (W(1, 0xff, false), Right),
+            (W(2, 0xff, true), Right),
+            (B(0), Right),
+        ],
+        outstanding: 0,
+        open: 0,
+    },
+    History {
+        name: "more data than the address asks for",
+        beats: &[
+            (W(1, 0xff, false), Right),
+            (W(2, 0xff, true), Right),
+            (W(3, 0xff, true), Right),
+            (Aw(0, 0x10000, 0, 3), Said::Axi(AxiRule::WLast)),
+            (B(0), Right),
+            (Aw(0, 0x10008, 0, 3), Right),
+            (B(0), Right),
+        ],
+        outstanding: 0,
+        open: 0,
+    },
+    History {
+        name: "a strobe outside its lanes, before a last beat too soon",
+        beats: &[
+            (W(0, 0x10, false), Right),
+            (W(0, 0x08, true), Right),
+            (W(0, 0x08, false), Right),
+            (Aw(0, 0x10003, 1, 2), Said::Axi(AxiRule::Strobe)),
+            (W(0, 0xf0, true), Right),
+            (B(0), Right),
+        ],
+        outstanding: 0,
+        open: 0,
+    },
+    History {
+        name: "an address that breaks a rule takes no data",
+        beats: &[
+            (W(1, 0xff, true), Right),
+            (Aw(16, 0x10000, 0, 3), Said::Axi(AxiRule::IdRange)),
+            (Aw(0, 0x10000, 0, 3), Right),
+            (B(0), Right),
+        ],
+        outstanding: 0,
+        open: 0,
+    },
+    History {
+        name: "data before what went unobserved are no data of what comes after it",
+        beats: &[
+            (W(1, 0xff, false), Right),
+            (Drained, Right),
+            (Aw(0, 0x10000, 0, 3), Right),
+            (B(0), Said::Axi(AxiRule::BWithoutWrite)),
+            (W(2, 0xff, true), Right),
+            (B(0), Right),
+        ],
+        outstanding: 0,
+        open: 0,
+    },
+];
+
 impl Judge for RacingBoard {
     fn opening(alloc: Global, setup: &Setup) -> Result<Self, SetupFault> {
         RacingBoard::new(alloc, setup)
@@ -252,6 +366,7 @@ fn histories(rt: HostRuntime) {
         GETS.as_slice(),
         WRITES.as_slice(),
         SOURCES.as_slice(),
+        EARLY.as_slice(),
         REPLIES.as_slice(),
         PORTS.as_slice(),
     ] {
@@ -271,6 +386,31 @@ fn right_beats_and_bytes(rt: HostRuntime) {
         None,
     );
     same(&rt, "first wrong byte", wrong_byte(&board), None);
+}
+
+/// How many W beats a board takes before their AW.
+fn taken_early(board: &mut RacingBoard) -> usize {
+    let early = seen(W(0, 0xff, false));
+    for count in 0..300 {
+        if board.judge(&early) == Some(Wrong::Axi(AxiRule::WWithoutAw)) {
+            return count;
+        }
+    }
+    300
+}
+
+#[test]
+fn data_of_the_longest_burst_come_first(rt: HostRuntime) {
+    let setup = set_up(REGION).expect(&rt, "room");
+    let mut board = RacingBoard::new(rt.alloc(), &setup).expect(&rt, "memory");
+    same(&rt, "early beats", taken_early(&mut board), 256);
+    for (beat, said) in [
+        (Aw(0, 0x10000, 255, 3), Said::Axi(AxiRule::WLast)),
+        (W(0, 0xff, true), Right),
+        (B(0), Right),
+    ] {
+        same(&rt, "a beat", board.judge(&seen(beat)), wrong(said));
+    }
 }
 
 #[test]

@@ -30,7 +30,7 @@ returns-clause-state c =
     let found = c.in-Some.found.now in
     let within : c.from.result < length clients = search rules in
     let there : slice_get clients c.from.result ≡ Some found = slice_get_read clients (length clients) c.from.result found refl within c.in-Some.ensures.item.1 in
-    let old : RacingState = record { clients = clients; serial = c.self.inside.serial; races = c.self.inside.races; port = c.self.inside.axi.port; open_bursts = c.self.inside.axi.open_bursts } in
+    let old : RacingState = record { clients = clients; serial = c.self.inside.serial; races = c.self.inside.races; axi = c.self.inside.axi } in
     let state = subst (λ n. IsAnswered c.self.inside.serial c.self.inside.races n found c.args.beat.now (answer_to found c.args.beat.now) c.judge_request.new.serial c.judge_request.new.races c.judge_request.new.self) (sym c.from.ensures) c.judge_request.ensures.state in
     subst (λ (board : RacingState). racing_board (parts_after old c.from.result c.judge_request.new.self c.judge_request.new.serial c.judge_request.new.races) ≡ after_request (racing_board board) c.args.client (slice_get board.clients c.args.client) c.args.beat.now) c.self.view_is
     (rw (← c.from.ensures) (requested old c.from.result (slice_get clients c.from.result) found c.judge_request.new.self c.args.beat.now c.judge_request.new.serial c.judge_request.new.races there state))

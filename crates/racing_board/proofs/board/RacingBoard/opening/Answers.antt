@@ -1,6 +1,5 @@
 -- Each part is that of the opening.
 use Rattle.std.proofs.Common.{◌≡◌, ◌*◌, ap, refl, sym, ◌∙◌}
-use Rattle.axi_checker.specs.Monitors.{MonitorState}
 use Rattle.world_run.specs.Setups.{lists_of}
 use Rattle.scoreboard.specs.Boards.{opening_board}
 use Rattle.scoreboard.specs.SerialMemory.{SerialState}
@@ -31,9 +30,9 @@ pub returns : goal.returns
 returns c =
     let setup = lists_of c.args.setup.now in
     let state : RacingState =
-    record { clients = c.in_ok-clients.clients.items; serial = c.in_ok-serial.serial; races = c.in_ok-races.races; port = c.in_ok-axi.axi.port; open_bursts = c.in_ok-axi.axi.open_bursts } in
+    record { clients = c.in_ok-clients.clients.items; serial = c.in_ok-serial.serial; races = c.in_ok-races.races; axi = c.in_ok-axi.axi } in
     let serial : state.serial ≡ (opening_board setup).serial =
     c.in_ok-serial.ensures ∙ rw (c.in-Ok.ensures.ok, c.as_slice.ensures.value, c.as_slice-pages.ensures.value, c.as_slice-bad.ensures.value) refl in
     let opens : IsOpening c.in_ok-races.races (c.args.setup.now.config.clients * 257) setup.pages setup.bad_words =
     rw (← c.from.ensures, ← c.as_slice-pages.ensures.value, ← c.as_slice-bad.ensures.value) c.in_ok-races.ensures in
-    opened setup state c.in_ok-clients.ensures serial opens (ap (λ (m : MonitorState). m.port) c.in_ok-axi.ensures) (ap (λ (m : MonitorState). m.open_bursts) c.in_ok-axi.ensures)
+    opened setup state c.in_ok-clients.ensures serial opens c.in_ok-axi.ensures

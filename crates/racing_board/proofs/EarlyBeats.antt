@@ -1,0 +1,131 @@
+-- W beats that come before their AW: where none is early, a port goes on as one that asks for an AW before its W beats; and how a list of them is taken.
+use Rattle.std.proofs.Common.{◌≡◌, ◌<◌, Bool, true, false, ◌&&◌, List, [], ◌∷◌, ◌++◌, drop, length, slice_index_or, Option, Some, None, if◌then◌else◌, refl, sym, ◌∙◌, ap, arith}
+use Rattle.std.specs.Prelude.{nat_lt}
+use Rattle.std.specs.Option.{option_or}
+use Rattle.axi_beats.specs.declared.AwBeat.{AwBeat}
+use Rattle.axi_beats.specs.declared.WBeat.{WBeat}
+use Rattle.axi_checker.specs.OpenBursts.{AxiBeat, OnAr, OnAw, OnB, OnR, OnW, OpenBursts}
+use Rattle.axi_checker.specs.Rules.{AxiPortLimits, axi_fault}
+use Rattle.axi_checker.specs.declared.AxiRule.{AxiRule}
+use Rattle.scoreboard.specs.Boards.{bursts_after, wrong_axi}
+use Rattle.scoreboard.specs.declared.Wrong.{Wrong}
+use Rattle.scoreboard.specs.declared.Wrong.TheVariants.{Axi}
+use Rattle.racing_board.specs.EarlyData.{PortBoard, Taken, none_early, port_after, port_wrong, taken_by, taking, tells_no_write, wrong_first}
+
+-- ---- nothing is early
+
+module _ (limits : AxiPortLimits) (open_bursts : OpenBursts) where
+  pub aw_wrong : (aw : AwBeat) (fault : Option AxiRule) → (taken_by (none_early limits open_bursts) aw fault).wrong ≡ wrong_axi fault
+  aw_wrong aw None = refl
+  aw_wrong aw (Some broken) = refl
+
+  aw_after : (aw : AwBeat) (fault : Option AxiRule)
+      → record (none_early limits open_bursts) {
+        open_bursts = (taken_by (none_early limits open_bursts) aw fault).open_bursts;
+        early = (taken_by (none_early limits open_bursts) aw fault).early;
+      }
+      ≡ none_early limits (bursts_after open_bursts (OnAw aw) fault)
+  aw_after aw None = refl
+  aw_after aw (Some broken) = refl
+
+  -- a beat that isn't a W beat without a write is judged as it comes
+  pub wrong_as : (beat : AxiBeat) → tells_no_write (wrong_axi (axi_fault limits open_bursts beat)) ≡ false
+      → port_wrong (none_early limits open_bursts) beat ≡ wrong_axi (axi_fault limits open_bursts beat)
+  wrong_as (OnAw aw) there = aw_wrong aw (axi_fault limits open_bursts (OnAw aw))
+  wrong_as (OnW w) there =
+      ap (λ (early : Bool). if early && nat_lt 0 256 then None else wrong_axi (axi_fault limits open_bursts (OnW w))) there
+  wrong_as (OnB b) there = refl
+  wrong_as (OnAr ar) there = refl
+  wrong_as (OnR r) there = refl
+
+  -- and nothing is early after it
+  pub after_as : (beat : AxiBeat) → tells_no_write (wrong_axi (axi_fault limits open_bursts beat)) ≡ false
+      → port_after (none_early limits open_bursts) beat
+      ≡ none_early limits (bursts_after open_bursts beat (axi_fault limits open_bursts beat))
+  after_as (OnAw aw) there = aw_after aw (axi_fault limits open_bursts (OnAw aw))
+  after_as (OnW w) there =
+      ap
+      (λ (early : Bool).
+          if early && nat_lt 0 256
+          then record (none_early limits open_bursts) { early = [] ++ w ∷ [] }
+          else none_early limits (bursts_after open_bursts (OnW w) (axi_fault limits open_bursts (OnW w))))
+      there
+  after_as (OnB b) there = refl
+  after_as (OnAr ar) there = refl
+  after_as (OnR r) there = refl
+
+-- a W beat without a write changes no burst
+pub unchanged : (open_bursts : OpenBursts) (beat : AxiBeat) (fault : Option AxiRule) → tells_no_write (wrong_axi fault) ≡ true
+    → bursts_after open_bursts beat fault ≡ open_bursts
+unchanged open_bursts beat None none = absurd (cc (none))
+unchanged open_bursts beat (Some broken) none = refl
+
+-- ---- an AW beat by its verdict
+
+-- one that breaks a rule changes nothing
+pub aw_refused : (port : PortBoard) (aw : AwBeat) (fault : Option AxiRule) (wrong : Wrong) → wrong_axi fault ≡ Some wrong
+    → taken_by port aw fault ≡ record { open_bursts = bursts_after port.open_bursts (OnAw aw) fault; early = port.early; wrong = Some wrong }
+aw_refused port aw None wrong is = absurd (cc (is))
+aw_refused port aw (Some broken) wrong is =
+    ap {B = Taken} (λ (verdict : Option Wrong). record { open_bursts = port.open_bursts; early = port.early; wrong = verdict }) is
+
+-- one that breaks none takes the early beats
+pub aw_opens : (port : PortBoard) (aw : AwBeat) (fault : Option AxiRule) → wrong_axi fault ≡ None
+    → taken_by port aw fault ≡ taking port.limits (bursts_after port.open_bursts (OnAw aw) fault) port.early
+aw_opens port aw None none = refl
+aw_opens port aw (Some broken) none = absurd (cc (none))
+
+-- ---- a list of early beats
+
+or_associates : (first second third : Option Wrong) → option_or (option_or first second) third ≡ option_or first (option_or second third)
+or_associates None second third = refl
+or_associates (Some wrong) second third = refl
+
+or_none : (first : Option Wrong) → option_or first None ≡ first
+or_none None = refl
+or_none (Some wrong) = refl
+
+module _ (limits : AxiPortLimits) (open_bursts : OpenBursts) (w : WBeat) (rest : List WBeat) (first : Option Wrong) where
+  -- the rule that the first breaks, and what is taken by whether it has no write
+  by_fault : Option AxiRule → Bool → Taken
+  by_fault fault stops =
+      wrong_first first
+      (if stops
+      then record { open_bursts = open_bursts; early = w ∷ rest; wrong = None }
+      else wrong_first (wrong_axi fault) (taking limits (bursts_after open_bursts (OnW w) fault) rest))
+
+  -- the first has no write: all stay early
+  pub taking_stops : tells_no_write (wrong_axi (axi_fault limits open_bursts (OnW w))) ≡ true
+      → wrong_first first (taking limits open_bursts (w ∷ rest)) ≡ record { open_bursts = open_bursts; early = w ∷ rest; wrong = first }
+  unfolding by_fault
+  taking_stops none =
+      ap (by_fault (axi_fault limits open_bursts (OnW w))) none
+      ∙ ap {B = Taken} (λ (wrong : Option Wrong). record { open_bursts = open_bursts; early = w ∷ rest; wrong = wrong }) (or_none first)
+
+  -- the first has one: it is taken, and then the others
+  pub taking_more : tells_no_write (wrong_axi (axi_fault limits open_bursts (OnW w))) ≡ false
+      → wrong_first first (taking limits open_bursts (w ∷ rest))
+      ≡ wrong_first (option_or first (wrong_axi (axi_fault limits open_bursts (OnW w))))
+      (taking limits (bursts_after open_bursts (OnW w) (axi_fault limits open_bursts (OnW w))) rest)
+  unfolding by_fault
+  taking_more there =
+      ap (by_fault (axi_fault limits open_bursts (OnW w))) there
+      ∙ all (axi_fault limits open_bursts (OnW w))
+    where
+      all : (fault : Option AxiRule)
+          → wrong_first first (wrong_first (wrong_axi fault) (taking limits (bursts_after open_bursts (OnW w) fault) rest))
+          ≡ wrong_first (option_or first (wrong_axi fault)) (taking limits (bursts_after open_bursts (OnW w) fault) rest)
+      all fault =
+          let later = taking limits (bursts_after open_bursts (OnW w) fault) rest in
+          ap (λ (wrong : Option Wrong). record later { wrong = wrong }) (sym (or_associates first (wrong_axi fault) later.wrong))
+
+-- a list by its first
+pub by_first : {X : Type 0} (xs : List X) (x : X) → 0 < length xs → x ≡ slice_index_or xs 0 x → xs ≡ x ∷ drop 1 xs
+by_first [] x some first = absurd (omega (arith, some))
+by_first {X} (y ∷ ys) x some first = ap (λ (z : X). z ∷ ys) (sym first)
+
+-- none is left: what was wrong so far
+pub taking_ends : (limits : AxiPortLimits) (open_bursts : OpenBursts) (first : Option Wrong)
+    → wrong_first first (taking limits open_bursts []) ≡ record { open_bursts = open_bursts; early = []; wrong = first }
+taking_ends limits open_bursts first =
+    ap {B = Taken} (λ (wrong : Option Wrong). record { open_bursts = open_bursts; early = []; wrong = wrong }) (or_none first)

@@ -1,0 +1,146 @@
+//! The AXI4 port as a racing board sees it: the data of a write may come before its address.
+ghost use Rattle.std.specs.Prelude.{◌≡◌, IfOk};
+ghost use Rattle.std.specs.VecDeque.{deque_capacity};
+ghost use Rattle.axi_checker.specs.OpenBursts.{OnAr, OnAw, OnB, OnR, OnW, nothing_open};
+ghost use Rattle.bridge_core.specs.Configs.{axi_port_of, is_valid};
+ghost use Rattle.scoreboard.specs.Boards.{open_count};
+ghost use Rattle.racing_board.specs.EarlyData.{drained, none_early, port_after, port_wrong, taking, tells_no_write};
+
+use axi_beats::{ArBeat, AwBeat, BBeat, RBeat, WBeat};
+use axi_checker::AxiRule;
+use bridge_core::Config;
+use scoreboard::{AxiPort, Wrong};
+use std::alloc::{AllocError, Global};
+use std::collections::VecDeque;
+use std::marker::Model;
+
+/// How many W beats may be early.
+const MOST_EARLY: usize = 256;
+
+/// The AXI4 port: what is outstanding on it, and the W beats that are early, since their AW is still to come, in their order. All
+/// room is taken by `new`.
+pub(crate) struct RacingPort {
+    axi: AxiPort,
+    early: VecDeque<WBeat>,
+}
+
+impl Model for RacingPort {
+    ghost use Rattle.std.specs.Prelude.{◌≤◌};
+    ghost use Rattle.std.specs.VecDeque.{deque_capacity};
+    ghost use Rattle.racing_board.specs.EarlyData.{PortBoard};
+
+    ghost Value = { PortBoard };
+
+    ghost view = { λ p. record { limits = p.axi.port; open_bursts = p.axi.open_bursts; early = p.early.items } };
+
+    ghost invariant = { λ p. 256 ≤ deque_capacity p.early };
+}
+
+// Written out, so that what lets go of one calls this, and proves nothing of its parts.
+impl Drop for RacingPort {
+    fn drop(self) {
+        let RacingPort { axi: _, early: _ } = self;
+    }
+}
+
+/// Whether a verdict is that a W beat has no write to belong to.
+fn tells_no_write(verdict: &Option<Wrong>) -> bool
+    ensures { result ≡ tells_no_write verdict.now }
+{
+    matches!(verdict, Some(Wrong::Axi(AxiRule::WWithoutAw)))
+}
+
+/// Takes early beats in their order as W beats of the open writes, up to the first that has no write to belong to, and says what is
+/// wrong with the first that is wrong.
+fn take_early(axi: &mut AxiPort, early: &mut VecDeque<WBeat>) -> Option<Wrong>
+    ensures bursts { axi.new ≡ record axi.old { open_bursts = (taking axi.old.port axi.old.open_bursts early.old.items).open_bursts } }
+    ensures early { early.new.items ≡ (taking axi.old.port axi.old.open_bursts early.old.items).early }
+    ensures wrong { result ≡ (taking axi.old.port axi.old.open_bursts early.old.items).wrong }
+    ensures capacity { deque_capacity early.new ≡ deque_capacity early.old }
+{
+    let mut first = None;
+    while let Some(beat) = early.front() {
+        let verdict = axi.w(beat);
+        if tells_no_write(&verdict) {
+            return first;
+        }
+        first = first.or(verdict);
+        early.pop_front();
+    }
+    first
+}
+
+impl RacingPort {
+    /// A port within these limits, on which nothing is outstanding and nothing is early. The one error is that memory was refused.
+    pub(crate) fn new(alloc: Global, config: &Config) -> Result<Self, AllocError>
+        requires { is_valid config.now ≡ true }
+        ensures { IfOk result (λ port. port ≡ none_early (axi_port_of config.now) nothing_open) }
+    {
+        let axi = AxiPort::new(alloc, config)?;
+        let early = VecDeque::with_capacity(alloc, MOST_EARLY)?;
+        Ok(RacingPort { axi, early })
+    }
+
+    /// How many bursts are outstanding.
+    pub(crate) fn open_bursts(&self) -> u8
+        ensures { result ≡ open_count self.now.open_bursts }
+    {
+        self.axi.open_bursts()
+    }
+
+    /// Nothing is outstanding any more, and nothing early: what went unobserved has closed all bursts.
+    pub(crate) fn clear(&mut self)
+        ensures { self.new ≡ drained self.old }
+    {
+        self.axi.clear();
+        self.early.clear();
+    }
+
+    /// Judges a write's address, and the early beats that it takes.
+    pub(crate) fn aw(&mut self, beat: &AwBeat) -> Option<Wrong>
+        ensures wrong { result ≡ port_wrong self.old (OnAw beat.now) }
+        ensures state { self.new ≡ port_after self.old (OnAw beat.now) }
+    {
+        if let Some(wrong) = self.axi.aw(beat) {
+            return Some(wrong);
+        }
+        take_early(&mut self.axi, &mut self.early)
+    }
+
+    /// Judges a write's data, which may be early.
+    pub(crate) fn w(&mut self, beat: &WBeat) -> Option<Wrong>
+        ensures wrong { result ≡ port_wrong self.old (OnW beat.now) }
+        ensures state { self.new ≡ port_after self.old (OnW beat.now) }
+    {
+        let verdict = self.axi.w(beat);
+        if tells_no_write(&verdict) && self.early.len() < MOST_EARLY {
+            self.early.push_back_reserved(*beat);
+            return None;
+        }
+        verdict
+    }
+
+    /// Judges a write's response, which closes its burst.
+    pub(crate) fn b(&mut self, beat: &BBeat) -> Option<Wrong>
+        ensures wrong { result ≡ port_wrong self.old (OnB beat.now) }
+        ensures state { self.new ≡ port_after self.old (OnB beat.now) }
+    {
+        self.axi.b(beat)
+    }
+
+    /// Judges a read's address.
+    pub(crate) fn ar(&mut self, beat: &ArBeat) -> Option<Wrong>
+        ensures wrong { result ≡ port_wrong self.old (OnAr beat.now) }
+        ensures state { self.new ≡ port_after self.old (OnAr beat.now) }
+    {
+        self.axi.ar(beat)
+    }
+
+    /// Judges a read's data, of which the last close their burst.
+    pub(crate) fn r(&mut self, beat: &RBeat) -> Option<Wrong>
+        ensures wrong { result ≡ port_wrong self.old (OnR beat.now) }
+        ensures state { self.new ≡ port_after self.old (OnR beat.now) }
+    {
+        self.axi.r(beat)
+    }
+}
