@@ -9,8 +9,7 @@ use Rattle.axi_checker.specs.Rules.{AxiPortLimits, axi_fault}
 use Rattle.axi_checker.specs.declared.AxiRule.{AxiRule}
 use Rattle.scoreboard.specs.Boards.{bursts_after, wrong_axi}
 use Rattle.scoreboard.specs.declared.Wrong.{Wrong}
-use Rattle.scoreboard.specs.declared.Wrong.TheVariants.{Axi}
-use Rattle.racing_board.specs.EarlyData.{PortBoard, Taken, none_early, port_after, port_wrong, taken_by, taking, tells_no_write, wrong_first}
+use Rattle.racing_board.specs.EarlyData.{Taken, none_early, port_after, port_wrong, taken_by, taking, tells_no_write, wrong_first}
 
 -- ---- nothing is early
 
@@ -46,9 +45,9 @@ module _ (limits : AxiPortLimits) (open_bursts : OpenBursts) where
   after_as (OnW w) there =
       ap
       (λ (early : Bool).
-          if early && nat_lt 0 256
-          then record (none_early limits open_bursts) { early = [] ++ w ∷ [] }
-          else none_early limits (bursts_after open_bursts (OnW w) (axi_fault limits open_bursts (OnW w))))
+      if early && nat_lt 0 256
+      then record (none_early limits open_bursts) { early = [] ++ w ∷ [] }
+      else none_early limits (bursts_after open_bursts (OnW w) (axi_fault limits open_bursts (OnW w))))
       there
   after_as (OnB b) there = refl
   after_as (OnAr ar) there = refl
@@ -59,21 +58,6 @@ pub unchanged : (open_bursts : OpenBursts) (beat : AxiBeat) (fault : Option AxiR
     → bursts_after open_bursts beat fault ≡ open_bursts
 unchanged open_bursts beat None none = absurd (cc (none))
 unchanged open_bursts beat (Some broken) none = refl
-
--- ---- an AW beat by its verdict
-
--- one that breaks a rule changes nothing
-pub aw_refused : (port : PortBoard) (aw : AwBeat) (fault : Option AxiRule) (wrong : Wrong) → wrong_axi fault ≡ Some wrong
-    → taken_by port aw fault ≡ record { open_bursts = bursts_after port.open_bursts (OnAw aw) fault; early = port.early; wrong = Some wrong }
-aw_refused port aw None wrong is = absurd (cc (is))
-aw_refused port aw (Some broken) wrong is =
-    ap {B = Taken} (λ (verdict : Option Wrong). record { open_bursts = port.open_bursts; early = port.early; wrong = verdict }) is
-
--- one that breaks none takes the early beats
-pub aw_opens : (port : PortBoard) (aw : AwBeat) (fault : Option AxiRule) → wrong_axi fault ≡ None
-    → taken_by port aw fault ≡ taking port.limits (bursts_after port.open_bursts (OnAw aw) fault) port.early
-aw_opens port aw None none = refl
-aw_opens port aw (Some broken) none = absurd (cc (none))
 
 -- ---- a list of early beats
 

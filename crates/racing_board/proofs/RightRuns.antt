@@ -1,5 +1,5 @@
 -- Beats that are right, of which a racing board finds none wrong.
-use Rattle.std.proofs.Common.{◌≡◌, ℕ, zero, suc, ◌<◌, Bool, false, List, [], ◌∷◌, ◌++◌, length, Option, Some, None, Result, refl, sym, ◌∙◌, ap, subst, arith}
+use Rattle.std.proofs.Common.{◌≡◌, ℕ, zero, suc, ◌<◌, false, List, [], ◌∷◌, ◌++◌, length, Option, Some, None, Result, refl, sym, ◌∙◌, ap, subst, arith}
 use Rattle.std.specs.Prelude.{slice_get}
 use Rattle.std.specs.List.{AllByRecursion}
 use Rattle.std.proofs.lemmas.List.{append-nil, append_assoc}
@@ -50,6 +50,7 @@ module _ (setup : SetupLists) (observed : Observed) (board : RacingBoard) where
 
   axi_right : (beat : AxiBeat) → IsRightNow setup observed → IsRightNow setup (with_axi_beat beat observed)
       → axi_fault limits opened beat ≡ None
+  unfolding limits opened
   axi_right beat before now = sym (axi_fault-append limits nothing_open observed.axi beat before.axi) ∙ now.axi
 
   -- it has a write, if it needs one
@@ -59,12 +60,14 @@ module _ (setup : SetupLists) (observed : Observed) (board : RacingBoard) where
 
   axi_none : (beat : AxiBeat) → IsRacingOf setup observed board → IsRightNow setup observed → IsRightNow setup (with_axi_beat beat observed)
       → port_wrong board.axi beat ≡ None
+  unfolding limits opened
   axi_none beat of before now =
       ap (λ (port : PortBoard). port_wrong port beat) of.axi ∙ wrong_as limits opened beat (axi_there beat before now)
       ∙ ap wrong_axi (axi_right beat before now)
 
   step_axi : (beat : AxiBeat) → IsRacingOf setup observed board → IsRightNow setup observed → IsRightNow setup (with_axi_beat beat observed)
       → IsRacingOf setup (with_axi_beat beat observed) (after_axi board beat)
+  unfolding opened limits
   step_axi beat of before now =
       record {
         count = of.count;

@@ -73,13 +73,12 @@ reply_on old new races number (Some client) beat is = on_same _ new (after_reply
 
 axi_on : (old new : Board) (races : Races) (beat : AxiBeat) → tells_apart (strict.axi_wrong old beat) ≡ false → new ≡ strict.after_axi old beat
     → IsOn new (after_axi (racing_on old races) beat)
-axi_on old new races beat free is =
-    (
-      races,
-      ap (λ (port : PortBoard). record (racing_on old races) { axi = port })
-          (after_as old.port old.open_bursts beat (no_other (strict.axi_wrong old beat) free))
-          ∙ ap (λ (board : Board). racing_on board races) (sym is),
-    )
+axi_on old new races beat free is = (
+  races,
+  ap (λ (port : PortBoard). record (racing_on old races) { axi = port })
+      (after_as old.port old.open_bursts beat (no_other (strict.axi_wrong old beat) free))
+      ∙ ap (λ (board : Board). racing_on board races) (sym is),
+)
 
 pub after_on : (old new : Board) (races : Races) (seen : Seen) → tells_apart (strict.wrong_at old seen) ≡ false → strict.IsAfter old seen new
     → IsOn new (after_seen (racing_on old races) seen)

@@ -1,5 +1,5 @@
 -- Write data that come before their address: AXI4 (A3.3) lets the W beats of a burst come before its AW. Until then they are early.
-use Rattle.std.specs.Prelude.{ℕ, Bool, true, false, ◌&&◌, List, [], ◌∷◌, ◌++◌, length, Option, Some, None, if◌then◌else◌, nat_lt}
+use Rattle.std.specs.Prelude.{Bool, true, false, ◌&&◌, List, [], ◌∷◌, ◌++◌, length, Option, Some, None, if◌then◌else◌, nat_lt}
 use Rattle.std.specs.Option.{option_or}
 use Rattle.axi_beats.specs.declared.AwBeat.{AwBeat}
 use Rattle.axi_beats.specs.declared.WBeat.{WBeat}
@@ -70,7 +70,7 @@ taking limits open_bursts (w ∷ rest) =
     if tells_no_write (wrong_axi (axi_fault limits open_bursts (OnW w)))
     then record { open_bursts = open_bursts; early = w ∷ rest; wrong = None }
     else wrong_first (wrong_axi (axi_fault limits open_bursts (OnW w)))
-        (taking limits (bursts_after open_bursts (OnW w) (axi_fault limits open_bursts (OnW w))) rest)
+    (taking limits (bursts_after open_bursts (OnW w) (axi_fault limits open_bursts (OnW w))) rest)
 
 -- by the rule that the AW beat breaks itself: where it breaks one nothing changes, else its burst is open, and the early beats are taken
 abbrev pub taken_by : PortBoard → AwBeat → Option AxiRule → Taken

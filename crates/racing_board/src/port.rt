@@ -1,5 +1,5 @@
 //! The AXI4 port as a racing board sees it: the data of a write may come before its address.
-ghost use Rattle.std.specs.Prelude.{◌≡◌, IfOk};
+ghost use Rattle.std.specs.Prelude.{◌≡◌, true, IfOk};
 ghost use Rattle.std.specs.VecDeque.{deque_capacity};
 ghost use Rattle.axi_checker.specs.OpenBursts.{OnAr, OnAw, OnB, OnR, OnW, nothing_open};
 ghost use Rattle.bridge_core.specs.Configs.{axi_port_of, is_valid};

@@ -1,12 +1,11 @@
 -- An early beat that has no write stays early with those behind it; one that has one is taken.
-use Rattle.std.proofs.Common.{◌≡◌, ◌<◌, ◌∷◌, [], List, Option, drop, length, true, false, sym, ◌∙◌, ap, ap₂, refl, rules, subst}
+use Rattle.std.proofs.Common.{◌≡◌, ◌<◌, ◌∷◌, [], List, drop, length, true, false, sym, ◌∙◌, ap, ap₂, rules}
 use Rattle.std.proofs.lemmas.List.{nil_from_length}
 use Rattle.axi_checker.specs.Monitors.{MonitorState}
 use Rattle.axi_checker.specs.OpenBursts.{OnW, OpenBursts}
 use Rattle.axi_checker.specs.Rules.{AxiPortLimits, axi_fault}
 use Rattle.axi_beats.specs.declared.WBeat.{WBeat}
 use Rattle.scoreboard.specs.Boards.{wrong_axi}
-use Rattle.scoreboard.specs.declared.Wrong.{Wrong}
 use Rattle.racing_board.specs.EarlyData.{Taken, taking, tells_no_write, wrong_first}
 use Rattle.racing_board.proofs.EarlyBeats.{by_first, taking_ends, taking_more, taking_stops, unchanged}
 use Rattle.racing_board.proofs.port.take_early.Goals as goal
