@@ -1,6 +1,6 @@
 """Simulates the bridge of this folder, as it is and with each of six faults planted, and has tlscore judge what the monitor saw.
 
-    python3 examples/testbench/rtl/run.py [--runs N] [--first SEED] [--simulator NAME] [--score PROGRAM]
+    python3 examples/testbench/rtl/run.py [--runs N] [--first SEED] [--profile NAME] [--simulator NAME] [--score PROGRAM]
 
 For each of them it prints how many runs were told wrong, and after how many beats the first wrong line came. It ends with status 0
 exactly where the right bridge is never blamed and each fault is told in some run, with 1 where not, with 2 for words that it doesn't
@@ -54,10 +54,10 @@ def simulated(words):
         raise Cannot(f"{ran.stdout[-2000:]}{words[0]} ended with status {ran.returncode}")
 
 
-def judged(score, text):
+def judged(score, setup, text):
     """What the scoreboard prints of an observation. Its standard error, where it tells how its building goes, is ours."""
     try:
-        ran = subprocess.run([score], input=SETUP + text, stdout=subprocess.PIPE, text=True, check=False)
+        ran = subprocess.run([score], input=setup + text, stdout=subprocess.PIPE, text=True, check=False)
     except OSError as why:
         raise Cannot(f"{score}: {why.strerror}") from why
     if ran.returncode > 1:
@@ -75,7 +75,7 @@ class Variant:
         self.names = Counter()  # what that one was told for
         self.seed = None  # of the first such run
 
-    def take(self, seed, text):
+    def take(self, seed, setup, text):
         """Notes what the scoreboard prints of a run."""
         ended = ENDED.search(text)
         if not ended:
@@ -86,7 +86,7 @@ class Variant:
         self.unfinished += outstanding + still_open > 0
         if wrong:
             line, name = WRONG.search(text).groups()
-            self.first.append(int(line) - SETUP.count("\n"))
+            self.first.append(int(line) - setup.count("\n"))
             self.names[name] += 1
             self.seed = self.seed or seed
 
@@ -106,9 +106,10 @@ class Variant:
 def tried(bug, given, folder):
     """Runs a variant with each seed."""
     runs, variant, seen = compiled(given.simulator, bug, folder), Variant(bug), folder / "seen.lines"
+    setup = f"{SETUP}profile {given.profile}\n"
     for seed in range(given.first, given.first + given.runs):
         simulated([*runs, f"+seed={seed}", f"+observed={seen}"])
-        variant.take(seed, judged(given.score, seen.read_text()))
+        variant.take(seed, setup, judged(given.score, setup, seen.read_text()))
     return variant
 
 
@@ -117,6 +118,7 @@ def words():
     asked = argparse.ArgumentParser(description="a bridge in SystemVerilog, right and with faults, judged by tlscore")
     asked.add_argument("--runs", type=int, default=20, help="how many runs of each (20)")
     asked.add_argument("--first", type=int, default=1, help="the seed of the first run, from 1; the others follow (1)")
+    asked.add_argument("--profile", choices=("bridge", "tilelink"), default="bridge", help="what is asked of the bridge (bridge)")
     asked.add_argument("--simulator", choices=SIMULATORS, help="the first of these that is there")
     score = os.environ.get("TLSCORE", HERE.parents[2] / "tlscore")
     asked.add_argument("--score", default=score, help="the scoreboard (what TLSCORE names, else tlscore at the top)")
