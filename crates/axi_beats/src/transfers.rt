@@ -1,5 +1,5 @@
 //! The addresses and lanes of a burst's transfers (AXI4, A3.4.1). A transfer's number counts from 1.
-ghost use Rattle.std.specs.Prelude.{◌≡◌, ℕ, ◌+◌, ◌-◌, ◌<◌, ◌≤◌, IsTrue};
+ghost use Rattle.std.specs.Prelude.{◌≡◌, ℕ, ◌+◌, ◌-◌, ◌%◌, ◌<◌, ◌≤◌, IsTrue};
 ghost use Rattle.axi_beats.specs.Transfers.{transfer_address, lowest_lane, highest_lane, last_byte, IsBusWidth, fits_bus, TransfersCoverOnce};
 
 /// The address of transfer `n`, from 1 to 256, of a burst that begins at `start` with transfers of `2^size` bytes:
@@ -19,6 +19,18 @@ pub fn transfer_address(start: u32, size: u8, n: u16) -> u64
     }
 }
 
+/// Where an address lies in a word of the bus. Both widths are told apart, since a division takes longer.
+fn place_in_word(bus_bytes: u8, address: u64) -> u64
+    requires { IsBusWidth bus_bytes }
+    ensures { result ≡ address % bus_bytes }
+{
+    if bus_bytes == 8 {
+        address % 8
+    } else {
+        address % 4
+    }
+}
+
 /// The lowest and the highest lane that transfer `n`, from 1 to 256, of a burst covers on a bus of `bus_bytes` bytes,
 /// 4 or 8: Lower_Byte_Lane and Upper_Byte_Lane. Transfers have `2^size` bytes, at most the bus's.
 pub fn lanes_of(start: u32, size: u8, n: u16, bus_bytes: u8) -> (u8, u8)
@@ -32,11 +44,10 @@ pub fn lanes_of(start: u32, size: u8, n: u16, bus_bytes: u8) -> (u8, u8)
     ensures within { result.1 < bus_bytes }
 {
     let bytes = 1u64 << size;
-    let bus = u64::from(bus_bytes);
-    let lowest = transfer_address(start, size, n) % bus;
+    let lowest = place_in_word(bus_bytes, transfer_address(start, size, n));
     let highest = if n == 1 {
         let start = u64::from(start);
-        start / bytes * bytes + (bytes - 1) - start / bus * bus
+        start / bytes * bytes + (bytes - 1) - (start - lowest)
     } else {
         lowest + bytes - 1
     };

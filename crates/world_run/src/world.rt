@@ -169,13 +169,13 @@ impl World {
         ensures reply { reply.new ≡ (if is_reply result then (next self.old step.now).reply else reply.old) }
         ensures laws { IsSoundWorld self.old × IsSoundWorld self.new }
     {
-        match *step {
-            Step::Offer(client, beat) => self.offer(client, &beat),
+        match step {
+            Step::Offer(client, beat) => self.offer(*client, beat),
             Step::Pump => self.pump(),
-            Step::Perform(serial, beat) => self.perform(serial, beat),
-            Step::AnswerB(id) => self.answer_b(id),
-            Step::AnswerR(id) => self.answer_r(id),
-            Step::Take(client) => self.take(client, reply),
+            Step::Perform(serial, beat) => self.perform(*serial, *beat),
+            Step::AnswerB(id) => self.answer_b(*id),
+            Step::AnswerR(id) => self.answer_r(*id),
+            Step::Take(client) => self.take(*client, reply),
         }
     }
 
