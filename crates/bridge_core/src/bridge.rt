@@ -1,14 +1,13 @@
 //! The bridge.
-ghost use Rattle.std.specs.Prelude.{◌≡◌, ◌↔◌, ◌+◌, ◌-◌, ◌*◌, ◌^◌, ◌<◌, ◌≤◌, true, false, None, Some, Ok, Err, IfOk, IfSome, IsErr, IsOk, IsSome, IsSomeAnd, MatchOption, is_some, option_map, slice_get};
+ghost use Rattle.std.specs.Prelude.{◌≡◌, ◌↔◌, ◌+◌, ◌-◌, ◌*◌, ◌^◌, ◌<◌, ◌≤◌, true, false, None, Some, Ok, Err, IfOk, IfSome, IsErr, IsOk, IsSome, MatchOption, is_some, option_map};
 ghost use Rattle.std.specs.Vec.{vec_capacity, vec_len};
 ghost use Rattle.axi_beats.specs.Bursts.{IsLegal};
 ghost use Rattle.responses.specs.Gathered.{gathered};
 ghost use Rattle.responses.specs.RightReplies.{ShowsReply};
 ghost use Rattle.tl_messages.specs.Requests.{request_of};
-ghost use Rattle.tl_checker.specs.Ports.{judged};
 ghost use Rattle.bridge_core.specs.Inside.{held_back, no_place};
 
-use crate::ports::{accept, judge, opening_ports, take_beat};
+use crate::ports::{accept, judge, opening_ports, take_told};
 use crate::requests::RequestTable;
 use crate::{BridgeFault, Config, Offered, Taken};
 use axi_beats::{BBeat, BurstBox, RBeat};
@@ -16,7 +15,7 @@ use axi_checker::{AxiRule, Monitor};
 use burst_plan::PageMap;
 use std::alloc::{AllocError, Global};
 use std::marker::Model;
-use tl_checker::{Port, Progress};
+use tl_checker::{Port, Progress, TlRule};
 use tl_messages::{ABeat, ReplyBox};
 
 /// A bridge from TileLink clients to one AXI4 memory port (TileLink 1.8; AXI4; this project's profile). Its clients'
@@ -121,13 +120,18 @@ impl Bridge {
             return Offered::NoClient;
         }
         let busy = self.requests.flight().busy(client, beat.source);
-        if let Some(answer) = held_back(&self.ports, &self.requests, client, beat, busy) {
+        let told = judge(&self.ports, client, beat, busy);
+        if let Some(answer) = held_back(&self.requests, client, told) {
             return answer;
         }
-        match take_beat(&mut self.ports, client, beat, busy) {
-            Err(rule) => Offered::Refused(rule),
-            Ok(Progress::More) => Offered::More,
-            Ok(Progress::Whole) => {
+        take_told(&mut self.ports, client, beat, busy, told);
+        let progress = match told {
+            Err(rule) => return Offered::Refused(rule),
+            Ok(progress) => progress,
+        };
+        match progress {
+            Progress::More => Offered::More,
+            Progress::Whole => {
                 Offered::Accepted(accept(&mut self.ports, &mut self.requests, client))
             }
         }
@@ -277,18 +281,11 @@ fn no_place(requests: &RequestTable, client: u8) -> Option<Offered>
     None
 }
 
-/// Why a beat that breaks no rule has to wait: it would complete a request that can't be accepted now.
-fn held_back(
-    ports: &[Port],
-    requests: &RequestTable,
-    client: u8,
-    beat: &ABeat,
-    busy: bool,
-) -> Option<Offered>
-    requires { IsSomeAnd (slice_get ports.now client) (λ port. port.whole ≡ None) }
-    ensures { IfSome (slice_get ports.now client) (λ port. result ≡ held_back requests.now client (judged port.limits port.front beat.now busy)) }
+/// Why a beat has to wait of which this was told: it breaks no rule, and would complete a request that can't be accepted now.
+fn held_back(requests: &RequestTable, client: u8, told: Result<Progress, TlRule>) -> Option<Offered>
+    ensures { result ≡ held_back requests.now client told }
 {
-    match judge(ports, client, beat, busy) {
+    match told {
         Ok(Progress::Whole) => no_place(requests, client),
         _ => None,
     }

@@ -38,18 +38,21 @@ pub(crate) fn judge(
     ports[usize::from(client)].judge(beat, busy)
 }
 
-/// Takes a beat at a client's port, unless it breaks a rule.
-pub(crate) fn take_beat(
+/// Takes a beat at a client's port, which judged it; one that breaks a rule changes nothing.
+pub(crate) fn take_told(
     ports: &mut Vec<Port>,
     client: u8,
     beat: &ABeat,
     busy: bool,
-) -> Result<Progress, TlRule>
-    requires { IsSomeAnd (slice_get ports.old.items client) (λ port. port.whole ≡ None) }
-    ensures answer { IfSome (slice_get ports.old.items client) (λ port. result ≡ judged port.limits port.front beat.now busy) }
-    ensures ports { IfSome (slice_get ports.old.items client) (λ port. ports.new.items ≡ slice_set ports.old.items client (port_after port beat.now result)) }
+    told: Result<Progress, TlRule>,
+)
+    requires whole { IsSomeAnd (slice_get ports.old.items client) (λ port. port.whole ≡ None) }
+    requires told { IfSome (slice_get ports.old.items client) (λ port. told ≡ judged port.limits port.front beat.now busy) }
+    ensures { IfSome (slice_get ports.old.items client) (λ port. ports.new.items ≡ slice_set ports.old.items client (port_after port beat.now told)) }
 {
-    ports[usize::from(client)].take_beat(beat, busy)
+    if let Ok(progress) = told {
+        ports[usize::from(client)].take_judged(beat, busy, progress);
+    }
 }
 
 /// Accepts the request that stands whole on a client's port.
