@@ -1,5 +1,5 @@
 -- What is true of every world that the events make: bridge and memory agree, and neither refuses what the other hands it. It knows both
--- parts by their own laws and by the bursts that are outstanding between them; which bytes these carry is left to InOrder.
+-- parts by their own laws and by the bursts that are outstanding between them; which bytes these carry is left to world_run.
 use Rattle.std.specs.Prelude.{ℕ, ◌≡◌, ◌+◌, ◌-◌, ◌*◌, ◌≤◌, ◌^◌, List, [], ◌∷◌, length, None, IfSome, sum_by}
 use Rattle.axi_beats.specs.Bursts.{Burst, IsLegal}
 use Rattle.axi_checker.specs.Rules.{burst_fault}

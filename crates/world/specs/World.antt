@@ -1,5 +1,5 @@
 -- The world: a bridge and a free memory, and what each event makes of them. It knows each part by what its calls make of its state; how one
--- stays in step with the other, and what a run of events shows, is told in Laws and Runs.
+-- stays in step with the other is told in Laws, and what a run of events shows in the crate world_run.
 use Rattle.std.specs.Prelude.{ℕ, ◌+◌, ◌≡◌, Bool, true, false, List, [], ◌∷◌, ◌++◌, map, zero, suc, Option, Some, None, is_some, if◌then◌else◌, nat_le}
 use Rattle.tl_messages.specs.declared.DBeat.{DBeat}
 use Rattle.axi_beats.specs.Bursts.{Burst}
