@@ -74,14 +74,14 @@ STATEMENTS = (
         "`world_run::run`, clause `one_at_a_time`.",
         (
             ("world_run", "Headline", "IsOneAtATime"),
-            ("world_run", "Setups", "lists_of"),
+            ("world", "Setups", "lists_of"),
             ("world_run", "Runs", "handed_of"),
-            ("world_run", "World", "in_flight"),
-            ("world_run", "World", "byte_of"),
+            ("world", "World", "in_flight"),
+            ("world", "World", "byte_of"),
         ),
     ),
     ("What a run's record is", "`world_run::run`, clause `shows`.", (("world_run", "Runs", "IsRunOf"),)),
-    ("What `drain` does", "`world_run::World::drain`, clause `drains`.", (("world_run", "Laws", "IsDrained"),)),
+    ("What `drain` does", "`world::World::drain`, clause `drains`.", (("world", "Laws", "IsDrained"),)),
     (
         "The text of `run` and `check`, and the status",
         "`tlbridge::carried_out`, clauses `run` and `check`, and `tlbridge::status_of`.",

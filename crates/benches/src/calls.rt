@@ -2,7 +2,7 @@
 use crate::worlds::{Load, PUT, busy_world, made, offer_of, world_of};
 use std::alloc::Global;
 use tl_messages::ReplyBox;
-use world_run::Step;
+use world::Step;
 
 /// How often a step that changes nothing is answered so.
 fn repeated(alloc: Global, load: Load, step: Step) -> Option<u64> {

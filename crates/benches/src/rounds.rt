@@ -2,7 +2,7 @@
 use crate::worlds::{GET, Load, PUT, made, offer_of, offered, world_of};
 use std::alloc::Global;
 use tl_messages::ReplyBox;
-use world_run::{Step, World};
+use world::{Step, World};
 
 /// Takes all replies, and answers how many there were.
 fn taken(world: &mut World, reply: &mut ReplyBox, count: u32) -> u64 {

@@ -5,7 +5,7 @@ use std::alloc::Global;
 use subordinate::PageKind;
 use tl_checker::Level;
 use tl_messages::{ABeat, ReplyBox};
-use world_run::{Answer, Setup, Step, World};
+use world::{Answer, Setup, Step, World};
 
 /// How large a workload is, 1 to 64: live requests, open bursts or pages; and how often it is done.
 #[derive(Clone, Copy)]

@@ -9,9 +9,9 @@ use Rattle.bus_words.specs.Lanes.{is_between}
 use Rattle.tl_messages.specs.declared.ABeat.{ABeat}
 use Rattle.burst_plan.specs.Pieces.{is_max_len}
 use Rattle.bridge_core.specs.Configs.{is_valid}
-use Rattle.world_run.specs.Setups.{SetupLists, setup_fault}
-use Rattle.world_run.specs.declared.SetupFault.{SetupFault}
-use Rattle.world_run.specs.declared.SetupFault.TheVariants.{BadConfig}
+use Rattle.world.specs.Setups.{SetupLists, setup_fault}
+use Rattle.world.specs.declared.SetupFault.{SetupFault}
+use Rattle.world.specs.declared.SetupFault.TheVariants.{BadConfig}
 use Rattle.thread_reports.specs.Refusals.{is_refused}
 
 -- where none of some tests holds, the first two don't

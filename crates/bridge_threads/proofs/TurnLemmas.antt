@@ -1,7 +1,7 @@
 -- Choices of a memory thread, with one more. What a step does is hidden.
 use Rattle.std.proofs.Common.{◌≡◌, ℕ, List, [], ◌∷◌, ◌++◌, length, refl, sym, ap, ◌∙◌, subst}
-use Rattle.world_run.specs.World.{WorldState, after, next}
-use Rattle.world_run.specs.declared.Step.{Step}
+use Rattle.world.specs.World.{WorldState, after, next}
+use Rattle.world.specs.declared.Step.{Step}
 use Rattle.bridge_threads.specs.SharedStates.{SharedState, turned}
 use Rattle.bridge_threads.specs.Turns.{AreChosen, IsChosen, after_turns, place_after, word_at}
 

@@ -8,7 +8,7 @@ use Rattle.tl_checker.specs.Requests.{TlPortLimits, first_fault}
 use Rattle.tl_checker.specs.declared.TlRule.{TlRule}
 use Rattle.bridge_core.specs.Configs.{port_of}
 use Rattle.bridge_core.specs.declared.Config.{Config}
-use Rattle.world_run.specs.Setups.{SetupLists}
+use Rattle.world.specs.Setups.{SetupLists}
 
 -- what a port holds of a message that has begun, after one beat more
 abbrev pub front_with : TlPortLimits → Option HeldMessage → ABeat → Option HeldMessage

@@ -1,9 +1,9 @@
 -- What is kept under the lock: the world with its history, and what the workers tell one another. It knows the steps that changed the world; which
 -- worker made each, and when, is told by nothing.
 use Rattle.std.specs.Prelude.{ℕ, Bool, false, List, [], ◌∷◌, ◌++◌, if◌then◌else◌}
-use Rattle.world_run.specs.Setups.{SetupLists}
-use Rattle.world_run.specs.World.{WorldState, Outcome, leaves_all, next, opening_world}
-use Rattle.world_run.specs.declared.Step.{Step}
+use Rattle.world.specs.Setups.{SetupLists}
+use Rattle.world.specs.World.{WorldState, Outcome, leaves_all, next, opening_world}
+use Rattle.world.specs.declared.Step.{Step}
 
 -- what lies under the lock: the set-up, the world, the stored steps and how many there may be, how many clients are at work, and whether all
 -- workers are to stop

@@ -3,13 +3,13 @@
 use Rattle.std.specs.Prelude.{ℕ, ◌+◌, ◌%◌, ◌==◌, ◌≡◌, ◌<◌, ◌≤◌, ◌⊎◌, ◌-◌, Bool, List, [], ◌∷◌, ◌++◌, length, Option, Some, None, is_some, slice_get, slice_index_or, if◌then◌else◌, nat_lt}
 use Rattle.tl_messages.specs.declared.ABeat.{ABeat}
 use Rattle.bridge_core.specs.Requests.{first_done}
-use Rattle.world_run.specs.World.{WorldState, enabled, next}
+use Rattle.world.specs.World.{WorldState, enabled, next}
 use Rattle.tl_messages.specs.declared.DBeat.{DBeat}
 use Rattle.tl_checker.specs.declared.TlRule.TheVariants.{SourceBusy}
-use Rattle.world_run.specs.declared.Answer.{Answer}
-use Rattle.world_run.specs.declared.Answer.TheVariants.{More, Accepted, Refused, Reply}
-use Rattle.world_run.specs.declared.Step.{Step}
-use Rattle.world_run.specs.declared.Step.TheVariants.{Offer, Take}
+use Rattle.world.specs.declared.Answer.{Answer}
+use Rattle.world.specs.declared.Answer.TheVariants.{More, Accepted, Refused, Reply}
+use Rattle.world.specs.declared.Step.{Step}
+use Rattle.world.specs.declared.Step.TheVariants.{Offer, Take}
 use Rattle.bridge_threads.specs.SharedStates.{SharedState, turned}
 use Rattle.bridge_threads.specs.declared.turns.Move.{Move}
 use Rattle.bridge_threads.specs.declared.turns.Move.TheVariants.{Ends, Takes, Offers, CountsOut, Waits}

@@ -2,14 +2,14 @@
 ghost use Rattle.std.specs.Prelude.{◌≡◌, ◌+◌, ◌<◌, ◌≤◌, ◌^◌, ◌==◌, ℕ, ◌++◌, ◌∷◌, [], length, vec_len, slice_get, Some, if◌then◌else◌};
 ghost use Rattle.thread_reports.specs.Reports.{takes_beat};
 ghost use Rattle.bridge_threads.specs.Turns.{MakesStep, OnMove, ReceivesBy, accepted_after, client_move, offer_turn};
-ghost use Rattle.world_run.specs.declared.Step.TheVariants.{Offer, Take};
+ghost use Rattle.world.specs.declared.Step.TheVariants.{Offer, Take};
 
 use crate::turns::{Move, Turn, WorkerFault, client_move};
 use crate::{HistoryFull, Shared};
 use thread_reports::{Receipts, named_place};
 use tl_checker::TlRule;
 use tl_messages::{ABeat, ReplyBox};
-use world_run::{Answer, Step};
+use world::{Answer, Step};
 
 /// A client at work: what of its script was taken, and what it received.
 #[derive(Drop)]

@@ -1,13 +1,13 @@
 //! What a threaded run is refused for before it starts.
 ghost use Rattle.std.specs.Prelude.{◌≡◌, length, nat_lt};
 ghost use Rattle.std.specs.List.{list_any};
-ghost use Rattle.world_run.specs.Setups.{lists_of};
+ghost use Rattle.world.specs.Setups.{lists_of};
 ghost use Rattle.thread_reports.specs.Refusals.{is_refused};
 ghost use Rattle.thread_reports.specs.Reports.{items_of};
 
 use crate::Limits;
 use tl_messages::ABeat;
-use world_run::{Setup, setup_fault};
+use world::{Setup, setup_fault};
 
 /// The most beats of a script.
 const MOST_BEATS: usize = 4096;

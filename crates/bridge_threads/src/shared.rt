@@ -2,15 +2,15 @@
 ghost use Rattle.std.specs.Prelude.{◌≡◌, ◌⊎◌, ◌↔◌, ◌≤◌, ◌-◌, true, length, Some, IfErr, IfOk, IfSome, IsErr, IsTrue, if◌then◌else◌};
 ghost use Rattle.bridge_threads.specs.SharedStates.{opening_shared, turned};
 ghost use Rattle.thread_reports.specs.Histories.{IsHistory};
-ghost use Rattle.world_run.specs.Setups.{lists_of, setup_fault};
-ghost use Rattle.world_run.specs.World.{is_reply, leaves_all, next, opening_world};
-ghost use Rattle.world_run.specs.declared.SetupFault.TheVariants.{NoMemory};
+ghost use Rattle.world.specs.Setups.{lists_of, setup_fault};
+ghost use Rattle.world.specs.World.{is_reply, leaves_all, next, opening_world};
+ghost use Rattle.world.specs.declared.SetupFault.TheVariants.{NoMemory};
 
 use std::alloc::Global;
 use std::marker::Model;
 use thread_reports::leaves_all;
 use tl_messages::ReplyBox;
-use world_run::{Answer, Setup, SetupFault, Step, World};
+use world::{Answer, Setup, SetupFault, Step, World};
 
 /// The history has no room for a step more.
 #[derive(Clone, Copy, Debug, PartialEq, Eq)]
@@ -36,8 +36,8 @@ impl Model for Shared {
     ghost use Rattle.std.specs.Vec.{vec_capacity, vec_len};
     ghost use Rattle.bridge_threads.specs.SharedStates.{SharedState};
     ghost use Rattle.thread_reports.specs.Histories.{IsHistory};
-    ghost use Rattle.world_run.specs.Setups.{lists_of};
-    ghost use Rattle.world_run.specs.World.{opening_world};
+    ghost use Rattle.world.specs.Setups.{lists_of};
+    ghost use Rattle.world.specs.World.{opening_world};
 
     ghost Value = { SharedState };
 
@@ -65,7 +65,7 @@ fn copied(setup: &Setup) -> Setup
 
 impl Shared {
     /// The opening world of a set-up, with no steps stored and room for `steps` of them, and all clients at work. Refuses what
-    /// `world_run::setup_fault` does, with that fault; its one other error is NoMemory.
+    /// `world::setup_fault` does, with that fault; its one other error is NoMemory.
     pub fn new(alloc: Global, setup: &Setup, steps: u32) -> Result<Shared, SetupFault>
         ensures refused { IfSome (setup_fault (lists_of setup.now)) (λ fault. result ≡ Err fault) }
         ensures want { IfErr result (λ fault. (setup_fault (lists_of setup.now) ≡ Some fault) ⊎ (fault ≡ NoMemory)) }

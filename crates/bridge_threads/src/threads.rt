@@ -6,9 +6,9 @@ ghost use Rattle.tl_checker.specs.declared.TlRule.TheVariants.{SourceBusy};
 ghost use Rattle.bridge_core.specs.Configs.{is_valid, port_of};
 ghost use Rattle.world_run.specs.Headline.{IsOneAtATime};
 ghost use Rattle.world_run.specs.Runs.{answers_of, handed_in, sent_in};
-ghost use Rattle.world_run.specs.Setups.{SetupLists, lists_of, setup_fault};
-ghost use Rattle.world_run.specs.World.{byte_of, in_flight, opening_world};
-ghost use Rattle.world_run.specs.declared.Step.{Step};
+ghost use Rattle.world.specs.Setups.{SetupLists, lists_of, setup_fault};
+ghost use Rattle.world.specs.World.{byte_of, in_flight, opening_world};
+ghost use Rattle.world.specs.declared.Step.{Step};
 ghost use Rattle.bridge_threads.specs.Faults.{is_mismatch, is_of_worker};
 ghost use Rattle.bridge_threads.specs.RefusedBeats.{IsRefusedBeat, client_limits, limits_of_ports};
 ghost use Rattle.thread_reports.specs.FullHistories.{IsFullHistory};
@@ -29,7 +29,7 @@ use thiserror::Error;
 use thread_reports::{Mismatch, Receipts, Report, SecondWorld};
 use tl_checker::{Port, TlRule};
 use tl_messages::{ABeat, ReplyBox};
-use world_run::Setup;
+use world::Setup;
 
 /// A worker.
 #[derive(Clone, Copy, Debug, PartialEq, Eq)]

@@ -1,7 +1,7 @@
 //! What a worker does in one hold of the lock, on the value under it.
 ghost use Rattle.std.specs.Prelude.{◌≡◌, ◌+◌, ◌≤◌, List, [], length, true, false, Ok, IsErr};
-ghost use Rattle.world_run.specs.World.{enabled};
-ghost use Rattle.world_run.specs.declared.Step.{Step};
+ghost use Rattle.world.specs.World.{enabled};
+ghost use Rattle.world.specs.declared.Step.{Step};
 ghost use Rattle.bridge_threads.specs.Turns.{IsChosen, IsHold, StoppedBy, client_move, idle_left, place_after, within_limit, word_at};
 ghost use Rattle.bridge_threads.specs.SharedStates.{turned};
 ghost use Rattle.bridge_threads.specs.declared.turns.Turn.TheVariants.{Ended};

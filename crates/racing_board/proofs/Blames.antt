@@ -17,7 +17,7 @@ use Rattle.burst_plan.specs.declared.Region.{Region}
 use Rattle.responses.specs.Shown.{shown}
 use Rattle.subordinate.specs.Faults.{Faults}
 use Rattle.world_run.specs.Meaning.{Bytes, bytes_after_all, meaning, zeros}
-use Rattle.world_run.specs.Setups.{SetupLists, faults_of}
+use Rattle.world.specs.Setups.{SetupLists, faults_of}
 use Rattle.scoreboard.specs.Boards as strict
 use Rattle.scoreboard.specs.Boards.{ClientBoard, DueBoard, due_of, none_left, reply_rules, wrong_by}
 use Rattle.scoreboard.specs.declared.ReplyRule.{ReplyRule}

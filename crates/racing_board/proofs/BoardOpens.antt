@@ -7,9 +7,9 @@ use Rattle.axi_checker.specs.OpenBursts.{nothing_open}
 use Rattle.bridge_core.specs.Configs.{is_valid}
 use Rattle.subordinate.specs.Faults.{device_fault}
 use Rattle.subordinate.specs.declared.DeviceFault.{DeviceFault}
-use Rattle.world_run.specs.Setups.{SetupLists, setup_fault}
-use Rattle.world_run.specs.declared.SetupFault.{SetupFault}
-use Rattle.world_run.specs.declared.SetupFault.TheVariants.{BadConfig, Device}
+use Rattle.world.specs.Setups.{SetupLists, setup_fault}
+use Rattle.world.specs.declared.SetupFault.{SetupFault}
+use Rattle.world.specs.declared.SetupFault.TheVariants.{BadConfig, Device}
 use Rattle.scoreboard.specs.Boards.{ClientBoard, opening_board, opening_client}
 use Rattle.scoreboard.specs.SerialMemory.{SerialState}
 use Rattle.racing_board.specs.Boards.{RacingState, opening_races, opening_racing, racing_board}

@@ -6,7 +6,7 @@ use Rattle.tl_messages.specs.declared.DBeat.{DBeat}
 use Rattle.tl_checker.specs.declared.Level.TheVariants.{Uh}
 use Rattle.subordinate.specs.Pages.{zero_words}
 use Rattle.subordinate.specs.declared.PageKind.TheVariants.{Good}
-use Rattle.world_run.specs.Setups.{SetupLists}
+use Rattle.world.specs.Setups.{SetupLists}
 use Rattle.scoreboard.specs.declared.ReplyRule.TheVariants.{Payload}
 use Rattle.scoreboard.specs.declared.Seen.{Seen}
 use Rattle.scoreboard.specs.declared.Seen.TheVariants.{A, D}

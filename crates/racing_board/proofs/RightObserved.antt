@@ -8,7 +8,7 @@ use Rattle.axi_checker.specs.Rules.{open_after_all}
 use Rattle.bridge_core.specs.Configs.{axi_port_of}
 use Rattle.bridge_core.proofs.PortPlaces.{get_set, get_set-other}
 use Rattle.world_run.specs.Headline.{bytes_of_all}
-use Rattle.world_run.specs.Setups.{SetupLists, faults_of}
+use Rattle.world.specs.Setups.{SetupLists, faults_of}
 use Rattle.scoreboard.specs.Boards.{ClientBoard}
 use Rattle.scoreboard.specs.Observed.{Observed, nothing_observed, requests_in}
 use Rattle.scoreboard.proofs.BoardOf.{IsClientOf, board_opens}

@@ -17,7 +17,7 @@ use Rattle.responses.specs.Shown.{Reply, shown}
 use Rattle.bridge_core.specs.Configs.{port_of}
 use Rattle.world_run.specs.Headline.{bytes_of_all}
 use Rattle.world_run.specs.Meaning.{meaning, zeros}
-use Rattle.world_run.specs.Setups.{SetupLists, faults_of}
+use Rattle.world.specs.Setups.{SetupLists, faults_of}
 use Rattle.scoreboard.specs.Boards as strict
 use Rattle.scoreboard.specs.Boards.{ClientBoard, DueBoard, has_source, is_busy, with_due, wrong_request}
 use Rattle.scoreboard.specs.Observed.{Observed, requests_in, with_begun, with_message, with_request_beat}

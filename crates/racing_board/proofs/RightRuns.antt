@@ -10,7 +10,7 @@ use Rattle.axi_checker.specs.OpenBursts.{AxiBeat, OnAr, OnAw, OnB, OnR, OnW, Ope
 use Rattle.axi_checker.specs.Rules.{AxiPortLimits, axi_fault, open_after_all}
 use Rattle.axi_checker.specs.declared.AxiRule.{AxiRule}
 use Rattle.bridge_core.specs.Configs.{axi_port_of}
-use Rattle.world_run.specs.Setups.{SetupLists}
+use Rattle.world.specs.Setups.{SetupLists}
 use Rattle.scoreboard.specs.Boards as strict
 use Rattle.scoreboard.specs.Boards.{ClientBoard, bursts_after, wrong_axi, wrong_request}
 use Rattle.scoreboard.specs.InsideBoards.{HasSource}

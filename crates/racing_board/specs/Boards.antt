@@ -19,7 +19,7 @@ use Rattle.responses.specs.Shown.{shown}
 use Rattle.bridge_core.specs.Requests.{address_of}
 use Rattle.subordinate.specs.Faults.{Faults, is_good, standing_at}
 use Rattle.world_run.specs.Meaning.{Bytes, Effect, meaning}
-use Rattle.world_run.specs.Setups.{SetupLists}
+use Rattle.world.specs.Setups.{SetupLists}
 use Rattle.scoreboard.specs.Boards.{Board, ClientBoard, after_reply_beat, due_of, next_reply, none_left, open_count, opening_board, replies_left, reply_rules, with_due, wrong_by, wrong_request}
 use Rattle.scoreboard.specs.InsideSerial.{bytes_in}
 use Rattle.scoreboard.specs.SerialMemory.{SerialState, on_good_page}

@@ -2,8 +2,8 @@
 ghost use Rattle.std.specs.Prelude.{◌≡◌, ◌<◌, ◌≤◌, ◌⊎◌, ◌*◌, List, length, map, sum_by, if◌then◌else◌, None, Some, Err, IfErr, IfOk, IfSome, slice_get, true};
 ghost use Rattle.std.specs.List.{range_with_len};
 ghost use Rattle.bridge_core.specs.Configs.{is_valid};
-ghost use Rattle.world_run.specs.Setups.{lists_of, setup_fault};
-ghost use Rattle.world_run.specs.declared.SetupFault.TheVariants.{NoMemory};
+ghost use Rattle.world.specs.Setups.{lists_of, setup_fault};
+ghost use Rattle.world.specs.declared.SetupFault.TheVariants.{NoMemory};
 ghost use Rattle.scoreboard.specs.Boards.{opening_client, replies_left};
 ghost use Rattle.racing_board.specs.InsideRaces.{races_of};
 
@@ -16,7 +16,7 @@ use scoreboard::{Seen, SerialMemory, Wrong};
 use std::alloc::{AllocError, Global};
 use std::marker::Model;
 use tl_messages::{ABeat, DBeat};
-use world_run::{Setup, SetupFault, setup_fault};
+use world::{Setup, SetupFault, setup_fault};
 
 /// Tells of each beat that was observed at the ports of a bridge whether it can be right, if requests in flight together may
 /// take effect in any order: a reply's byte is compared only where it is the same in every order in which a request whose whole

@@ -6,10 +6,10 @@ use Rattle.burst_plan.specs.declared.MapFault.{MapFault}
 use Rattle.bridge_core.specs.Configs.{is_valid}
 use Rattle.subordinate.specs.Faults.{device_fault}
 use Rattle.subordinate.specs.declared.DeviceFault.{DeviceFault}
-use Rattle.world_run.specs.Setups.{SetupLists, setup_fault}
-use Rattle.world_run.specs.World.{WorldState, opening_world}
-use Rattle.world_run.specs.declared.SetupFault.{SetupFault}
-use Rattle.world_run.specs.declared.SetupFault.TheVariants.{BadConfig, Map, Device, NoMemory}
+use Rattle.world.specs.Setups.{SetupLists, setup_fault}
+use Rattle.world.specs.World.{WorldState, opening_world}
+use Rattle.world.specs.declared.SetupFault.{SetupFault}
+use Rattle.world.specs.declared.SetupFault.TheVariants.{BadConfig, Map, Device, NoMemory}
 use Rattle.script_text.specs.Stages.{OpensAs}
 use Rattle.run_script.specs.Run.{opened}
 

@@ -1,8 +1,8 @@
 -- Each command of `tlbridge run` has text.
 use Rattle.std.proofs.Common.{◌≡◌, ◌≢◌, ℕ, true, List, [], ◌∷◌, ◌++◌, Option, Some, None, refl, rules}
-use Rattle.world_run.specs.World.{WorldState, next}
-use Rattle.world_run.specs.declared.Answer.{Answer}
-use Rattle.world_run.specs.declared.Answer.TheVariants as answer
+use Rattle.world.specs.World.{WorldState, next}
+use Rattle.world.specs.declared.Answer.{Answer}
+use Rattle.world.specs.declared.Answer.TheVariants as answer
 use Rattle.line_text.specs.Traces.{mem_text}
 use Rattle.script_text.specs.Answers.{answer_text}
 use Rattle.run_script.specs.Run.{after_answer, before_answer, commanded, run_kind}

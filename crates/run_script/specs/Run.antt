@@ -1,11 +1,11 @@
 -- `tlbridge run`: what each line of its script does (this project's profile).
 use Rattle.std.specs.Prelude.{ℕ, Bool, true, false, List, [], ◌∷◌, ◌++◌, Option, Some, None, Result, Ok, Err}
 use Rattle.tl_messages.specs.Lines.{a_text}
-use Rattle.world_run.specs.Setups.{SetupLists, setup_fault}
-use Rattle.world_run.specs.World.{WorldState, Outcome, opening_world, next, byte_of, drained, work_left}
-use Rattle.world_run.specs.declared.SetupFault.{SetupFault}
-use Rattle.world_run.specs.declared.Step.{Step}
-use Rattle.world_run.specs.declared.Step.TheVariants as step
+use Rattle.world.specs.Setups.{SetupLists, setup_fault}
+use Rattle.world.specs.World.{WorldState, Outcome, opening_world, next, byte_of, drained, work_left}
+use Rattle.world.specs.declared.SetupFault.{SetupFault}
+use Rattle.world.specs.declared.Step.{Step}
+use Rattle.world.specs.declared.Step.TheVariants as step
 use Rattle.line_text.specs.Fields.{read_as, byte_field, short_field, address_field}
 use Rattle.script_text.specs.Forms.{told_as}
 use Rattle.line_text.specs.OfferLines.{offer_line}

@@ -6,7 +6,7 @@ ghost use Rattle.run_script.specs.Run.{byte_line, command_of, mem_line, perform_
 
 use line_text::{Words, offer_line};
 use script_text::Form;
-use world_run::Step;
+use world::Step;
 
 /// A command.
 #[derive(Clone, Copy, Debug, PartialEq, Eq)]

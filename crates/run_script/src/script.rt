@@ -1,7 +1,7 @@
 //! A script of `tlbridge run`: what its commands do to a world, and what they write.
 ghost use Rattle.std.specs.Prelude.{◌≡◌, OnOk};
 ghost use Rattle.std.specs.Io.KnownBytes.{Appends};
-ghost use Rattle.world_run.specs.World.{next};
+ghost use Rattle.world.specs.World.{next};
 ghost use Rattle.script_text.specs.Scripts.{EndsAs, text_of, text_before_failure};
 ghost use Rattle.script_text.specs.Stages.{Opening};
 ghost use Rattle.run_script.specs.Run.{before_answer, commanded, event_text, run_reading};
@@ -14,7 +14,7 @@ use script_text::{Form, Kind, ScriptFault, StagedScript, answer_line, read_scrip
 use std::alloc::Global;
 use std::io::{Read, Write};
 use tl_messages::ReplyBox;
-use world_run::{Answer, Setup, SetupFault, Step, World};
+use world::{Answer, Setup, SetupFault, Step, World};
 
 /// A script of `tlbridge run`.
 #[derive(Drop)]

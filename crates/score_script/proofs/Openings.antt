@@ -12,9 +12,9 @@ use Rattle.score_script.specs.declared.profiles.Profile.{Profile}
 use Rattle.script_text.specs.Stages.{OpensAs}
 use Rattle.subordinate.specs.Faults.{device_fault}
 use Rattle.subordinate.specs.declared.DeviceFault.{DeviceFault}
-use Rattle.world_run.specs.Setups.{SetupLists, setup_fault}
-use Rattle.world_run.specs.declared.SetupFault.{SetupFault}
-use Rattle.world_run.specs.declared.SetupFault.TheVariants.{BadConfig, Map, Device, NoMemory}
+use Rattle.world.specs.Setups.{SetupLists, setup_fault}
+use Rattle.world.specs.declared.SetupFault.{SetupFault}
+use Rattle.world.specs.declared.SetupFault.TheVariants.{BadConfig, Map, Device, NoMemory}
 
 -- a score with a board by which nothing was judged
 abbrev score_with : ProfileBoard → Score

@@ -14,7 +14,7 @@ use std::test::Fail;
 use subordinate::{PageKind, device_fault};
 use tl_checker::{Level, Port, Progress, TlRule};
 use tl_messages::{ABeat, DBeat, ReplyBox};
-use world_run::{Setup, SetupFault, Step};
+use world::{Setup, SetupFault, Step};
 
 /// Has the test fail where two values differ; `case` says of what they are.
 fn same<C: Debug + Drop, T: Debug + Drop + PartialEq>(rt: &impl Abort, case: C, got: T, wanted: T) {

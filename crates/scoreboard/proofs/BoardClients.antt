@@ -6,9 +6,9 @@ use Rattle.std.proofs.lemmas.List.FromFn.{length-map-range_with_len}
 use Rattle.tl_messages.specs.declared.ABeat.{ABeat}
 use Rattle.bridge_core.specs.Configs.{is_valid}
 use Rattle.bridge_core.proofs.JoinedRequests.{limits_made}
-use Rattle.world_run.specs.Setups.{SetupLists, setup_fault}
-use Rattle.world_run.specs.declared.SetupFault.{SetupFault}
-use Rattle.world_run.specs.declared.SetupFault.TheVariants.{BadConfig}
+use Rattle.world.specs.Setups.{SetupLists, setup_fault}
+use Rattle.world.specs.declared.SetupFault.{SetupFault}
+use Rattle.world.specs.declared.SetupFault.TheVariants.{BadConfig}
 use Rattle.scoreboard.specs.Boards.{Board, ClientBoard, IsAfterA, IsAnswered, answer_to, opening_client, with_client}
 
 -- a set-up that isn't refused has valid limits

@@ -15,7 +15,7 @@ use Rattle.responses.specs.Shown.{Reply, address_in_word, beat_of_word, beat_wit
 use Rattle.bridge_core.specs.Configs.{axi_port_of, port_of}
 use Rattle.world_run.specs.Headline.{bytes_of_all, replies_of}
 use Rattle.world_run.specs.Meaning.{meaning, zeros}
-use Rattle.world_run.specs.Setups.{SetupLists, faults_of}
+use Rattle.world.specs.Setups.{SetupLists, faults_of}
 use Rattle.world_run.proofs.OrderOpens.{zero_byte}
 use Rattle.scoreboard.specs.Boards.{Board, ClientBoard, opening_board, opening_client, opening_due}
 use Rattle.scoreboard.specs.InsideSerial.{bytes_in}

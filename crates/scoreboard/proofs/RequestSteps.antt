@@ -21,7 +21,7 @@ use Rattle.bridge_core.proofs.PortPlaces.{get_set, get_set-other}
 use Rattle.world_run.specs.Headline.{IsSpelled, bytes_of_all}
 use Rattle.world_run.specs.Meaning.{Effect, meaning}
 use Rattle.world_run.specs.Runs.{AcceptedMessage}
-use Rattle.world_run.specs.Setups.{SetupLists, faults_of}
+use Rattle.world.specs.Setups.{SetupLists, faults_of}
 use Rattle.scoreboard.specs.Boards.{Board, ClientBoard, IsAfterRequest, IsAnswered, answer_to, has_source, is_busy, with_client, with_due, wrong_request}
 use Rattle.scoreboard.specs.Observed.{Observed, is_complete, requests_in, with_begun, with_message, with_request_beat}
 use Rattle.scoreboard.specs.Right.{IsFree, IsRightNow, IsTold, is_of, left_of, replies_to}

@@ -36,19 +36,19 @@ use Rattle.bridge_core.proofs.HolderChanges.{length-filter-map}
 use Rattle.subordinate.specs.Faults.{Faults}
 use Rattle.subordinate.specs.FreeMemory.{b_of, r_of}
 use Rattle.world_run.specs.Headline.{IsReplyTo, IsSpelled, bytes_of_all, replies_of}
-use Rattle.world_run.specs.Laws.{AreSoundAlong, GoesWell, IsSoundWorld}
+use Rattle.world.specs.Laws.{AreSoundAlong, GoesWell, IsSoundWorld}
 use Rattle.world_run.specs.Meaning.{Bytes, bytes_after_all, meaning, replies_in_order, zeros}
 use Rattle.world_run.specs.Runs.{HandedReply, Heard, answers_of, handed_at, handed_in, heard_nothing, requests_of}
-use Rattle.world_run.specs.Setups.{SetupLists, faults_of}
-use Rattle.world_run.specs.World.{Outcome, WorldState, answered_b, answered_r, changed, next, opening_world, taken, unchanged}
-use Rattle.world_run.specs.declared.Answer.TheVariants as answer
-use Rattle.world_run.specs.declared.Step.{Step}
-use Rattle.world_run.specs.declared.Step.TheVariants as step
+use Rattle.world.specs.Setups.{SetupLists, faults_of}
+use Rattle.world.specs.World.{Outcome, WorldState, answered_b, answered_r, changed, next, opening_world, taken, unchanged}
+use Rattle.world.specs.declared.Answer.TheVariants as answer
+use Rattle.world.specs.declared.Step.{Step}
+use Rattle.world.specs.declared.Step.TheVariants as step
 use Rattle.world_run.proofs.AcceptedRequests.{IsHeard, accepted_at_step, completed_heard, heard_after, heard_at_first, heard_next, known_heard, quiet_request, request_at}
 use Rattle.world_run.proofs.CarriedOut.{is_carried_out}
-use Rattle.world_run.proofs.Events.{EachWay, IsAccepted, IsTaken, after_accepted, after_begun, after_sending as after_sending_world, each_way}
+use Rattle.world.proofs.Events.{EachWay, IsAccepted, IsTaken, after_accepted, after_begun, after_sending as after_sending_world, each_way}
 use Rattle.world_run.proofs.MainTheorem.{run_requests}
-use Rattle.world_run.proofs.TakesAll.{takes_all}
+use Rattle.world.proofs.TakesAll.{takes_all}
 use Rattle.world_run.proofs.Told.{messages_along, spelled_at}
 use Rattle.scoreboard.specs.Observed.{Observed, nothing_observed, observed_in, requests_in, with_all, with_begun, with_message, with_seen}
 use Rattle.scoreboard.specs.Right.{HasClient, IsContiguous, IsFree, IsPartly, IsRight, IsRightNow, left_of, replies_to, shown_to}

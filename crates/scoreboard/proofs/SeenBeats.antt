@@ -13,7 +13,7 @@ use Rattle.axi_checker.specs.Rules.{AxiPortLimits, beats_sent, first_axi_fault, 
 use Rattle.axi_checker.proofs.Judging.{first_axi_fault-none}
 use Rattle.axi_checker.proofs.LegalBursts.{head_unbroken}
 use Rattle.bridge_core.specs.Configs.{axi_port_of}
-use Rattle.world_run.specs.Setups.{SetupLists}
+use Rattle.world.specs.Setups.{SetupLists}
 use Rattle.scoreboard.specs.Observed.{Observed, nothing_observed, observed_in, with_all, with_axi_beat, with_reply_beat, with_seen}
 use Rattle.scoreboard.specs.Right.{HasClient, IsContiguous, IsFree, IsPartly, IsRight, IsRightNow, IsTold, left_of, replies_to}
 use Rattle.scoreboard.specs.SeenRuns.{seen_of_burst, seen_of_reply}

@@ -4,14 +4,14 @@ use Rattle.std.specs.Prelude.{slice_get}
 use Rattle.std.proofs.lemmas.List.{append-nil, append_assoc, take_all}
 use Rattle.tl_messages.specs.declared.DBeat.{DBeat}
 use Rattle.axi_beats.specs.Bursts.{Burst}
-use Rattle.world_run.specs.Laws.{AreSoundAlong, IsSoundWorld}
-use Rattle.world_run.specs.Setups.{SetupLists}
-use Rattle.world_run.specs.World.{Outcome, WorldState, after, is_reply, leaves_all, next, opening_world}
-use Rattle.world_run.specs.declared.Answer.{Answer}
-use Rattle.world_run.specs.declared.Answer.TheVariants as answer
-use Rattle.world_run.specs.declared.Step.{Step}
-use Rattle.world_run.specs.declared.Step.TheVariants as step
-use Rattle.world_run.proofs.Events.{EachWay, each_way}
+use Rattle.world.specs.Laws.{AreSoundAlong, IsSoundWorld}
+use Rattle.world.specs.Setups.{SetupLists}
+use Rattle.world.specs.World.{Outcome, WorldState, after, is_reply, leaves_all, next, opening_world}
+use Rattle.world.specs.declared.Answer.{Answer}
+use Rattle.world.specs.declared.Answer.TheVariants as answer
+use Rattle.world.specs.declared.Step.{Step}
+use Rattle.world.specs.declared.Step.TheVariants as step
+use Rattle.world.proofs.Events.{EachWay, each_way}
 use Rattle.world_run.proofs.RunLemmas.{after-append}
 use Rattle.world_run.proofs.RunLoop.{sound_next}
 use Rattle.scoreboard.specs.SeenRuns.{observed, seen_by, seen_from, seen_of}

@@ -17,7 +17,7 @@ use Rattle.axi_checker.specs.declared.AxiRule.{AxiRule}
 use Rattle.responses.specs.Shown.{shown}
 use Rattle.bridge_core.specs.Configs.{axi_port_of, port_of}
 use Rattle.bridge_core.specs.declared.Config.{Config}
-use Rattle.world_run.specs.Setups.{SetupLists}
+use Rattle.world.specs.Setups.{SetupLists}
 use Rattle.scoreboard.specs.SerialMemory.{IsCarriedOut, SerialState, meaning_now, opening_serial}
 use Rattle.scoreboard.specs.declared.ReplyRule.{ReplyRule}
 use Rattle.scoreboard.specs.declared.ReplyRule.TheVariants as rule

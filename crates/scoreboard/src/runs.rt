@@ -1,10 +1,10 @@
 //! What an observer at the ports sees of a run of this project's bridge.
 ghost use Rattle.std.specs.Prelude.{◌≡◌, ◌⊎◌, ◌++◌, ◌∷◌, [], map, Some, IfErr, IfOk, IfSome, OnOk};
 ghost use Rattle.axi_beats.specs.Boxes.{w_beats_of};
-ghost use Rattle.world_run.specs.Laws.{IsSoundWorld};
-ghost use Rattle.world_run.specs.Setups.{lists_of, setup_fault};
-ghost use Rattle.world_run.specs.World.{next};
-ghost use Rattle.world_run.specs.declared.SetupFault.TheVariants.{NoMemory};
+ghost use Rattle.world.specs.Laws.{IsSoundWorld};
+ghost use Rattle.world.specs.Setups.{lists_of, setup_fault};
+ghost use Rattle.world.specs.World.{next};
+ghost use Rattle.world.specs.declared.SetupFault.TheVariants.{NoMemory};
 ghost use Rattle.scoreboard.specs.Right.{IsRight};
 ghost use Rattle.scoreboard.specs.SeenRuns.{observed, seen_by, seen_of, seen_of_burst, seen_of_reply};
 ghost use Rattle.scoreboard.specs.declared.Seen.TheVariants.{W};
@@ -13,7 +13,7 @@ use crate::Seen;
 use axi_beats::BurstBox;
 use std::alloc::Global;
 use tl_messages::ReplyBox;
-use world_run::{Answer, Setup, SetupFault, Step, World};
+use world::{Answer, Setup, SetupFault, Step, World};
 
 /// Appends a beat, or tells that memory was refused.
 fn put(seen: &mut Vec<Seen>, beat: Seen) -> Result<(), SetupFault>

@@ -8,7 +8,7 @@ use Rattle.burst_plan.specs.declared.Region.{Region as MapRegion}
 use Rattle.bridge_core.specs.declared.Config.{Config as Limits}
 use Rattle.subordinate.specs.declared.PageKind.{PageKind}
 use Rattle.subordinate.specs.declared.PageKind.TheVariants.{Good, SlaveError}
-use Rattle.world_run.specs.Setups.{SetupLists}
+use Rattle.world.specs.Setups.{SetupLists}
 use Rattle.line_text.specs.Fields.{Field, byte_field, short_field, long_field, address_field, read_as}
 use Rattle.script_text.specs.Forms.{levels_field, permissions_field, count_field, kind_field}
 use Rattle.line_text.specs.Words.{word_at, dec_at, hex_at}

@@ -6,7 +6,7 @@ ghost use Rattle.script_text.specs.Answers.{answer_text};
 
 use line_text::{WriteFault, b_line, number_line, r_line, refused_line, reply_line, write_text};
 use std::io::Write;
-use world_run::Answer;
+use world::Answer;
 
 /// Writes the line of an answer.
 pub fn answer_line<W: Write>(answer: &Answer, writer: &mut W) -> Result<(), WriteFault>

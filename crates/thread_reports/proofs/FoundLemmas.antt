@@ -10,11 +10,11 @@ use Rattle.std.proofs.lemmas.Option.{get_or_from_slice_get, slice_get_within, sl
 use Rattle.tl_messages.specs.declared.ABeat.{ABeat}
 use Rattle.tl_messages.specs.declared.DBeat.{DBeat}
 use Rattle.world_run.specs.Runs.{HandedReply, handed_at}
-use Rattle.world_run.specs.World.{WorldState, after, next}
-use Rattle.world_run.specs.declared.Answer.{Answer}
-use Rattle.world_run.specs.declared.Answer.TheVariants.{Reply}
-use Rattle.world_run.specs.declared.Step.{Step}
-use Rattle.world_run.specs.declared.Step.TheVariants.{Offer, Pump, Perform, AnswerB, AnswerR, Take}
+use Rattle.world.specs.World.{WorldState, after, next}
+use Rattle.world.specs.declared.Answer.{Answer}
+use Rattle.world.specs.declared.Answer.TheVariants.{Reply}
+use Rattle.world.specs.declared.Step.{Step}
+use Rattle.world.specs.declared.Step.TheVariants.{Offer, Pump, Perform, AnswerB, AnswerR, Take}
 use Rattle.thread_reports.specs.Replays.{DiffersAt, FoundOffers, FoundReplies, HasReceipt, IsCount, IsFound, KeepsScript}
 use Rattle.thread_reports.specs.Reports.{AreReceiptsOf, accepted_of, accepts, beats_of_all, handed_to, head_of, is_accepted, is_taken, offered_by, offers_of, takes_beat}
 use Rattle.thread_reports.specs.declared.receipts.Receipts.{Receipts}

@@ -2,9 +2,9 @@
 use Rattle.std.proofs.Common.{◌≡◌, Bool, true, false, List, [], ◌∷◌, ◌++◌, refl, ap, ◌∙◌}
 use Rattle.std.specs.Prelude.{◌&&◌}
 use Rattle.std.specs.List.{list_all}
-use Rattle.world_run.specs.World.{WorldState, Outcome, after, leaves_all, next, outcomes}
-use Rattle.world_run.specs.declared.Step.{Step}
-use Rattle.world_run.proofs.Kept.{next_kept}
+use Rattle.world.specs.World.{WorldState, Outcome, after, leaves_all, next, outcomes}
+use Rattle.world.specs.declared.Step.{Step}
+use Rattle.world.proofs.Kept.{next_kept}
 use Rattle.world_run.proofs.RunLemmas.{after-append, outcomes-append}
 use Rattle.thread_reports.specs.Histories.{IsHistory, all_change, has_changed}
 

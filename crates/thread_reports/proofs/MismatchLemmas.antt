@@ -6,11 +6,11 @@ use Rattle.std.proofs.lemmas.Bool.{false≢true}
 use Rattle.std.proofs.lemmas.List.{append-nil, length-map, length-take-le, take_all, take_at}
 use Rattle.std.proofs.lemmas.Option.{same_Some, slice_get_within}
 use Rattle.tl_messages.specs.declared.ABeat.{ABeat}
-use Rattle.world_run.specs.Laws.{AreSoundAlong}
+use Rattle.world.specs.Laws.{AreSoundAlong}
 use Rattle.world_run.specs.Runs.{HandedReply}
-use Rattle.world_run.specs.Setups.{SetupLists}
-use Rattle.world_run.specs.World.{WorldState, in_flight, opening_world}
-use Rattle.world_run.specs.declared.Step.{Step}
+use Rattle.world.specs.Setups.{SetupLists}
+use Rattle.world.specs.World.{WorldState, in_flight, opening_world}
+use Rattle.world.specs.declared.Step.{Step}
 use Rattle.thread_reports.specs.Mismatches.{EndsAt, IsMismatch, IsUnsettled}
 use Rattle.thread_reports.specs.Replays.{AreFirstReceipts, DiffersAt, FoundOffers, FoundReplies, HasReceipt, IsFound, IsReplay, KeepsScript}
 use Rattle.thread_reports.specs.Reports.{IsClientReport, IsReport, handed_to, head_of}

@@ -4,10 +4,10 @@ use Rattle.std.specs.Prelude.{filter, zip, ◌&&◌, if◌then◌else◌}
 use Rattle.std.specs.List.{cons_option, list_all}
 use Rattle.std.proofs.lemmas.List.Elements.{filter-append}
 use Rattle.world_run.specs.Runs.{HandedReply, accepted_numbers, answers_of, handed_at, handed_in}
-use Rattle.world_run.specs.World.{WorldState, after, next}
-use Rattle.world_run.specs.declared.Answer.{Answer}
-use Rattle.world_run.specs.declared.Answer.TheVariants.{More, Accepted, NotReady, Exhausted, Refused, NoClient, Sent, Idle, Done, NoSuch, Already, B, R, Nothing, Reply}
-use Rattle.world_run.specs.declared.Step.{Step}
+use Rattle.world.specs.World.{WorldState, after, next}
+use Rattle.world.specs.declared.Answer.{Answer}
+use Rattle.world.specs.declared.Answer.TheVariants.{More, Accepted, NotReady, Exhausted, Refused, NoClient, Sent, Idle, Done, NoSuch, Already, B, R, Nothing, Reply}
+use Rattle.world.specs.declared.Step.{Step}
 use Rattle.thread_reports.specs.Reports.{handed_to, is_accepted, offered_by, offers_of}
 
 cons_option-append : {A : Type 0} (o : Option A) (xs ys : List A) → cons_option o (xs ++ ys) ≡ cons_option o xs ++ ys

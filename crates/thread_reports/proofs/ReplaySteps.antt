@@ -7,10 +7,10 @@ use Rattle.std.proofs.lemmas.Option.{same_Some}
 use Rattle.tl_messages.specs.declared.ABeat.{ABeat}
 use Rattle.tl_messages.specs.declared.DBeat.{DBeat}
 use Rattle.world_run.specs.Runs.{HandedReply, accepted_numbers, answers_of, handed_at, handed_in}
-use Rattle.world_run.specs.World.{WorldState, after, leaves_all, next}
-use Rattle.world_run.specs.declared.Answer.{Answer}
-use Rattle.world_run.specs.declared.Step.{Step}
-use Rattle.world_run.specs.declared.Step.TheVariants.{Offer, Pump, Perform, AnswerB, AnswerR, Take}
+use Rattle.world.specs.World.{WorldState, after, leaves_all, next}
+use Rattle.world.specs.declared.Answer.{Answer}
+use Rattle.world.specs.declared.Step.{Step}
+use Rattle.world.specs.declared.Step.TheVariants.{Offer, Pump, Perform, AnswerB, AnswerR, Take}
 use Rattle.world_run.proofs.RunLemmas.{after-append, answers_of-append, handed_in-append}
 use Rattle.thread_reports.specs.Replays.{AreFound, IsCount, IsFound, IsReplay}
 use Rattle.thread_reports.specs.Reports.{is_accepted}

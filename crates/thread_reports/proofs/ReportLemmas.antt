@@ -11,13 +11,13 @@ use Rattle.tl_messages.specs.Requests.{WholeRequest}
 use Rattle.tl_messages.specs.declared.ABeat.{ABeat}
 use Rattle.responses.specs.Shown.{Reply}
 use Rattle.world_run.specs.Headline.{IsOneAtATime, IsReplyTo, replies_of}
-use Rattle.world_run.specs.Laws.{AreSoundAlong}
+use Rattle.world.specs.Laws.{AreSoundAlong}
 use Rattle.world_run.specs.Runs.{HandedReply, accepted_in, accepted_numbers, answers_of, handed_in, sent_in}
-use Rattle.world_run.specs.Setups.{SetupLists, setup_fault}
-use Rattle.world_run.specs.World.{WorldState, after, byte_of, in_flight, opening_world}
-use Rattle.world_run.specs.declared.Answer.{Answer}
-use Rattle.world_run.specs.declared.Answer.TheVariants.{Accepted}
-use Rattle.world_run.specs.declared.Step.{Step}
+use Rattle.world.specs.Setups.{SetupLists, setup_fault}
+use Rattle.world.specs.World.{WorldState, after, byte_of, in_flight, opening_world}
+use Rattle.world.specs.declared.Answer.{Answer}
+use Rattle.world.specs.declared.Answer.TheVariants.{Accepted}
+use Rattle.world.specs.declared.Step.{Step}
 use Rattle.world_run.proofs.CarriedOut.{is_carried_out}
 use Rattle.world_run.proofs.MainTheorem.{one_at_a_time}
 use Rattle.thread_reports.specs.Replays.{FoundOffers, FoundReplies, IsFound, IsReplay}

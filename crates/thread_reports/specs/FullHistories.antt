@@ -1,9 +1,9 @@
 -- A history that has no room for a step more. It knows steps and scripts alone.
 use Rattle.std.specs.Prelude.{ℕ, ◌≡◌, List, ◌++◌, length, Some, slice_get, IsTrue}
 use Rattle.tl_messages.specs.declared.ABeat.{ABeat}
-use Rattle.world_run.specs.Setups.{SetupLists}
-use Rattle.world_run.specs.World.{opening_world}
-use Rattle.world_run.specs.declared.Step.{Step}
+use Rattle.world.specs.Setups.{SetupLists}
+use Rattle.world.specs.World.{opening_world}
+use Rattle.world.specs.declared.Step.{Step}
 use Rattle.thread_reports.specs.Histories.{all_change}
 use Rattle.thread_reports.specs.Reports.{offers_of}
 

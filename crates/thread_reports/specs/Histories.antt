@@ -2,8 +2,8 @@
 -- worker made each, and when, is told by nothing.
 use Rattle.std.specs.Prelude.{◌≡◌, Bool, List, not, IsTrue}
 use Rattle.std.specs.List.{list_all}
-use Rattle.world_run.specs.World.{WorldState, Outcome, after, leaves_all, outcomes}
-use Rattle.world_run.specs.declared.Step.{Step}
+use Rattle.world.specs.World.{WorldState, Outcome, after, leaves_all, outcomes}
+use Rattle.world.specs.declared.Step.{Step}
 
 -- whether an event changed the world
 abbrev pub has_changed : Outcome → Bool

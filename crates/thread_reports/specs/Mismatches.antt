@@ -3,8 +3,8 @@
 use Rattle.std.specs.Prelude.{ℕ, ◌≡◌, ◌≢◌, ◌<◌, ◌≤◌, ◌^◌, ◌-◌, ◌⊎◌, false, List, length, take, Some, slice_get}
 use Rattle.tl_messages.specs.declared.ABeat.{ABeat}
 use Rattle.world_run.specs.Runs.{HandedReply, accepted_numbers, answers_of, handed_in}
-use Rattle.world_run.specs.World.{WorldState, after, in_flight}
-use Rattle.world_run.specs.declared.Step.{Step}
+use Rattle.world.specs.World.{WorldState, after, in_flight}
+use Rattle.world.specs.declared.Step.{Step}
 use Rattle.thread_reports.specs.Histories.{all_change}
 use Rattle.thread_reports.specs.Replays.{AreFirstReceipts, HasReceipt}
 use Rattle.thread_reports.specs.Reports.{AreClientReports, IsClientReport, handed_to}

@@ -4,8 +4,8 @@ use Rattle.std.specs.List.{list_all}
 use Rattle.tl_messages.specs.declared.ABeat.{ABeat}
 use Rattle.tl_messages.specs.declared.DBeat.{DBeat}
 use Rattle.world_run.specs.Runs.{HandedReply, accepted_numbers, answers_of, handed_in}
-use Rattle.world_run.specs.World.{WorldState, after}
-use Rattle.world_run.specs.declared.Step.{Step}
+use Rattle.world.specs.World.{WorldState, after}
+use Rattle.world.specs.declared.Step.{Step}
 use Rattle.thread_reports.specs.Histories.{all_change}
 use Rattle.thread_reports.specs.Reports.{accepted_of, beats_of_all, handed_to, head_of, is_taken, offers_of}
 use Rattle.thread_reports.specs.declared.receipts.Receipts.{Receipts}

@@ -7,12 +7,12 @@ use Rattle.std.specs.declared.vec.Vec.{Vec}
 use Rattle.tl_messages.specs.declared.ABeat.{ABeat}
 use Rattle.tl_messages.specs.declared.DBeat.{DBeat}
 use Rattle.world_run.specs.Runs.{HandedReply, accepted_in, answers_of, handed_in}
-use Rattle.world_run.specs.Setups.{SetupLists, setup_fault}
-use Rattle.world_run.specs.World.{WorldState, IsQuiet, opening_world}
-use Rattle.world_run.specs.declared.Answer.{Answer}
-use Rattle.world_run.specs.declared.Answer.TheVariants.{More, Accepted}
-use Rattle.world_run.specs.declared.Step.{Step}
-use Rattle.world_run.specs.declared.Step.TheVariants.{Offer}
+use Rattle.world.specs.Setups.{SetupLists, setup_fault}
+use Rattle.world.specs.World.{WorldState, IsQuiet, opening_world}
+use Rattle.world.specs.declared.Answer.{Answer}
+use Rattle.world.specs.declared.Answer.TheVariants.{More, Accepted}
+use Rattle.world.specs.declared.Step.{Step}
+use Rattle.world.specs.declared.Step.TheVariants.{Offer}
 use Rattle.thread_reports.specs.Histories.{IsHistory}
 use Rattle.thread_reports.specs.declared.receipts.Receipts.{Receipts}
 

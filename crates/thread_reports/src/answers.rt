@@ -1,8 +1,8 @@
 //! What answers and counts tell.
 ghost use Rattle.std.specs.Prelude.{◌≡◌, ◌<◌, ◌^◌};
-ghost use Rattle.world_run.specs.World.{leaves_all};
+ghost use Rattle.world.specs.World.{leaves_all};
 
-use world_run::Answer;
+use world::Answer;
 
 /// Whether an answer tells that nothing changed.
 pub fn leaves_all(answer: Answer) -> bool

@@ -2,13 +2,13 @@
 ghost use Rattle.std.specs.Prelude.{◌≡◌, ◌≢◌, ◌⊎◌, ◌+◌, ◌^◌, ◌&&◌, not, ◌-◌, ◌++◌, ◌∷◌, ◌<◌, ◌≤◌, None, ℕ, List, [], length, Some, true, false, is_some, slice_get, if◌then◌else◌};
 ghost use Rattle.tl_messages.specs.declared.ABeat.{ABeat};
 ghost use Rattle.tl_messages.specs.declared.DBeat.{DBeat};
-ghost use Rattle.world_run.specs.Laws.{AreSoundAlong, IsSoundWorld};
+ghost use Rattle.world.specs.Laws.{AreSoundAlong, IsSoundWorld};
 ghost use Rattle.world_run.specs.Runs.{handed_at};
-ghost use Rattle.world_run.specs.World.{WorldState, after, in_flight, leaves_all, next};
+ghost use Rattle.world.specs.World.{WorldState, after, in_flight, leaves_all, next};
 ghost use Rattle.thread_reports.specs.FullHistories.{BeginScripts};
-ghost use Rattle.world_run.specs.declared.Answer.TheVariants.{Reply};
-ghost use Rattle.world_run.specs.declared.Step.{Step};
-ghost use Rattle.world_run.specs.declared.Step.TheVariants.{Offer, Take};
+ghost use Rattle.world.specs.declared.Answer.TheVariants.{Reply};
+ghost use Rattle.world.specs.declared.Step.{Step};
+ghost use Rattle.world.specs.declared.Step.TheVariants.{Offer, Take};
 ghost use Rattle.thread_reports.specs.Mismatches.{IsWrongClient};
 ghost use Rattle.thread_reports.specs.Replays.{AreFound, HasReceipt, IsCount, IsFound, IsReplay};
 ghost use Rattle.thread_reports.specs.Reports.{AreClientReports, IsClientReport, is_accepted, items_of, takes_beat};
@@ -18,7 +18,7 @@ ghost use Rattle.thread_reports.specs.declared.replay.Found.{Found};
 use crate::second_world::SecondWorld;
 use crate::{Receipts, leaves_all, named_place};
 use tl_messages::{ABeat, ReplyBox};
-use world_run::{Answer, Step, World};
+use world::{Answer, Step, World};
 
 /// The most clients that a bridge has.
 pub(crate) const MOST_CLIENTS: usize = 8;

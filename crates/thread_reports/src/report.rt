@@ -1,6 +1,6 @@
 //! What a threaded run gave.
 use crate::Receipts;
-use world_run::{Step, World};
+use world::{Step, World};
 
 /// What a threaded run gave.
 #[derive(Drop)]

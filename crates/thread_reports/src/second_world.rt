@@ -3,9 +3,9 @@ ghost use Rattle.std.specs.Prelude.{◌≡◌, ◌⊎◌, ◌<◌, ◌≤◌, �
 ghost use Rattle.tl_messages.specs.declared.ABeat.{ABeat};
 ghost use Rattle.world_run.specs.Headline.{IsOneAtATime};
 ghost use Rattle.world_run.specs.Runs.{answers_of, handed_in, sent_in};
-ghost use Rattle.world_run.specs.Setups.{SetupLists, lists_of, setup_fault};
-ghost use Rattle.world_run.specs.World.{WorldState, byte_of, in_flight, opening_world};
-ghost use Rattle.world_run.specs.declared.SetupFault.TheVariants.{NoMemory};
+ghost use Rattle.world.specs.Setups.{SetupLists, lists_of, setup_fault};
+ghost use Rattle.world.specs.World.{WorldState, byte_of, in_flight, opening_world};
+ghost use Rattle.world.specs.declared.SetupFault.TheVariants.{NoMemory};
 ghost use Rattle.thread_reports.specs.FullHistories.{IsFullHistory};
 ghost use Rattle.thread_reports.specs.Mismatches.{IsMismatch};
 ghost use Rattle.thread_reports.specs.Reports.{IsReport, items_of};
@@ -15,7 +15,7 @@ use crate::replay::{Replay, first_wrong, none_strayed, replayed};
 use std::alloc::Global;
 use std::marker::Model;
 use tl_messages::{ABeat, ReplyBox};
-use world_run::{Setup, SetupFault, Step, World};
+use world::{Setup, SetupFault, Step, World};
 
 /// A client, and the place in its receipts, at which the history differs.
 #[derive(Clone, Copy, Debug, PartialEq, Eq)]
@@ -42,8 +42,8 @@ pub struct SecondWorld {
 }
 
 impl Model for SecondWorld {
-    ghost use Rattle.world_run.specs.Laws.{IsSoundWorld};
-    ghost use Rattle.world_run.specs.World.{WorldState};
+    ghost use Rattle.world.specs.Laws.{IsSoundWorld};
+    ghost use Rattle.world.specs.World.{WorldState};
 
     ghost Value = { WorldState };
 
@@ -53,7 +53,7 @@ impl Model for SecondWorld {
 }
 
 impl SecondWorld {
-    /// The opening world of a set-up. Refuses what `world_run::setup_fault` does, with that fault; its one other error is
+    /// The opening world of a set-up. Refuses what `world::setup_fault` does, with that fault; its one other error is
     /// NoMemory.
     pub fn new(alloc: Global, setup: &Setup) -> Result<SecondWorld, SetupFault>
         ensures refused { IfSome (setup_fault (lists_of setup.now)) (λ fault. result ≡ Err fault) }

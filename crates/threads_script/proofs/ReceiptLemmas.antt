@@ -9,9 +9,9 @@ use Rattle.axi_beats.proofs.Ranges.{range_with_len-append-range_with_len}
 use Rattle.tl_messages.specs.declared.ABeat.{ABeat}
 use Rattle.tl_messages.specs.declared.DBeat.{DBeat}
 use Rattle.world_run.specs.Runs.{HandedReply}
-use Rattle.world_run.specs.Setups.{SetupLists}
-use Rattle.world_run.specs.World.{WorldState, opening_world}
-use Rattle.world_run.specs.declared.Step.{Step}
+use Rattle.world.specs.Setups.{SetupLists}
+use Rattle.world.specs.World.{WorldState, opening_world}
+use Rattle.world.specs.declared.Step.{Step}
 use Rattle.thread_reports.specs.Reports.{IsReport, beats_of_all, head_of}
 use Rattle.thread_reports.specs.declared.receipts.Receipts.{Receipts}
 use Rattle.thread_reports.proofs.ReplaySteps.{there_is}

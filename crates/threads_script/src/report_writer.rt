@@ -5,16 +5,16 @@ ghost use Rattle.std.specs.List.{range_with_len};
 ghost use Rattle.tl_messages.specs.declared.ABeat.{ABeat};
 ghost use Rattle.line_text.specs.Traces.{mem_text};
 ghost use Rattle.world_run.specs.Runs.{HandedReply};
-ghost use Rattle.world_run.specs.Setups.{SetupLists};
-ghost use Rattle.world_run.specs.World.{WorldState, byte_of, opening_world};
-ghost use Rattle.world_run.specs.declared.Step.{Step};
+ghost use Rattle.world.specs.Setups.{SetupLists};
+ghost use Rattle.world.specs.World.{WorldState, byte_of, opening_world};
+ghost use Rattle.world.specs.declared.Step.{Step};
 ghost use Rattle.thread_reports.specs.Reports.{AreReceiptsOf, IsReport};
 ghost use Rattle.threads_script.specs.ReportTexts.{AreReceived, receipt_text, received_text, report_text};
 
 use line_text::{WriteFault, client_line, mem_line, ok_line, reply_line, reply_lines};
 use std::io::Write;
 use thread_reports::{Receipts, Report};
-use world_run::World;
+use world::World;
 
 /// Writes the replies that a client received.
 fn receipt_lines<W: Write>(

@@ -7,7 +7,7 @@ use burst_plan::MapFault;
 use script_text::ScriptFault;
 use subordinate::DeviceFault;
 use thiserror::Error;
-use world_run::SetupFault;
+use world::SetupFault;
 
 /// Why a script isn't carried out to its end (this project's profile).
 #[derive(Clone, Copy, Debug, PartialEq, Eq, Error)]

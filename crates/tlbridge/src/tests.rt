@@ -8,7 +8,7 @@ use std::io::{ErrorKind, Write};
 use std::test::Fail;
 use subordinate::DeviceFault;
 use tl_checker::TlRule;
-use world_run::SetupFault;
+use world::SetupFault;
 
 /// What is asked and a script, how it ends, and its text. In `threads` the Get conflicts with the Put, so its reply is the second
 /// in each order of the threads.

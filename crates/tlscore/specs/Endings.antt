@@ -4,8 +4,8 @@ use Rattle.burst_plan.specs.declared.MapFault.TheVariants as map_fault
 use Rattle.script_text.specs.declared.faults.ScriptFault.{ScriptFault}
 use Rattle.script_text.specs.declared.faults.ScriptFault.TheVariants.{Script, Setup, Read, Write, NoMemory}
 use Rattle.subordinate.specs.declared.DeviceFault.TheVariants as device_fault
-use Rattle.world_run.specs.declared.SetupFault.{SetupFault}
-use Rattle.world_run.specs.declared.SetupFault.TheVariants as setup
+use Rattle.world.specs.declared.SetupFault.{SetupFault}
+use Rattle.world.specs.declared.SetupFault.TheVariants as setup
 
 -- as the observation did, or with a write fault, whatever it ended with: the flush comes after all of its text
 abbrev pub Flushes : (Result Bool ScriptFault → Type 0) → Result Bool ScriptFault → Type 0

@@ -11,7 +11,7 @@ use script_text::ScriptFault;
 use std::alloc::Global;
 use std::io::{BufWriter, Read, Write};
 use subordinate::DeviceFault;
-use world_run::SetupFault;
+use world::SetupFault;
 
 /// Judges an observation, and flushes the output. Output that can't be flushed is a write fault, whatever the input ended
 /// with.

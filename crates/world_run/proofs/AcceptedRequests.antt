@@ -23,13 +23,13 @@ use Rattle.bridge_core.specs.declared.Config.{Config}
 use Rattle.bridge_core.proofs.Openings.{nothing_begun}
 use Rattle.bridge_core.proofs.PortPlaces.{get_set, get_set-other}
 use Rattle.world_run.specs.Runs.{Heard, heard_nothing, with_heard, AcceptedMessage, messages_from, requests_of, accepted_in, answers_of}
-use Rattle.world_run.specs.Setups.{SetupLists}
-use Rattle.world_run.specs.World.{WorldState, Outcome, opening_world, next, leaves_all}
-use Rattle.world_run.specs.declared.Answer.{Answer}
-use Rattle.world_run.specs.declared.Answer.TheVariants.{More, Accepted}
-use Rattle.world_run.specs.declared.Step.{Step}
-use Rattle.world_run.specs.declared.Step.TheVariants.{Offer}
-use Rattle.world_run.proofs.Events.{IsTaken, EachWay, after_accepted, each_way}
+use Rattle.world.specs.Setups.{SetupLists}
+use Rattle.world.specs.World.{WorldState, Outcome, opening_world, next, leaves_all}
+use Rattle.world.specs.declared.Answer.{Answer}
+use Rattle.world.specs.declared.Answer.TheVariants.{More, Accepted}
+use Rattle.world.specs.declared.Step.{Step}
+use Rattle.world.specs.declared.Step.TheVariants.{Offer}
+use Rattle.world.proofs.Events.{IsTaken, EachWay, after_accepted, each_way}
 
 -- ---- what one event tells
 

@@ -1,16 +1,16 @@
 -- Every run is carried out as though its accepted requests were, whole, one at a time. It only puts the step (OrderSteps) into the run
 -- (OrderedRuns).
 use Rattle.std.proofs.Common.{List, subst, sym}
-use Rattle.world_run.specs.Laws.{AreSoundAlong}
-use Rattle.world_run.specs.Setups.{SetupLists}
-use Rattle.world_run.specs.World.{opening_world}
-use Rattle.world_run.specs.declared.Step.{Step}
+use Rattle.world.specs.Laws.{AreSoundAlong}
+use Rattle.world.specs.Setups.{SetupLists}
+use Rattle.world.specs.World.{opening_world}
+use Rattle.world.specs.declared.Step.{Step}
 use Rattle.tl_messages.specs.declared.DBeat.{DBeat}
 use Rattle.world_run.specs.Headline.{IsOneAtATime}
 use Rattle.world_run.specs.InOrder.{IsOrdered, order_of}
 use Rattle.world_run.specs.Runs.{IsRunOf, handed_of}
-use Rattle.world_run.specs.World.{WorldState, byte_of, in_flight}
-use Rattle.world_run.specs.declared.Answer.{Answer}
+use Rattle.world.specs.World.{WorldState, byte_of, in_flight}
+use Rattle.world.specs.declared.Answer.{Answer}
 use Rattle.world_run.specs.declared.Handed.{Handed}
 use Rattle.world_run.specs.declared.SentBeat.{SentBeat}
 use Rattle.world_run.proofs.MainTheorem.{IsCarriedOut, one_at_a_time_of}

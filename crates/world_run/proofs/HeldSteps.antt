@@ -24,12 +24,12 @@ use Rattle.bridge_core.specs.Laws.{IsSoundRequestTable}
 use Rattle.bridge_core.specs.Requests.{BridgedRequest, RequestTable, after_read, after_response, after_sending, flights_of, holds, is_done_for, is_numbered, newly_live, outline_in, range_of, settled, value_found, with_read, with_request, with_response, with_sent_burst, without_done}
 use Rattle.bridge_core.proofs.HolderChanges.{all-mapped}
 use Rattle.world_run.specs.InOrder.{HoldsBack, IsForeseen, IsForeseenBy, IsInOrder, KeepsOrder, finished, has_begun, is_over, started}
-use Rattle.world_run.specs.Laws.{IsSoundWorld}
+use Rattle.world.specs.Laws.{IsSoundWorld}
 use Rattle.world_run.specs.Serial.{Order, asked, touches, writes}
-use Rattle.world_run.specs.Setups.{SetupLists}
-use Rattle.world_run.specs.World.{Outcome, WorldState, next, opening_world}
-use Rattle.world_run.specs.declared.Step.{Step}
-use Rattle.world_run.proofs.Events.{EachWay, each_way}
+use Rattle.world.specs.Setups.{SetupLists}
+use Rattle.world.specs.World.{Outcome, WorldState, next, opening_world}
+use Rattle.world.specs.declared.Step.{Step}
+use Rattle.world.proofs.Events.{EachWay, each_way}
 use Rattle.world_run.proofs.HeldOrder.{AreAsked, Goes, HasByte, IsIdle, MovesOn, done_begun, held_next, message_planned, unaccepted}
 use Rattle.world_run.proofs.SerialBytes.{message_touches}
 

@@ -1,66 +1,24 @@
-mod Examples
-mod ExamplesOfMeaning
-mod ExamplesOfOneRun
-mod ExamplesOfRuns
-mod ExamplesOfStatements
 pub mod AcceptedRequests
-pub mod Agreeing
-pub mod AllDone
-pub mod AllWritten
-pub mod Answering
-pub mod ApartWrites
-pub mod Boxes
-pub mod BurstBytes
 pub mod BytesLeft
 pub mod CarriedOut
-pub mod CountsAgree
-pub mod Drained
-pub mod EnabledSteps
-pub mod Events
-pub mod FirstSteps
-pub mod FoundValues
-pub mod GatheredAnswers
-pub mod GatheredInOrder
-pub mod GatheredSteps
 pub mod HeldOrder
 pub mod HeldSteps
 pub mod History
-pub mod HolderBursts
-pub mod Kept
-pub mod LastSent
 pub mod ListChanges
 pub mod LiveNumbers
 pub mod MainTheorem
-pub mod OldValuesInOrder
-pub mod OpenOfHolder
-pub mod OpenRequests
-pub mod OpenWork
-pub mod Opening
-pub mod OrderAnswerB
-pub mod OrderAnswerR
-pub mod OrderAnswers
-pub mod OrderOffer
 pub mod OrderOpens
-pub mod OrderPerform
-pub mod OrderPump
 pub mod OrderSteps
-pub mod OrderTake
 pub mod OrderedRuns
-pub mod Passing
-pub mod PerformedBytes
-pub mod PlacesOfReads
 pub mod RunLemmas
 pub mod RunLoop
 pub mod RunNumbers
 pub mod SerialBytes
 pub mod SerialOldValues
 pub mod SerialReplies
-pub mod Serials
-pub mod SettledInOrder
-pub mod Sums
-pub mod TakesAll
-pub mod Taking
 pub mod Told
 pub mod Traffic
-pub mod WorkBounds
-pub mod WorkSteps
+pub mod bursts
+pub mod events
+mod examples
+pub mod gathered

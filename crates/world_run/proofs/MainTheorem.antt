@@ -5,14 +5,14 @@ use Rattle.std.specs.List.{AllByRecursion}
 use Rattle.tl_messages.specs.Requests.{WholeRequest}
 use Rattle.tl_messages.specs.declared.DBeat.{DBeat}
 use Rattle.world_run.specs.Headline.{IsOneAtATime, IsReplyTo, replies_of, bytes_of_all, byte_shown}
-use Rattle.world_run.specs.Laws.{AreSoundAlong}
+use Rattle.world.specs.Laws.{AreSoundAlong}
 use Rattle.world_run.specs.Runs.{IsRunOf, accepted_in, answers_of, handed_in, handed_of, sent_in}
-use Rattle.world_run.specs.Setups.{SetupLists}
-use Rattle.world_run.specs.World.{WorldState, IsQuiet, after, byte_of, in_flight, opening_world}
-use Rattle.world_run.specs.declared.Answer.{Answer}
+use Rattle.world.specs.Setups.{SetupLists}
+use Rattle.world.specs.World.{WorldState, IsQuiet, after, byte_of, in_flight, opening_world}
+use Rattle.world.specs.declared.Answer.{Answer}
 use Rattle.world_run.specs.declared.Handed.{Handed}
 use Rattle.world_run.specs.declared.SentBeat.{SentBeat}
-use Rattle.world_run.specs.declared.Step.{Step}
+use Rattle.world.specs.declared.Step.{Step}
 use Rattle.world_run.proofs.RunNumbers.{once}
 use Rattle.world_run.proofs.Told.{answered, as_many, numbered, spelled, told}
 use Rattle.world_run.proofs.Traffic.{traffic}

@@ -9,8 +9,8 @@ use Rattle.subordinate.specs.Pages.{GoodPage, byte_at_address, holds_address, is
 use Rattle.subordinate.specs.declared.PageKind.{PageKind}
 use Rattle.world_run.specs.InOrder.{KeepsOrder, finished, memory_bytes, started}
 use Rattle.world_run.specs.Serial.{Order, bytes_before, writes}
-use Rattle.world_run.specs.Setups.{SetupLists, faults_of}
-use Rattle.world_run.specs.World.{opening_world}
+use Rattle.world.specs.Setups.{SetupLists, faults_of}
+use Rattle.world.specs.World.{opening_world}
 use Rattle.world_run.proofs.HeldSteps.{held_opening}
 use Rattle.world_run.proofs.History.{history_opens}
 use Rattle.world_run.proofs.SerialBytes.{left_alone}

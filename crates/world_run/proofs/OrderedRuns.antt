@@ -21,19 +21,19 @@ use Rattle.bridge_core.proofs.HolderChanges.{all-mapped}
 use Rattle.subordinate.specs.Faults.{Faults, is_good, standing_at}
 use Rattle.world_run.specs.Headline.{IsReplyTo, byte_shown, bytes_of_all, replies_of}
 use Rattle.world_run.specs.InOrder.{IsGathered, IsForeseen, IsForeseenBy, IsInOrder, IsOrdered, KeepsOrder, finished, is_over, memory_bytes, order_of, started}
-use Rattle.world_run.specs.Laws.{AreSoundAlong, IsSoundWorld}
+use Rattle.world.specs.Laws.{AreSoundAlong, IsSoundWorld}
 use Rattle.world_run.specs.Meaning.{Bytes, bytes_after_all, meaning, replies_in_order, zeros}
 use Rattle.world_run.specs.Runs.{AcceptedMessage, HandedReply, answers_of, handed_at, handed_in, messages_in, requests_of}
 use Rattle.world_run.specs.Serial.{Order, asked, bytes_before, touches, writes}
-use Rattle.world_run.specs.Setups.{SetupLists}
-use Rattle.world_run.specs.World.{IsQuiet, Outcome, WorldState, after, byte_of, leaves_all, next, opening_world}
-use Rattle.world_run.specs.declared.Answer.{Answer}
-use Rattle.world_run.specs.declared.Answer.TheVariants.{Accepted, Reply}
-use Rattle.world_run.specs.declared.Step.{Step}
-use Rattle.world_run.specs.declared.Step.TheVariants.{Offer, Take}
+use Rattle.world.specs.Setups.{SetupLists}
+use Rattle.world.specs.World.{IsQuiet, Outcome, WorldState, after, byte_of, leaves_all, next, opening_world}
+use Rattle.world.specs.declared.Answer.{Answer}
+use Rattle.world.specs.declared.Answer.TheVariants.{Accepted, Reply}
+use Rattle.world.specs.declared.Step.{Step}
+use Rattle.world.specs.declared.Step.TheVariants.{Offer, Take}
 use Rattle.world_run.proofs.AcceptedRequests.{HasAccepted, has_accepted-here, has_accepted-next, has_accepted-opening, request_at}
-use Rattle.world_run.proofs.Events.{EachWay, each_way}
-use Rattle.world_run.proofs.GatheredInOrder.{reply_served_by}
+use Rattle.world.proofs.Events.{EachWay, each_way}
+use Rattle.world_run.proofs.gathered.GatheredInOrder.{reply_served_by}
 use Rattle.world_run.proofs.HeldOrder.{unaccepted}
 use Rattle.world_run.proofs.History.{quiet_memory, written_in_turn}
 use Rattle.world_run.proofs.OrderOpens.{keeps_opening}

@@ -8,9 +8,9 @@ use Rattle.std.proofs.Math.Seq.{drop-append_seam, take-length}
 use Rattle.tl_messages.specs.declared.DBeat.{DBeat}
 use Rattle.axi_beats.specs.Bursts.{Burst}
 use Rattle.world_run.specs.Runs.{HandedReply, handed_at, handed_in, piece_of, handed_of, AreCutFrom, bursts_in, sent_beats, sent_in, answers_of}
-use Rattle.world_run.specs.World.{WorldState, Outcome, next, after, outcomes}
+use Rattle.world.specs.World.{WorldState, Outcome, next, after, outcomes}
 use Rattle.world_run.specs.declared.Handed.{Handed}
-use Rattle.world_run.specs.declared.Step.{Step}
+use Rattle.world.specs.declared.Step.{Step}
 
 pub after-append : (state : WorldState) (steps : List Step) (step : Step) → after state (steps ++ step ∷ []) ≡ (next (after state steps) step).state
 after-append state [] step = refl

@@ -5,18 +5,18 @@ use Rattle.std.specs.Prelude.{slice_get, IfSome, OnOk}
 use Rattle.std.proofs.lemmas.List.{append-nil, append_assoc, map-append, take_all}
 use Rattle.tl_messages.specs.declared.DBeat.{DBeat}
 use Rattle.axi_beats.specs.declared.WBeat.{WBeat}
-use Rattle.world_run.specs.Laws.{IsSoundWorld, AreSoundAlong}
+use Rattle.world.specs.Laws.{IsSoundWorld, AreSoundAlong}
 use Rattle.world_run.specs.Runs.{handed_at, piece_of, handed_of, AreCutFrom, sent_beats, IsRunOf}
-use Rattle.world_run.specs.Setups.{SetupLists}
-use Rattle.world_run.specs.World.{WorldState, Outcome, next, after, opening_world, leaves_all, is_reply}
-use Rattle.world_run.specs.declared.Answer.{Answer}
-use Rattle.world_run.specs.declared.Answer.TheVariants.{Sent, Reply}
+use Rattle.world.specs.Setups.{SetupLists}
+use Rattle.world.specs.World.{WorldState, Outcome, next, after, opening_world, leaves_all, is_reply}
+use Rattle.world.specs.declared.Answer.{Answer}
+use Rattle.world.specs.declared.Answer.TheVariants.{Sent, Reply}
 use Rattle.world_run.specs.declared.Handed.{Handed}
 use Rattle.world_run.specs.declared.SentBeat.{SentBeat}
 use Rattle.world_run.specs.declared.SentBeat.TheVariants.{W}
-use Rattle.world_run.specs.declared.Step.{Step}
-use Rattle.world_run.specs.declared.Step.TheVariants.{Take}
-use Rattle.world_run.proofs.Events.{each_way}
+use Rattle.world.specs.declared.Step.{Step}
+use Rattle.world.specs.declared.Step.TheVariants.{Take}
+use Rattle.world.proofs.Events.{each_way}
 use Rattle.world_run.proofs.RunLemmas.{after-append, answers_of-append, handed_in-append, sent_in-append, AreCutFrom-append, handed_of-append, piece_of-last}
 
 -- ---- W beats, one more

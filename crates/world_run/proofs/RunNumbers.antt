@@ -18,15 +18,15 @@ use Rattle.flight_table.specs.LiveRequests.{LiveRequest, finished, is_settled, w
 use Rattle.responses.specs.Gathered.{after_b, after_r}
 use Rattle.bridge_core.specs.Configs.{table_limits_of}
 use Rattle.bridge_core.specs.Requests.{BridgedRequest, RequestTable, after_read, after_response, after_sending, first_done, flights_of, holds, is_done_for, is_numbered, newly_live, outline_in, settled, value_found, with_read, with_request, with_response, with_sent_burst, without_done}
-use Rattle.world_run.specs.Laws.{AreSoundAlong, IsSoundWorld}
+use Rattle.world.specs.Laws.{AreSoundAlong, IsSoundWorld}
 use Rattle.world_run.specs.Runs.{HandedReply, handed_at, handed_in}
-use Rattle.world_run.specs.Setups.{SetupLists}
-use Rattle.world_run.specs.World.{WorldState, Outcome, leaves_all, next, opening_world, taken}
-use Rattle.world_run.specs.declared.Answer.{Answer}
-use Rattle.world_run.specs.declared.Answer.TheVariants.{Reply}
-use Rattle.world_run.specs.declared.Step.{Step}
-use Rattle.world_run.specs.declared.Step.TheVariants.{Take}
-use Rattle.world_run.proofs.Events.{EachWay, each_way}
+use Rattle.world.specs.Setups.{SetupLists}
+use Rattle.world.specs.World.{WorldState, Outcome, leaves_all, next, opening_world, taken}
+use Rattle.world.specs.declared.Answer.{Answer}
+use Rattle.world.specs.declared.Answer.TheVariants.{Reply}
+use Rattle.world.specs.declared.Step.{Step}
+use Rattle.world.specs.declared.Step.TheVariants.{Take}
+use Rattle.world.proofs.Events.{EachWay, each_way}
 
 -- ---- the live requests of a number
 

@@ -11,14 +11,14 @@ use Rattle.bridge_core.specs.Bridge.{BridgeState, message_with}
 use Rattle.bridge_core.specs.declared.Config.{Config}
 use Rattle.world_run.specs.Headline.{IsSpelled}
 use Rattle.world_run.specs.Runs.{Heard, heard_nothing, HandedReply, AcceptedMessage, messages_from, messages_in, requests_of, accepted_numbers, accepted_in, answers_of, whose, replies_told, handed_at, handed_by, handed_in}
-use Rattle.world_run.specs.Setups.{SetupLists}
-use Rattle.world_run.specs.World.{WorldState, Outcome, opening_world, outcomes, next, leaves_all}
-use Rattle.world_run.specs.declared.Answer.{Answer}
-use Rattle.world_run.specs.declared.Answer.TheVariants.{Accepted, Reply}
-use Rattle.world_run.specs.declared.Step.{Step}
-use Rattle.world_run.specs.declared.Step.TheVariants.{Offer, Take}
+use Rattle.world.specs.Setups.{SetupLists}
+use Rattle.world.specs.World.{WorldState, Outcome, opening_world, outcomes, next, leaves_all}
+use Rattle.world.specs.declared.Answer.{Answer}
+use Rattle.world.specs.declared.Answer.TheVariants.{Accepted, Reply}
+use Rattle.world.specs.declared.Step.{Step}
+use Rattle.world.specs.declared.Step.TheVariants.{Offer, Take}
 use Rattle.world_run.proofs.AcceptedRequests.{IsHeard, accepted_at_step, heard_after, heard_at_first, heard_next, known_heard, message_at, messages_from-next, quiet_message, quiet_request, request_at, whole_heard}
-use Rattle.world_run.proofs.Events.{EachWay, IsAccepted, each_way}
+use Rattle.world.proofs.Events.{EachWay, IsAccepted, each_way}
 
 -- ---- one answer for each event
 

@@ -18,16 +18,16 @@ use Rattle.bridge_core.specs.Sending.{Sending, next_sending}
 use Rattle.bridge_core.specs.declared.Config.{Config}
 use Rattle.subordinate.specs.FreeMemory.{b_of, r_of}
 use Rattle.world_run.specs.Headline.{IsLegalTraffic}
-use Rattle.world_run.specs.Laws.{AreSoundAlong, GoesWell, IsSoundWorld}
+use Rattle.world.specs.Laws.{AreSoundAlong, GoesWell, IsSoundWorld}
 use Rattle.world_run.specs.Runs.{bursts_in, sent_in, pumps_told, axi_history, answers_of}
-use Rattle.world_run.specs.Setups.{SetupLists}
-use Rattle.world_run.specs.World.{WorldState, Outcome, opening_world, outcomes, next, leaves_all}
-use Rattle.world_run.specs.declared.Answer.{Answer}
-use Rattle.world_run.specs.declared.Answer.TheVariants.{Sent, B, R}
-use Rattle.world_run.specs.declared.Step.{Step}
+use Rattle.world.specs.Setups.{SetupLists}
+use Rattle.world.specs.World.{WorldState, Outcome, opening_world, outcomes, next, leaves_all}
+use Rattle.world.specs.declared.Answer.{Answer}
+use Rattle.world.specs.declared.Answer.TheVariants.{Sent, B, R}
+use Rattle.world.specs.declared.Step.{Step}
 use Rattle.world_run.proofs.AcceptedRequests.{config_next}
-use Rattle.world_run.proofs.Events.{EachWay, each_way}
-use Rattle.world_run.proofs.TakesAll.{takes_all}
+use Rattle.world.proofs.Events.{EachWay, each_way}
+use Rattle.world.proofs.TakesAll.{takes_all}
 
 -- the bursts that a run sends
 abbrev pub bursts_along : WorldState → List Step → List Burst

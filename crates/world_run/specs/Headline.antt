@@ -14,10 +14,10 @@ use Rattle.bridge_core.specs.Configs.{axi_port_of, port_of}
 use Rattle.subordinate.specs.Faults.{standing_at, is_good}
 use Rattle.world_run.specs.Meaning.{Bytes, zeros, replies_in_order, bytes_after_all}
 use Rattle.world_run.specs.Runs.{AcceptedMessage, HandedReply, messages_in, accepted_in, accepted_numbers, whose, replies_told, sent_beats, pumps_told, axi_history}
-use Rattle.world_run.specs.Setups.{SetupLists, faults_of}
-use Rattle.world_run.specs.declared.Answer.{Answer}
+use Rattle.world.specs.Setups.{SetupLists, faults_of}
+use Rattle.world.specs.declared.Answer.{Answer}
 use Rattle.world_run.specs.declared.SentBeat.{SentBeat}
-use Rattle.world_run.specs.declared.Step.{Step}
+use Rattle.world.specs.declared.Step.{Step}
 
 -- the replies to the accepted requests, carried out one at a time from zero
 abbrev pub replies_of : SetupLists → List WholeRequest → List Reply

@@ -24,16 +24,16 @@ use Rattle.subordinate.specs.Faults.{is_good, read_response, standing_at, write_
 use Rattle.subordinate.specs.FreeMemory.{Pending, is_read_of, is_waiting, is_write_of}
 use Rattle.subordinate.specs.declared.BeatState.{BeatState}
 use Rattle.subordinate.specs.declared.BeatState.TheVariants.{Captured, Waiting}
-use Rattle.world_run.specs.Laws.{IsSoundWorld}
+use Rattle.world.specs.Laws.{IsSoundWorld}
 use Rattle.world_run.specs.Meaning.{Bytes}
 use Rattle.world_run.specs.Runs.{accepted_in}
 use Rattle.world_run.specs.Serial.{Order, asked, byte_left, bytes_before, touches, writes}
-use Rattle.world_run.specs.Setups.{SetupLists, faults_of}
-use Rattle.world_run.specs.World.{WorldState, byte_of, next}
-use Rattle.world_run.specs.declared.Answer.{Answer}
-use Rattle.world_run.specs.declared.Answer.TheVariants.{Accepted}
-use Rattle.world_run.specs.declared.Step.{Step}
-use Rattle.world_run.specs.declared.Step.TheVariants.{Offer}
+use Rattle.world.specs.Setups.{SetupLists, faults_of}
+use Rattle.world.specs.World.{WorldState, byte_of, next}
+use Rattle.world.specs.declared.Answer.{Answer}
+use Rattle.world.specs.declared.Answer.TheVariants.{Accepted}
+use Rattle.world.specs.declared.Step.{Step}
+use Rattle.world.specs.declared.Step.TheVariants.{Offer}
 
 -- ---- the order over single bytes
 

@@ -1,10 +1,5 @@
-pub mod Choices
 pub mod Headline
 pub mod InOrder
-pub mod Inside
-pub mod Laws
 pub mod Meaning
 pub mod Runs
 pub mod Serial
-pub mod Setups
-pub mod World

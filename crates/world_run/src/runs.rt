@@ -3,18 +3,19 @@ ghost use Rattle.std.specs.Prelude.{◌≡◌, ◌⊎◌, ◌++◌, ◌∷◌, L
 ghost use Rattle.axi_beats.specs.Boxes.{w_beats_of};
 ghost use Rattle.world_run.specs.Headline.{IsOneAtATime};
 ghost use Rattle.world_run.specs.InOrder.{IsOrdered, order_of};
-ghost use Rattle.world_run.specs.Laws.{AreSoundAlong, IsSoundWorld};
+ghost use Rattle.world.specs.Laws.{AreSoundAlong, IsSoundWorld};
 ghost use Rattle.world_run.specs.Runs.{handed_of, sent_beats, IsRunOf};
-ghost use Rattle.world_run.specs.Setups.{SetupLists, lists_of, setup_fault};
-ghost use Rattle.world_run.specs.World.{byte_of, in_flight, opening_world};
+ghost use Rattle.world.specs.Setups.{SetupLists, lists_of, setup_fault};
+ghost use Rattle.world.specs.World.{byte_of, in_flight, opening_world};
 ghost use Rattle.world_run.specs.declared.SentBeat.TheVariants.{W};
-ghost use Rattle.world_run.specs.declared.SetupFault.TheVariants.{NoMemory};
-ghost use Rattle.world_run.specs.declared.Step.{Step};
+ghost use Rattle.world.specs.declared.SetupFault.TheVariants.{NoMemory};
+ghost use Rattle.world.specs.declared.Step.{Step};
 
-use crate::{Answer, Handed, SentBeat, Setup, SetupFault, Step, World};
+use crate::{Handed, SentBeat};
 use axi_beats::BurstBox;
 use std::alloc::Global;
 use tl_messages::{DBeat, ReplyBox};
+use world::{Answer, Setup, SetupFault, Step, World};
 
 /// What a run gave.
 #[derive(Drop)]

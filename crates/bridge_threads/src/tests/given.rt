@@ -9,7 +9,7 @@ use subordinate::PageKind;
 use thread_reports::Report;
 use tl_checker::Level;
 use tl_messages::{ABeat, DBeat};
-use world_run::Setup;
+use world::Setup;
 
 /// Two clients at TL-UH, four live requests of each, 16 IDs, two bursts unanswered.
 pub(crate) const TWO_CLIENTS: Config = Config {

@@ -9,7 +9,7 @@ use std::test::Fail;
 use thread_reports::{Receipts, Report};
 use tl_checker::TlRule;
 use tl_messages::{ABeat, DBeat, ReplyBox};
-use world_run::{Answer, Step, World};
+use world::{Answer, Step, World};
 
 /// A Put and a Get of the second client, in another page.
 const OTHER_PUT: ABeat = ABeat {

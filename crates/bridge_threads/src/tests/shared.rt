@@ -9,7 +9,7 @@ use std::test::Fail;
 use subordinate::{DeviceFault, PageKind};
 use tl_checker::TlRule;
 use tl_messages::{ABeat, DBeat, ReplyBox};
-use world_run::{Answer, SetupFault, Step};
+use world::{Answer, SetupFault, Step};
 
 /// A Get of eight bytes where no region is.
 const OUTSIDE: ABeat = ABeat {

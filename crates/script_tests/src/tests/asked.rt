@@ -3,7 +3,7 @@ use script_text::{ScriptFault, read_script};
 use std::test::Fail;
 use threads_script::Asked;
 use tl_messages::ABeat;
-use world_run::SetupFault;
+use world::SetupFault;
 
 /// What a script asks for: two clients' beats, the words of three memory threads, and two addresses.
 const ASKS: &str =

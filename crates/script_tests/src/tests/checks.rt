@@ -4,7 +4,7 @@ use script_text::ScriptFault;
 use std::io;
 use std::io::{ErrorKind, Read, Write};
 use std::test::Fail;
-use world_run::SetupFault;
+use world::SetupFault;
 
 /// Whole scripts: how each ends, and its trace.
 const SCRIPTS: [(&str, Result<bool, ScriptFault>, &str); 6] = [

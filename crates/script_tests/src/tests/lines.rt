@@ -8,7 +8,7 @@ use std::alloc::Global;
 use std::io::Write;
 use std::test::Fail;
 use tl_checker::TlRule;
-use world_run::Answer;
+use world::Answer;
 
 /// Words, and what each field reads of them: a number to 255, one to 65,535, an address and a flag.
 const FIELDS: [(&str, Option<u8>, Option<u16>, Option<u32>, Option<bool>); 12] = [

@@ -7,7 +7,7 @@ use std::io;
 use std::io::{ErrorKind, Read, Write};
 use std::test::Fail;
 use subordinate::DeviceFault;
-use world_run::SetupFault;
+use world::SetupFault;
 
 /// The first script, line by line, and each line's trace.
 const FIRST: [(&str, &str); 9] = [

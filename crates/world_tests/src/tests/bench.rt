@@ -7,7 +7,7 @@ use std::alloc::Global;
 use subordinate::PageKind;
 use tl_checker::Level;
 use tl_messages::{ABeat, DBeat, ReplyBox};
-use world_run::{Answer, Setup, Step, World};
+use world::{Answer, Setup, Step, World};
 
 /// The limits of a bridge whose clients past the first are at TL-UH.
 #[derive(Clone, Copy)]

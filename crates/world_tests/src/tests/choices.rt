@@ -1,7 +1,7 @@
 //! What bridge and memory can do by themselves, and drains.
 use super::bench::*;
 use tl_checker::TlRule;
-use world_run::Step;
+use world::Step;
 
 /// One live request of each client.
 const ONE_EACH: Lists = Lists {

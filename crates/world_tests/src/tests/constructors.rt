@@ -13,7 +13,8 @@ use std::test::Fail;
 use subordinate::{Device, PageKind};
 use tl_checker::{Level, Port};
 use tl_messages::{ABeat, ReplyBox, Request};
-use world_run::{Setup, SetupFault, Step, World, run};
+use world::{Setup, SetupFault, Step, World};
+use world_run::run;
 
 #[test]
 fn request(rt: HostRuntime) -> Result<(), Fail> {

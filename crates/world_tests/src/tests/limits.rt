@@ -6,7 +6,8 @@ use std::alloc::Global;
 use std::test::Fail;
 use subordinate::{DeviceFault, PageKind};
 use tl_checker::Level;
-use world_run::{SetupFault, World, run, setup_fault};
+use world::{SetupFault, World, setup_fault};
+use world_run::run;
 
 /// Whether the three calls that look at a set-up refuse it so.
 fn refuses(alloc: Global, lists: Lists, fault: Option<SetupFault>) -> bool {

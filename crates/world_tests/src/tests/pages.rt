@@ -7,7 +7,7 @@ use burst_plan::PageMap;
 use std::alloc::Global;
 use std::test::Fail;
 use tl_messages::{DBeat, ReplyBox};
-use world_run::Answer;
+use world::Answer;
 
 /// A Put of eight bytes.
 const PUT: Beat = Put(3, 5, 8, 0x1122334455667788);
@@ -30,8 +30,8 @@ fn library(rt: HostRuntime) -> Result<(), Fail> {
     let (config, region, put) = (config_of(USUAL), FOUR_PAGES, a_beat(PUT));
 
     use subordinate::PageKind;
-    use world_run::Step::{AnswerB, Offer, Perform, Pump, Take};
-    use world_run::{Setup, run};
+    use world::Setup;
+    use world::Step::{AnswerB, Offer, Perform, Pump, Take};
 
     // `config` has two clients and a bus of 8 bytes, `region` leads from TileLink page 0 to AXI page 10 (hexadecimal), and
     // `put` is a beat.
@@ -41,7 +41,7 @@ fn library(rt: HostRuntime) -> Result<(), Fail> {
         .try_extend_from_slice(&[(0x10, PageKind::Good)])?;
     setup.regions.try_extend_from_slice(&[region])?;
     let steps = [Offer(0, put), Pump, Perform(0, 0), AnswerB(0), Take(0)];
-    let ran = run(alloc, &setup, &steps)?; // Accepted(0), Sent(0), Done, B of ID 0, Reply(0)
+    let ran = world_run::run(alloc, &setup, &steps)?; // Accepted(0), Sent(0), Done, B of ID 0, Reply(0)
 
     let b = BBeat { id: 0, resp: Okay };
     assert_eq!(rt;
@@ -111,9 +111,9 @@ fn tl_messages(rt: HostRuntime) -> Result<(), Fail> {
     Ok(())
 }
 
-/// crates/world_run/README.md.
+/// crates/world/README.md.
 #[test]
-fn world_run(rt: HostRuntime) -> Result<(), Fail> {
+fn world(rt: HostRuntime) -> Result<(), Fail> {
     let alloc = rt.alloc();
     let Some(setup) = set_up(PLAIN) else {
         panic!(rt; "a set-up");
@@ -121,7 +121,7 @@ fn world_run(rt: HostRuntime) -> Result<(), Fail> {
     let put = a_beat(PUT);
 
     use tl_messages::ReplyBox;
-    use world_run::{Step, World};
+    use world::{Step, World};
 
     let mut reply = ReplyBox::new(alloc)?;
     let mut world = World::new(alloc, &setup)?;

@@ -4,7 +4,7 @@ use super::bench::*;
 use std::alloc::{AllocError, Global};
 use tl_checker::TlRule;
 use tl_messages::{ABeat, DBeat, ReplyBox};
-use world_run::{Answer, Step};
+use world::{Answer, Step};
 
 /// The bytes of the four pages.
 const BYTES: u32 = 16_384;

@@ -3,7 +3,7 @@ use super::bench::*;
 use std::alloc::{AllocError, Global};
 use thread_reports::{Mismatch, Receipts, SecondWorld};
 use tl_messages::{ABeat, DBeat};
-use world_run::Step;
+use world::Step;
 
 const PUT: ABeat = ABeat {
     opcode: 0,

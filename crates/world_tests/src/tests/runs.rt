@@ -5,7 +5,8 @@ use std::alloc::Global;
 use subordinate::PageKind;
 use tl_checker::TlRule;
 use tl_messages::{DBeat, ReplyBox};
-use world_run::{Answer, Handed, RunRecord, SentBeat, Step, run};
+use world::{Answer, Step};
+use world_run::{Handed, RunRecord, SentBeat, run};
 
 /// Two good pages and one that gives slave errors, behind a region of four; a word of the first is bad.
 const MIXED: Lists = Lists {

@@ -2,7 +2,7 @@
 use Rattle.std.proofs.Common.{◌≡◌, ◌<◌, ◌%◌, ◌∙◌, Some, ap, ap₂, length, refl, sym, subst, arith}
 use Rattle.std.specs.Prelude.{slice_get}
 use Rattle.std.proofs.lemmas.List.{nil_from_length}
-use Rattle.world_run.specs.World.{enabled}
+use Rattle.world.specs.World.{enabled}
 use Rattle.bridge_threads.proofs.turns.choice.Goals as goal
 
 pub returns-then-choices-eq0-clause-none : goal.returns-then-choices-eq0-clause-none

@@ -1,7 +1,7 @@
 -- One choice more, or none is left.
 use Rattle.std.proofs.Common.{◌≡◌, ◌+◌, ◌∙◌, ◌++◌, ◌∷◌, [], Ok, ap, sym, subst, inr, arith}
 use Rattle.std.proofs.lemmas.List.{length_push, nil_from_length}
-use Rattle.world_run.specs.World.{after, enabled}
+use Rattle.world.specs.World.{after, enabled}
 use Rattle.bridge_threads.specs.Turns.{AreChosen, IsChosen, word_at}
 use Rattle.bridge_threads.specs.SharedStates.{turned}
 use Rattle.bridge_threads.proofs.TurnLemmas.{AreChosen-append, after_turns-append, world_after_turns}

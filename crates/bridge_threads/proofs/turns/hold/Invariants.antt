@@ -1,6 +1,6 @@
 -- The choices so far.
 use Rattle.std.proofs.Common.{◌≡◌, List, length}
-use Rattle.world_run.specs.declared.Step.{Step}
+use Rattle.world.specs.declared.Step.{Step}
 use Rattle.bridge_threads.specs.Turns.{AreChosen, after_turns}
 use Rattle.bridge_threads.proofs.turns.hold.Given as goal
 

@@ -1,8 +1,8 @@
 -- What was seen is what all steps show, and it is right.
 use Rattle.std.proofs.Common.{List, subst, sym, take}
 use Rattle.std.proofs.lemmas.List.{take_more}
-use Rattle.world_run.specs.Setups.{lists_of, setup_fault}
-use Rattle.world_run.specs.declared.Step.{Step}
+use Rattle.world.specs.Setups.{lists_of, setup_fault}
+use Rattle.world.specs.declared.Step.{Step}
 use Rattle.world_run.proofs.RunLoop.{refused_later}
 use Rattle.scoreboard.specs.Right.{IsRight}
 use Rattle.scoreboard.proofs.RunsSeen.{observed_right}

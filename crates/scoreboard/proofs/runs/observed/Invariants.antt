@@ -1,6 +1,6 @@
 -- What was seen is what the steps so far show, and the laws hold along them.
 use Rattle.std.proofs.Common.{take}
-use Rattle.world_run.specs.Setups.{lists_of}
+use Rattle.world.specs.Setups.{lists_of}
 use Rattle.scoreboard.proofs.SeenSteps.{HasSeen}
 use Rattle.scoreboard.proofs.runs.observed.Given as goal
 

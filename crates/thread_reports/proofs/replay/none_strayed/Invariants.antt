@@ -2,8 +2,8 @@
 use Rattle.std.proofs.Common.{◌≡◌, ℕ, ◌<◌, List, ◌++◌, Some}
 use Rattle.std.specs.Prelude.{slice_get}
 use Rattle.tl_messages.specs.declared.ABeat.{ABeat}
-use Rattle.world_run.specs.World.{WorldState}
-use Rattle.world_run.specs.declared.Step.{Step}
+use Rattle.world.specs.World.{WorldState}
+use Rattle.world.specs.declared.Step.{Step}
 use Rattle.thread_reports.specs.Replays.{AreFound}
 use Rattle.thread_reports.specs.Reports.{items_of, offers_of}
 use Rattle.thread_reports.proofs.replay.none_strayed.Given as goal

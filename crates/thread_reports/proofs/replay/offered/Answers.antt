@@ -3,7 +3,7 @@ use Rattle.std.proofs.Common.{◌≡◌, ◌∙◌, ◌++◌, ◌∷◌, [], Som
 use Rattle.std.specs.Prelude.{option_map, slice_get}
 use Rattle.std.proofs.lemmas.List.{length-map}
 use Rattle.std.proofs.lemmas.Option.{same_Some, slice_get-map, slice_get_read, slice_get_within}
-use Rattle.world_run.specs.declared.Step.TheVariants.{Offer}
+use Rattle.world.specs.declared.Step.TheVariants.{Offer}
 use Rattle.thread_reports.specs.Replays.{IsFound}
 use Rattle.thread_reports.specs.Reports.{items_of}
 use Rattle.thread_reports.proofs.ReplaySteps.{IsOfAlone, found_of_absent, found_of_client, offer_of_alone}

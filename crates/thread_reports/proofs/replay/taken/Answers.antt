@@ -2,7 +2,7 @@
 use Rattle.std.proofs.Common.{◌≡◌, ◌∙◌, ◌++◌, ◌∷◌, [], Some, length, refl, sym, subst, arith}
 use Rattle.std.specs.Prelude.{slice_get}
 use Rattle.std.proofs.lemmas.Option.{same_Some, slice_get_read, slice_get_within}
-use Rattle.world_run.specs.declared.Step.TheVariants.{Take}
+use Rattle.world.specs.declared.Step.TheVariants.{Take}
 use Rattle.thread_reports.specs.Replays.{IsFound}
 use Rattle.thread_reports.proofs.ReplaySteps.{IsOfAlone, found_of_absent, found_of_client, take_of_alone}
 use Rattle.thread_reports.proofs.replay.taken.Goals as goal

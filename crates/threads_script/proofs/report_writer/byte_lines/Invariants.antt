@@ -2,7 +2,7 @@
 use Rattle.std.proofs.Common.{flat_map, take}
 use Rattle.std.specs.Io.KnownBytes.{Appends}
 use Rattle.line_text.specs.Traces.{mem_text}
-use Rattle.world_run.specs.World.{byte_of}
+use Rattle.world.specs.World.{byte_of}
 use Rattle.threads_script.proofs.report_writer.byte_lines.Given as goal
 
 abbrev pub invariant-loop-address : goal.invariant-loop-address

@@ -2,8 +2,8 @@
 use Rattle.std.proofs.Common.{List, flat_map}
 use Rattle.std.specs.Io.KnownBytes.{Appends}
 use Rattle.std.specs.List.{range_with_len}
-use Rattle.world_run.specs.World.{WorldState}
-use Rattle.world_run.specs.declared.Step.{Step}
+use Rattle.world.specs.World.{WorldState}
+use Rattle.world.specs.declared.Step.{Step}
 use Rattle.threads_script.specs.ReportTexts.{AreReceived, received_text}
 use Rattle.threads_script.proofs.report_writer.received_lines.Given as goal
 

@@ -2,7 +2,7 @@
 use Rattle.std.proofs.Common.{◌≡◌, ◌∙◌, flat_map, length, ap}
 use Rattle.std.proofs.KnownBytes.{Appends-trans}
 use Rattle.std.specs.List.{range_with_len}
-use Rattle.world_run.specs.World.{opening_world}
+use Rattle.world.specs.World.{opening_world}
 use Rattle.threads_script.specs.ReportTexts.{received_text}
 use Rattle.threads_script.proofs.ReceiptLemmas.{on_ok, received_of}
 use Rattle.threads_script.proofs.report_writer.report_lines.Goals as goal

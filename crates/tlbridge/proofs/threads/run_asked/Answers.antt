@@ -2,7 +2,7 @@
 use Rattle.std.proofs.Common.{◌≡◌, ◌∙◌, ◌≤◌, false, Err, None, ap, sym, rules}
 use Rattle.std.proofs.lemmas.Bool.{false≢true}
 use Rattle.threads_script.proofs.AskedRuns.{fit_runs}
-use Rattle.world_run.specs.Setups.{lists_of, setup_fault}
+use Rattle.world.specs.Setups.{lists_of, setup_fault}
 use Rattle.tlbridge.proofs.threads.run_asked.Goals as goal
 
 pub run_fault-requires : goal.run_fault-requires

@@ -7,8 +7,8 @@ use Rattle.line_text.specs.Words.{lines_of}
 use Rattle.script_text.specs.declared.faults.ScriptFault.TheVariants.{NoMemory}
 use Rattle.world_run.specs.Headline.{IsOneAtATime}
 use Rattle.world_run.specs.Runs.{answers_of, handed_in, sent_in}
-use Rattle.world_run.specs.World.{WorldState, byte_of, in_flight, opening_world}
-use Rattle.world_run.specs.declared.Step.{Step}
+use Rattle.world.specs.World.{WorldState, byte_of, in_flight, opening_world}
+use Rattle.world.specs.declared.Step.{Step}
 use Rattle.thread_reports.specs.Reports.{IsReport}
 use Rattle.thread_reports.specs.declared.receipts.Receipts.{Receipts}
 use Rattle.threads_script.specs.ReportTexts.{IsReportText, report_text}

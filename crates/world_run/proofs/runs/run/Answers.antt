@@ -1,11 +1,11 @@
 -- The record of all steps is that of the run, and the laws hold along it.
 use Rattle.std.proofs.Common.{List, subst, sym, take}
 use Rattle.std.proofs.lemmas.List.{take_all, take_more}
-use Rattle.world_run.specs.Laws.{AreSoundAlong}
+use Rattle.world.specs.Laws.{AreSoundAlong}
 use Rattle.world_run.specs.Runs.{IsRunOf}
-use Rattle.world_run.specs.Setups.{lists_of, setup_fault}
-use Rattle.world_run.specs.World.{opening_world}
-use Rattle.world_run.specs.declared.Step.{Step}
+use Rattle.world.specs.Setups.{lists_of, setup_fault}
+use Rattle.world.specs.World.{opening_world}
+use Rattle.world.specs.declared.Step.{Step}
 use Rattle.world_run.proofs.CarriedOut.{run_in_order, run_ordered}
 use Rattle.world_run.proofs.RunLoop.{ran_whole, refused_later, sound_after}
 use Rattle.world_run.proofs.runs.run.Goals as goal

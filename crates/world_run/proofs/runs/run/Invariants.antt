@@ -1,9 +1,9 @@
 -- The record is that of the run of the steps so far, and the laws hold along them.
 use Rattle.std.proofs.Common.{take}
-use Rattle.world_run.specs.Laws.{AreSoundAlong}
+use Rattle.world.specs.Laws.{AreSoundAlong}
 use Rattle.world_run.specs.Runs.{IsRunOf}
-use Rattle.world_run.specs.Setups.{lists_of}
-use Rattle.world_run.specs.World.{opening_world}
+use Rattle.world.specs.Setups.{lists_of}
+use Rattle.world.specs.World.{opening_world}
 use Rattle.world_run.proofs.runs.run.Given as goal
 
 abbrev pub invariant-loop-step : goal.invariant-loop-step

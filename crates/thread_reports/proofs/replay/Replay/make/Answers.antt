@@ -1,8 +1,8 @@
 -- The replay with a step more, by what the step is.
 use Rattle.std.proofs.Common.{◌≡◌, ◌∙◌, sym, ap}
 use Rattle.std.specs.Prelude.{if◌then◌else◌}
-use Rattle.world_run.specs.World.{after, is_reply, next}
-use Rattle.world_run.specs.declared.Answer.TheVariants.{Reply}
+use Rattle.world.specs.World.{after, is_reply, next}
+use Rattle.world.specs.declared.Answer.TheVariants.{Reply}
 use Rattle.thread_reports.specs.Reports.{items_of}
 use Rattle.thread_reports.proofs.FoundLemmas.{found_without_reply}
 use Rattle.thread_reports.proofs.ReplaySteps.{found_of_none, own_of_none, replay_grows, told_after}

@@ -1,8 +1,8 @@
 -- The replay of all steps, and the laws along them.
 use Rattle.std.proofs.Common.{List, subst, sym, take}
 use Rattle.std.proofs.lemmas.List.{take_all, take_more}
-use Rattle.world_run.specs.Laws.{AreSoundAlong, IsSoundWorld}
-use Rattle.world_run.specs.declared.Step.{Step}
+use Rattle.world.specs.Laws.{AreSoundAlong, IsSoundWorld}
+use Rattle.world.specs.declared.Step.{Step}
 use Rattle.world_run.proofs.RunLoop.{sound_next}
 use Rattle.thread_reports.specs.Replays.{IsReplay}
 use Rattle.thread_reports.specs.Reports.{items_of}

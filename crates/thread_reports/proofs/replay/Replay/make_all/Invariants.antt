@@ -1,7 +1,7 @@
 -- The record is that of a replay of the steps so far, and the laws hold along them.
 use Rattle.std.proofs.Common.{[], take}
-use Rattle.world_run.specs.Laws.{AreSoundAlong, IsSoundWorld}
-use Rattle.world_run.specs.World.{WorldState}
+use Rattle.world.specs.Laws.{AreSoundAlong, IsSoundWorld}
+use Rattle.world.specs.World.{WorldState}
 use Rattle.thread_reports.specs.Replays.{IsReplay}
 use Rattle.thread_reports.specs.Reports.{items_of}
 use Rattle.thread_reports.proofs.replay.Replay.make_all.Given as goal

@@ -3,9 +3,9 @@ use Rattle.std.proofs.Common.{inl, inr, ◌≡◌, ◌∙◌, arith, length, ref
 use Rattle.std.proofs.lemmas.List.{length-map}
 use Rattle.std.proofs.lemmas.Option.{slice_get_within}
 use Rattle.world_run.specs.Headline.{IsOneAtATime}
-use Rattle.world_run.specs.Laws.{AreSoundAlong}
+use Rattle.world.specs.Laws.{AreSoundAlong}
 use Rattle.world_run.specs.Runs.{answers_of, handed_in, sent_in}
-use Rattle.world_run.specs.World.{byte_of, in_flight, opening_world}
+use Rattle.world.specs.World.{byte_of, in_flight, opening_world}
 use Rattle.thread_reports.specs.Mismatches.{IsMismatch, IsWrongClient}
 use Rattle.thread_reports.specs.Replays.{IsReplay}
 use Rattle.thread_reports.specs.Reports.{items_of}

@@ -1,6 +1,6 @@
 -- A replay that fills the history is a full history.
 use Rattle.std.proofs.Common.{◌∙◌, sym, subst}
-use Rattle.world_run.specs.World.{opening_world}
+use Rattle.world.specs.World.{opening_world}
 use Rattle.thread_reports.specs.Replays.{IsReplay}
 use Rattle.thread_reports.specs.Reports.{items_of}
 use Rattle.thread_reports.proofs.second_world.SecondWorld.fills.Goals as goal

@@ -1,0 +1,292 @@
+-- Bridge and memory agree after each event. It knows the events by case and both parts' laws; which bytes move is hidden, and why neither
+-- refuses the other stands in TakesAll.
+use Rattle.std.proofs.Common.{◌≡◌, ℕ, suc, ◌+◌, ◌*◌, ◌^◌, ◌<◌, ◌≤◌, Bool, true, false, List, [], ◌∷◌, length, Option, Some, None, refl, ap, sym, ◌∙◌, arith}
+use Rattle.std.specs.Prelude.{find, if◌then◌else◌, nat_le, sum_by, Result, Ok, Err}
+use Rattle.std.specs.List.{AllByRecursion}
+use Rattle.std.proofs.lemmas.Bool.{leb-false}
+use Rattle.std.proofs.lemmas.List.{length-append}
+use Rattle.std.proofs.lemmas.List.Sums.{sum_by-append, sum_by-cons}
+use Rattle.bus_words.proofs.PlaceChanges.{all-find, length-change_first, length-without_found}
+use Rattle.axi_beats.specs.declared.BBeat.{BBeat}
+use Rattle.axi_beats.specs.declared.RBeat.{RBeat}
+use Rattle.axi_beats.specs.declared.Resp.{Resp}
+use Rattle.axi_checker.specs.OpenBursts.{OpenBursts, OnB, OnR, open_after}
+use Rattle.axi_checker.specs.Rules.{open_with_burst}
+use Rattle.flight_table.specs.LiveRequests.{all_sent, planned, with_answered}
+use Rattle.flight_table.proofs.PhaseLaws.{length_reading}
+use Rattle.tl_messages.specs.Requests.{HeldMessage}
+use Rattle.tl_messages.specs.declared.ABeat.{ABeat}
+use Rattle.tl_checker.specs.declared.Progress.{Progress}
+use Rattle.tl_checker.specs.declared.Progress.TheVariants.{More, Whole}
+use Rattle.tl_checker.specs.declared.TlRule.{TlRule}
+use Rattle.flight_table.specs.Laws.{IsSoundRequest}
+use Rattle.flight_table.specs.Tables.{has_room}
+use Rattle.bridge_core.specs.declared.Offered.{Offered}
+use Rattle.bridge_core.specs.declared.Offered.TheVariants as offer
+use Rattle.responses.specs.Gathered.{Gathering, after_b, after_r}
+use Rattle.bridge_core.specs.Configs.{is_valid, table_limits_of}
+use Rattle.bridge_core.specs.declared.Config.{Config}
+use Rattle.burst_plan.specs.declared.Region.{Region}
+use Rattle.flight_table.specs.declared.TableLimits.{TableLimits}
+use Rattle.std.proofs.Math.Nat.{mul-suc}
+use Rattle.bridge_core.specs.Bridge.{BridgeState, after_b_beat, after_r_beat, after_sent, after_take, completed, message_with, offered, offered_after, verdict_on, with_front}
+use Rattle.bridge_core.specs.Laws.{IsServed, IsSoundBridge}
+use Rattle.bridge_core.specs.Requests.{BridgedRequest, after_read, after_response, after_sending, flight_table_of, holds, is_done_for, newly_live, with_request, is_numbered, outline_in, settled}
+use Rattle.bridge_core.specs.Sending.{Sending, next_sending}
+use Rattle.bridge_core.proofs.NextSending.{next_found}
+use Rattle.bridge_core.proofs.SentLinks.{found_by_number}
+use Rattle.bridge_core.proofs.SendingLinks.{sound_requests}
+use Rattle.subordinate.specs.FreeMemory.{FreeMemory, Pending, after_b_of, after_r_of, is_read_of, with_burst, with_performed}
+use Rattle.subordinate.specs.Laws.{IsSoundMemory}
+use Rattle.world.specs.Laws.{Agree, bursts_sent}
+use Rattle.world.proofs.Serials.{most_sent}
+use Rattle.subordinate.proofs.Monitors.{HasBeatsToCome, outstanding_after_b, outstanding_after_r, outstanding_performed, outstanding_sent}
+use Rattle.world.proofs.Sums.{sum_between, sum_more, sum_without}
+use Rattle.world.proofs.Settled.{settled_has}
+
+-- ---- a burst is sent
+
+sent_counted : (state : BridgeState) (sending : Sending) → IsSoundBridge state → next_sending state.requests ≡ Some sending → bursts_sent (after_sent state sending) ≡ bursts_sent state + 1
+sent_counted state sending sound is =
+    let next = next_found state.requests sending is in
+    let there = found_by_number _ state.requests.live sending.request sound.requests.flights.rising next.found in
+    let one_more = sum_between (λ (r : BridgedRequest). all_sent r.flight) (is_numbered sending.request.flight.number) (after_sending sending.id) state.requests.live sending.request there in
+    omega (arith, one_more)
+
+pub agree_sent : (state : BridgeState) (memory : FreeMemory) (sending : Sending) → Agree state memory → next_sending state.requests ≡ Some sending
+    → IsSoundBridge (after_sent state sending) → IsSoundMemory (with_burst memory sending.burst) → Agree (after_sent state sending) (with_burst memory sending.burst)
+agree_sent state memory sending agree is bridge_laws memory_laws =
+    let counted = sent_counted state sending agree.bridge_laws is in
+    let same = length-change_first (is_numbered sending.request.flight.number) (after_sending sending.id) state.requests.live in
+    record {
+      bridge_laws = bridge_laws;
+      memory_laws = memory_laws;
+      bus = agree.bus;
+      outstanding = ap (λ (outstanding : OpenBursts). open_with_burst outstanding sending.burst) agree.outstanding ∙ outstanding_sent memory sending.burst;
+      serials = record {
+        accepted = agree.serials.accepted;
+        live = omega (arith, agree.serials.live, same);
+        sent = rw same (omega (arith, agree.serials.sent, counted));
+      };
+    }
+
+-- ---- a beat is performed
+
+pub agree_performed : (state : BridgeState) (memory : FreeMemory) (pending : Pending) (beat : ℕ) → Agree state memory → IsSoundMemory (with_performed memory pending beat)
+    → Agree state (with_performed memory pending beat)
+agree_performed state memory pending beat agree memory_laws =
+    record {
+      bridge_laws = agree.bridge_laws;
+      memory_laws = memory_laws;
+      bus = agree.bus;
+      outstanding = agree.outstanding ∙ sym (outstanding_performed memory pending beat);
+      serials = record { accepted = agree.serials.accepted; live = agree.serials.live; sent = agree.serials.sent };
+    }
+
+-- ---- an answer comes
+
+-- a request that is settled has sent as much, or has all its reads behind it
+settled_sent : (request : BridgedRequest) → request.flight.sent ≤ length (planned request.flight) → all_sent request.flight ≤ all_sent (settled request).flight
+settled_sent request most =
+    settled_has (λ (r : BridgedRequest). all_sent request.flight ≤ all_sent r.flight) request (omega arith)
+    (λ reads. rw reads (omega (arith, most, length_reading request.flight reads))) (omega arith)
+
+response_sent : (resp : Resp) (request : BridgedRequest) → request.flight.sent ≤ length (planned request.flight) → all_sent request.flight ≤ all_sent (after_response resp request).flight
+response_sent resp request most = settled_sent (record request { flight = with_answered request.flight; gathering = after_b resp request.gathering }) most
+
+read_sent : (bus_bytes : ℕ) (r : RBeat) (request : BridgedRequest) → request.flight.sent ≤ length (planned request.flight) → all_sent request.flight ≤ all_sent (after_read bus_bytes r request).flight
+read_sent bus_bytes r request most = by_last r.last
+  where
+    gathers : Gathering
+    gathers = after_r bus_bytes (outline_in request) r request.gathering.came request.gathering
+
+    by_last : (last : Bool) → all_sent request.flight ≤ all_sent (settled (record request { flight = if last then with_answered request.flight else request.flight; gathering = gathers })).flight
+    by_last true = settled_sent (record request { flight = with_answered request.flight; gathering = gathers }) most
+    by_last false = settled_sent (record request { gathering = gathers }) most
+
+abbrev IsSoundOne : BridgeState → BridgedRequest → Type 0
+IsSoundOne state request = IsSoundRequest (table_limits_of state.requests.config) state.requests.accepted request.flight
+
+pub agree_after_b : (state : BridgeState) (memory : FreeMemory) (b : BBeat) → Agree state memory → IsSoundBridge (after_b_beat state b) → IsSoundMemory (after_b_of memory b.id)
+    → Agree (after_b_beat state b) (after_b_of memory b.id)
+agree_after_b state memory b agree bridge_laws memory_laws =
+    let same = length-change_first (holds b.id) (after_response b.resp) state.requests.live in
+    let counted =
+    sum_more (IsSoundOne state) (λ (q : BridgedRequest). all_sent q.flight) (holds b.id) (after_response b.resp) state.requests.live (λ q one. response_sent b.resp q one.sent) (sound_requests state.requests agree.bridge_laws.requests)
+    in
+    record {
+      bridge_laws = bridge_laws;
+      memory_laws = memory_laws;
+      bus = agree.bus;
+      outstanding = ap (λ (outstanding : OpenBursts). open_after outstanding (OnB b)) agree.outstanding ∙ outstanding_after_b memory b;
+      serials = record {
+        accepted = agree.serials.accepted;
+        live = omega (arith, agree.serials.live, same);
+        sent = rw same (omega (arith, agree.serials.sent, counted));
+      };
+    }
+
+pub agree_after_r : (state : BridgeState) (memory : FreeMemory) (r : RBeat) → Agree state memory → HasBeatsToCome (find (is_read_of r.id) memory.pending) → IsSoundBridge (after_r_beat state r)
+    → IsSoundMemory (after_r_of memory r.id) → Agree (after_r_beat state r) (after_r_of memory r.id)
+agree_after_r state memory r agree to_come bridge_laws memory_laws =
+    let change = after_read state.requests.config.axi_bytes r in
+    let same = length-change_first (holds r.id) change state.requests.live in
+    let counted =
+    sum_more (IsSoundOne state) (λ (q : BridgedRequest). all_sent q.flight) (holds r.id) change state.requests.live (λ q one. read_sent state.requests.config.axi_bytes r q one.sent) (sound_requests state.requests agree.bridge_laws.requests)
+    in
+    record {
+      bridge_laws = bridge_laws;
+      memory_laws = memory_laws;
+      bus = agree.bus;
+      outstanding = ap (λ (outstanding : OpenBursts). open_after outstanding (OnR r)) agree.outstanding ∙ outstanding_after_r memory r to_come;
+      serials = record {
+        accepted = agree.serials.accepted;
+        live = omega (arith, agree.serials.live, same);
+        sent = rw same (omega (arith, agree.serials.sent, counted));
+      };
+    }
+
+-- ---- a reply leaves
+
+few_sent : (state : BridgeState) (client : ℕ) (request : BridgedRequest) → IsSoundBridge state → find (is_done_for client) state.requests.live ≡ Some request → all_sent request.flight ≤ 2048
+few_sent state client request sound found =
+    let served = all-find (IsServed state.requests.config state.requests.regions) (is_done_for client) state.requests.live request sound.requests.served found in
+    let each = all-find (λ (r : BridgedRequest). IsSoundRequest (table_limits_of state.requests.config) state.requests.accepted r.flight) (is_done_for client) state.requests.live request (sound_requests state.requests sound.requests) found in
+    most_sent state.requests.config state.requests.regions request sound.requests.config served each.sent
+
+pub agree_taken : (state : BridgeState) (memory : FreeMemory) (client : ℕ) (request : BridgedRequest) → Agree state memory → find (is_done_for client) state.requests.live ≡ Some request
+    → IsSoundBridge (after_take state client) → Agree (after_take state client) memory
+agree_taken state memory client request agree found bridge_laws =
+    let fewer = length-without_found (is_done_for client) state.requests.live request found in
+    let counted = sum_without (λ (q : BridgedRequest). all_sent q.flight) (is_done_for client) state.requests.live request found in
+    let few = few_sent state client request agree.bridge_laws found in
+    record {
+      bridge_laws = bridge_laws;
+      memory_laws = agree.memory_laws;
+      bus = agree.bus;
+      outstanding = agree.outstanding;
+      serials = record {
+        accepted = agree.serials.accepted;
+        live = omega (arith, agree.serials.live, fewer);
+        sent = omega (arith, agree.serials.live, agree.serials.sent, fewer, counted, few);
+      };
+    }
+
+-- ---- a beat is offered
+
+-- the fronts alone change
+agree_fronts : (state : BridgeState) (memory : FreeMemory) (fronts : List (Option HeldMessage)) → Agree state memory → IsSoundBridge (record state { fronts = fronts }) → Agree (record state { fronts = fronts }) memory
+agree_fronts state memory fronts agree bridge_laws =
+    record {
+      bridge_laws = bridge_laws;
+      memory_laws = agree.memory_laws;
+      bus = agree.bus;
+      outstanding = agree.outstanding;
+      serials = record { accepted = agree.serials.accepted; live = agree.serials.live; sent = agree.serials.sent };
+    }
+
+-- a request joins, of which nothing was sent
+agree_joined : (state : BridgeState) (memory : FreeMemory) (fronts : List (Option HeldMessage)) (message : HeldMessage) → Agree state memory → state.requests.accepted < 2 ^ 48
+    → IsSoundBridge (record state { fronts = fronts; requests = with_request message state.requests }) → Agree (record state { fronts = fronts; requests = with_request message state.requests }) memory
+agree_joined state memory fronts message agree below bridge_laws =
+    let one = length-append state.requests.live (newly_live state.requests message ∷ []) in
+    let counted = sum_by-append (λ (q : BridgedRequest). all_sent q.flight) state.requests.live (newly_live state.requests message ∷ []) in
+    record {
+      bridge_laws = bridge_laws;
+      memory_laws = agree.memory_laws;
+      bus = agree.bus;
+      outstanding = agree.outstanding;
+      serials = record {
+        accepted = omega (arith, below);
+        live = omega (arith, agree.serials.live, one);
+        sent = omega (arith, agree.serials.live, agree.serials.sent, one, counted);
+      };
+    }
+
+agree_completed : (state : BridgeState) (memory : FreeMemory) (client : ℕ) (message : HeldMessage) → Agree state memory → IsSoundBridge (completed state client message).0 → Agree (completed state client message).0 memory
+agree_completed state memory client message agree bridge_laws = by_tests (has_room (flight_table_of state.requests) client) (nat_le (2 ^ 48) state.requests.accepted) refl bridge_laws
+  where
+    outcome : Bool → Bool → BridgeState × Offered
+    outcome room full =
+        if room
+        then
+        (if full
+        then (state, offer.Exhausted)
+        else (record (with_front client None state) { requests = with_request message state.requests }, offer.Accepted state.requests.accepted))
+        else (state, offer.NotReady)
+
+    result : Bool → Bool → BridgeState
+    result room full = (outcome room full).0
+
+    by_tests : (room full : Bool) → nat_le (2 ^ 48) state.requests.accepted ≡ full → IsSoundBridge (result room full) → Agree (result room full) memory
+    by_tests true true is laws = agree
+    by_tests true false is laws = agree_joined state memory (with_front client None state).fronts message agree (leb-false (2 ^ 48) state.requests.accepted is) laws
+    by_tests false full is laws = agree
+
+agree_after : (state : BridgeState) (memory : FreeMemory) (client : ℕ) (beat : ABeat) (verdict : Result Progress TlRule) → Agree state memory → IsSoundBridge (offered_after verdict state client beat).0
+    → Agree (offered_after verdict state client beat).0 memory
+agree_after state memory client beat (Err rule) agree laws = agree
+agree_after state memory client beat (Ok More) agree laws = agree_fronts state memory (with_front client (Some (message_with state client beat)) state).fronts agree laws
+agree_after state memory client beat (Ok Whole) agree laws = agree_completed state memory client (message_with state client beat) agree laws
+
+pub agree_offered : (state : BridgeState) (memory : FreeMemory) (client : ℕ) (beat : ABeat) → Agree state memory → IsSoundBridge (offered state client beat).0 → Agree (offered state client beat).0 memory
+agree_offered state memory client beat agree bridge_laws = by_test (nat_le state.requests.config.clients client) bridge_laws
+  where
+    outcome : Bool → BridgeState × Offered
+    outcome absent = if absent then (state, offer.NoClient) else offered_after (verdict_on state client beat) state client beat
+
+    by_test : (absent : Bool) → IsSoundBridge (outcome absent).0 → Agree (outcome absent).0 memory
+    by_test true laws = agree
+    by_test false laws = agree_after state memory client beat (verdict_on state client beat) agree laws
+
+-- ---- serials don't run out
+
+sum_few : {X : Type 0} (measure : X → ℕ) (most : ℕ) (xs : List X) → AllByRecursion (λ x. measure x ≤ most) xs → sum_by measure xs ≤ most * length xs
+sum_few measure most [] all = omega arith
+sum_few measure most (x ∷ xs) all =
+    let one : most * suc (length xs) ≡ most * length xs + most = mul-suc most (length xs) in
+    omega (arith, sum_by-cons measure x xs, all.0, sum_few measure most xs all.1, one)
+
+sent_few : (config : Config) (regions : List Region) (limits : TableLimits) (accepted : ℕ) (live : List BridgedRequest) → is_valid config ≡ true → AllByRecursion (IsServed config regions) live
+    → AllByRecursion (λ (r : BridgedRequest). IsSoundRequest limits accepted r.flight) live → AllByRecursion (λ (r : BridgedRequest). all_sent r.flight ≤ 2048) live
+sent_few config regions limits accepted [] valid served sound = tt
+sent_few config regions limits accepted (r ∷ live) valid served sound =
+    (most_sent config regions r valid served.0 sound.0.sent, sent_few config regions limits accepted live valid served.1 sound.1)
+
+pub serials_left : (state : BridgeState) (memory : FreeMemory) → Agree state memory → memory.sent < 2 ^ 60
+serials_left state memory agree =
+    let table = state.requests in
+    let few =
+    sum_few (λ (r : BridgedRequest). all_sent r.flight) 2048 table.live
+    (sent_few table.config table.regions (table_limits_of table.config) table.accepted table.live agree.bridge_laws.requests.config agree.bridge_laws.requests.served (sound_requests table agree.bridge_laws.requests)) in
+    omega (arith, agree.serials.accepted, agree.serials.live, agree.serials.sent, few)
+
+-- the limits stay
+pub config_offered : (state : BridgeState) (client : ℕ) (beat : ABeat) → (offered state client beat).0.requests.config ≡ state.requests.config
+config_offered state client beat = by_test (nat_le state.requests.config.clients client)
+  where
+    outcome : Bool → Bool → HeldMessage → BridgeState × Offered
+    outcome room full message =
+        if room
+        then
+        (if full
+        then (state, offer.Exhausted)
+        else (record (with_front client None state) { requests = with_request message state.requests }, offer.Accepted state.requests.accepted))
+        else (state, offer.NotReady)
+
+    by_place : (room full : Bool) (message : HeldMessage) → (outcome room full message).0.requests.config ≡ state.requests.config
+    by_place true true message = refl
+    by_place true false message = refl
+    by_place false full message = refl
+
+    by_verdict : (verdict : Result Progress TlRule) → (offered_after verdict state client beat).0.requests.config ≡ state.requests.config
+    by_verdict (Err rule) = refl
+    by_verdict (Ok More) = refl
+    by_verdict (Ok Whole) = by_place (has_room (flight_table_of state.requests) client) (nat_le (2 ^ 48) state.requests.accepted) (message_with state client beat)
+
+    after : Bool → BridgeState × Offered
+    after absent = if absent then (state, offer.NoClient) else offered_after (verdict_on state client beat) state client beat
+
+    by_test : (absent : Bool) → (after absent).0.requests.config ≡ state.requests.config
+    by_test true = refl
+    by_test false = by_verdict (verdict_on state client beat)

@@ -1,0 +1,134 @@
+-- A box is in stock wherever a request is ready: each ID has at most as many bursts outstanding as it may have on one side. It counts; what
+-- a box holds is hidden.
+use Rattle.std.proofs.Common.{◌≡◌, ℕ, suc, ◌+◌, ◌-◌, ◌==◌, ◌<◌, ◌≤◌, Bool, true, false, List, [], ◌∷◌, ◌++◌, length, Option, Some, None, refl, ap, sym, ◌∙◌, subst, arith}
+use Rattle.std.specs.Prelude.{IsSome, option_map, filter, take, if◌then◌else◌}
+use Rattle.std.specs.List.{AllByRecursion}
+use Rattle.std.proofs.lemmas.List.{length-append, length-drop, length-take}
+use Rattle.std.proofs.lemmas.List.Elements.{filter-append}
+use Rattle.std.proofs.lemmas.Bool.{eq-eqb}
+use Rattle.axi_beats.specs.Bursts.{Burst, WriteBurst, ReadBurst}
+use Rattle.axi_checker.specs.Monitors.{HasFewOfEach}
+use Rattle.axi_checker.specs.OpenBursts.{OpenBursts, read_of_id, write_of_id}
+use Rattle.axi_checker.specs.Rules.{id_of}
+use Rattle.axi_checker.proofs.Few.{room_for_one}
+use Rattle.burst_plan.specs.declared.Piece.{Piece}
+use Rattle.flight_table.specs.LiveRequests.{LiveRequest, planned}
+use Rattle.bridge_core.specs.Bridge.{BridgeState, StockedBridge, boxes_of, burst_to_send}
+use Rattle.bridge_core.specs.Laws.{IsSoundBridge, came_of, open_reads, open_writes, outstanding, outstanding_of}
+use Rattle.bridge_core.specs.Requests.{BridgedRequest, holder}
+use Rattle.bridge_core.specs.Sending.{Sending, next_sending}
+use Rattle.subordinate.specs.Device.{DeviceState}
+use Rattle.world.specs.Inside.{ArePaired}
+use Rattle.bridge_core.proofs.AnswerLinks.{holder_known}
+use Rattle.bridge_core.proofs.NextSending.{next_found}
+use Rattle.bridge_core.proofs.SentBursts.{id_of_piece, sent_within}
+use Rattle.bridge_core.proofs.SentLinks.{taken_by}
+use Rattle.subordinate.specs.FreeMemory.{FreeMemory, Pending, is_read_of, is_write_of, newly_pending, reads_as, writes_as}
+use Rattle.subordinate.proofs.OpenBursts.{reads_known, writes_known}
+use Rattle.world.specs.Laws.{Agree}
+use Rattle.world.proofs.TakesAll.{holder_below}
+
+-- the ID of an open burst, on either side
+abbrev pub id_of_pending : Pending → ℕ
+id_of_pending pending = id_of pending.burst
+
+abbrev pub count_of : ℕ → List Pending → ℕ
+count_of id pending = length (filter (λ p. id_of_pending p == id) pending)
+
+-- ---- how many bursts an ID has outstanding
+
+by_side : (id : ℕ) (burst : Burst) (any writes reads : ℕ) → any ≡ writes + reads
+    → (if id_of burst == id then suc any else any) ≡ (if writes_as id burst then suc writes else writes) + (if reads_as id burst then suc reads else reads)
+by_side id (WriteBurst aw ws) any writes reads is = elim (aw.id == id) as (λ (here : Bool). (if here then suc any else any) ≡ (if here then suc writes else writes) + reads) [ true ↦ omega (arith, is) | false ↦ is ]
+by_side id (ReadBurst ar) any writes reads is = elim (ar.id == id) as (λ (here : Bool). (if here then suc any else any) ≡ writes + (if here then suc reads else reads)) [ true ↦ omega (arith, is) | false ↦ is ]
+
+length_if : {X : Type 0} (test : Bool) (x : X) (xs : List X) → length (if test then x ∷ xs else xs) ≡ (if test then suc (length xs) else length xs)
+length_if true x xs = refl
+length_if false x xs = refl
+
+both_sides : (id : ℕ) (pending : List Pending) → count_of id pending ≡ length (filter (is_write_of id) pending) + length (filter (is_read_of id) pending)
+both_sides id [] = refl
+both_sides id (p ∷ ps) =
+    length_if (id_of_pending p == id) p (filter (λ q. id_of_pending q == id) ps)
+    ∙ by_side id p.burst (count_of id ps) (length (filter (is_write_of id) ps)) (length (filter (is_read_of id) ps)) (both_sides id ps)
+    ∙ sym (λ i. length_if (is_write_of id p) p (filter (is_write_of id) ps) i + length_if (is_read_of id p) p (filter (is_read_of id) ps) i)
+
+-- each burst of a holder is a write or a read
+either_side : (id came : ℕ) (bursts : List (Bool × Piece)) → length (open_writes id bursts) + length (open_reads id came bursts) ≡ length bursts
+either_side id came [] = refl
+either_side id came ((true, piece) ∷ bursts) = omega (arith, either_side id came bursts)
+either_side id came ((false, piece) ∷ bursts) = omega (arith, either_side id 0 bursts)
+
+-- so an ID has as many open bursts as its holder has outstanding
+counted : (bridge : BridgeState) (memory : FreeMemory) (id : ℕ) → Agree bridge memory → count_of id memory.pending ≡ length (outstanding_of (holder id bridge.requests.live))
+counted bridge memory id agree =
+    let held = holder id bridge.requests.live in
+    let writes : length (filter (is_write_of id) memory.pending) ≡ length (open_writes id (outstanding_of held)) =
+    sym (writes_known id memory.pending) ∙ ap (λ (outstanding : OpenBursts). length (filter (write_of_id id) outstanding.writes)) (sym agree.outstanding)
+    ∙ ap length (agree.bridge_laws.linked id).writes in
+    let reads : length (filter (is_read_of id) memory.pending) ≡ length (open_reads id (came_of held) (outstanding_of held)) =
+    sym (reads_known id memory.pending) ∙ ap (λ (outstanding : OpenBursts). length (filter (read_of_id id) outstanding.reads)) (sym agree.outstanding)
+    ∙ ap length (agree.bridge_laws.linked id).reads in
+    omega (arith, both_sides id memory.pending, writes, reads, either_side id (came_of held) (outstanding_of held))
+
+few_outstanding : (flight : LiveRequest) → length (outstanding flight) ≤ flight.sent - flight.answered
+few_outstanding flight = omega (arith, length-drop flight.answered (take flight.sent (planned flight)), length-take flight.sent (planned flight))
+
+few_held : (bridge : BridgeState) (id : ℕ) → IsSoundBridge bridge → (held : Option BridgedRequest) → holder id bridge.requests.live ≡ held → length (outstanding_of held) ≤ bridge.requests.config.depth
+few_held bridge id sound None is = omega arith
+few_held bridge id sound (Some request) is =
+    let known = holder_known bridge.requests id request sound.requests is in
+    omega (arith, few_outstanding request.flight, known.sound.depth)
+
+-- an ID under which a burst is open is one of the port's
+below_ids : (bridge : BridgeState) (memory : FreeMemory) (id : ℕ) → Agree bridge memory → 1 ≤ count_of id memory.pending → id < bridge.requests.config.ids
+below_ids bridge memory id agree some = by_holder (holder id bridge.requests.live) refl (omega (arith, some, counted bridge memory id agree))
+  where
+    by_holder : (held : Option BridgedRequest) → holder id bridge.requests.live ≡ held → 1 ≤ length (outstanding_of held) → id < bridge.requests.config.ids
+    by_holder None is some = absurd (omega (arith, some))
+    by_holder (Some request) is some = holder_below bridge id request agree.bridge_laws is
+
+-- each open burst counts for its own ID
+each_counts : (ids : ℕ) (before later all : List Pending) → all ≡ before ++ later → ((id : ℕ) → 1 ≤ count_of id all → id < ids) → AllByRecursion (λ p. id_of_pending p < ids) later
+each_counts ids before [] all is known = tt
+each_counts ids before (p ∷ later) all is known =
+    let own : count_of (id_of_pending p) (p ∷ later) ≡ suc (count_of (id_of_pending p) later) = rw (eq-eqb (id_of_pending p) (id_of_pending p) refl) refl in
+    let split : count_of (id_of_pending p) all ≡ count_of (id_of_pending p) before + count_of (id_of_pending p) (p ∷ later) =
+    ap (count_of (id_of_pending p)) is ∙ ap length (filter-append (λ (q : Pending). id_of_pending q == id_of_pending p) before (p ∷ later))
+    ∙ length-append (filter (λ (q : Pending). id_of_pending q == id_of_pending p) before) (filter (λ (q : Pending). id_of_pending q == id_of_pending p) (p ∷ later)) in
+    (known (id_of_pending p) (omega (arith, own, split)), each_counts ids (before ++ p ∷ []) later all (is ∙ one_by_one before p later) known)
+  where
+    one_by_one : (before : List Pending) (p : Pending) (later : List Pending) → before ++ p ∷ later ≡ (before ++ p ∷ []) ++ later
+    one_by_one [] p later = refl
+    one_by_one (q ∷ before) p later = ap (λ (ps : List Pending). q ∷ ps) (one_by_one before p later)
+
+few_of_each : (bridge : BridgeState) (memory : FreeMemory) → Agree bridge memory → HasFewOfEach id_of_pending bridge.requests.config.ids bridge.requests.config.depth memory.pending
+few_of_each bridge memory agree =
+    record {
+      known = each_counts bridge.requests.config.ids [] memory.pending memory.pending refl (λ id some. below_ids bridge memory id agree some);
+      few = λ id. omega (arith, counted bridge memory id agree, few_held bridge id agree.bridge_laws (holder id bridge.requests.live) refl);
+    }
+
+-- ---- so a burst that goes finds a box
+
+-- fewer bursts are open than there are boxes
+pub box_left : (bridge : BridgeState) (memory : FreeMemory) (sending : Sending) → Agree bridge memory → next_sending bridge.requests ≡ Some sending → length memory.pending < boxes_of bridge.requests.config
+box_left bridge memory sending agree is =
+    let next = next_found bridge.requests sending is in
+    let taken = taken_by bridge.requests sending agree.bridge_laws.requests next in
+    let within = sent_within bridge sending agree.bridge_laws is in
+    let few : count_of sending.id memory.pending < bridge.requests.config.depth =
+    omega (arith, counted bridge memory sending.id agree, ap length taken.bursts, few_outstanding sending.request.flight, next.ready.depth) in
+    let own : id_of sending.burst ≡ sending.id = ap id_of next.burst ∙ id_of_piece sending.id sending.request next.range (next.write, next.piece) in
+    room_for_one id_of_pending bridge.requests.config.ids bridge.requests.config.depth memory.pending (newly_pending memory.sent sending.burst) (few_of_each bridge memory agree) within.id
+    (subst (λ (id : ℕ). count_of id memory.pending < bridge.requests.config.depth) (sym own) few)
+
+box_for : (bridge : BridgeState) (memory : FreeMemory) → Agree bridge memory → (sending : Option Sending) → next_sending bridge.requests ≡ sending → IsSome (option_map (λ (s : Sending). s.burst) sending)
+    → length memory.pending < boxes_of bridge.requests.config
+box_for bridge memory agree None is some = absurd (cc (some))
+box_for bridge memory agree (Some sending) is some = box_left bridge memory sending agree is
+
+-- with each box in stock or holding an open burst
+pub box_in_stock : (bridge : StockedBridge) (device : DeviceState) → ArePaired bridge device → IsSome (burst_to_send bridge.state) → 0 < bridge.stock
+box_in_stock bridge device paired some =
+    omega (arith, paired.boxes, box_for bridge.state device.memory paired.agree (next_sending bridge.state.requests) refl some)

@@ -1,0 +1,4 @@
+mod ExamplesOfMeaning
+mod ExamplesOfOneRun
+mod ExamplesOfRuns
+mod ExamplesOfStatements
