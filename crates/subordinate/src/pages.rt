@@ -1,5 +1,6 @@
 //! The pages of a device: their bytes, and the transfers that are performed on them.
 ghost use Rattle.std.specs.Prelude.{◌≡◌, ◌==◌, ◌+◌, ◌≤◌, filter, map, position, replicate, IfOk, IsTrue, None, Some};
+ghost use Rattle.std.specs.List.{list_any};
 ghost use Rattle.bus_words.specs.Lanes.{payload_of};
 ghost use Rattle.bus_words.specs.Places.{AreDistinct};
 ghost use Rattle.axi_beats.specs.Bursts.{strobes_fit};
@@ -105,7 +106,7 @@ impl Pages {
     fn is_bad(&self, address: u32) -> bool
         ensures { result ≡ is_bad self.now.faults address }
     {
-        self.bad.iter().any(|word| *word == address / 8 * 8)
+        is_among(&self.bad, address / 8 * 8)
     }
 
     /// The response to a write that begins at an address (AXI4, A3.4.4): that of its page (this project's profile).
@@ -171,6 +172,17 @@ impl Pages {
             beat.strobes << first,
         );
     }
+}
+
+/// Whether an address is in a list. All of the list is looked at, since several addresses are compared at a time.
+fn is_among(addresses: &[u32], wanted: u32) -> bool
+    ensures { result ≡ list_any (λ address. address == wanted) addresses.now }
+{
+    let mut found = false;
+    for address in addresses {
+        found = found | (*address == wanted);
+    }
+    found
 }
 
 /// The numbers of the good pages, in order.
