@@ -16,6 +16,14 @@ answer_line words = line (codes "=" ∷ words)
 abbrev pub refused_text : TlRule → List ℕ
 refused_text rule = answer_line (codes "refused" ∷ decimal (number_of rule) ∷ name_of rule ∷ [])
 
+-- a request was accepted: its number
+abbrev pub accepted_text : ℕ → List ℕ
+accepted_text number = answer_line (codes "accepted" ∷ decimal number ∷ [])
+
+-- a burst was sent: its serial
+abbrev pub sent_text : ℕ → List ℕ
+sent_text serial = answer_line (codes "sent" ∷ decimal serial ∷ [])
+
 -- the line of a reply, by its request's number
 abbrev pub reply_line_text : ℕ → List ℕ
 reply_line_text number = answer_line (codes "reply" ∷ decimal number ∷ [])

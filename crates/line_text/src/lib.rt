@@ -15,8 +15,8 @@ pub use beat_lines::{a_line, b_line, r_line};
 pub use offer_parser::offer_line;
 pub use plain::{may_stand, plain_line_in};
 pub use trace_lines::{
-    burst_lines, client_line, drained_line, mem_line, number_line, ok_line, refused_line,
-    reply_line, reply_lines, work_line,
+    accepted_line, burst_lines, client_line, drained_line, mem_line, ok_line, refused_line,
+    reply_line, reply_lines, sent_line, work_line,
 };
 pub use words::{Words, is_comment};
 pub use writing::{WriteFault, write_text};

@@ -2,7 +2,7 @@
 ghost use Rattle.std.specs.Prelude.{◌≡◌, ◌≤◌, ◌∷◌, [], OnErr, OnOk, decimal, flat_map, length};
 ghost use Rattle.std.specs.Io.KnownBytes.{Appends};
 ghost use Rattle.line_text.specs.Writing.{StopsShort};
-ghost use Rattle.line_text.specs.Traces.{answer_line, client_text, drained_text, held_text, mem_text, ok_text, refused_text, reply_line_text, reply_text, work_text};
+ghost use Rattle.line_text.specs.Traces.{accepted_text, answer_line, client_text, drained_text, held_text, mem_text, ok_text, refused_text, reply_line_text, reply_text, sent_text, work_text};
 ghost use Rattle.axi_beats.specs.Boxes.{w_beats_of};
 ghost use Rattle.axi_beats.specs.Lines.{w_text};
 
@@ -49,10 +49,9 @@ fn number_text(text: &mut LineText, word: &[u8], number: u64)
     text.put_word(b"=");
 }
 
-/// Writes a line of a word and a number. It is apart, as other lines with fields are, since a function clears the room for
-/// its values at its entry.
-#[inline(never)]
-pub fn number_line<W: Write>(word: &[u8], number: u64, writer: &mut W) -> Result<(), WriteFault>
+/// Writes a line of a word and a number.
+#[inline(always)]
+fn number_line<W: Write>(word: &[u8], number: u64, writer: &mut W) -> Result<(), WriteFault>
     requires { length word.now ≤ 8 }
     ensures all { OnOk result (Appends (W.contents writer.old) (W.contents writer.new) (answer_line (word.now ∷ decimal number ∷ []))) }
     ensures front { OnErr result (StopsShort (answer_line (word.now ∷ decimal number ∷ [])) (W.contents writer.old) (W.contents writer.new)) }
@@ -62,7 +61,27 @@ pub fn number_line<W: Write>(word: &[u8], number: u64, writer: &mut W) -> Result
     write_text(text.as_slice(), writer)
 }
 
+/// Writes the line of a request that was accepted, by its number. It is apart, as other lines with fields are, since a
+/// function clears the room for its values at its entry; each word has code of its own, in which its length is known.
+#[inline(never)]
+pub fn accepted_line<W: Write>(number: u64, writer: &mut W) -> Result<(), WriteFault>
+    ensures all { OnOk result (Appends (W.contents writer.old) (W.contents writer.new) (accepted_text number)) }
+    ensures front { OnErr result (StopsShort (accepted_text number) (W.contents writer.old) (W.contents writer.new)) }
+{
+    number_line(b"accepted", number, writer)
+}
+
+/// Writes the line of a burst that was sent, by its serial.
+#[inline(never)]
+pub fn sent_line<W: Write>(serial: u64, writer: &mut W) -> Result<(), WriteFault>
+    ensures all { OnOk result (Appends (W.contents writer.old) (W.contents writer.new) (sent_text serial)) }
+    ensures front { OnErr result (StopsShort (sent_text serial) (W.contents writer.old) (W.contents writer.new)) }
+{
+    number_line(b"sent", serial, writer)
+}
+
 /// Writes the line of a reply, by its request's number.
+#[inline(never)]
 pub fn reply_line<W: Write>(number: u64, writer: &mut W) -> Result<(), WriteFault>
     ensures all { OnOk result (Appends (W.contents writer.old) (W.contents writer.new) (reply_line_text number)) }
     ensures front { OnErr result (StopsShort (reply_line_text number) (W.contents writer.old) (W.contents writer.new)) }
@@ -160,6 +179,7 @@ pub fn mem_line<W: Write>(byte: Option<u8>, writer: &mut W) -> Result<(), WriteF
 }
 
 /// Writes the line of a drain.
+#[inline(never)]
 pub fn drained_line<W: Write>(steps: u64, writer: &mut W) -> Result<(), WriteFault>
     ensures all { OnOk result (Appends (W.contents writer.old) (W.contents writer.new) (drained_text steps)) }
     ensures front { OnErr result (StopsShort (drained_text steps) (W.contents writer.old) (W.contents writer.new)) }
@@ -168,6 +188,7 @@ pub fn drained_line<W: Write>(steps: u64, writer: &mut W) -> Result<(), WriteFau
 }
 
 /// Writes the line of the work left.
+#[inline(never)]
 pub fn work_line<W: Write>(work: u64, writer: &mut W) -> Result<(), WriteFault>
     ensures all { OnOk result (Appends (W.contents writer.old) (W.contents writer.new) (work_text work)) }
     ensures front { OnErr result (StopsShort (work_text work) (W.contents writer.old) (W.contents writer.new)) }

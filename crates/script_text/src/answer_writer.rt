@@ -4,7 +4,9 @@ ghost use Rattle.std.specs.Io.KnownBytes.{Appends};
 ghost use Rattle.line_text.specs.Writing.{StopsShort};
 ghost use Rattle.script_text.specs.Answers.{answer_text};
 
-use line_text::{WriteFault, b_line, number_line, r_line, refused_line, reply_line, write_text};
+use line_text::{
+    WriteFault, accepted_line, b_line, r_line, refused_line, reply_line, sent_line, write_text,
+};
 use std::io::Write;
 use world::Answer;
 
@@ -15,12 +17,12 @@ pub fn answer_line<W: Write>(answer: &Answer, writer: &mut W) -> Result<(), Writ
 {
     match *answer {
         Answer::More => write_text(b"= more\n", writer),
-        Answer::Accepted(number) => number_line(b"accepted", number, writer),
+        Answer::Accepted(number) => accepted_line(number, writer),
         Answer::NotReady => write_text(b"= notready\n", writer),
         Answer::Exhausted => write_text(b"= exhausted\n", writer),
         Answer::Refused(rule) => refused_line(rule, writer),
         Answer::NoClient => write_text(b"= noclient\n", writer),
-        Answer::Sent(serial) => number_line(b"sent", serial, writer),
+        Answer::Sent(serial) => sent_line(serial, writer),
         Answer::Idle => write_text(b"= idle\n", writer),
         Answer::Done => write_text(b"= done\n", writer),
         Answer::NoSuch => write_text(b"= nosuch\n", writer),

@@ -1,6 +1,5 @@
-use Rattle.std.proofs.Common.{◌≡◌, ◌<◌, arith, min, true, false, get_or}
+use Rattle.std.proofs.Common.{arith}
 use Rattle.std.proofs.lemmas.Bool.Decides.{nat_tests}
-use Rattle.std.specs.Char.{digit_value, is_digit}
 use Rattle.line_text.proofs.NumberLaws.{digit_held}
 use Rattle.line_text.proofs.numbers.digit_of.Goals as goal
 
