@@ -1,25 +1,20 @@
 -- The open bursts of a device: found by serial, and by ID and side; and what sending, performing and answering keep.
-use Rattle.std.proofs.Common.{◌≡◌, ℕ, zero, suc, ◌+◌, ◌*◌, ◌<◌, ◌≤◌, ◌==◌, Bool, true, false, cond, not, List, [], ◌∷◌, ◌++◌, length, get_or, refl, sym, ◌∙◌, ap, subst, arith}
-use Rattle.std.specs.List.{AllByRecursion, list_any, position_or_len}
+use Rattle.std.proofs.Common.{◌≡◌, ℕ, zero, suc, ◌+◌, ◌*◌, ◌<◌, ◌≤◌, ◌==◌, Bool, true, false, List, [], ◌∷◌, ◌++◌, length, get_or, refl, sym, ◌∙◌, ap, subst, arith}
+use Rattle.std.specs.List.{AllByRecursion, position_or_len}
 use Rattle.std.specs.List.Sorted.{IsBinarySearchResult, IsNonDecreasingBy, IsSearchInRange}
 use Rattle.std.specs.Ordering.{nat_cmp, ordering_index}
-use Rattle.std.specs.Prelude.{Option, Some, None, Result, Ok, Err, filter, filter_map, find, position, if◌then◌else◌, IfSome, is_some, option_map}
+use Rattle.std.specs.Prelude.{Option, Some, None, Result, Ok, Err, filter, filter_map, find, position, IfSome, is_some, option_map}
 use Rattle.std.specs.Result.{result_ok}
-use Rattle.std.proofs.lemmas.Bool.{lt-ltb, le-ltb, eq-eqb, ne_eqb}
+use Rattle.std.proofs.lemmas.Bool.{lt-ltb, le-ltb, eq-eqb}
 use Rattle.std.proofs.lemmas.Bool.Decides.{nat_tests}
 use Rattle.std.proofs.lemmas.Cmp.{ranked}
 use Rattle.std.proofs.lemmas.List.Sorted.{IsNonDecreasingBy-from_default}
 use Rattle.bus_words.proofs.FirstPlaces.{find-first, find-none, position_is_first}
 use Rattle.bus_words.specs.Places.{change_first, without_first}
-use Rattle.axi_beats.specs.Boxes.{ar_of, aw_of}
 use Rattle.axi_beats.specs.Bursts.{Burst, ReadBurst, WriteBurst}
-use Rattle.axi_beats.specs.declared.ArBeat.{ArBeat}
-use Rattle.axi_beats.specs.declared.AwBeat.{AwBeat}
-use Rattle.axi_beats.specs.declared.BBeat.{BBeat}
 use Rattle.axi_beats.specs.declared.Resp.{Resp}
 use Rattle.axi_checker.specs.OpenBursts.{OpenBursts, lacks_data, read_of_id, write_of_id, write_to_fill}
-use Rattle.subordinate.specs.Faults.{standing_at, write_response}
-use Rattle.subordinate.specs.FreeMemory.{FreeMemory, Pending, b_of, beat_at, gives_last, has_serial, is_read_of, is_waiting, is_write_of, newly_pending, open_bursts_of, open_read_in, open_write_in, pending_after_r, r_of, r_with, start_of}
+use Rattle.subordinate.specs.FreeMemory.{FreeMemory, Pending, b_of, beat_at, gives_last, has_serial, is_read_of, is_write_of, newly_pending, open_bursts_of, open_read_in, open_write_in, pending_after_r, r_of, r_with}
 use Rattle.subordinate.specs.declared.BeatState.{BeatState}
 use Rattle.subordinate.specs.declared.BeatState.TheVariants.{Waiting, Written, Captured}
 use Rattle.subordinate.specs.Inside.{captured_at, is_beside, no_burst, with_answer}
@@ -40,6 +35,11 @@ rises-append low top (q ∷ qs) p rises last = (rises.0, rises-append (q.serial 
 pub rises-without_first : (low top : ℕ) (test : Pending → Bool) (pending : List Pending) → RisesWithin low top pending → RisesWithin low top (without_first test pending)
 rises-without_first low top test [] rises = rises
 rises-without_first low top test (p ∷ ps) rises = grind (arith, rises-weaken (p.serial + 1) low top ps, rises-without_first (p.serial + 1) top test ps rises.1)
+
+-- what is found in them has a serial that isn't below
+pub rises-found : (low top : ℕ) (test : Pending → Bool) (pending : List Pending) (p : Pending) → RisesWithin low top pending → find test pending ≡ Some p → low ≤ p.serial
+rises-found low top test [] p rises found = absurd (cc)
+rises-found low top test (q ∷ qs) p rises found = grind (arith, rises-found (q.serial + 1) top test qs p rises.1)
 
 pub rises-change_first : (low top : ℕ) (test : Pending → Bool) (change : Pending → Pending) (pending : List Pending) → ((p : Pending) → (change p).serial ≡ p.serial) → RisesWithin low top pending
     → RisesWithin low top (change_first test change pending)
