@@ -36,10 +36,6 @@ writes_in pending = filter_map (λ p. open_write_in p.burst) pending
 abbrev pub reads_in : List Pending → List OpenRead
 reads_in pending = filter_map (λ p. open_read_in p.answered p.burst) pending
 
--- one item before both
-same_after : {Y : Type 0} (h : Pending → Option Y) (p : Pending) (ps qs : List Pending) → filter_map h ps ≡ filter_map h qs → filter_map h (p ∷ ps) ≡ filter_map h (p ∷ qs)
-same_after h p ps qs same = ap (cons_option (h p)) same
-
 -- ---- one is sent
 
 same_bursts : (a b : OpenBursts) → a.writes ≡ b.writes → a.reads ≡ b.reads → a ≡ b
@@ -71,13 +67,7 @@ known_beats memory (Some burst) unbroken =
 changed_unseen : {Y : Type 0} (h : Pending → Option Y) (test : Pending → Bool) (change : Pending → Pending) (pending : List Pending) → ((p : Pending) → h (change p) ≡ h p)
     → filter_map h (change_first test change pending) ≡ filter_map h pending
 changed_unseen h test change [] unseen = refl
-changed_unseen {Y = Y} h test change (p ∷ ps) unseen =
-    by_test (test p) (changed_unseen h test change ps unseen)
-  where
-    by_test : (here : Bool) → filter_map h (change_first test change ps) ≡ filter_map h ps
-        → filter_map h (if here then change p ∷ ps else p ∷ change_first test change ps) ≡ filter_map h (p ∷ ps)
-    by_test true more = ap (λ (y : Option Y). cons_option y (filter_map h ps)) (unseen p)
-    by_test false more = same_after h p (change_first test change ps) ps more
+changed_unseen h test change (p ∷ ps) unseen = grind (arith, unseen p, changed_unseen h test change ps unseen)
 
 pub outstanding_performed : (memory : FreeMemory) (pending : Pending) (beat : ℕ) → open_bursts_of (with_performed memory pending beat) ≡ open_bursts_of memory
 outstanding_performed memory pending beat =
@@ -86,45 +76,17 @@ outstanding_performed memory pending beat =
 
 -- whatever the call answers
 pub known_performed : (memory : FreeMemory) (serial beat : ℕ) → open_bursts_of (performed memory serial beat).0 ≡ open_bursts_of memory
-known_performed memory serial beat = by_burst (find (has_serial serial) memory.pending)
-  where
-    by_beat : (p : Pending) (state : Option BeatState) → open_bursts_of (performed_beat memory p beat state).0 ≡ open_bursts_of memory
-    by_beat p None = refl
-    by_beat p (Some Waiting) = outstanding_performed memory p beat
-    by_beat p (Some Written) = refl
-    by_beat p (Some (Captured payload resp)) = refl
-
-    by_burst : (found : Option Pending) → open_bursts_of (performed_in memory beat found).0 ≡ open_bursts_of memory
-    by_burst None = refl
-    by_burst (Some p) = by_beat p (beat_at p beat)
+known_performed memory serial beat = grind (arith, outstanding_performed memory)
 
 -- ---- a B comes
 
--- the writes of an ID are those of the port, and the oldest is the oldest there
-write_burst_seen : (id : ℕ) (p : Pending) (burst : Burst) → p.burst ≡ burst → (ps : List Pending) → writes_in (without_first (is_write_of id) ps) ≡ without_first (write_of_id id) (writes_in ps)
-    → writes_in (if writes_as id burst then ps else p ∷ without_first (is_write_of id) ps) ≡ without_first (write_of_id id) (cons_option (open_write_in burst) (writes_in ps))
-write_burst_seen id p (WriteBurst aw ws) is ps more =
-    elim (aw.id == id) as (λ (here : Bool). writes_in (if here then ps else p ∷ without_first (is_write_of id) ps)
-    ≡ (if here then writes_in ps else record { aw = aw; came = aw.len + 1 } ∷ without_first (write_of_id id) (writes_in ps)))
-    [ true ↦ refl | false ↦ ap (λ (burst : Burst). cons_option (open_write_in burst) (writes_in (without_first (is_write_of id) ps))) is ∙ ap (λ (later : List OpenWrite). record { aw = aw; came = aw.len + 1 } ∷ later) more ]
-write_burst_seen id p (ReadBurst ar) is ps more = ap (λ (burst : Burst). cons_option (open_write_in burst) (writes_in (without_first (is_write_of id) ps))) is ∙ more
-
 writes_after_b : (id : ℕ) (pending : List Pending) → writes_in (without_first (is_write_of id) pending) ≡ without_first (write_of_id id) (writes_in pending)
 writes_after_b id [] = refl
-writes_after_b id (p ∷ ps) = write_burst_seen id p p.burst refl ps (writes_after_b id ps)
-
-write_burst_unseen : (id : ℕ) (p : Pending) (burst : Burst) → p.burst ≡ burst → (ps : List Pending) → reads_in (without_first (is_write_of id) ps) ≡ reads_in ps
-    → reads_in (if writes_as id burst then ps else p ∷ without_first (is_write_of id) ps) ≡ cons_option (open_read_in p.answered burst) (reads_in ps)
-write_burst_unseen id p (WriteBurst aw ws) is ps more =
-    elim (aw.id == id) as (λ (here : Bool). reads_in (if here then ps else p ∷ without_first (is_write_of id) ps) ≡ reads_in ps)
-    [ true ↦ refl | false ↦ ap (λ (burst : Burst). cons_option (open_read_in p.answered burst) (reads_in (without_first (is_write_of id) ps))) is ∙ more ]
-write_burst_unseen id p (ReadBurst ar) is ps more =
-    ap (λ (burst : Burst). cons_option (open_read_in p.answered burst) (reads_in (without_first (is_write_of id) ps))) is
-    ∙ ap (λ (later : List OpenRead). record { ar = ar; came = p.answered } ∷ later) more
+writes_after_b id (p ∷ ps) = grind (arith, writes_after_b id ps)
 
 reads_after_b : (id : ℕ) (pending : List Pending) → reads_in (without_first (is_write_of id) pending) ≡ reads_in pending
 reads_after_b id [] = refl
-reads_after_b id (p ∷ ps) = write_burst_unseen id p p.burst refl ps (reads_after_b id ps)
+reads_after_b id (p ∷ ps) = grind (arith, reads_after_b id ps)
 
 pub outstanding_after_b : (memory : FreeMemory) (b : BBeat) → open_after (open_bursts_of memory) (OnB b) ≡ open_bursts_of (after_b_of memory b.id)
 outstanding_after_b memory b = same_bursts _ _ (sym (writes_after_b b.id memory.pending)) (sym (reads_after_b b.id memory.pending))
@@ -139,51 +101,13 @@ HasBeatsToCome (Some p) = p.answered < transfers_in p.burst
 last_seen : (answered len : ℕ) → answered < len + 1 → (answered + 1 == len + 1) ≡ not (nat_lt answered len)
 last_seen answered len below = grind (arith, nat_tests)
 
-read_burst_seen : (id : ℕ) (p : Pending) (burst : Burst) → p.burst ≡ burst → (ps : List Pending) → HasBeatsToCome (if reads_as id burst then Some p else find (is_read_of id) ps)
-    → (HasBeatsToCome (find (is_read_of id) ps) → reads_in (pending_after_r id ps) ≡ reads_after id (reads_in ps))
-    → reads_in (if reads_as id burst then (if gives_last p then ps else record p { answered = p.answered + 1 } ∷ ps) else p ∷ pending_after_r id ps)
-    ≡ reads_after id (cons_option (open_read_in p.answered burst) (reads_in ps))
-read_burst_seen id p (WriteBurst aw ws) is ps to_come more = ap (λ (burst : Burst). cons_option (open_read_in p.answered burst) (reads_in (pending_after_r id ps))) is ∙ more to_come
-read_burst_seen id p (ReadBurst ar) is ps to_come more = by_test (ar.id == id) to_come
-  where
-    by_last : (last more_come : Bool) → last ≡ not more_come
-        → reads_in (if last then ps else record p { answered = p.answered + 1 } ∷ ps) ≡ (if more_come then record { ar = ar; came = p.answered + 1 } ∷ reads_in ps else reads_in ps)
-    by_last true true same = absurd (cc)
-    by_last true false same = refl
-    by_last false true same = ap (λ (burst : Burst). cons_option (open_read_in (p.answered + 1) burst) (reads_in ps)) is
-    by_last false false same = absurd (cc)
-
-    by_test : (here : Bool) → HasBeatsToCome (if here then Some p else find (is_read_of id) ps)
-        → reads_in (if here then (if gives_last p then ps else record p { answered = p.answered + 1 } ∷ ps) else p ∷ pending_after_r id ps)
-        ≡ (if here then (if nat_lt p.answered ar.len then record { ar = ar; came = p.answered + 1 } ∷ reads_in ps else reads_in ps) else record { ar = ar; came = p.answered } ∷ reads_after id (reads_in ps))
-    by_test true below =
-        by_last (gives_last p) (nat_lt p.answered ar.len)
-        (ap (λ (burst : Burst). p.answered + 1 == transfers_in burst) is ∙ last_seen p.answered ar.len (subst (λ (burst : Burst). p.answered < transfers_in burst) is below))
-    by_test false later =
-        ap (λ (burst : Burst). cons_option (open_read_in p.answered burst) (reads_in (pending_after_r id ps))) is
-        ∙ ap (λ (reads : List OpenRead). record { ar = ar; came = p.answered } ∷ reads) (more later)
-
 reads_after_r : (id : ℕ) (pending : List Pending) → HasBeatsToCome (find (is_read_of id) pending) → reads_in (pending_after_r id pending) ≡ reads_after id (reads_in pending)
 reads_after_r id [] to_come = refl
-reads_after_r id (p ∷ ps) to_come = read_burst_seen id p p.burst refl ps to_come (reads_after_r id ps)
-
-read_burst_unseen : (id : ℕ) (p : Pending) (burst : Burst) → p.burst ≡ burst → (ps : List Pending) → writes_in (pending_after_r id ps) ≡ writes_in ps
-    → writes_in (if reads_as id burst then (if gives_last p then ps else record p { answered = p.answered + 1 } ∷ ps) else p ∷ pending_after_r id ps)
-    ≡ cons_option (open_write_in burst) (writes_in ps)
-read_burst_unseen id p (WriteBurst aw ws) is ps more =
-    ap (λ (burst : Burst). cons_option (open_write_in burst) (writes_in (pending_after_r id ps))) is
-    ∙ ap (λ (writes : List OpenWrite). record { aw = aw; came = aw.len + 1 } ∷ writes) more
-read_burst_unseen id p (ReadBurst ar) is ps more = by_test (ar.id == id) (gives_last p)
-  where
-    by_test : (here last : Bool)
-        → writes_in (if here then (if last then ps else record p { answered = p.answered + 1 } ∷ ps) else p ∷ pending_after_r id ps) ≡ writes_in ps
-    by_test true true = refl
-    by_test true false = ap (λ (burst : Burst). cons_option (open_write_in burst) (writes_in ps)) is
-    by_test false last = ap (λ (burst : Burst). cons_option (open_write_in burst) (writes_in (pending_after_r id ps))) is ∙ more
+reads_after_r id (p ∷ ps) to_come = grind (arith, nat_tests, reads_after_r id ps)
 
 writes_after_r : (id : ℕ) (pending : List Pending) → writes_in (pending_after_r id pending) ≡ writes_in pending
 writes_after_r id [] = refl
-writes_after_r id (p ∷ ps) = read_burst_unseen id p p.burst refl ps (writes_after_r id ps)
+writes_after_r id (p ∷ ps) = grind (arith, writes_after_r id ps)
 
 pub outstanding_after_r : (memory : FreeMemory) (r : RBeat) → HasBeatsToCome (find (is_read_of r.id) memory.pending) → open_after (open_bursts_of memory) (OnR r) ≡ open_bursts_of (after_r_of memory r.id)
 outstanding_after_r memory r to_come = same_bursts _ _ (sym (writes_after_r r.id memory.pending)) (sym (reads_after_r r.id memory.pending to_come))
@@ -272,19 +196,15 @@ oldest_read_seen id (q ∷ qs) p found = by_burst q.burst refl found (oldest_rea
 -- no ID is above the device's
 id_of_write : (memory : FreeMemory) (id : ℕ) (p : Pending) → IsSoundMemory memory → find (is_write_of id) memory.pending ≡ Some p → id < 16
 id_of_write memory id p sound found =
-    by_burst p.burst (all-find (λ (q : Pending). queue_of q < 32) (is_write_of id) memory.pending p sound.few.known found) (find-passes (is_write_of id) memory.pending p found)
-  where
-    by_burst : (burst : Burst) → queue_of_burst burst < 32 → writes_as id burst ≡ true → id < 16
-    by_burst (WriteBurst aw ws) known same = omega (arith, known, eqb-true aw.id id same)
-    by_burst (ReadBurst ar) known same = absurd (cc)
+    let known = all-find (λ (q : Pending). queue_of q < 32) (is_write_of id) memory.pending p sound.few.known found in
+    let passes = find-passes (is_write_of id) memory.pending p found in
+    grind (arith, nat_tests, known, passes)
 
 id_of_read : (memory : FreeMemory) (id : ℕ) (p : Pending) → IsSoundMemory memory → find (is_read_of id) memory.pending ≡ Some p → id < 16
 id_of_read memory id p sound found =
-    by_burst p.burst (all-find (λ (q : Pending). queue_of q < 32) (is_read_of id) memory.pending p sound.few.known found) (find-passes (is_read_of id) memory.pending p found)
-  where
-    by_burst : (burst : Burst) → queue_of_burst burst < 32 → reads_as id burst ≡ true → id < 16
-    by_burst (WriteBurst aw ws) known same = absurd (cc)
-    by_burst (ReadBurst ar) known same = omega (arith, known, eqb-true ar.id id same)
+    let known = all-find (λ (q : Pending). queue_of q < 32) (is_read_of id) memory.pending p sound.few.known found in
+    let passes = find-passes (is_read_of id) memory.pending p found in
+    grind (arith, nat_tests, known, passes)
 
 pub takes_b : (memory : FreeMemory) (id : ℕ) (resp : Resp) (p : Pending) → IsSoundMemory memory → find (is_write_of id) memory.pending ≡ Some p → is_exokay resp ≡ false
     → axi_fault (device_port memory) (open_bursts_of memory) (OnB (record { id = id; resp = resp })) ≡ None
@@ -295,11 +215,7 @@ takes_b memory id resp p sound found plain =
 -- what a read captured, and so answers, isn't EXOKAY
 pub captured_plain : (burst : Burst) (beats : List BeatState) (n payload : ℕ) (resp : Resp) → AllByRecursion (IsBeatOf burst) beats → slice_get beats n ≡ Some (Captured payload resp) → is_exokay resp ≡ false
 captured_plain burst [] n payload resp all there = absurd (cc)
-captured_plain burst (beat ∷ beats) zero payload resp all there = of_burst burst (subst (IsBeatOf burst) (same_Some beat (Captured payload resp) there) all.0)
-  where
-    of_burst : (burst : Burst) → IsBeatOf burst (Captured payload resp) → is_exokay resp ≡ false
-    of_burst (WriteBurst aw ws) never = absurd never
-    of_burst (ReadBurst ar) plain = plain
+captured_plain burst (beat ∷ beats) zero payload resp all there = grind (arith, all.0)
 captured_plain burst (beat ∷ beats) (suc n) payload resp all there = captured_plain burst beats n payload resp all.1 there
 
 same_flag : (b : Bool) → not (beq b b) ≡ false
