@@ -98,9 +98,6 @@ abbrev pub HasBeatsToCome : Option Pending → Type 0
 HasBeatsToCome None = ⊤
 HasBeatsToCome (Some p) = p.answered < transfers_in p.burst
 
-last_seen : (answered len : ℕ) → answered < len + 1 → (answered + 1 == len + 1) ≡ not (nat_lt answered len)
-last_seen answered len below = grind (arith, nat_tests)
-
 reads_after_r : (id : ℕ) (pending : List Pending) → HasBeatsToCome (find (is_read_of id) pending) → reads_in (pending_after_r id pending) ≡ reads_after id (reads_in pending)
 reads_after_r id [] to_come = refl
 reads_after_r id (p ∷ ps) to_come = grind (arith, nat_tests, reads_after_r id ps)
@@ -128,35 +125,20 @@ pub record IsOldestWrite (id : ℕ) (pending : List Pending) (p : Pending) : Typ
   pub burst : p.burst ≡ WriteBurst aw ws
   pub seen : find (write_of_id id) (writes_in pending) ≡ Some (record { aw = aw; came = aw.len + 1 })
 
-pub oldest_write_seen : (id : ℕ) (pending : List Pending) (p : Pending) → find (is_write_of id) pending ≡ Some p → IsOldestWrite id pending p
-oldest_write_seen id [] p found = absurd (cc)
-oldest_write_seen id (q ∷ qs) p found = by_burst q.burst refl found (oldest_write_seen id qs p)
-  where
-    Later : Type 0
-    Later = find (is_write_of id) qs ≡ Some p → IsOldestWrite id qs p
+abbrev known_write : Option Pending → Option OpenWrite
+known_write None = None
+known_write (Some p) = open_write_in p.burst
 
-    by_burst : (burst : Burst) → q.burst ≡ burst → (if writes_as id burst then Some q else find (is_write_of id) qs) ≡ Some p → Later → IsOldestWrite id (q ∷ qs) p
-    by_burst (ReadBurst ar) is found later =
-        let more = later found in
-        record { aw = more.aw; ws = more.ws; burst = more.burst; seen = ap (λ (burst : Burst). find (write_of_id id) (cons_option (open_write_in burst) (writes_in qs))) is ∙ more.seen }
-    by_burst (WriteBurst aw ws) is found later = by_test (aw.id == id) refl found
-      where
-        by_test : (here : Bool) → (aw.id == id) ≡ here → (if here then Some q else find (is_write_of id) qs) ≡ Some p → IsOldestWrite id (q ∷ qs) p
-        by_test true same found =
-            record {
-              aw = aw;
-              ws = ws;
-              burst = ap (λ (x : Pending). x.burst) (sym (same_Some q p found)) ∙ is;
-              seen = ap (λ (burst : Burst). find (write_of_id id) (cons_option (open_write_in burst) (writes_in qs))) is ∙ rw same refl;
-            }
-        by_test false other found =
-            let more = later found in
-            record {
-              aw = more.aw;
-              ws = more.ws;
-              burst = more.burst;
-              seen = ap (λ (burst : Burst). find (write_of_id id) (cons_option (open_write_in burst) (writes_in qs))) is ∙ rw other more.seen;
-            }
+found_write : (id : ℕ) (pending : List Pending) → find (write_of_id id) (writes_in pending) ≡ known_write (find (is_write_of id) pending)
+found_write id [] = refl
+found_write id (p ∷ ps) = grind (arith, found_write id ps)
+
+pub oldest_write_seen : (id : ℕ) (pending : List Pending) (p : Pending) → find (is_write_of id) pending ≡ Some p → IsOldestWrite id pending p
+oldest_write_seen id pending p found = by_burst p.burst refl (find-passes (is_write_of id) pending p found)
+  where
+    by_burst : (burst : Burst) → p.burst ≡ burst → writes_as id burst ≡ true → IsOldestWrite id pending p
+    by_burst (ReadBurst ar) is passes = absurd (cc)
+    by_burst (WriteBurst aw ws) is passes = record { aw = aw; ws = ws; burst = is; seen = found_write id pending ∙ ap known_write found ∙ ap open_write_in is }
 
 -- an open read of an ID, as the port knows it
 pub record IsOldestRead (id : ℕ) (pending : List Pending) (p : Pending) : Type 0 where
@@ -164,32 +146,20 @@ pub record IsOldestRead (id : ℕ) (pending : List Pending) (p : Pending) : Type
   pub burst : p.burst ≡ ReadBurst ar
   pub seen : find (read_of_id id) (reads_in pending) ≡ Some (record { ar = ar; came = p.answered })
 
-pub oldest_read_seen : (id : ℕ) (pending : List Pending) (p : Pending) → find (is_read_of id) pending ≡ Some p → IsOldestRead id pending p
-oldest_read_seen id [] p found = absurd (cc)
-oldest_read_seen id (q ∷ qs) p found = by_burst q.burst refl found (oldest_read_seen id qs p)
-  where
-    Later : Type 0
-    Later = find (is_read_of id) qs ≡ Some p → IsOldestRead id qs p
+abbrev known_read : Option Pending → Option OpenRead
+known_read None = None
+known_read (Some p) = open_read_in p.answered p.burst
 
-    by_burst : (burst : Burst) → q.burst ≡ burst → (if reads_as id burst then Some q else find (is_read_of id) qs) ≡ Some p → Later → IsOldestRead id (q ∷ qs) p
-    by_burst (WriteBurst aw ws) is found later =
-        let more = later found in
-        record { ar = more.ar; burst = more.burst; seen = ap (λ (burst : Burst). find (read_of_id id) (cons_option (open_read_in q.answered burst) (reads_in qs))) is ∙ more.seen }
-    by_burst (ReadBurst ar) is found later = by_test (ar.id == id) refl found
-      where
-        by_test : (here : Bool) → (ar.id == id) ≡ here → (if here then Some q else find (is_read_of id) qs) ≡ Some p → IsOldestRead id (q ∷ qs) p
-        by_test true same found =
-            let it : q ≡ p = same_Some q p found in
-            record {
-              ar = ar;
-              burst = ap (λ (x : Pending). x.burst) (sym it) ∙ is;
-              seen =
-                  ap (λ (burst : Burst). find (read_of_id id) (cons_option (open_read_in q.answered burst) (reads_in qs))) is ∙ rw same refl
-                  ∙ ap (λ (x : Pending). Some (record { ar = ar; came = x.answered })) it;
-            }
-        by_test false other found =
-            let more = later found in
-            record { ar = more.ar; burst = more.burst; seen = ap (λ (burst : Burst). find (read_of_id id) (cons_option (open_read_in q.answered burst) (reads_in qs))) is ∙ rw other more.seen }
+found_read : (id : ℕ) (pending : List Pending) → find (read_of_id id) (reads_in pending) ≡ known_read (find (is_read_of id) pending)
+found_read id [] = refl
+found_read id (p ∷ ps) = grind (arith, found_read id ps)
+
+pub oldest_read_seen : (id : ℕ) (pending : List Pending) (p : Pending) → find (is_read_of id) pending ≡ Some p → IsOldestRead id pending p
+oldest_read_seen id pending p found = by_burst p.burst refl (find-passes (is_read_of id) pending p found)
+  where
+    by_burst : (burst : Burst) → p.burst ≡ burst → reads_as id burst ≡ true → IsOldestRead id pending p
+    by_burst (WriteBurst aw ws) is passes = absurd (cc)
+    by_burst (ReadBurst ar) is passes = record { ar = ar; burst = is; seen = found_read id pending ∙ ap known_read found ∙ ap (open_read_in p.answered) is }
 
 -- ---- an answer breaks no rule
 
