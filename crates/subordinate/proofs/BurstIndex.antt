@@ -1,5 +1,5 @@
 -- What stays true of the queues of open bursts, and of the marks of those that may answer, when one is sent, changed or closed.
-use Rattle.std.proofs.Common.{◌≡◌, ℕ, zero, suc, ◌+◌, ◌*◌, ◌/◌, ◌%◌, ◌<◌, ◌≤◌, ◌==◌, Bool, true, false, ◌⊎◌, inl, inr, List, [], ◌∷◌, ◌++◌, drop, length, get_or, map, replicate, refl, sym, ◌∙◌, ap, subst, arith}
+use Rattle.std.proofs.Common.{◌≡◌, ℕ, zero, suc, ◌+◌, ◌*◌, ◌/◌, ◌%◌, ◌<◌, ◌==◌, Bool, true, false, ◌⊎◌, inl, inr, List, [], ◌∷◌, ◌++◌, drop, length, get_or, map, replicate, refl, sym, ◌∙◌, ap, subst, arith}
 use Rattle.std.proofs.Math.ListN.{set}
 use Rattle.std.proofs.lemmas.Bool.{cases_eq, eq-eqb, ne_eqb}
 use Rattle.std.proofs.lemmas.List.{append-nil, get_or_default, get_or-set_other, get_or-set_same, length-set, map-append}
@@ -8,7 +8,7 @@ use Rattle.std.proofs.lemmas.List.Recursion.{found_set_other}
 use Rattle.std.proofs.lemmas.Option.{same_Some, slice_get-get_or}
 use Rattle.std.specs.List.{position_or_len, remove}
 use Rattle.std.specs.Prelude.{◌≢◌, IfSome, Option, Some, None, filter, find, if◌then◌else◌, option_map, position, slice_get}
-use Rattle.bus_words.proofs.FirstPlaces.{find-first, position_is_first, without_first-first, IsFirst}
+use Rattle.bus_words.proofs.FirstPlaces.{find-first, position_is_first, without_first-first}
 use Rattle.bus_words.specs.Places.{without_first}
 use Rattle.subordinate.specs.Bursts.{AreIndexed, Rise, has_id, is_first, is_found_ready, is_in, is_marked, is_queue_ready, is_ready, serials_in}
 use Rattle.subordinate.specs.FreeMemory.{Pending, has_serial, newly_pending}

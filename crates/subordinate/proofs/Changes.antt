@@ -1,25 +1,17 @@
 -- Changes of a list's first passing entry, one after another.
-use Rattle.std.proofs.Common.{◌≡◌, ℕ, zero, suc, Bool, true, false, List, [], ◌∷◌, get_or, refl, sym, ◌∙◌, ap}
+use Rattle.std.proofs.Common.{◌≡◌, ℕ, zero, suc, Bool, List, [], ◌∷◌, get_or, refl, ap, arith}
 use Rattle.std.proofs.Math.ListN.{set}
-use Rattle.std.specs.Prelude.{if◌then◌else◌}
 use Rattle.bus_words.specs.Places.{change_first}
 
 -- two changes are one, where the first leaves the test as it was
 pub change_first-change_first : {X : Type 0} (p : X → Bool) (f g : X → X) (xs : List X) → ((x : X) → p (f x) ≡ p x) → change_first p g (change_first p f xs) ≡ change_first p (λ x. g (f x)) xs
 change_first-change_first p f g [] same = refl
-change_first-change_first p f g (x ∷ xs) same =
-    elim (p x) as (λ b. p (f x) ≡ b → change_first p g (if b then f x ∷ xs else x ∷ change_first p f xs) ≡ (if b then g (f x) ∷ xs else x ∷ change_first p (λ y. g (f y)) xs))
-    [ true ↦ (λ passes. rw passes refl) | false ↦ (λ fails. rw (sym (same x) ∙ fails) (ap (λ ys. x ∷ ys) (change_first-change_first p f g xs same))) ]
-    (same x)
+change_first-change_first p f g (x ∷ xs) same = grind (arith, same x, change_first-change_first p f g xs same)
 
 -- a change that changes nothing
 pub change_first-same : {X : Type 0} (p : X → Bool) (f : X → X) (xs : List X) → ((x : X) → f x ≡ x) → change_first p f xs ≡ xs
 change_first-same p f [] same = refl
-change_first-same {X = X} p f (x ∷ xs) same = rw (same x, change_first-same p f xs same) (by_test (p x))
-  where
-    by_test : (b : Bool) → (if b then x ∷ xs else x ∷ xs) ≡ x ∷ xs
-    by_test true = refl
-    by_test false = refl
+change_first-same p f (x ∷ xs) same = grind (arith, same x, change_first-same p f xs same)
 
 -- changes that agree
 pub change_first-agree : {X : Type 0} (p : X → Bool) (f g : X → X) (xs : List X) → ((x : X) → f x ≡ g x) → change_first p f xs ≡ change_first p g xs

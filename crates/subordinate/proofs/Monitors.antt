@@ -1,14 +1,14 @@
 -- The open bursts as a monitor of the port knows them: a burst that is sent is open there too, a beat that is performed is none of the port's,
 -- and an answer breaks no rule there, and goes on as the monitor does that takes it. It knows both lists of bursts; bytes are hidden.
 use Rattle.std.proofs.Common.{◌≡◌, ℕ, zero, suc, ◌+◌, ◌==◌, ◌<◌, Bool, true, false, List, [], ◌∷◌, refl, ap, sym, ◌∙◌, subst, arith}
-use Rattle.std.specs.Prelude.{Option, Some, None, IfSome, filter_map, find, if◌then◌else◌, nat_lt, not, slice_get, ⊤}
+use Rattle.std.specs.Prelude.{Option, Some, None, IfSome, filter_map, find, not, slice_get, ⊤}
 use Rattle.std.specs.Bool.{beq}
-use Rattle.std.specs.List.{AllByRecursion, cons_option}
-use Rattle.std.proofs.lemmas.Bool.{eqb-true, lt-leb}
+use Rattle.std.specs.List.{AllByRecursion}
+use Rattle.std.proofs.lemmas.Bool.{lt-leb}
 use Rattle.std.proofs.lemmas.Bool.Decides.{nat_tests}
 use Rattle.std.proofs.lemmas.List.{append-nil}
 use Rattle.std.proofs.lemmas.List.Elements.{filter_map-append}
-use Rattle.std.proofs.lemmas.Option.{same_Some, slice_get_within}
+use Rattle.std.proofs.lemmas.Option.{slice_get_within}
 use Rattle.bus_words.specs.Places.{change_first, without_first}
 use Rattle.axi_beats.specs.Bursts.{Burst, WriteBurst, ReadBurst}
 use Rattle.bus_words.proofs.PlaceChanges.{all-find, find-passes}
@@ -22,11 +22,11 @@ use Rattle.axi_beats.specs.declared.WBeat.{WBeat}
 use Rattle.axi_checker.proofs.LegalBursts.{last_place, open_after_all-burst}
 use Rattle.axi_checker.specs.OpenBursts.{OnB, OnR, open_after, OpenBursts, OpenRead, OpenWrite, read_of_id, reads_after, write_of_id}
 use Rattle.axi_checker.specs.Rules.{axi_fault, beats_sent, open_after_all, open_with_burst}
-use Rattle.subordinate.specs.FreeMemory.{FreeMemory, Pending, after_b_of, after_r_of, beat_after, beat_at, device_port, performed, performed_beat, performed_in, reads_as, send_fault, with_performed, writes_as, gives_last, has_serial, is_read_of, is_write_of, open_bursts_of, open_read_in, open_write_in, pending_after_r, transfers_in, with_beat, with_burst}
+use Rattle.subordinate.specs.FreeMemory.{FreeMemory, Pending, after_b_of, after_r_of, beat_after, beat_at, device_port, performed, reads_as, send_fault, with_performed, writes_as, gives_last, has_serial, is_read_of, is_write_of, open_bursts_of, open_read_in, open_write_in, pending_after_r, transfers_in, with_beat, with_burst}
 use Rattle.subordinate.specs.Inside.{burst_in}
-use Rattle.subordinate.specs.Laws.{IsBeatOf, IsSoundMemory, IsSoundPending, queue_of, queue_of_burst}
+use Rattle.subordinate.specs.Laws.{IsBeatOf, IsSoundMemory, IsSoundPending, queue_of}
 use Rattle.subordinate.specs.declared.BeatState.{BeatState}
-use Rattle.subordinate.specs.declared.BeatState.TheVariants.{Waiting, Written, Captured}
+use Rattle.subordinate.specs.declared.BeatState.TheVariants.{Captured}
 use Rattle.subordinate.proofs.OpenBursts.{writes_have_data}
 
 -- the open writes, and the open reads, that it knows

@@ -1,5 +1,5 @@
 -- The open bursts of a device: found by serial, and by ID and side; and what sending, performing and answering keep.
-use Rattle.std.proofs.Common.{◌≡◌, ℕ, zero, suc, ◌+◌, ◌*◌, ◌<◌, ◌≤◌, ◌==◌, Bool, true, false, List, [], ◌∷◌, ◌++◌, length, get_or, refl, sym, ◌∙◌, ap, subst, arith}
+use Rattle.std.proofs.Common.{◌≡◌, ℕ, zero, suc, ◌+◌, ◌<◌, ◌≤◌, ◌==◌, Bool, true, false, List, [], ◌∷◌, ◌++◌, length, get_or, refl, sym, ◌∙◌, ap, subst, arith}
 use Rattle.std.specs.List.{AllByRecursion, position_or_len}
 use Rattle.std.specs.List.Sorted.{IsBinarySearchResult, IsNonDecreasingBy, IsSearchInRange}
 use Rattle.std.specs.Ordering.{nat_cmp, ordering_index}
@@ -12,12 +12,9 @@ use Rattle.std.proofs.lemmas.List.Sorted.{IsNonDecreasingBy-from_default}
 use Rattle.bus_words.proofs.FirstPlaces.{find-first, find-none, position_is_first}
 use Rattle.bus_words.specs.Places.{change_first, without_first}
 use Rattle.axi_beats.specs.Bursts.{Burst, ReadBurst, WriteBurst}
-use Rattle.axi_beats.specs.declared.Resp.{Resp}
 use Rattle.axi_checker.specs.OpenBursts.{OpenBursts, lacks_data, read_of_id, write_of_id, write_to_fill}
-use Rattle.subordinate.specs.FreeMemory.{FreeMemory, Pending, b_of, beat_at, gives_last, has_serial, is_read_of, is_write_of, newly_pending, open_bursts_of, open_read_in, open_write_in, pending_after_r, r_of, r_with}
-use Rattle.subordinate.specs.declared.BeatState.{BeatState}
-use Rattle.subordinate.specs.declared.BeatState.TheVariants.{Waiting, Written, Captured}
-use Rattle.subordinate.specs.Inside.{captured_at, is_beside, no_burst, with_answer}
+use Rattle.subordinate.specs.FreeMemory.{FreeMemory, Pending, gives_last, has_serial, is_read_of, is_write_of, newly_pending, open_bursts_of, open_read_in, open_write_in, pending_after_r}
+use Rattle.subordinate.specs.Inside.{is_beside, no_burst, with_answer}
 use Rattle.subordinate.specs.Laws.{RisesWithin, queue_of, queue_of_burst}
 use Rattle.axi_checker.specs.Rules.{AxiPortLimits, burst_fault, id_of, outstanding_beside}
 use Rattle.axi_checker.specs.declared.AxiRule.{AxiRule}
@@ -112,13 +109,6 @@ pub reads_known : (id : ℕ) (pending : List Pending) → length (filter (read_o
 reads_known id [] = refl
 reads_known id (p ∷ ps) = grind (arith, reads_known id ps)
 
--- the bursts of a queue are the writes of an ID, or its reads
-pub queue_of_write : (id other : ℕ) → (2 * other == 2 * id) ≡ (other == id)
-queue_of_write id other = grind (arith, nat_tests)
-
-pub queue_of_read : (id other : ℕ) → (2 * other + 1 == 2 * id + 1) ≡ (other == id)
-queue_of_read id other = grind (arith, nat_tests)
-
 pub in_queue : (burst : Burst) (p : Pending) → (queue_of p == queue_of_burst burst) ≡ is_beside burst p
 in_queue burst p = grind (arith, nat_tests)
 
@@ -154,12 +144,6 @@ found_none test pending none = find-none test pending none
 
 -- ---- the B and R that an ID may give
 
-pub r_with_captured : (id : ℕ) (p : Pending) (state : Option BeatState) → r_with id p state ≡ option_map (λ (found : ℕ × Resp). record { id = id; payload = found.0; resp = found.1; last = gives_last p }) (captured_at state)
-r_with_captured id p None = refl
-r_with_captured id p (Some Waiting) = refl
-r_with_captured id p (Some Written) = refl
-r_with_captured id p (Some (Captured payload resp)) = refl
-
 pub is_some-option_map : {X Y : Type 0} (f : X → Y) (found : Option X) → is_some (option_map f found) ≡ is_some found
 is_some-option_map f None = refl
 is_some-option_map f (Some x) = refl
@@ -174,18 +158,8 @@ pub pending_after_r-more : (id : ℕ) (pending : List Pending) (p : Pending) →
 pending_after_r-more id [] p found more = refl
 pending_after_r-more id (q ∷ qs) p found more = grind (arith, pending_after_r-more id qs p)
 
-pub can_r_found : (memory : FreeMemory) (id : ℕ) (p : Pending) → find (is_read_of id) memory.pending ≡ Some p → is_some (r_of memory id) ≡ is_some (captured_at (beat_at p p.answered))
-can_r_found memory id p found = rw found (ap is_some (r_with_captured id p (beat_at p p.answered)) ∙ is_some-option_map _ (captured_at (beat_at p p.answered)))
-
 -- what holds of all open bursts holds of the one at a place
 pub all-at : (P : Pending → Type 0) (pending : List Pending) (k : ℕ) (p : Pending) → AllByRecursion P pending → k < length pending → p ≡ get_or pending k p → P p
 all-at P [] k p all within is = absurd (omega (arith, within))
 all-at P (q ∷ qs) zero p all within is = subst P (sym is) all.0
 all-at P (q ∷ qs) (suc k) p all within is = all-at P qs k p all.1 (omega (arith, within)) is
-
--- without an open write of the ID it gives no B, and without an open read no R
-pub no_b : (memory : FreeMemory) (id : ℕ) → find (is_write_of id) memory.pending ≡ None → b_of memory id ≡ None
-no_b memory id none = rw none refl
-
-pub no_r : (memory : FreeMemory) (id : ℕ) → find (is_read_of id) memory.pending ≡ None → r_of memory id ≡ None
-no_r memory id none = rw none refl

@@ -1,7 +1,7 @@
 -- What stays true of a device's open bursts when one is sent, performed, answered or closed.
 use Rattle.std.proofs.Common.{◌≡◌, ℕ, zero, suc, ◌+◌, ◌<◌, ◌≤◌, ◌==◌, Bool, true, false, List, [], ◌∷◌, ◌++◌, length, get_or, replicate, refl, sym, ◌∙◌, ap, subst, arith}
 use Rattle.std.proofs.Math.ListN.{set}
-use Rattle.std.proofs.lemmas.List.{append-nil, length-append, length-set, map-append}
+use Rattle.std.proofs.lemmas.List.{append-nil, length-append, length-set, map-append, length-replicate}
 use Rattle.std.specs.List.{AllByRecursion, remove}
 use Rattle.std.specs.Prelude.{Option, Some, None, IfSome, IsSome, filter, find, position, slice_get, take}
 use Rattle.axi_beats.specs.Bursts.{Burst, IsLegal, ReadBurst, WriteBurst}
@@ -26,6 +26,7 @@ use Rattle.subordinate.specs.declared.BeatState.TheVariants.{Waiting, Written, C
 use Rattle.subordinate.proofs.FaultLaws.{read_plain}
 use Rattle.subordinate.specs.Faults.{is_bad, standing_at}
 use Rattle.subordinate.proofs.OpenBursts.{all-at, count_in_queue, known_beside, pending_after_r-last, pending_after_r-more, position-serial, rises-append, rises-change_first, rises-without_first, serial_at}
+use Rattle.subordinate.proofs.BeatStates.{set_performed}
 
 -- ---- lists
 
@@ -34,17 +35,7 @@ all-set P [] k x all new = tt
 all-set P (y ∷ ys) zero x all new = (new, all.1)
 all-set P (y ∷ ys) (suc k) x all new = (all.0, all-set P ys k x all.1 new)
 
-length-replicate : {X : Type 0} (n : ℕ) (x : X) → length (replicate n x) ≡ n
-length-replicate zero x = refl
-length-replicate (suc n) x = ap suc (length-replicate n x)
-
 -- ---- one open burst
-
-performed-set : (n k : ℕ) (beats : List BeatState) (state : BeatState) → AllByRecursion IsPerformed (take n beats) → is_waiting state ≡ false → AllByRecursion IsPerformed (take n (set beats k state))
-performed-set zero k beats state all performed = tt
-performed-set (suc n) k [] state all performed = tt
-performed-set (suc n) zero (beat ∷ beats) state all performed = (performed, all.1)
-performed-set (suc n) (suc k) (beat ∷ beats) state all performed = (all.0, performed-set n k beats state all.1 performed)
 
 performed-more : (n : ℕ) (beats : List BeatState) (state : BeatState) → AllByRecursion IsPerformed (take n beats) → slice_get beats n ≡ Some state → is_waiting state ≡ false
     → AllByRecursion IsPerformed (take (suc n) beats) × (suc n ≤ length beats)
@@ -62,7 +53,7 @@ sound-with_beat bus_bytes beat state p sound performed of_burst =
       legal = sound.legal;
       whole = length-set p.beats beat state ∙ sound.whole;
       beats = all-set (IsBeatOf p.burst) p.beats beat state sound.beats of_burst;
-      answered = performed-set p.answered beat p.beats state sound.answered performed;
+      answered = set_performed p.answered p.beats beat state sound.answered performed;
       most = omega (arith, sound.most, length-set p.beats beat state);
       one_by_one = sound.one_by_one;
     }
@@ -207,11 +198,10 @@ room_changed open_bursts closed spare room_of_closed room_of_spare same room = s
 
 -- a performed beat doesn't wait
 pub beat_after-performed : (memory : FreeMemory) (burst : Burst) (beat : ℕ) → is_waiting (beat_after memory burst beat) ≡ false
-beat_after-performed memory (WriteBurst aw ws) beat = refl
-beat_after-performed memory (ReadBurst ar) beat = refl
+beat_after-performed memory burst beat = grind arith
 
 pub beat_becomes-performed : (memory : FreeMemory) (burst : Burst) (beat : ℕ) (state : BeatState) → state ≡ beat_after memory burst beat → is_waiting state ≡ false
-beat_becomes-performed memory burst beat state is = ap is_waiting is ∙ beat_after-performed memory burst beat
+beat_becomes-performed memory burst beat state is = grind arith
 
 -- and is one of its burst
 pub beat_after-of : (memory : FreeMemory) (burst : Burst) (beat : ℕ) → IsBeatOf burst (beat_after memory burst beat)

@@ -9,7 +9,7 @@ use Rattle.subordinate.proofs.OrderLaws.{answers_next_beat, captured_is}
 use Rattle.std.proofs.lemmas.Option.{same_Some}
 use Rattle.subordinate.specs.FreeMemory.{Pending, beat_at, gives_last, is_read_of, open_bursts_of}
 use Rattle.subordinate.proofs.Monitors.{known_after_r, takes_r}
-use Rattle.subordinate.proofs.OpenBursts.{found_none, no_r}
+use Rattle.subordinate.proofs.OpenBursts.{found_none}
 use Rattle.subordinate.proofs.SoundDevices.{answering-last, answering-more}
 use Rattle.subordinate.proofs.OpenQueues.{queue_known, read_place}
 use Rattle.subordinate.proofs.device.Device.answer_r.Goals as goal
@@ -22,7 +22,7 @@ close-requires-clause-queue c =
 
 pub returns-in_err-place-clause-answer : goal.returns-in_err-place-clause-answer
 returns-in_err-place-clause-answer c =
-    c.from_residual.ensures ∙ sym (no_r c.args.self.now.memory c.args.id (found_none (is_read_of c.args.id) c.args.self.now.memory.pending (sym c.oldest_read.ensures.place ∙ c.in_err-place.was)))
+    rw (found_none (is_read_of c.args.id) c.args.self.now.memory.pending (sym c.oldest_read.ensures.place ∙ c.in_err-place.was)) c.from_residual.ensures
 
 pub returns-then-last-clause-closed : goal.returns-then-last-clause-closed
 returns-then-last-clause-closed c = λ answered.
