@@ -1,7 +1,7 @@
 -- What stays true of the queues of open bursts, and of the marks of those that may answer, when one is sent, changed or closed.
 use Rattle.std.proofs.Common.{◌≡◌, ℕ, zero, suc, ◌+◌, ◌*◌, ◌/◌, ◌%◌, ◌<◌, ◌==◌, Bool, true, false, ◌⊎◌, inl, inr, List, [], ◌∷◌, ◌++◌, drop, length, get_or, map, replicate, refl, sym, ◌∙◌, ap, subst, arith}
 use Rattle.std.proofs.Math.ListN.{set}
-use Rattle.std.proofs.lemmas.Bool.{cases_eq, eq-eqb, ne_eqb}
+use Rattle.std.proofs.lemmas.Bool.{cases_eq, ne_eqb}
 use Rattle.std.proofs.lemmas.List.{append-nil, get_or_default, get_or-set_other, get_or-set_same, length-set, map-append}
 use Rattle.std.proofs.lemmas.List.Elements.{filter-append}
 use Rattle.std.proofs.lemmas.List.Recursion.{found_set_other}
@@ -79,21 +79,19 @@ pub pushed : (bursts : List Pending) (burst : Pending) (queues : List (List ℕ)
 pushed bursts burst queues answers indexed known waits =
     record {
       many = length-set queues (queue_of burst) _ ∙ indexed.many;
-      row = λ queue. by_queue queue (cases_eq queue (queue_of burst));
+      row = λ queue.
+          grind (
+            arith,
+            nat_tests,
+            indexed.row queue,
+            indexed.many,
+            serials_append queue bursts burst,
+            append-nil (serials_in bursts queue),
+            get_or-set_same queues (queue_of burst) (get_or queues (queue_of burst) [] ++ burst.serial ∷ []) [],
+            get_or-set_other queues (queue_of burst) queue (get_or queues (queue_of burst) [] ++ burst.serial ∷ []) [],
+          );
       marks = λ queue small. indexed.marks queue small ∙ sym (ready_append queue bursts burst waits);
     }
-  where
-    by_queue : (queue : ℕ) → (queue ≡ (queue_of burst)) ⊎ (queue ≡ (queue_of burst) → ⊥) → get_or (set queues (queue_of burst) (get_or queues (queue_of burst) [] ++ burst.serial ∷ [])) queue [] ≡ serials_in (bursts ++ burst ∷ []) queue
-    by_queue queue (inl same) =
-        let in_it : is_in queue burst ≡ true = eq-eqb (queue_of burst) queue (sym same) in
-        let added : serials_in (burst ∷ []) queue ≡ burst.serial ∷ [] = rw in_it refl in
-        ap (λ q. get_or (set queues (queue_of burst) (get_or queues (queue_of burst) [] ++ burst.serial ∷ [])) q []) same ∙ get_or-set_same queues (queue_of burst) (get_or queues (queue_of burst) [] ++ burst.serial ∷ []) [] (omega (arith, indexed.many, known))
-        ∙ ap (λ (serials : List ℕ). serials ++ burst.serial ∷ []) (ap (λ q. get_or queues q []) (sym same) ∙ indexed.row queue) ∙ sym (serials_append queue bursts burst ∙ ap (λ (more : List ℕ). serials_in bursts queue ++ more) added)
-    by_queue queue (inr other) =
-        let not_in : is_in queue burst ≡ false = ne_eqb (queue_of burst) queue (λ same. other (sym same)) in
-        let none : serials_in (burst ∷ []) queue ≡ [] = rw not_in refl in
-        get_or-set_other queues (queue_of burst) queue (get_or queues (queue_of burst) [] ++ burst.serial ∷ []) [] other ∙ indexed.row queue
-        ∙ sym (serials_append queue bursts burst ∙ ap (λ (more : List ℕ). serials_in bursts queue ++ more) none ∙ append-nil (serials_in bursts queue))
 
 -- ---- a burst that changed, and kept its serial and its queue
 
@@ -107,6 +105,10 @@ serials_set queue (p ∷ ps) (suc k) new within same alike = grind (arith, seria
 abbrev set_found : Pending → Option Pending → Option Pending
 set_found new None = None
 set_found new (Some p) = if p.serial == new.serial then Some new else Some p
+
+set_found_ready : (new : Pending) (found : Option Pending) → (if is_first (option_map (λ (p : Pending). p.serial) found) new.serial then is_ready new else is_found_ready found) ≡ is_found_ready (set_found new found)
+set_found_ready new None = refl
+set_found_ready new (Some p) = elim (p.serial == new.serial) as (λ b. (if b then is_ready new else is_ready p) ≡ is_found_ready (if b then Some new else Some p)) [ true ↦ refl | false ↦ refl ]
 
 find_set : (low top : ℕ) (test : Pending → Bool) (bursts : List Pending) (k : ℕ) (new : Pending) → RisesWithin low top bursts → k < length bursts → new.serial ≡ serial_at bursts k → test new ≡ test (burst_at bursts k)
     → find test (set bursts k new) ≡ set_found new (find test bursts)
@@ -126,18 +128,10 @@ changed bursts k new queues old now rise indexed within same alike known here ot
       marks = λ queue small. by_queue queue small (cases_eq queue (queue_of new));
     }
   where
-    by_found : (found : Option Pending) → (if is_first (option_map (λ (p : Pending). p.serial) found) new.serial then is_ready new else is_found_ready found) ≡ is_found_ready (set_found new found)
-    by_found None = refl
-    by_found (Some p) = elim (p.serial == new.serial) as (λ b. (if b then is_ready new else is_ready p) ≡ is_found_ready (if b then Some new else Some p)) [ true ↦ refl | false ↦ refl ]
-
     by_queue : (queue : ℕ) → queue < 32 → (queue ≡ (queue_of new)) ⊎ (queue ≡ (queue_of new) → ⊥) → is_marked now queue ≡ is_queue_ready (set bursts k new) queue
     by_queue queue small (inl it_is) =
-        let first : slice_get (get_or queues (queue_of new) []) 0 ≡ option_map (λ (p : Pending). p.serial) (find (is_in (queue_of new)) bursts) = ap (λ (row : List ℕ). slice_get row 0) (indexed.row (queue_of new)) ∙ first-serial (queue_of new) bursts in
-        let found : find (is_in (queue_of new)) (set bursts k new) ≡ set_found new (find (is_in (queue_of new)) bursts) = find_set 0 rise.0 (is_in (queue_of new)) bursts k new rise.1 within same (ap (λ n. n == (queue_of new)) alike) in
-        ap (is_marked now) it_is ∙ here
-        ∙ ap (λ (o : Option ℕ). if is_first o new.serial then is_ready new else is_marked old (queue_of new)) first
-        ∙ ap (λ (b : Bool). if is_first (option_map (λ (p : Pending). p.serial) (find (is_in (queue_of new)) bursts)) new.serial then is_ready new else b) (indexed.marks (queue_of new) known)
-        ∙ by_found (find (is_in (queue_of new)) bursts) ∙ ap is_found_ready (sym found) ∙ ap (is_queue_ready (set bursts k new)) (sym it_is)
+        rw (it_is, find_set 0 rise.0 (is_in (queue_of new)) bursts k new rise.1 within same (ap (λ n. n == (queue_of new)) alike))
+        (here ∙ rw (indexed.row (queue_of new), first-serial (queue_of new) bursts, indexed.marks (queue_of new) known) (set_found_ready new (find (is_in (queue_of new)) bursts)))
     by_queue queue small (inr other) =
         let fails : is_in queue new ≡ false = ne_eqb (queue_of new) queue (λ equal. other (sym equal)) in
         let failed : is_in queue (burst_at bursts k) ≡ false = ap (λ n. n == queue) (sym alike) ∙ fails in
@@ -145,8 +139,7 @@ changed bursts k new queues old now rise indexed within same alike known here ot
         ∙ ap is_found_ready (sym (found_set_other (find (is_in queue)) (is_in queue) Some None refl (λ p ps. refl) bursts k new (newly_pending 0 no_burst) failed fails))
 
 pub here_now : (bursts current : List Pending) (k : ℕ) (was : Pending) → bursts ≡ current → k < length current → was ≡ get_or bursts k was → slice_get current k ≡ Some was
-here_now bursts current k was view inside is =
-    ap (λ (ps : List Pending). slice_get ps k) (sym view) ∙ slice_get-get_or bursts k was (subst (λ (ps : List Pending). k < length ps) (sym view) inside) ∙ ap Some (sym is)
+here_now bursts current k was view inside is = rw (← view) (slice_get-get_or bursts k was (rw (← view) at inside) ∙ ap Some (sym is))
 
 -- the same of a burst that was at a place, and is seen there afterwards
 pub noted : (bursts current : List Pending) (k : ℕ) (was new seen : Pending) (queues : List (List ℕ)) (old now : Answers) → bursts ≡ current → Rise current → AreIndexed bursts queues old → k < length current

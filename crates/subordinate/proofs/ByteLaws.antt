@@ -1,5 +1,5 @@
 -- The bytes of good pages, read and set: a byte that is set is read back, and every other byte stays.
-use Rattle.std.proofs.Common.{◌≡◌, ℕ, ◌/◌, ◌%◌, ◌<◌, ◌==◌, Bool, true, false, cond, List, [], ◌∷◌, length, get_or, inl, inr, refl, sym, ◌∙◌, ap, arith}
+use Rattle.std.proofs.Common.{◌≡◌, ℕ, ◌/◌, ◌%◌, ◌<◌, ◌==◌, Bool, true, false, List, [], ◌∷◌, length, get_or, inl, inr, refl, sym, ◌∙◌, ap, arith}
 use Rattle.std.proofs.Math.ListN.{set, length-set}
 use Rattle.std.proofs.Math.Seq.{get_or-set_same, get_or-set_other, set_out}
 use Rattle.std.proofs.lemmas.Bool.{cases_lt, ne_eqb, eq-eqb}
@@ -24,8 +24,7 @@ find-change_first-other p q f (x ∷ xs) same apart = grind (arith, same x, apar
 
 found_whole : (p : GoodPage → Bool) (memory : Memory) → AllByRecursion IsWholePage memory → IfSome (find p memory) IsWholePage
 found_whole p [] whole = tt
-found_whole p (page ∷ memory) whole =
-    elim (p page) as (λ b. IfSome (cond b (Some page) (find p memory)) IsWholePage) [ true ↦ whole.0 | false ↦ found_whole p memory whole.1 ]
+found_whole p (page ∷ memory) whole = grind (arith, whole.0, found_whole p memory whole.1)
 
 -- ---- one page
 

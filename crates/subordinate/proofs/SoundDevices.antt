@@ -12,7 +12,7 @@ use Rattle.axi_checker.specs.Rules.{id_of, outstanding_beside}
 use Rattle.bus_words.proofs.FirstPlaces.{IsFirst, change_first-first, find-first, position_is_first, without_first-first}
 use Rattle.bus_words.proofs.PlaceChanges.{all-append, all-without_first, find-passes}
 use Rattle.std.proofs.lemmas.Bool.{eqb-true}
-use Rattle.std.proofs.lemmas.Option.{same_Some, slice_get-get_or}
+use Rattle.std.proofs.lemmas.Option.{slice_get-get_or}
 use Rattle.bus_words.specs.Places.{change_first}
 use Rattle.subordinate.specs.Device.{DeviceState, after_r}
 use Rattle.subordinate.specs.FreeMemory.{FreeMemory, Pending, beat_after, beat_at, gives_last, has_serial, is_read_of, is_waiting, memory_after, newly_pending, open_bursts_of, performed, transfers_in, with_beat, with_burst}
@@ -40,9 +40,7 @@ all-set P (y ∷ ys) (suc k) x all new = (all.0, all-set P ys k x all.1 new)
 performed-more : (n : ℕ) (beats : List BeatState) (state : BeatState) → AllByRecursion IsPerformed (take n beats) → slice_get beats n ≡ Some state → is_waiting state ≡ false
     → AllByRecursion IsPerformed (take (suc n) beats) × (suc n ≤ length beats)
 performed-more n [] state all there performed = absurd (cc)
-performed-more zero (beat ∷ beats) state all there performed =
-    let same : state ≡ beat = cc in
-    ((rw same at performed, tt), omega arith)
+performed-more zero (beat ∷ beats) state all there performed = ((grind (arith, performed), tt), omega arith)
 performed-more (suc n) (beat ∷ beats) state all there performed =
     let rest = performed-more n beats state all.1 there performed in
     ((all.0, rest.0), omega (arith, rest.1))
@@ -62,7 +60,7 @@ sound-with_beat bus_bytes beat state p sound performed of_burst =
 captured-read : (burst : Burst) (beats : List BeatState) (n answered payload : ℕ) (resp : Resp) → AllByRecursion (IsBeatOf burst) beats → slice_get beats n ≡ Some (Captured payload resp) → HasAnswered burst answered
 captured-read (ReadBurst ar) beats n answered payload resp all there = tt
 captured-read (WriteBurst aw ws) [] n answered payload resp all there = absurd (cc)
-captured-read (WriteBurst aw ws) (beat ∷ beats) zero answered payload resp all there = absurd (subst (IsBeatOf (WriteBurst aw ws)) (same_Some beat (Captured payload resp) there) all.0)
+captured-read (WriteBurst aw ws) (beat ∷ beats) zero answered payload resp all there = grind (arith, all.0)
 captured-read (WriteBurst aw ws) (beat ∷ beats) (suc n) answered payload resp all there = captured-read (WriteBurst aw ws) beats n answered payload resp all.1 there
 
 pub sound-with_answer : (bus_bytes payload : ℕ) (resp : Resp) (p : Pending) → IsSoundPending bus_bytes p → slice_get p.beats p.answered ≡ Some (Captured payload resp) → IsSoundPending bus_bytes (with_answer p)
