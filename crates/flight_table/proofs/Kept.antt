@@ -11,6 +11,7 @@ use Rattle.flight_table.specs.Order.{holds_back}
 use Rattle.flight_table.specs.Tables.{KeyedRequest, change_entry, has_key, request_in, requests_of}
 use Rattle.flight_table.proofs.Lowered.{count_cons, less_if}
 use Rattle.bus_words.proofs.MappedPlaces.{length_map, map-remove, map_same}
+use Rattle.flight_table.proofs.TableChanges.{all-map}
 
 -- ---- the requests at their places, after a change by key
 
@@ -77,12 +78,11 @@ not_later : (a b : ℕ) → b ≤ a → nat_lt a b ≡ false
 not_later a b above = grind (arith, above)
 
 and_false : (b : Bool) → (b && false) ≡ false
-and_false true = refl
-and_false false = refl
+and_false b = grind arith
 
 -- one that is done holds back none
 done_holds : (x r : LiveRequest) → r.done ≡ true → holds_back x r ≡ false
-done_holds x r done = rw (done, and_false (nat_lt r.number x.number)) refl
+done_holds x r done = grind (arith, done)
 
 -- nor does a later one
 later_holds : (x r : LiveRequest) → x.number ≤ r.number → holds_back x r ≡ false
@@ -104,10 +104,6 @@ map_each : {X Y : Type 0} (f g : X → Y) (xs : List X) → AllByRecursion (λ x
 map_each f g [] all = refl
 map_each f g (x ∷ xs) all = rw (all.0, map_each f g xs all.1) refl
 
-pub each : {X : Type 0} (P Q : X → Type 0) (xs : List X) → ((x : X) → P x → Q x) → AllByRecursion P xs → AllByRecursion Q xs
-each P Q [] so all = tt
-each P Q (x ∷ xs) so all = (so x all.0, each P Q xs so all.1)
-
 more_holders : (live : List LiveRequest) (x r : LiveRequest) → x.number ≤ r.number → count_holders (live ++ r ∷ []) x ≡ count_holders live x
 more_holders live x r later = count_pushed (holds_back x) live r ∙ rw (later_holds x r later) (omega arith)
 
@@ -125,7 +121,7 @@ kept_add depth live r able named counts unheld held kept latest is =
     others : map (count_holders (live ++ r ∷ [])) live ≡ map (count_holders live) live
     others =
         map_each (count_holders (live ++ r ∷ [])) (count_holders live) live
-        (each (λ (x : LiveRequest). x.number < r.number) (λ x. count_holders (live ++ r ∷ []) x ≡ count_holders live x) live (λ x below. more_holders live x r (omega (arith, below))) latest)
+        (all-map (λ (x : LiveRequest). x.number < r.number) (λ x. count_holders (live ++ r ∷ []) x ≡ count_holders live x) live (λ x below. more_holders live x r (omega (arith, below))) latest)
 
     own : count_holders (live ++ r ∷ []) r ≡ count_holders live r
     own = more_holders live r r (omega arith)

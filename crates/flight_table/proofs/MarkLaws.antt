@@ -19,12 +19,10 @@ bit mark = if mark then 1 else 0
 
 pub below : (marks : List Bool) → number_of marks < 2 ^ length marks
 below [] = omega arith
-below (true ∷ marks) = omega (arith, below marks, two-pow-succ (length marks))
-below (false ∷ marks) = omega (arith, below marks, two-pow-succ (length marks))
+below (mark ∷ marks) = grind (arith, below marks, two-pow-succ (length marks))
 
 lowest : (mark : Bool) (n : ℕ) → ((bit mark + 2 * n) % 2 ≡ bit mark) × ((bit mark + 2 * n) / 2 ≡ n)
-lowest true n = (omega arith, omega arith)
-lowest false n = (omega arith, omega arith)
+lowest mark n = (grind arith, grind arith)
 
 -- half of it, so many times
 next_half : (mark : Bool) (n place : ℕ) → (bit mark + 2 * n) / 2 ^ suc place ≡ n / 2 ^ place
@@ -32,20 +30,16 @@ next_half mark n place =
     ap (λ d. (bit mark + 2 * n) / d) (pow-suc 2 place ∙ mul_comm (2 ^ place) 2) ∙ sym (div-div-eq-div-mul (bit mark + 2 * n) 2 (2 ^ place)) ∙ ap (λ h. h / 2 ^ place) (lowest mark n).1
 
 byte_is : (mark : Bool) → bool_byte mark ≡ bit mark
-byte_is true = refl
-byte_is false = refl
+byte_is mark = grind arith
 
 small : (mark : Bool) → bool_byte mark < 2 ^ 1
-small true = omega arith
-small false = omega arith
+small mark = grind arith
 
 a_bit : (mark : Bool) → bit mark < 2 ^ 1
-a_bit true = omega arith
-a_bit false = omega arith
+a_bit mark = grind arith
 
 is_marked : (mark : Bool) → (bit mark == 1) ≡ mark
-is_marked true = refl
-is_marked false = refl
+is_marked mark = grind arith
 
 -- the bits of marks are these marks
 pub same_marks : (marks : List Bool) → marks_of (length marks) (number_of marks) ≡ marks
@@ -96,10 +90,7 @@ put_is (m ∷ marks) (suc place) mark within = by_marks (get_or marks place fals
 -- ---- two lists at once
 
 least : (a b : Bool) → min (bit a) (bit b) ≡ bit (a && b)
-least true true = refl
-least true false = refl
-least false true = refl
-least false false = refl
+least a b = grind arith
 
 pub both_bits : (marks others : List Bool) → bit_and (number_of marks) (number_of others) ≡ number_of (both marks others)
 both_bits [] others = and_zero_l (number_of others)
@@ -175,18 +166,15 @@ is_set mark = mark
 
 mask : (marks : List Bool) → mask_l (map is_set marks) ≡ number_of marks
 mask [] = refl
-mask (true ∷ marks) = rw (mask marks) refl
-mask (false ∷ marks) = rw (mask marks) refl
+mask (mark ∷ marks) = grind (arith, mask marks)
 
 none_set : (marks : List Bool) → number_of marks ≡ 0 → position_or_len is_set marks ≡ length marks
 none_set [] none = refl
-none_set (true ∷ marks) none = absurd (omega (arith, none))
-none_set (false ∷ marks) none = omega (arith, none_set marks (omega (arith, none)))
+none_set (mark ∷ marks) none = grind (arith, none_set marks)
 
 some_set : (marks : List Bool) → 0 < number_of marks → position_or_len is_set marks < length marks
 some_set [] some = absurd (omega (arith, some))
-some_set (true ∷ marks) some = omega arith
-some_set (false ∷ marks) some = omega (arith, some_set marks (omega (arith, some)))
+some_set (mark ∷ marks) some = grind (arith, some_set marks)
 
 not-lt : (a b : ℕ) → b ≤ a → ltb a b ≡ false
 not-lt a b above = grind (arith, above)

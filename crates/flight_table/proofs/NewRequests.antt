@@ -11,7 +11,6 @@ use Rattle.flight_table.specs.LiveRequests.{LiveRequest, all_sent, flight_for, p
 use Rattle.burst_plan.specs.declared.Piece.{Piece}
 use Rattle.tl_messages.specs.Operations.{has_data, reply_has_data}
 use Rattle.tl_messages.specs.declared.Operation.{Operation}
-use Rattle.tl_messages.specs.declared.Operation.TheVariants.{PutFull, PutPartial, Atomic, Get, Intent}
 use Rattle.burst_plan.specs.Pieces.{PlannedRange}
 use Rattle.tl_messages.specs.Requests.{HeldMessage}
 use Rattle.bus_words.specs.Places.{without_first}
@@ -20,6 +19,7 @@ use Rattle.flight_table.specs.Tables.{FlightTable, KeyedRequest, KeyedTable, has
 use Rattle.flight_table.proofs.KeyLaws.{without_by_number}
 use Rattle.flight_table.proofs.Steps.{with_live}
 use Rattle.flight_table.proofs.TableChanges.{all-map, count-none, from_numbers, sound-without, to_numbers}
+use Rattle.std.proofs.lemmas.Bool.Decides.{nat_tests}
 
 abbrev number_of : LiveRequest → ℕ
 number_of r = r.number
@@ -139,29 +139,13 @@ sound_new table r sound new =
 abbrev is_below : ℕ → LiveRequest → Bool
 is_below clients r = nat_lt r.client clients
 
-not-both : (n clients : ℕ) → nat_lt n clients ≡ false → (n == clients) ≡ false → nat_lt n (suc clients) ≡ true → ⊥
-not-both n clients low other below = grind (arith, low, other, below)
-
 none_below : (live : List LiveRequest) → list_any (is_below 0) live ≡ false
 none_below [] = refl
 none_below (x ∷ live) = rw (not-lt x.client 0 (omega arith)) (none_below live)
 
 below-more : (clients : ℕ) (live : List LiveRequest) → length (filter (is_below (suc clients)) live) ≤ length (filter (is_below clients) live) + length (filter (is_of clients) live)
 below-more clients [] = omega arith
-below-more clients (x ∷ live) = by_tests (is_below clients x) refl (is_of clients x) refl (is_below (suc clients) x) refl (below-more clients live)
-  where
-    by_tests : (a : Bool) → is_below clients x ≡ a → (b : Bool) → is_of clients x ≡ b → (d : Bool) → is_below (suc clients) x ≡ d
-        → length (filter (is_below (suc clients)) live) ≤ length (filter (is_below clients) live) + length (filter (is_of clients) live)
-        → length (if d then x ∷ filter (is_below (suc clients)) live else filter (is_below (suc clients)) live)
-        ≤ length (if a then x ∷ filter (is_below clients) live else filter (is_below clients) live) + length (if b then x ∷ filter (is_of clients) live else filter (is_of clients) live)
-    by_tests true la true lb true ld rest = omega (arith, rest)
-    by_tests true la true lb false ld rest = omega (arith, rest)
-    by_tests true la false lb true ld rest = omega (arith, rest)
-    by_tests true la false lb false ld rest = omega (arith, rest)
-    by_tests false la true lb true ld rest = omega (arith, rest)
-    by_tests false la true lb false ld rest = omega (arith, rest)
-    by_tests false la false lb true ld rest = absurd (not-both x.client clients la lb ld)
-    by_tests false la false lb false ld rest = rest
+below-more clients (x ∷ live) = grind (arith, nat_tests, below-more clients live)
 
 pub few_below : (clients quota : ℕ) (live : List LiveRequest) → ((client : ℕ) → length (filter (is_of client) live) ≤ quota) → length (filter (is_below clients) live) ≤ clients * quota
 few_below zero quota live few = rw (count-none (is_below 0) live (none_below live)) (omega arith)
@@ -197,20 +181,14 @@ pub record MayAccept (keyed : KeyedTable) (client source : ℕ) : Type 0 where
 
 -- whatever it reads or writes, it has sent nothing yet
 none_sent : (replies : Bool) (parts : List Piece) → (if not replies then length (if replies then parts else []) else 0) + 0 ≡ 0
-none_sent true parts = refl
-none_sent false parts = refl
+none_sent replies parts = grind arith
 
 -- it reads first, where it reads at all
 reads_first : (replies : Bool) → not replies ≡ false → replies ≡ true
-reads_first true reads = refl
-reads_first false reads = absurd (cc (reads))
+reads_first replies reads = grind arith
 
 writes_first : (operation : Operation) (plan : Option PlannedRange) → not (reply_has_data operation) ≡ true → is_none (plan_for operation plan) ≡ false → has_data operation ≡ true
-writes_first PutFull plan writes some = refl
-writes_first PutPartial plan writes some = refl
-writes_first (Atomic op) plan writes some = absurd (cc (writes))
-writes_first Get plan writes some = absurd (cc (writes))
-writes_first (Intent write) plan writes some = absurd (cc (some))
+writes_first operation plan writes some = grind (arith, writes, some)
 
 pub is_new : (table : FlightTable) (client : ℕ) (held : HeldMessage) (plan : Option PlannedRange) → client < table.limits.clients → has_room table client ≡ true → is_busy table client held.source ≡ false
     → IsNew table (flight_for table.accepted client held plan)

@@ -1,27 +1,24 @@
 -- What each call makes of a request keeps the laws of the table.
-use Rattle.std.proofs.Common.{◌≡◌, ℕ, suc, zero, ◌+◌, ◌-◌, ◌==◌, ◌<◌, ◌≤◌, Bool, true, false, not, ◌&&◌, is_some, nat_lt, List, [], ◌∷◌, length, Option, Some, None, refl, ap, sym, ◌∙◌, arith, inl, inr, ◌⊎◌, subst, IsTrue}
-use Rattle.std.specs.Prelude.{IfSome, IsSomeAnd, if◌then◌else◌}
-use Rattle.std.proofs.lemmas.Bool.{cases_lt}
+use Rattle.std.proofs.Common.{◌≡◌, ℕ, suc, zero, ◌+◌, ◌-◌, ◌<◌, ◌≤◌, Bool, true, false, is_some, List, [], ◌∷◌, length, Option, Some, None, refl, ap, sym, ◌∙◌, arith, inl, inr, ◌⊎◌, subst, IsTrue}
+use Rattle.std.specs.Prelude.{IfSome, IsSomeAnd}
+use Rattle.std.proofs.lemmas.Bool.{cases_lt, not-true, eq-eqb}
 use Rattle.std.specs.List.{AllByRecursion, find, list_any, range_with_len, slice_get}
 use Rattle.std.specs.Option.{option_or}
-use Rattle.std.proofs.lemmas.Bool.{and_parts, eqb-true, leb-true, ltb-true}
+use Rattle.std.proofs.lemmas.Bool.{eqb-true, leb-true}
 use Rattle.bus_words.proofs.PlaceChanges.{find-passes}
 use Rattle.bus_words.specs.Places.{change_first}
-use Rattle.tl_messages.specs.Operations.{has_data, reply_has_data}
+use Rattle.tl_messages.specs.Operations.{has_data}
 use Rattle.flight_table.specs.Inside.{HasOneHolder, IsProgress, MayName}
 use Rattle.flight_table.specs.Laws.{HaveOwnKeys, IsSound, IsSoundRequest, IsSoundTable}
-use Rattle.flight_table.specs.LiveRequests.{LiveRequest, all_sent, awaits_write, finished, is_atomic, is_settled, next_burst, planned, unanswered, with_answered, with_sent, with_write}
-use Rattle.flight_table.specs.Order.{conflict, free_id, holds_back, holds_id, id_for, is_free, is_held, is_id, is_ready}
+use Rattle.flight_table.specs.LiveRequests.{LiveRequest, all_sent, awaits_write, finished, is_settled, planned, with_answered, with_sent, with_write}
+use Rattle.flight_table.specs.Order.{free_id, holds_back, holds_id, id_for, is_free, is_held, is_id, is_ready}
 use Rattle.flight_table.specs.Tables.{FlightTable, KeyedRequest, KeyedTable, change_entry, change_key, change_number, has_key, has_number, key_in, request_at, request_in, requests_of, table_of}
 use Rattle.flight_table.specs.declared.TableLimits.{TableLimits}
 use Rattle.flight_table.proofs.PhaseLaws.{length_reading}
 use Rattle.flight_table.proofs.Index.{change-constant}
 use Rattle.flight_table.proofs.KeyLaws.{by_number, found_by_number, request_listed}
 use Rattle.flight_table.proofs.TableChanges.{IsStep, sound-put}
-
-not_false : (b : Bool) → not b ≡ true → b ≡ false
-not_false true is = absurd (cc)
-not_false false is = refl
+use Rattle.std.proofs.lemmas.Bool.Decides.{nat_tests}
 
 -- what it means to be ready
 pub record IsReady (table : FlightTable) (r : LiveRequest) : Type 0 where
@@ -38,50 +35,35 @@ within_some (x ∷ xs) (suc k) some = omega (arith, within_some xs k some)
 
 pub ready_parts : (table : FlightTable) (r : LiveRequest) → is_ready table r ≡ true → IsReady table r
 ready_parts table r ready =
-    let held = not (is_held table.live r) in
-    let some = is_some (id_for table.limits table.live r) in
-    let deep = nat_lt (unanswered r) table.limits.depth in
-    let next = is_some (next_burst r) in
-    let all = and_parts (not r.done && next && deep && some) held ready in
-    let four = and_parts (not r.done && next && deep) some all.0 in
-    let three = and_parts (not r.done && next) deep four.0 in
-    let two = and_parts (not r.done) next three.0 in
     record {
-      undone = not_false r.done two.0;
-      more = within_some (planned r) r.sent two.1;
-      depth = ltb-true (unanswered r) table.limits.depth three.1;
-      some = four.1;
-      free = not_false (is_held table.live r) all.1;
+      undone = grind (arith, ready);
+      more = within_some (planned r) r.sent (grind (arith, ready));
+      depth = grind (arith, nat_tests, ready);
+      some = grind (arith, ready);
+      free = grind (arith, ready);
     }
 
 -- ---- sent
 
 below_range : (p : ℕ → Bool) (a n id : ℕ) → find p (range_with_len a n) ≡ Some id → id < a + n
 below_range p a zero id found = absurd (cc)
-below_range p a (suc n) id found = by_test (p a) found (λ later. below_range p (a + 1) n id later)
-  where
-    by_test : (b : Bool) → (if b then Some a else find p (range_with_len (a + 1) n)) ≡ Some id → (find p (range_with_len (a + 1) n) ≡ Some id → id < a + 1 + n) → id < a + suc n
-    by_test true here rest = let same : a ≡ id = cc in omega (arith, same)
-    by_test false later rest = omega (arith, rest later)
+below_range p a (suc n) id found = grind (arith, below_range p (a + 1) n id)
 
 -- the ID is in range, and it is the request's own or free
 pub record MayTake (limits : TableLimits) (live : List LiveRequest) (r : LiveRequest) (id : ℕ) : Type 0 where
   pub below : id < limits.ids
   pub own : (is_id id r.id ≡ true) ⊎ (list_any (holds_id id) live ≡ false)
 
-eqb-self : (n m : ℕ) → n ≡ m → (n == m) ≡ true
-eqb-self n m same = grind (arith, same)
-
 pub takes_id : (limits : TableLimits) (live : List LiveRequest) (r : LiveRequest) (id : ℕ) (own : Option ℕ) → r.id ≡ own → IfSome own (λ held. held < limits.ids) → option_or own (free_id limits.ids live) ≡ Some id
     → MayTake limits live r id
 takes_id limits live r id None none within is =
     record {
       below = omega (arith, below_range (is_free live) 0 limits.ids id is);
-      own = inr (not_false (list_any (holds_id id) live) (find-passes (is_free live) (range_with_len 0 limits.ids) id is));
+      own = inr (not-true (list_any (holds_id id) live) (find-passes (is_free live) (range_with_len 0 limits.ids) id is));
     }
 takes_id limits live r id (Some held) some within is =
     let same : held ≡ id = cc in
-    record { below = rw (← same) within; own = inl (rw some (eqb-self held id same)) }
+    record { below = rw (← same) within; own = inl (rw some (eq-eqb held id same)) }
 
 pub step_sent : (table : FlightTable) (r : LiveRequest) (id : ℕ) → IsSoundRequest table.limits table.accepted r → is_ready table r ≡ true → id_for table.limits table.live r ≡ Some id
     → IsStep table.limits table.accepted table.live r (with_sent id r)
@@ -151,16 +133,7 @@ pub record AwaitsWrite (r : LiveRequest) : Type 0 where
   pub settled : is_settled r ≡ true
 
 pub awaits_parts : (r : LiveRequest) → awaits_write r ≡ true → AwaitsWrite r
-awaits_parts r awaits =
-    let all = and_parts (is_atomic r && not r.done && not r.writing) (is_settled r) awaits in
-    let three = and_parts (is_atomic r && not r.done) (not r.writing) all.0 in
-    let two = and_parts (is_atomic r) (not r.done) three.0 in
-    record {
-      carries = (and_parts (reply_has_data r.operation) (has_data r.operation) two.0).1;
-      undone = not_false r.done two.1;
-      reads = not_false r.writing three.1;
-      settled = all.1;
-    }
+awaits_parts r awaits = record { carries = grind (arith, awaits); undone = grind (arith, awaits); reads = grind (arith, awaits); settled = grind (arith, awaits) }
 
 -- it has sent what it sent before
 pub sent_before : (r : LiveRequest) → AwaitsWrite r → r.answered ≤ r.sent → r.sent ≤ length (planned r) → all_sent (with_write r) ≡ all_sent r
@@ -198,10 +171,7 @@ step_write table r sound order awaits =
 -- ---- done
 
 done_holds_none : (x r : LiveRequest) → holds_back x (finished r) ≡ true → holds_back x r ≡ true
-done_holds_none x r holds =
-    let one = and_parts (nat_lt r.number x.number && false) (conflict r x) holds in
-    let two = and_parts (nat_lt r.number x.number) false one.0 in
-    absurd (cc (two.1))
+done_holds_none x r holds = grind (arith, holds)
 
 pub step_finished : (table : FlightTable) (r : LiveRequest) → IsSoundRequest table.limits table.accepted r → IsStep table.limits table.accepted table.live r (finished r)
 step_finished table r sound =
@@ -259,13 +229,7 @@ if_request o r P is holds = rw is holds
 number_put : (change : LiveRequest → LiveRequest) (r : LiveRequest) (live : List LiveRequest) → find (has_number r.number) live ≡ Some r
     → change_first (has_number r.number) change live ≡ change_first (has_number r.number) (λ o. change r) live
 number_put change r [] found = refl
-number_put change r (x ∷ live) found = by_test (x.number == r.number) found (λ later. number_put change r live later)
-  where
-    by_test : (b : Bool) → (if b then Some x else find (has_number r.number) live) ≡ Some r
-        → (find (has_number r.number) live ≡ Some r → change_first (has_number r.number) change live ≡ change_first (has_number r.number) (λ o. change r) live)
-        → (if b then change x ∷ live else x ∷ change_first (has_number r.number) change live) ≡ (if b then change r ∷ live else x ∷ change_first (has_number r.number) (λ o. change r) live)
-    by_test true here rest = let is : x ≡ r = cc in rw is refl
-    by_test false later rest = ap (λ (xs : List LiveRequest). x ∷ xs) (rest later)
+number_put change r (x ∷ live) found = grind (arith, number_put change r live)
 
 abbrev pub with_live : KeyedTable → List LiveRequest → FlightTable
 with_live old live = record { limits = old.limits; accepted = old.accepted; live = live }
@@ -344,7 +308,7 @@ keeps_name ids live key entries r new found same = rw found (same_name ids live 
 takes_name : (limits : TableLimits) (live : List LiveRequest) (old : Option ℕ) (id : ℕ) → option_or old (free_id limits.ids live) ≡ Some id → MayName limits.ids live old (Some id)
 takes_name limits live None id is = (
   omega (arith, below_range (is_free live) 0 limits.ids id is),
-  not_false (list_any (holds_id id) live) (find-passes (is_free live) (range_with_len 0 limits.ids) id is),
+  not-true (list_any (holds_id id) live) (find-passes (is_free live) (range_with_len 0 limits.ids) id is),
 )
 takes_name limits live (Some held) id is = cc
 
