@@ -1,9 +1,8 @@
 -- The requests of an index under changes of the slab.
-use Rattle.std.proofs.Common.{◌<◌, ◌⊎◌, ◌∙◌, is_some, true, false, Bool, count_by, OnSome, zero, ◌≡◌, ◌≢◌, ℕ, suc, ◌+◌, ◌==◌, List, [], ◌∷◌, ◌++◌, map, length, Option, Some, None, refl, ap, sym, arith, length-append, get_or, set, IsSome}
-use Rattle.std.specs.Prelude.{if◌then◌else◌}
+use Rattle.std.proofs.Common.{◌<◌, ◌∙◌, is_some, true, Bool, count_by, OnSome, zero, ◌≡◌, ◌≢◌, ℕ, suc, ◌+◌, ◌==◌, List, [], ◌∷◌, ◌++◌, map, length, Option, Some, None, refl, ap, sym, arith, length-append, get_or, set, IsSome, inl, inr}
 use Rattle.std.specs.List.{AllByRecursion, find, position}
 use Rattle.bus_words.proofs.FirstPlaces.{find-none}
-use Rattle.std.proofs.lemmas.Bool.{eqb-true}
+use Rattle.std.proofs.lemmas.Bool.{cases_eq, eq-eqb, ne_eqb}
 use Rattle.std.proofs.lemmas.Grind.{common_steps}
 use Rattle.bus_words.specs.Places.{AreDistinct, change_first, without_first}
 use Rattle.bus_words.proofs.PlaceChanges.{all-append, all-without_first}
@@ -92,11 +91,8 @@ entries-set s t key r [] distinct u = refl
 entries-set s t key r (k ∷ ks) distinct u =
     grind (arith, nat_tests, u.changed, u.others k, λ (here : k ≡ key). entries-same s t key ks (rw (← here) distinct.0) u.others, entries-set s t key r ks distinct.1 u)
 
-eqb-cases : (x y : ℕ) → (x ≡ y) ⊎ (x ≢ y)
-eqb-cases x y = grind arith
-
 kept : (s t : Slab LiveRequest) (key k : ℕ) (r : LiveRequest) → Updates s t key (Some r) → ContainsKey s k → ContainsKey t k
-kept s t key k r u there = grind (arith, u.changed, u.others k, there, eqb-cases k key)
+kept s t key k r u there = grind (arith, u.changed, u.others k, there)
 
 there-set : (s t : Slab LiveRequest) (ks : List ℕ) (key : ℕ) (r : LiveRequest) → Updates s t key (Some r) → AllByRecursion (ContainsKey s) ks → AllByRecursion (ContainsKey t) ks
 there-set s t [] key r u there = tt
@@ -126,11 +122,11 @@ change-constant change key (entry ∷ entries) r request found is = grind (arith
 
 without-others : (key : ℕ) (ks : List ℕ) → AreDistinct ks → AreOthers key (without_first (λ k. k == key) ks)
 without-others key [] distinct = tt
-without-others key (k ∷ ks) distinct = by_test (k == key) refl (without-others key ks distinct.1)
-  where
-    by_test : (b : Bool) → (k == key) ≡ b → AreOthers key (without_first (λ k. k == key) ks) → AreOthers key (if b then ks else k ∷ without_first (λ k. k == key) ks)
-    by_test true is rest = rw (← eqb-true k key is) distinct.0
-    by_test false is rest = (λ e. grind (arith, is, e), rest)
+without-others key (k ∷ ks) distinct =
+    elim (cases_eq k key) [
+      | inl same ↦ rw (eq-eqb k key same, ← same) distinct.0
+      | inr other ↦ rw (ne_eqb k key other) (other, without-others key ks distinct.1)
+    ]
 
 entries-without : (s : Slab LiveRequest) (key : ℕ) (ks : List ℕ) → entries_in s (without_first (λ k. k == key) ks) ≡ without_first (has_key key) (entries_in s ks)
 entries-without s key [] = refl

@@ -10,7 +10,7 @@ use Rattle.flight_table.specs.Order.{IsSmallestDone, IsSmallestReady, is_ready, 
 use Rattle.flight_table.specs.LiveRequests.{LiveRequest}
 use Rattle.flight_table.specs.Tables.{FlightTable, KeyedRequest, KeyedTable, change_entry, has_key, has_number, is_done_of, is_of, key_in, oldest_done, request_in, request_named, requests_of, table_of}
 use Rattle.std.proofs.lemmas.Bool.Decides.{nat_tests}
-use Rattle.flight_table.proofs.TableChanges.{from_numbers}
+use Rattle.flight_table.proofs.TableChanges.{from_numbers, all-map}
 
 -- a key that a search found is one of the keys
 key_listed : (P : ℕ → Type 0) (test : LiveRequest → Bool) (entries : List KeyedRequest) (k : ℕ) → AllByRecursion P (map (λ entry. entry.key) entries) → key_in test entries ≡ Some k → P k
@@ -93,11 +93,6 @@ found_by_number key (entry ∷ entries) r rising found = grind (arith, nat_tests
 
 -- ---- the first that passes
 
-no_smaller : (test : LiveRequest → Bool) (n : ℕ) (live : List LiveRequest) (r : LiveRequest) → n ≡ r.number → AllByRecursion (λ (o : LiveRequest). n < o.number) live
-    → AllByRecursion (λ o. test o ≡ true → r.number ≤ o.number) live
-no_smaller test n [] r is all = tt
-no_smaller test n (o ∷ live) r is all = (λ passes. omega (arith, is, all.0), no_smaller test n live r is all.1)
-
 -- a search by rising numbers finds the smallest number
 pub smallest : (test : LiveRequest → Bool) (live : List LiveRequest) (r : LiveRequest) → AreRising (map (λ (o : LiveRequest). o.number) live) → find test live ≡ Some r
     → AllByRecursion (λ o. test o ≡ true → r.number ≤ o.number) live
@@ -108,7 +103,7 @@ smallest test (x ∷ live) r rising found = by_test (test x) refl found (λ late
         → (find test live ≡ Some r → AllByRecursion (λ o. test o ≡ true → r.number ≤ o.number) live) → AllByRecursion (λ o. test o ≡ true → r.number ≤ o.number) (x ∷ live)
     by_test true is here rest =
         let same : x ≡ r = cc in
-        (λ passes. rw same (omega arith), no_smaller test x.number live r (ap (λ (o : LiveRequest). o.number) same) (from_numbers (λ m. x.number < m) live rising.0))
+        (λ passes. rw same (omega arith), all-map (λ o. x.number < o.number) (λ o. test o ≡ true → r.number ≤ o.number) live (λ o above passes. omega (arith, ap (λ (o : LiveRequest). o.number) same, above)) (from_numbers (λ m. x.number < m) live rising.0))
     by_test false is later rest = (λ passes. absurd (cc (passes, is)), rest later)
 
 pub none_passes : (test : LiveRequest → Bool) (live : List LiveRequest) → find test live ≡ None → AllByRecursion (λ o. test o ≡ false) live
@@ -142,11 +137,7 @@ smallest_ready old now answer same sound own is =
 pub found_done : (table : FlightTable) (client : ℕ) (r : LiveRequest) → AreRising (map (λ (o : LiveRequest). o.number) table.live) → oldest_done table client ≡ Some r → IsSmallestDone table client r
 found_done table client r rising found =
     let parts = and_parts (is_of client r) r.done (find-passes (is_done_of client) table.live r found) in
-    record { done = parts.1; whose = eqb-true r.client client parts.0; smallest = each table.live (smallest (is_done_of client) table.live r rising found) }
-  where
-    each : (live : List LiveRequest) → AllByRecursion (λ o. is_done_of client o ≡ true → r.number ≤ o.number) live → AllByRecursion (λ o. o.client ≡ client → o.done ≡ true → r.number ≤ o.number) live
-    each [] all = tt
-    each (o ∷ live) all = (λ whose done. all.0 (rw (eq-eqb o.client client whose, done) refl), each live all.1)
+    record { done = parts.1; whose = eqb-true r.client client parts.0; smallest = all-map _ _ table.live (λ o most whose done. most (rw (eq-eqb o.client client whose, done) refl)) (smallest (is_done_of client) table.live r rising found) }
 
 pub smallest_done : (client : ℕ) (old now : KeyedTable) (answer : Option ℕ) → old ≡ now → IsSound old → HaveOwnKeys old.entries → answer ≡ key_in (is_done_of client) old.entries
     → IfSome (request_named answer now) (IsSmallestDone (table_of now) client)

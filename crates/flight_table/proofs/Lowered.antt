@@ -57,11 +57,7 @@ pub counted_next : (row : List Bool) (place : ℕ) (r : Span) (spans : List Span
     → counted_in row r spans ≡ bool_byte (span_holds r (get_or spans place d)) + counted_in (set row place false) r spans
 counted_next [] place r spans d within is same = absurd (omega (arith, within))
 counted_next (mark ∷ row) place r [] d within is same = absurd (omega (arith, same))
-counted_next (mark ∷ row) zero r (x ∷ spans) d within is same = rw is (by_test (span_holds r x))
-  where
-    by_test : (b : Bool) → (if b then 1 else 0) + counted_in row r spans ≡ bool_byte b + (0 + counted_in row r spans)
-    by_test true = omega arith
-    by_test false = omega arith
+counted_next (mark ∷ row) zero r (x ∷ spans) d within is same = rw is (grind arith)
 counted_next (mark ∷ row) (suc place) r (x ∷ spans) d within is same = omega (arith, counted_next row place r spans d (omega (arith, within)) is (omega (arith, same)))
 
 pub counted_none : (row : List Bool) (r : Span) (spans : List Span) → AreUnmarked row → counted_in row r spans ≡ 0

@@ -1,9 +1,9 @@
 -- Marks at places as the bits of a number: what a change of one is of the other.
-use Rattle.std.proofs.Common.{◌≡◌, ℕ, zero, suc, ◌+◌, ◌-◌, ◌*◌, ◌/◌, ◌%◌, ◌^◌, ◌==◌, ◌<◌, ◌≤◌, Bool, true, false, ◌&&◌, min, List, [], ◌∷◌, ◌++◌, length, get_or, set, refl, ap, sym, ◌∙◌, arith}
+use Rattle.std.proofs.Common.{◌≡◌, ℕ, zero, suc, ◌+◌, ◌-◌, ◌*◌, ◌/◌, ◌%◌, ◌^◌, ◌==◌, ◌<◌, ◌≤◌, Bool, false, ◌&&◌, min, List, [], ◌∷◌, ◌++◌, length, get_or, set, refl, ap, sym, ◌∙◌, arith}
 use Rattle.std.specs.Prelude.{if◌then◌else◌}
 use Rattle.std.specs.List.{position, position_or_len, remove}
-use Rattle.std.proofs.Common.{map, Some, None, ltb}
-use Rattle.std.proofs.lemmas.Bool.{lt-ltb}
+use Rattle.std.proofs.Common.{map, Some, None}
+use Rattle.std.proofs.lemmas.Bool.{lt-ltb, le-ltb}
 use Rattle.std.proofs.lemmas.Simd.{trailing_mask_l}
 use lib.Lanes.{mask_l}
 use lib.Count.{count_trailing_zeros}
@@ -13,6 +13,7 @@ use mir.Val.{bool_byte}
 use Rattle.std.proofs.lemmas.Nat.{shl_whole}
 use lib.Bits.{bit_and, and_step, and_zero_l, and_zero_r}
 use Rattle.flight_table.specs.Marks.{both, marks_of, number_of, without_bit}
+use Rattle.std.proofs.lemmas.Bool.Decides.{nat_tests}
 
 abbrev bit : Bool → ℕ
 bit mark = if mark then 1 else 0
@@ -51,12 +52,7 @@ length-marks zero bits = refl
 length-marks (suc count) bits = ap suc (length-marks count (bits / 2))
 
 odd : (n : ℕ) → bit (n % 2 == 1) ≡ n % 2
-odd n = by_rest (n % 2) (omega arith)
-  where
-    by_rest : (r : ℕ) → r < 2 → bit (r == 1) ≡ r
-    by_rest zero small = refl
-    by_rest (suc zero) small = refl
-    by_rest (suc (suc r)) small = absurd (omega (arith, small))
+odd n = grind (arith, nat_tests)
 
 pub same_number : (count bits : ℕ) → bits < 2 ^ count → number_of (marks_of count bits) ≡ bits
 same_number zero bits small = omega (arith, small)
@@ -67,10 +63,8 @@ same_number (suc count) bits small =
 -- ---- one more
 
 pub pushed : (marks : List Bool) (mark : Bool) → number_of (marks ++ mark ∷ []) ≡ number_of marks + bit mark * 2 ^ length marks
-pushed [] true = refl
-pushed [] false = refl
-pushed (m ∷ marks) true = rw (pushed marks true) (omega (arith, two-pow-succ (length marks)))
-pushed (m ∷ marks) false = rw (pushed marks false) (omega (arith, two-pow-succ (length marks)))
+pushed [] mark = grind arith
+pushed (m ∷ marks) mark = grind (arith, pushed marks mark, two-pow-succ (length marks))
 
 -- ---- another one at its place
 
@@ -78,14 +72,7 @@ pub put_is : (marks : List Bool) (place : ℕ) (mark : Bool) → place < length 
     → number_of (set marks place mark) + bit (get_or marks place false) * 2 ^ place ≡ number_of marks + bit mark * 2 ^ place
 put_is [] place mark within = absurd (omega (arith, within))
 put_is (m ∷ marks) zero mark within = omega arith
-put_is (m ∷ marks) (suc place) mark within = by_marks (get_or marks place false) mark (put_is marks place mark (omega (arith, within)))
-  where
-    by_marks : (old new : Bool) → number_of (set marks place mark) + bit old * 2 ^ place ≡ number_of marks + bit new * 2 ^ place
-        → (bit m + 2 * number_of (set marks place mark)) + bit old * 2 ^ suc place ≡ (bit m + 2 * number_of marks) + bit new * 2 ^ suc place
-    by_marks true true same = omega (arith, same, two-pow-succ place)
-    by_marks true false same = omega (arith, same, two-pow-succ place)
-    by_marks false true same = omega (arith, same, two-pow-succ place)
-    by_marks false false same = omega (arith, same, two-pow-succ place)
+put_is (m ∷ marks) (suc place) mark within = grind (arith, two-pow-succ place, put_is marks place mark (omega (arith, within)))
 
 -- ---- two lists at once
 
@@ -176,11 +163,8 @@ some_set : (marks : List Bool) → 0 < number_of marks → position_or_len is_se
 some_set [] some = absurd (omega (arith, some))
 some_set (mark ∷ marks) some = grind (arith, some_set marks)
 
-not-lt : (a b : ℕ) → b ≤ a → ltb a b ≡ false
-not-lt a b above = grind (arith, above)
-
 pub first_none : (marks : List Bool) → number_of marks ≡ 0 → position is_set marks ≡ None
-first_none marks none = rw (none_set marks none, not-lt (length marks) (length marks) (omega arith)) refl
+first_none marks none = rw (none_set marks none, le-ltb (length marks) (length marks) (omega arith)) refl
 
 pub first_some : (marks : List Bool) → 0 < number_of marks → length marks ≤ 64 → position is_set marks ≡ Some (count_trailing_zeros 64 (number_of marks))
 first_some marks some few =

@@ -3,8 +3,7 @@ use Rattle.std.proofs.Common.{◌≡◌, ℕ, suc, zero, ◌+◌, ◌*◌, ◌==
 use Rattle.std.specs.Prelude.{if◌then◌else◌}
 use Rattle.std.specs.List.{AllByRecursion, filter, list_any}
 use Rattle.std.proofs.Math.Nat.{mul-le-mul_right}
-use Rattle.std.proofs.lemmas.Bool.{and_parts, eqb-true, lt-ltb, ltb-true}
-use Rattle.std.proofs.lemmas.List.Elements.{filter-append}
+use Rattle.std.proofs.lemmas.Bool.{and_parts, eqb-true, lt-ltb, ltb-true, le-ltb}
 use Rattle.bus_words.proofs.PlaceChanges.{all-append}
 use Rattle.flight_table.specs.Laws.{AreLimits, AreRising, HaveOwnKeys, IsSound, IsSoundRequest, IsSoundTable}
 use Rattle.flight_table.specs.LiveRequests.{LiveRequest, all_sent, flight_for, pieces_planned, plan_for}
@@ -20,6 +19,7 @@ use Rattle.flight_table.proofs.KeyLaws.{without_by_number}
 use Rattle.flight_table.proofs.Steps.{with_live}
 use Rattle.flight_table.proofs.TableChanges.{all-map, count-none, from_numbers, sound-without, to_numbers}
 use Rattle.std.proofs.lemmas.Bool.Decides.{nat_tests}
+use Rattle.flight_table.proofs.Kept.{count_pushed}
 
 abbrev number_of : LiveRequest → ℕ
 number_of r = r.number
@@ -49,19 +49,10 @@ any-append : {X : Type 0} (q : X → Bool) (xs : List X) (x : X) → q x ≡ fal
 any-append q [] x fails = rw fails refl
 any-append q (y ∷ xs) x fails = rw (any-append q xs x fails) refl
 
-count-append-none : {X : Type 0} (q : X → Bool) (xs : List X) (x : X) → q x ≡ false → length (filter q (xs ++ x ∷ [])) ≡ length (filter q xs)
-count-append-none q xs x fails = rw (filter-append q xs (x ∷ []), length-append (filter q xs) (filter q (x ∷ [])), fails) (omega arith)
-
-count-append : {X : Type 0} (q : X → Bool) (xs : List X) (x : X) → q x ≡ true → length (filter q (xs ++ x ∷ [])) ≡ length (filter q xs) + 1
-count-append q xs x passes = rw (filter-append q xs (x ∷ []), length-append (filter q xs) (filter q (x ∷ [])), passes) (omega arith)
-
-not-lt : (a b : ℕ) → b ≤ a → nat_lt a b ≡ false
-not-lt a b above = grind (arith, above)
-
 -- the latest holds back nobody
 latest_holds_none : (x r : LiveRequest) → x.number < r.number → holds_back x r ≡ false
 latest_holds_none x r below =
-    let smaller : nat_lt r.number x.number ≡ false = not-lt r.number x.number (omega (arith, below)) in
+    let smaller : nat_lt r.number x.number ≡ false = le-ltb r.number x.number (omega (arith, below)) in
     rw smaller refl
 
 pub sound_new : (table : FlightTable) (r : LiveRequest) → IsSoundTable table → IsNew table r → IsSoundTable (with_request r table)
@@ -69,28 +60,14 @@ sound_new table r sound new =
     record {
       requests = all-append (IsSoundRequest table.limits (table.accepted + 1)) table.live r (all-map (IsSoundRequest table.limits table.accepted) (IsSoundRequest table.limits (table.accepted + 1)) table.live later sound.requests) fresh;
       rising = rising-append table.live r sound.rising below;
-      one_holder = λ id. omega (arith, sound.one_holder id, count-append-none (holds_id id) table.live r (no_id id));
+      one_holder = λ id. omega (arith, sound.one_holder id, rw (no_id id) at (count_pushed (holds_id id) table.live r));
       in_order = all-append (InOrder (table.live ++ r ∷ [])) table.live r (in_order table.live below sound.in_order) (λ undone held. new.id);
       few = λ client. few client (r.client == client) refl;
       own_sources = λ client source. own client source (has_source client source r) refl;
     }
   where
     later : (x : LiveRequest) → IsSoundRequest table.limits table.accepted x → IsSoundRequest table.limits (table.accepted + 1) x
-    later x s =
-        record {
-          number = omega (arith, s.number);
-          client = s.client;
-          reads = s.reads;
-          writes = s.writes;
-          sent = s.sent;
-          answered = s.answered;
-          depth = s.depth;
-          id = s.id;
-          holds = s.holds;
-          unsent = s.unsent;
-          freed = s.freed;
-          no_plan = s.no_plan;
-        }
+    later x s = let number : x.number < table.accepted + 1 = omega (arith, s.number) in assumption
 
     fresh : IsSoundRequest table.limits (table.accepted + 1) r
     fresh =
@@ -124,15 +101,15 @@ sound_new table r sound new =
     few client true is =
         let same : r.client ≡ client = eqb-true r.client client is in
         let room : length (filter (is_of r.client) table.live) < table.limits.quota = ltb-true _ _ new.room in
-        omega (arith, count-append (is_of client) table.live r is, rw same at room)
-    few client false is = omega (arith, sound.few client, count-append-none (is_of client) table.live r is)
+        omega (arith, rw is at (count_pushed (is_of client) table.live r), rw same at room)
+    few client false is = omega (arith, sound.few client, rw is at (count_pushed (is_of client) table.live r))
 
     own : (client source : ℕ) (b : Bool) → has_source client source r ≡ b → length (filter (has_source client source) (table.live ++ r ∷ [])) ≤ 1
     own client source true is =
         let both = and_parts (r.client == client) (r.source == source) is in
         let free : list_any (has_source client source) table.live ≡ false = rw (← eqb-true r.client client both.0, ← eqb-true r.source source both.1) new.source in
-        omega (arith, count-append (has_source client source) table.live r is, count-none (has_source client source) table.live free)
-    own client source false is = omega (arith, sound.own_sources client source, count-append-none (has_source client source) table.live r is)
+        omega (arith, rw is at (count_pushed (has_source client source) table.live r), count-none (has_source client source) table.live free)
+    own client source false is = omega (arith, sound.own_sources client source, rw is at (count_pushed (has_source client source) table.live r))
 
 -- ---- how many there are
 
@@ -141,7 +118,7 @@ is_below clients r = nat_lt r.client clients
 
 none_below : (live : List LiveRequest) → list_any (is_below 0) live ≡ false
 none_below [] = refl
-none_below (x ∷ live) = rw (not-lt x.client 0 (omega arith)) (none_below live)
+none_below (x ∷ live) = rw (le-ltb x.client 0 (omega arith)) (none_below live)
 
 below-more : (clients : ℕ) (live : List LiveRequest) → length (filter (is_below (suc clients)) live) ≤ length (filter (is_below clients) live) + length (filter (is_of clients) live)
 below-more clients [] = omega arith

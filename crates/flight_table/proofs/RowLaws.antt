@@ -121,8 +121,7 @@ rows_add live r rows after kept plan more =
     }
   where
     by_test : (page : ℕ) (b : Bool) → bits_on (Some page) live + (if b then 1 else 0) * 2 ^ length (map (is_on (Some page)) live) ≡ bits_on (Some page) live + (if b then 2 ^ length live else 0)
-    by_test page true = rw (length_map (is_on (Some page)) live) (omega arith)
-    by_test page false = omega arith
+    by_test page b = rw (length_map (is_on (Some page)) live) (grind arith)
 
 -- ---- another with the same plan in its place
 

@@ -1,5 +1,5 @@
 -- What each call makes of a request keeps the laws of the table.
-use Rattle.std.proofs.Common.{◌≡◌, ℕ, suc, zero, ◌+◌, ◌-◌, ◌<◌, ◌≤◌, Bool, true, false, is_some, List, [], ◌∷◌, length, Option, Some, None, refl, ap, sym, ◌∙◌, arith, inl, inr, ◌⊎◌, subst, IsTrue}
+use Rattle.std.proofs.Common.{◌≡◌, ℕ, suc, zero, ◌+◌, ◌-◌, ◌<◌, ◌≤◌, Bool, true, false, is_some, List, [], ◌∷◌, length, Option, Some, None, refl, ap, sym, ◌∙◌, arith, inl, inr, ◌⊎◌, subst, IsTrue, IsSome}
 use Rattle.std.specs.Prelude.{IfSome, IsSomeAnd}
 use Rattle.std.proofs.lemmas.Bool.{cases_lt, not-true, eq-eqb}
 use Rattle.std.specs.List.{AllByRecursion, find, list_any, range_with_len, slice_get}
@@ -7,7 +7,7 @@ use Rattle.std.specs.Option.{option_or}
 use Rattle.std.proofs.lemmas.Bool.{eqb-true, leb-true}
 use Rattle.bus_words.proofs.PlaceChanges.{find-passes}
 use Rattle.bus_words.specs.Places.{change_first}
-use Rattle.tl_messages.specs.Operations.{has_data}
+use Rattle.tl_messages.specs.Operations.{has_data, reply_has_data}
 use Rattle.flight_table.specs.Inside.{HasOneHolder, IsProgress, MayName}
 use Rattle.flight_table.specs.Laws.{HaveOwnKeys, IsSound, IsSoundRequest, IsSoundTable}
 use Rattle.flight_table.specs.LiveRequests.{LiveRequest, all_sent, awaits_write, finished, is_settled, planned, with_answered, with_sent, with_write}
@@ -70,25 +70,16 @@ pub step_sent : (table : FlightTable) (r : LiveRequest) (id : ℕ) → IsSoundRe
 step_sent table r id sound ready is =
     let parts = ready_parts table r ready in
     let takes = takes_id table.limits table.live r id r.id refl sound.id is in
+    let sent : r.sent + 1 ≤ length (planned r) = omega (arith, parts.more) in
+    let answered : r.answered ≤ r.sent + 1 = omega (arith, sound.answered) in
+    let depth : r.sent + 1 ≤ r.answered + table.limits.depth = omega (arith, parts.depth, sound.answered) in
+    let unsent : all_sent (with_sent id r) ≡ 0 → Some id ≡ None = λ none. absurd (omega (arith, none)) in
+    let freed : r.done ≡ true → Some id ≡ None = λ done. absurd (cc (done, parts.undone)) in
     record {
       number = refl;
       client = refl;
       source = refl;
-      sound =
-          record {
-            number = sound.number;
-            client = sound.client;
-            reads = sound.reads;
-            writes = sound.writes;
-            sent = omega (arith, parts.more);
-            answered = omega (arith, sound.answered);
-            depth = omega (arith, parts.depth, sound.answered);
-            id = takes.below;
-            holds = λ undone sent. refl;
-            unsent = λ none. absurd (omega (arith, none));
-            freed = λ done. absurd (cc (done, parts.undone));
-            no_plan = sound.no_plan;
-          };
+      sound = assumption;
       ids = λ other holds. let same : id ≡ other = eqb-true id other holds in rw (← same) takes.own;
       back = λ x holds. holds;
       order = λ undone held. absurd (cc (held, parts.free));
@@ -99,29 +90,9 @@ step_sent table r id sound ready is =
 pub step_answered : (table : FlightTable) (r : LiveRequest) → IsSoundRequest table.limits table.accepted r → (r.done ≡ false → is_held table.live r ≡ true → r.id ≡ None) → r.answered < r.sent
     → IsStep table.limits table.accepted table.live r (with_answered r)
 step_answered table r sound order one =
-    record {
-      number = refl;
-      client = refl;
-      source = refl;
-      sound =
-          record {
-            number = sound.number;
-            client = sound.client;
-            reads = sound.reads;
-            writes = sound.writes;
-            sent = sound.sent;
-            answered = omega (arith, one);
-            depth = omega (arith, sound.depth);
-            id = sound.id;
-            holds = sound.holds;
-            unsent = sound.unsent;
-            freed = sound.freed;
-            no_plan = sound.no_plan;
-          };
-      ids = λ id holds. inl holds;
-      back = λ x holds. holds;
-      order = order;
-    }
+    let answered : r.answered + 1 ≤ r.sent = omega (arith, one) in
+    let depth : r.sent ≤ r.answered + 1 + table.limits.depth = omega (arith, sound.depth) in
+    record { number = refl; client = refl; source = refl; sound = assumption; ids = λ id holds. inl holds; back = λ x holds. holds; order = order }
 
 -- ---- the write of an atomic is planned
 
@@ -144,29 +115,13 @@ pub step_write : (table : FlightTable) (r : LiveRequest) → IsSoundRequest tabl
     → IsStep table.limits table.accepted table.live r (with_write r)
 step_write table r sound order awaits =
     let same = sent_before r awaits sound.answered sound.sent in
-    record {
-      number = refl;
-      client = refl;
-      source = refl;
-      sound =
-          record {
-            number = sound.number;
-            client = sound.client;
-            reads = λ reads. absurd (cc (reads));
-            writes = λ writes live. awaits.carries;
-            sent = omega arith;
-            answered = omega arith;
-            depth = omega arith;
-            id = sound.id;
-            holds = λ undone some. sound.holds undone (omega (arith, some, same));
-            unsent = λ none. sound.unsent (sym same ∙ none);
-            freed = sound.freed;
-            no_plan = sound.no_plan;
-          };
-      ids = λ id holds. inl holds;
-      back = λ x holds. holds;
-      order = order;
-    }
+    let reads : true ≡ false → reply_has_data r.operation ≡ true = λ reads. absurd (cc (reads)) in
+    let none : 0 ≤ length (planned (with_write r)) = omega arith in
+    let depth : 0 ≤ 0 + table.limits.depth = omega arith in
+    let holds : r.done ≡ false → 0 < all_sent (with_write r) → IsSome r.id = λ undone some. sound.holds undone (omega (arith, some, same)) in
+    let unsent : all_sent (with_write r) ≡ 0 → r.id ≡ None = λ none. sound.unsent (sym same ∙ none) in
+    let answered : 0 ≤ 0 = omega arith in
+    record { number = refl; client = refl; source = refl; sound = assumption; ids = λ id holds. inl holds; back = λ x holds. holds; order = order }
 
 -- ---- done
 
@@ -175,25 +130,13 @@ done_holds_none x r holds = grind (arith, holds)
 
 pub step_finished : (table : FlightTable) (r : LiveRequest) → IsSoundRequest table.limits table.accepted r → IsStep table.limits table.accepted table.live r (finished r)
 step_finished table r sound =
+    let writes : r.writing ≡ true → true ≡ false → has_data r.operation ≡ true = λ writes live. absurd (cc (live)) in
+    let holds : true ≡ false → 0 < all_sent r → IsSome {T = ℕ} None = λ undone sent. absurd (cc (undone)) in
     record {
       number = refl;
       client = refl;
       source = refl;
-      sound =
-          record {
-            number = sound.number;
-            client = sound.client;
-            reads = sound.reads;
-            writes = λ writes live. absurd (cc (live));
-            sent = sound.sent;
-            answered = sound.answered;
-            depth = sound.depth;
-            id = tt;
-            holds = λ undone sent. absurd (cc (undone));
-            unsent = λ none. refl;
-            freed = λ done. refl;
-            no_plan = λ none. refl;
-          };
+      sound = assumption;
       ids = λ id holds. absurd (cc (holds));
       back = λ x holds. done_holds_none x r holds;
       order = λ undone held. absurd (cc (undone));
@@ -331,8 +274,7 @@ has_no_name keyed key r sound found done = rw found ((known keyed key r sound fo
 -- ---- no ID beyond the table's is held
 
 other_id : (ids id : ℕ) (o : Option ℕ) → IfSome o (λ held. held < ids) → ids ≤ id → is_id id o ≡ false
-other_id ids id None within above = refl
-other_id ids id (Some held) within above = grind (arith, within, above)
+other_id ids id o within above = grind (arith, nat_tests, within, above)
 
 nobody_beyond : (limits : TableLimits) (accepted id : ℕ) (entries : List KeyedRequest) → AllByRecursion (IsSoundRequest limits accepted) (requests_of entries) → limits.ids ≤ id → key_in (holds_id id) entries ≡ None
 nobody_beyond limits accepted id [] all above = refl
