@@ -2,16 +2,17 @@
 -- write are its transfers.
 use Rattle.std.proofs.Common.{◌≡◌, ℕ, zero, suc, ◌+◌, ◌*◌, ◌/◌, ◌<◌, ◌≤◌, ◌==◌, Bool, true, ◌&&◌, nat_le, nat_lt, List, [], ◌∷◌, length, inl, inr, arith}
 use Rattle.std.proofs.lemmas.Bool.{and_parts, eqb-true, leb-true}
-use Rattle.std.specs.Prelude.{Some, not, ◌||◌, slice_get}
+use Rattle.std.specs.Prelude.{Some, not, ◌||◌, slice_get, Option, None, IfSome}
 use Rattle.std.specs.List.{enumerate_from, list_all, range_with_len}
 use Rattle.bus_words.specs.Lanes.{has_lane}
-use Rattle.axi_beats.specs.Bursts.{WriteBurst, IsLegal, is_legal_address, is_legal_data, strobes_fit}
+use Rattle.axi_beats.specs.Bursts.{WriteBurst, IsLegal, is_legal_address, is_legal_data, strobes_fit, Burst, ReadBurst}
 use Rattle.axi_beats.specs.Transfers.{IsBusWidth, covers_lane, fits_bus, highest_lane, in_one_page, lowest_lane, transfer_address}
 use Rattle.axi_beats.specs.declared.AwBeat.{AwBeat}
 use Rattle.axi_beats.specs.declared.WBeat.{WBeat}
 use Rattle.axi_beats.proofs.TransferLaws.{highest_lane_lt_bus_bytes}
 use Rattle.subordinate.specs.InsidePages.{IsTransferOf, first_lane}
 use Rattle.std.proofs.lemmas.Option.{slice_get_within}
+use Rattle.axi_beats.specs.Boxes.{aw_of, w_beats_of}
 
 -- ---- its lanes
 
@@ -96,3 +97,12 @@ pub strobes_covered : (bus_bytes : ℕ) (aw : AwBeat) (n strobes : ℕ) → stro
 strobes_covered bus_bytes aw n strobes fit lane below =
     strobe_covered (has_lane strobes lane) (covers_lane bus_bytes aw.address aw.size n lane)
     (all_lanes (λ k. not (has_lane strobes k) || covers_lane bus_bytes aw.address aw.size n k) 0 8 fit lane (omega arith) (omega (arith, below)))
+
+-- the same of the W beats in a box
+pub write_in_box : (bus_bytes : ℕ) (held : Option Burst) (aw : AwBeat) (beat : ℕ) (w : WBeat) → IsBusWidth bus_bytes → IfSome held (IsLegal bus_bytes) → aw_of held ≡ Some aw
+    → slice_get (w_beats_of held) beat ≡ Some w → IsTransferOf bus_bytes aw.address aw.len aw.size (beat + 1) × (strobes_fit bus_bytes aw (beat + 1) w.strobes ≡ true)
+write_in_box bus_bytes None aw beat w width legal holds found = absurd (cc)
+write_in_box bus_bytes (Some (ReadBurst ar)) aw beat w width legal holds found = absurd (cc)
+write_in_box bus_bytes (Some (WriteBurst sent ws)) aw beat w width legal holds found =
+    let same : sent ≡ aw = cc in
+    rw same at (transfer_of_write bus_bytes sent ws beat w width legal found)
