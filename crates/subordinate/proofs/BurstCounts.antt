@@ -1,7 +1,7 @@
 -- How many beats of the open bursts wait, and where the first that does may be, after one is sent, changed or closed.
-use Rattle.std.proofs.Common.{◌≡◌, ℕ, zero, suc, ◌+◌, ◌-◌, ◌*◌, ◌<◌, ◌≤◌, ◌==◌, nat_lt, Bool, true, false, ◌&&◌, inl, inr, List, [], ◌∷◌, ◌++◌, drop, length, get_or, refl, sym, ◌∙◌, ap, subst, arith}
+use Rattle.std.proofs.Common.{◌≡◌, ℕ, zero, suc, ◌+◌, ◌-◌, ◌*◌, ◌<◌, ◌≤◌, ◌==◌, nat_lt, false, ◌&&◌, inl, inr, List, [], ◌∷◌, ◌++◌, drop, length, get_or, refl, sym, ◌∙◌, ap, subst, arith}
 use Rattle.std.proofs.Math.ListN.{set}
-use Rattle.std.proofs.lemmas.Bool.{and_parts, eqb-true, le-ltb, lt-ltb, cases_lt}
+use Rattle.std.proofs.lemmas.Bool.{le-ltb, lt-ltb, cases_lt}
 use Rattle.std.proofs.lemmas.List.{get_or_default, length-append, length-drop, length-set, nil_from_length, take_all}
 use Rattle.std.proofs.lemmas.List.Edits.{length-remove}
 use Rattle.std.proofs.lemmas.List.Sums.{sum_by-cons, sum_by-remove, sum_by-set, sum_by_push}
@@ -90,23 +90,15 @@ one_more (suc first) (p ∷ ps) within before none = (before.0, one_more first p
 
 pub counted_past : (bursts : List Pending) (waiting first k left : ℕ) → AreCounted bursts waiting first → k < length bursts → left ≡ count_waiting (burst_at bursts k).beats
     → AreCounted bursts waiting (if (k == first) && (left == 0) then first + 1 else first)
-counted_past bursts waiting first k left counted within is = by_test ((k == first) && (left == 0)) refl
-  where
-    by_test : (b : Bool) → ((k == first) && (left == 0)) ≡ b → AreCounted bursts waiting (if b then first + 1 else first)
-    by_test false other = counted
-    by_test true both =
-        let parts = and_parts (k == first) (left == 0) both in
-        let here : k ≡ first = eqb-true k first parts.0 in
-        let none : left ≡ 0 = eqb-true left 0 parts.1 in
-        let inside : first < length bursts = omega (arith, within, here) in
-        let next : suc first ≡ first + 1 = omega arith in
-        record {
-          sum = counted.sum;
-          each = counted.each;
-          within = omega (arith, inside);
-          before = subst (λ (n : ℕ). AllByRecursion (λ p. count_waiting p.beats ≡ 0) (take n bursts)) next
-              (one_more first bursts inside counted.before (ap (λ (n : ℕ). count_waiting (burst_at bursts n).beats) (sym here) ∙ sym is ∙ none));
-        }
+counted_past bursts waiting first k left counted within is =
+    let next : suc first ≡ first + 1 = omega arith in
+    let more = λ (inside : first < length bursts) (none : count_waiting (burst_at bursts first).beats ≡ 0). one_more first bursts inside counted.before none in
+    record {
+      sum = counted.sum;
+      each = counted.each;
+      within = grind (arith, nat_tests, counted.within, within);
+      before = grind (arith, nat_tests, next, counted.before, within, is, more);
+    }
 
 -- ---- a burst that closed
 

@@ -5,7 +5,7 @@ use Rattle.std.proofs.lemmas.Bool.{cases_eq, ne_eqb}
 use Rattle.std.proofs.lemmas.List.{append-nil, get_or_default, get_or-set_other, get_or-set_same, length-set, map-append}
 use Rattle.std.proofs.lemmas.List.Elements.{filter-append}
 use Rattle.std.proofs.lemmas.List.Recursion.{found_set_other}
-use Rattle.std.proofs.lemmas.Option.{same_Some, slice_get-get_or}
+use Rattle.std.proofs.lemmas.Option.{same_Some, slice_get-get_or, slice_get_within}
 use Rattle.std.specs.List.{position_or_len, remove}
 use Rattle.std.specs.Prelude.{◌≢◌, IfSome, Option, Some, None, filter, find, if◌then◌else◌, option_map, position, slice_get}
 use Rattle.bus_words.proofs.FirstPlaces.{find-first, position_is_first, without_first-first}
@@ -198,7 +198,7 @@ pub taken : (bursts : List Pending) (queues : List (List ℕ)) (answers : Answer
 taken bursts queues answers queue k rise indexed known place =
     record {
       rise = (rise.0, rw (← cut) (rises-without_first 0 rise.0 (is_in queue) bursts rise.1));
-      some = at_least (get_or queues queue []) _ first;
+      some = slice_get_within (get_or queues queue []) 0 _ first;
       first = get_or-set_same queues queue (drop 1 (get_or queues queue [])) [] (omega (arith, indexed.many, known)) ∙ ap (drop 1) (indexed.row queue) ∙ sym (serials_without queue bursts) ∙ ap (λ (ps : List Pending). serials_in ps queue) cut;
     }
   where
@@ -210,32 +210,27 @@ taken bursts queues answers queue k rise indexed known place =
         ap (λ (row : List ℕ). slice_get row 0) (indexed.row queue) ∙ first-serial queue bursts
         ∙ ap (option_map (λ (p : Pending). p.serial)) (find-first (is_in queue) bursts k (newly_pending 0 no_burst) (position_is_first (is_in queue) bursts k place))
 
-    at_least : (row : List ℕ) (serial : ℕ) → slice_get row 0 ≡ Some serial → 0 < length row
-    at_least [] serial some = absurd (cc (some))
-    at_least (x ∷ xs) serial some = omega arith
-
 pub closed : (bursts : List Pending) (queues : List (List ℕ)) (old now : Answers) (queue k : ℕ) → Rise bursts → AreIndexed bursts queues old → queue < 32 → position (is_in queue) bursts ≡ Some k
     → is_marked now queue ≡ is_queue_ready (remove bursts k) queue → ((other : ℕ) → other < 32 → other ≢ queue → is_marked now other ≡ is_marked old other)
     → AreIndexed (remove bursts k) (set queues queue (drop 1 (get_or queues queue []))) now
 closed bursts queues old now queue k rise indexed known place here others =
     record {
       many = length-set queues queue _ ∙ indexed.many;
-      row = λ other. by_row other (cases_eq other queue);
-      marks = λ other small. by_mark other small (cases_eq other queue);
+      row = λ other.
+          elim (cases_eq other queue) [
+            | inl same ↦ rw same (taken bursts queues old queue k rise indexed known place).first
+            | inr differs ↦ get_or-set_other queues queue other _ [] differs ∙ indexed.row other ∙ sym (without_other queue other bursts differs).0 ∙ ap (λ (ps : List Pending). serials_in ps other) cut
+          ];
+      marks = λ other small.
+          elim (cases_eq other queue) [
+            | inl same ↦ rw same here
+            | inr differs ↦
+                others other small differs ∙ indexed.marks other small ∙ ap is_found_ready (sym (without_other queue other bursts differs).1) ∙ ap (λ (ps : List Pending). is_queue_ready ps other) cut
+          ];
     }
   where
     cut : without_first (is_in queue) bursts ≡ remove bursts k
     cut = without_first-first (is_in queue) bursts k (position_is_first (is_in queue) bursts k place)
-
-    by_row : (other : ℕ) → (other ≡ queue) ⊎ (other ≡ queue → ⊥) → get_or (set queues queue (drop 1 (get_or queues queue []))) other [] ≡ serials_in (remove bursts k) other
-    by_row other (inl same) = rw same (taken bursts queues old queue k rise indexed known place).first
-    by_row other (inr differs) =
-        get_or-set_other queues queue other _ [] differs ∙ indexed.row other ∙ sym (without_other queue other bursts differs).0 ∙ ap (λ (ps : List Pending). serials_in ps other) cut
-
-    by_mark : (other : ℕ) → other < 32 → (other ≡ queue) ⊎ (other ≡ queue → ⊥) → is_marked now other ≡ is_queue_ready (remove bursts k) other
-    by_mark other small (inl same) = rw same here
-    by_mark other small (inr differs) =
-        others other small differs ∙ indexed.marks other small ∙ ap is_found_ready (sym (without_other queue other bursts differs).1) ∙ ap (λ (ps : List Pending). is_queue_ready ps other) cut
 
 -- ---- a queue's mark by its ID
 

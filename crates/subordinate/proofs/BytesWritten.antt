@@ -59,14 +59,10 @@ lane_byte-bytes_set test payload first word from (suc count) lane low high below
       | inl later ↦
           lane_byte-bytes_set test payload first (byte_set test payload first word from) (from + 1) count lane (omega arith) (omega arith) below
           ∙ ap (λ (byte : ℕ). if test lane then lane_byte payload lane else byte) (lane_byte-byte_set-other test payload first word from (first + lane) (λ same. absurd (omega (arith, same, later))) below)
-      | inr here ↦ at_here (omega arith)
+      | inr here ↦
+          (let same : from ≡ lane = omega arith in lane_byte-bytes_set-past test payload first (byte_set test payload first word from) (from + 1) count (first + lane) (omega arith) below
+          ∙ rw same (lane_byte-byte_set-same test payload first word lane below))
     ]
-  where
-    at_here : from ≡ lane
-        → lane_byte (bytes_set test payload first (byte_set test payload first word from) (from + 1) count) (first + lane) ≡ (if test lane then lane_byte payload lane else lane_byte word (first + lane))
-    at_here same =
-        lane_byte-bytes_set-past test payload first (byte_set test payload first word from) (from + 1) count (first + lane) (omega arith) below
-        ∙ rw same (lane_byte-byte_set-same test payload first word lane below)
 
 -- a word stays a word of its lanes
 byte_set-word : (test : ℕ → Bool) (payload first word lane : ℕ) → word_of_lanes (lane_byte word) ≡ word → word_of_lanes (lane_byte (byte_set test payload first word lane)) ≡ byte_set test payload first word lane
@@ -125,15 +121,8 @@ bytes_set-merged test payload strobes first word fit few fits = sym (bytes_set-w
           | inl before ↦
               lane_byte-bytes_set-past test payload first word 0 8 lane (omega arith) below
               ∙ ap (λ b. if b then lane_byte (payload * 2 ^ (8 * first) % 2 ^ 64) lane else lane_byte word lane) (sym (has_lane-moved_below strobes first lane few before))
-          | inr from ↦ from_first from
+          | inr from ↦ (let whole : first + (lane - first) ≡ lane = omega arith in rw whole at (up (lane - first) (omega arith)))
         ]
-      where
-        from_first : first ≤ lane
-            → lane_byte (bytes_set test payload first word 0 8) lane
-            ≡ (if has_lane (strobes * 2 ^ first % 2 ^ 8) lane then lane_byte (payload * 2 ^ (8 * first) % 2 ^ 64) lane else lane_byte word lane)
-        from_first from =
-            let whole : first + (lane - first) ≡ lane = omega arith in
-            rw whole at (up (lane - first) (omega arith))
 
 -- ---- a transfer
 

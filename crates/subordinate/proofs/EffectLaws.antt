@@ -1,11 +1,11 @@
 -- What performing a beat of a legal burst does, by addresses.
-use Rattle.std.proofs.Common.{◌≡◌, ℕ, zero, suc, ◌+◌, ◌*◌, ◌/◌, ◌%◌, ◌<◌, ◌≤◌, ◌==◌, Bool, true, false, ◌&&◌, nat_le, length, inl, inr, refl, sym, ◌∙◌, ap, arith, subst}
+use Rattle.std.proofs.Common.{◌≡◌, ℕ, zero, suc, ◌+◌, ◌*◌, ◌/◌, ◌%◌, ◌<◌, ◌≤◌, Bool, true, false, nat_le, inl, inr, refl, sym, ◌∙◌, ap, arith, subst}
 use Rattle.std.proofs.lemmas.Bool.{cases_lt, leb-true, le-leb, and_parts, and_from}
-use Rattle.std.specs.List.{AllByRecursion, enumerate_from, list_all, range_with_len}
+use Rattle.std.specs.List.{AllByRecursion, range_with_len}
 use Rattle.std.specs.Prelude.{Option, Some, None, IfSome, find, fold, is_some, slice_get, unwrap_or, if◌then◌else◌}
 use Rattle.bus_words.specs.Lanes.{has_lane, lane_byte, payload_of}
 use Rattle.bus_words.proofs.LaneLaws.{MayGiveBytes, lane_byte-payload_of}
-use Rattle.axi_beats.specs.Bursts.{Burst, WriteBurst, ReadBurst, IsLegal, is_legal_address, is_legal_data}
+use Rattle.axi_beats.specs.Bursts.{Burst, WriteBurst, ReadBurst, IsLegal, is_legal_address}
 use Rattle.axi_beats.specs.Responses.{is_okay}
 use Rattle.axi_beats.specs.Transfers.{IsBusWidth, covers_lane, fits_bus, lane_address, transfer_address, transfer_end, transfer_has}
 use Rattle.axi_beats.specs.declared.ArBeat.{ArBeat}
@@ -70,17 +70,11 @@ lanes_written-same bus_bytes aw n w memory from (suc count) x lane low high sets
       | inl later ↦
           lanes_written-same bus_bytes aw n w (lane_written bus_bytes aw n w memory from) (from + 1) count x lane (omega arith) (omega arith) sets (whole-lane_written bus_bytes aw n w memory from whole)
           (is_some-lane_written bus_bytes aw n w memory from x ∙ there)
-      | inr here ↦ at_here (omega arith)
+      | inr here ↦
+          (let same : from ≡ lane = omega arith in rw same
+          (lanes_written-other bus_bytes aw n w (lane_written bus_bytes aw n w memory lane) (lane + 1) count x (λ other past more. absurd (omega (arith, sets.1, more.1)))
+          ∙ lane_written-same bus_bytes aw n w memory lane x sets whole there))
     ]
-  where
-    -- a later lane has another address
-    apart : (other : ℕ) → lane + 1 ≤ other → SetsByte bus_bytes aw n w x other → ⊥
-    apart other past more = absurd (omega (arith, sets.1, more.1))
-
-    at_here : from ≡ lane → byte_at_address (lanes_written bus_bytes aw n w (lane_written bus_bytes aw n w memory from) (from + 1) count) x ≡ Some (lane_byte w.payload lane)
-    at_here same =
-        rw same
-        (lanes_written-other bus_bytes aw n w (lane_written bus_bytes aw n w memory lane) (lane + 1) count x apart ∙ lane_written-same bus_bytes aw n w memory lane x sets whole there)
 
 is_some-lanes_written : (bus_bytes : ℕ) (aw : AwBeat) (n : ℕ) (w : WBeat) (memory : Memory) (from count x : ℕ)
     → is_some (byte_at_address (lanes_written bus_bytes aw n w memory from count) x) ≡ is_some (byte_at_address memory x)
@@ -224,10 +218,7 @@ has_effect state pending beat width legal pages = by_burst (with_performed state
     by_burst new (ReadBurst ar) legal becomes =
         (_, _, refl, is_captured state ar (beat + 1) _ _ width (legal_fits state.bus_bytes ar.address ar.len ar.size ar.burst legal) (omega arith) pages refl)
     by_burst new (WriteBurst aw data_beats) legal becomes =
-        let address = and_parts (is_legal_address state.bus_bytes aw.address aw.len aw.size aw.burst && length data_beats == aw.len + 1)
-        (list_all (λ transfer. is_legal_data state.bus_bytes aw transfer.0 transfer.1) (enumerate_from 1 data_beats)) legal
-        in
-        let fits = legal_fits state.bus_bytes aw.address aw.len aw.size aw.burst (and_parts (is_legal_address state.bus_bytes aw.address aw.len aw.size aw.burst) (length data_beats == aw.len + 1) address.0).0 in
+        let fits = legal_fits state.bus_bytes aw.address aw.len aw.size aw.burst (grind (arith, legal)) in
         by_data new aw fits (slice_get data_beats beat) becomes
 
 -- the same of the burst with a serial, where the beat was performed just now

@@ -11,9 +11,9 @@ use Rattle.std.proofs.lemmas.Option.{slice_get_within}
 use Rattle.axi_beats.specs.declared.RBeat.{RBeat}
 use Rattle.axi_beats.specs.declared.Resp.{Resp}
 use Rattle.subordinate.specs.declared.BeatState.{BeatState}
-use Rattle.subordinate.specs.declared.BeatState.TheVariants.{Waiting, Written, Captured}
+use Rattle.subordinate.specs.declared.BeatState.TheVariants.{Captured}
 use Rattle.subordinate.proofs.OpenBursts.{pending_after_r-last, pending_after_r-more, rises-found}
-use Rattle.subordinate.specs.FreeMemory.{FreeMemory, Pending, beat_after, beat_at, gives_last, has_serial, performed, performed_beat, performed_in, with_beat, is_read_of, is_write_of, newly_pending, pending_after_r, reads_as, transfers_in, writes_as}
+use Rattle.subordinate.specs.FreeMemory.{FreeMemory, Pending, beat_after, gives_last, has_serial, performed, with_beat, is_read_of, is_write_of, newly_pending, pending_after_r, reads_as, transfers_in, writes_as}
 use Rattle.subordinate.specs.Inside.{burst_in, captured_at, with_answer}
 use Rattle.subordinate.specs.Laws.{IsSoundPending, RisesWithin}
 use Rattle.subordinate.specs.Order.{AnswersNextBeat, AnswersOldestWrite, OwesAfterOthers, OwesTheSame, beats_owed, reads_owed, reads_owed_by, writes_owed, writes_owed_by}
@@ -64,21 +64,10 @@ sent_owed (Some burst) serial pending = owes_after_others serial burst pending
 
 -- a beat was performed
 pub owes_performed : (memory : FreeMemory) (serial beat : ℕ) → OwesTheSame memory.pending (performed memory serial beat).0.pending
-owes_performed memory serial beat = by_burst (find (has_serial serial) memory.pending)
-  where
-    nothing : OwesTheSame memory.pending memory.pending
-    nothing = record { reads = λ id. refl; writes = λ id. refl }
-
-    by_beat : (p : Pending) (state : Option BeatState) → OwesTheSame memory.pending (performed_beat memory p beat state).0.pending
-    by_beat p None = nothing
-    by_beat p (Some Waiting) =
-        owes_the_same (has_serial p.serial) (with_beat beat (beat_after memory p.burst beat)) memory.pending (record { serial = λ q. refl; burst = λ q. refl; answered = λ q. refl })
-    by_beat p (Some Written) = nothing
-    by_beat p (Some (Captured payload resp)) = nothing
-
-    by_burst : (found : Option Pending) → OwesTheSame memory.pending (performed_in memory beat found).0.pending
-    by_burst None = nothing
-    by_burst (Some p) = by_beat p (beat_at p beat)
+owes_performed memory serial beat =
+    let same = λ (p : Pending).
+    owes_the_same (has_serial p.serial) (with_beat beat (beat_after memory p.burst beat)) memory.pending (record { serial = λ q. refl; burst = λ q. refl; answered = λ q. refl }) in
+    record { reads = λ id. grind (arith, λ (p : Pending). (same p).reads id); writes = λ id. grind (arith, λ (p : Pending). (same p).writes id) }
 
 -- ---- entries that a test passes over
 
