@@ -10,9 +10,10 @@ use Rattle.slab.proofs.SlabLemmas.{Updates-with_value}
 use Rattle.slab.specs.Slab.{Slab, with_value, get, ContainsKey, slab_len, Updates}
 use Rattle.flight_table.specs.Inside.{IsIndex, entries_in, entry_in, stored}
 use Rattle.flight_table.specs.LiveRequests.{LiveRequest}
-use Rattle.flight_table.specs.Tables.{KeyedRequest, change_entry, has_key, request_in, requests_of}
+use Rattle.flight_table.specs.Tables.{KeyedRequest, change_entry, has_key, request_in, requests_of, key_in}
 use Rattle.bus_words.proofs.MappedPlaces.{position_map}
 use Rattle.std.proofs.lemmas.Bool.Decides.{nat_tests}
+use Rattle.std.specs.Prelude.{Some}
 
 abbrev AreOthers : ℕ → List ℕ → Type 0
 AreOthers key ks = AllByRecursion (λ k. k ≢ key) ks
@@ -191,3 +192,8 @@ place_keyed s key ks = position_map (entry_in s) (has_key key) ks
 
 pub place_passing : (s : Slab LiveRequest) (p : LiveRequest → Bool) (ks : List ℕ) → position p (requests_of (entries_in s ks)) ≡ position (λ k. p (stored s k)) ks
 place_passing s p ks = position_map (λ (entry : KeyedRequest). entry.request) p (entries_in s ks) ∙ position_map (entry_in s) (λ entry. p entry.request) ks
+
+-- what a scan of the keys finds in the slab is what the list of the requests has
+pub find_scan : (s : Slab LiveRequest) (p : LiveRequest → Bool) (ks : List ℕ) → find (λ k. p (stored s k)) ks ≡ key_in p (entries_in s ks)
+find_scan s p [] = refl
+find_scan s p (k ∷ ks) = grind (arith, find_scan s p ks)

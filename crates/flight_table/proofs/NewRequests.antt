@@ -1,12 +1,12 @@
 -- One more request keeps the laws of the table, and how many there can be.
-use Rattle.std.proofs.Common.{◌≡◌, ℕ, suc, zero, ◌+◌, ◌*◌, ◌==◌, ◌<◌, ◌≤◌, Bool, true, false, not, nat_lt, List, [], ◌∷◌, ◌++◌, map, length, Option, Some, None, is_none, refl, ap, sym, ◌∙◌, arith, length-append, subst}
-use Rattle.std.specs.Prelude.{if◌then◌else◌}
+use Rattle.std.proofs.Common.{◌≡◌, ℕ, suc, zero, ◌+◌, ◌*◌, ◌<◌, ◌≤◌, Bool, true, false, not, nat_lt, List, [], ◌∷◌, ◌++◌, map, length, Option, Some, None, is_none, refl, ap, sym, ◌∙◌, arith, length-append, subst, IsSome}
+use Rattle.std.specs.Prelude.{if◌then◌else◌, IfSome}
 use Rattle.std.specs.List.{AllByRecursion, filter, list_any}
 use Rattle.std.proofs.Math.Nat.{mul-le-mul_right}
-use Rattle.std.proofs.lemmas.Bool.{and_parts, eqb-true, lt-ltb, ltb-true, le-ltb}
+use Rattle.std.proofs.lemmas.Bool.{lt-ltb, ltb-true, le-ltb}
 use Rattle.bus_words.proofs.PlaceChanges.{all-append}
 use Rattle.flight_table.specs.Laws.{AreLimits, AreRising, HaveOwnKeys, IsSound, IsSoundRequest, IsSoundTable}
-use Rattle.flight_table.specs.LiveRequests.{LiveRequest, all_sent, flight_for, pieces_planned, plan_for}
+use Rattle.flight_table.specs.LiveRequests.{LiveRequest, all_sent, flight_for, pieces_planned, plan_for, planned}
 use Rattle.burst_plan.specs.declared.Piece.{Piece}
 use Rattle.tl_messages.specs.Operations.{has_data, reply_has_data}
 use Rattle.tl_messages.specs.declared.Operation.{Operation}
@@ -62,8 +62,8 @@ sound_new table r sound new =
       rising = rising-append table.live r sound.rising below;
       one_holder = λ id. omega (arith, sound.one_holder id, rw (no_id id) at (count_pushed (holds_id id) table.live r));
       in_order = all-append (InOrder (table.live ++ r ∷ [])) table.live r (in_order table.live below sound.in_order) (λ undone held. new.id);
-      few = λ client. few client (r.client == client) refl;
-      own_sources = λ client source. own client source (has_source client source r) refl;
+      few = few;
+      own_sources = own;
     }
   where
     later : (x : LiveRequest) → IsSoundRequest table.limits table.accepted x → IsSoundRequest table.limits (table.accepted + 1) x
@@ -71,20 +71,15 @@ sound_new table r sound new =
 
     fresh : IsSoundRequest table.limits (table.accepted + 1) r
     fresh =
-        record {
-          number = omega (arith, new.number);
-          client = new.client;
-          reads = new.reads;
-          writes = new.writes;
-          sent = omega (arith, new.sent);
-          answered = omega (arith, new.answered);
-          depth = omega (arith, new.sent);
-          id = rw new.id tt;
-          holds = λ undone sent. absurd (omega (arith, sent, new.all));
-          unsent = λ unsent. new.id;
-          freed = λ done. new.id;
-          no_plan = new.no_plan;
-        }
+        let number : r.number < table.accepted + 1 = omega (arith, new.number) in
+        let sent : r.sent ≤ length (planned r) = omega (arith, new.sent) in
+        let answered : r.answered ≤ r.sent = omega (arith, new.answered) in
+        let depth : r.sent ≤ r.answered + table.limits.depth = omega (arith, new.sent) in
+        let id : IfSome r.id (λ id. id < table.limits.ids) = rw new.id tt in
+        let holds : r.done ≡ false → 0 < all_sent r → IsSome r.id = λ undone some. absurd (omega (arith, some, new.all)) in
+        let unsent : all_sent r ≡ 0 → r.id ≡ None = λ none. new.id in
+        let freed : r.done ≡ true → r.id ≡ None = λ done. new.id in
+        assumption
 
     below : AllByRecursion (λ (o : LiveRequest). o.number < r.number) table.live
     below = all-map (IsSoundRequest table.limits table.accepted) (λ o. o.number < r.number) table.live (λ x s. omega (arith, s.number, new.number)) sound.requests
@@ -97,19 +92,15 @@ sound_new table r sound new =
     in_order (x ∷ xs) less all =
         (λ undone held. all.0 undone (sym (any-append (holds_back x) table.live r (latest_holds_none x r less.0)) ∙ held), in_order xs less.1 all.1)
 
-    few : (client : ℕ) (b : Bool) → (r.client == client) ≡ b → length (filter (is_of client) (table.live ++ r ∷ [])) ≤ table.limits.quota
-    few client true is =
-        let same : r.client ≡ client = eqb-true r.client client is in
-        let room : length (filter (is_of r.client) table.live) < table.limits.quota = ltb-true _ _ new.room in
-        omega (arith, rw is at (count_pushed (is_of client) table.live r), rw same at room)
-    few client false is = omega (arith, sound.few client, rw is at (count_pushed (is_of client) table.live r))
+    few : (client : ℕ) → length (filter (is_of client) (table.live ++ r ∷ [])) ≤ table.limits.quota
+    few client =
+        let room = λ (same : r.client ≡ client). rw same at new.room in
+        grind (arith, nat_tests, sound.few client, count_pushed (is_of client) table.live r, room)
 
-    own : (client source : ℕ) (b : Bool) → has_source client source r ≡ b → length (filter (has_source client source) (table.live ++ r ∷ [])) ≤ 1
-    own client source true is =
-        let both = and_parts (r.client == client) (r.source == source) is in
-        let free : list_any (has_source client source) table.live ≡ false = rw (← eqb-true r.client client both.0, ← eqb-true r.source source both.1) new.source in
-        omega (arith, rw is at (count_pushed (has_source client source) table.live r), count-none (has_source client source) table.live free)
-    own client source false is = omega (arith, sound.own_sources client source, rw is at (count_pushed (has_source client source) table.live r))
+    own : (client source : ℕ) → length (filter (has_source client source) (table.live ++ r ∷ [])) ≤ 1
+    own client source =
+        let free = λ (whose : r.client ≡ client) (from : r.source ≡ source). rw (whose, from) at new.source in
+        grind (arith, nat_tests, sound.own_sources client source, count_pushed (has_source client source) table.live r, count-none (has_source client source) table.live, free)
 
 -- ---- how many there are
 

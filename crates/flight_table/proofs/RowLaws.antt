@@ -22,7 +22,6 @@ use Rattle.flight_table.proofs.TableChanges.{all-map}
 use Rattle.flight_table.proofs.Lowered.{counted_all, lowered_all}
 use Rattle.flight_table.proofs.MarkLaws.{as_marks, below, pushed, removed_is}
 use Rattle.bus_words.proofs.MappedPlaces.{length_map, map-remove}
-use Rattle.flight_table.proofs.SlabScans.{few_pass}
 use Rattle.flight_table.proofs.SumLaws.{all_remove, all_set}
 use Rattle.std.proofs.lemmas.Bool.Decides.{nat_tests}
 
@@ -240,6 +239,11 @@ distinct_set (p ∷ pages) (suc k) page distinct others = (all_set (λ m. m ≢ 
 -- the requests that lie in another page
 abbrev elsewhere : ℕ → List LiveRequest → List LiveRequest
 elsewhere page live = filter (λ x. not (is_on (Some page) x)) live
+
+-- no more pass than there are
+few_pass : {X : Type 0} (p : X → Bool) (xs : List X) → length (filter p xs) ≤ length xs
+few_pass p [] = omega arith
+few_pass p (x ∷ xs) = grind (arith, few_pass p xs)
 
 fewer : (page : ℕ) (live : List LiveRequest) → list_any (is_on (Some page)) live ≡ true → length (elsewhere page live) < length live
 fewer page [] some = absurd (cc (some))
