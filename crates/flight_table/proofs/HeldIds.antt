@@ -1,5 +1,5 @@
 -- The holders of the IDs, through each change of the live requests.
-use Rattle.std.proofs.Common.{◌≡◌, ◌≢◌, ℕ, zero, suc, ◌+◌, ◌==◌, ◌<◌, ◌≤◌, Bool, true, false, is_none, List, [], ◌∷◌, ◌++◌, map, length, get_or, set, Option, Some, None, refl, ap, sym, ◌∙◌, arith}
+use Rattle.std.proofs.Common.{◌≡◌, ◌≢◌, ℕ, zero, suc, ◌+◌, ◌<◌, ◌≤◌, Bool, true, false, is_none, List, [], ◌∷◌, ◌++◌, map, length, get_or, set, Option, Some, None, refl, ap, sym, ◌∙◌, arith}
 use Rattle.std.specs.Prelude.{IfSome, if◌then◌else◌}
 use Rattle.std.specs.List.{filter, find, list_any, position, range_with_len}
 use Rattle.std.proofs.Common.{replicate}
@@ -14,6 +14,7 @@ use Rattle.flight_table.proofs.Kept.{IsPlaced, count_set, requests_changed}
 use Rattle.bus_words.proofs.MappedPlaces.{length_map, map_same, position_map, position_same}
 use Rattle.std.proofs.lemmas.List.FromFn.{length-range_with_len, get_or-range_with_len}
 use Rattle.std.proofs.lemmas.Bool.Decides.{nat_tests}
+use Rattle.std.proofs.lemmas.Bool.{eq-eqb, ne_eqb}
 
 -- ---- the key of the first that passes a test, after a change
 
@@ -62,12 +63,6 @@ range_set f g a (suc n) (suc k) v within is others =
     moved : (a k : ℕ) → a + 1 + k ≡ a + suc k
     moved a k = omega arith
 
-not_id : (id held : ℕ) → id ≢ held → (held == id) ≡ false
-not_id id held other = grind (arith, other)
-
-is_id : (id : ℕ) → (id == id) ≡ true
-is_id id = grind arith
-
 pub ids_add : (ids : ℕ) (entries : List KeyedRequest) (e : KeyedRequest) → e.request.id ≡ None → holders_of_ids ids (entries ++ e ∷ []) ≡ holders_of_ids ids entries
 ids_add ids entries e none = map_same (λ id. key_in (holds_id id) (entries ++ e ∷ [])) (λ id. key_in (holds_id id) entries) (range_with_len 0 ids) (λ id. key_pushed (holds_id id) entries e (rw none refl))
 
@@ -87,8 +82,8 @@ pub ids_set : (ids key : ℕ) (entries : List KeyedRequest) (r new : LiveRequest
 ids_set ids key entries r new None None found was is may = ids_kept ids key entries r new found (is ∙ sym was)
 ids_set ids key entries r new None (Some id) found was is may =
     range_set (λ i. key_in (holds_id i) entries) (λ i. key_in (holds_id i) (change_first (has_key key) (change_entry (λ o. new)) entries)) 0 ids id (Some key) may.0
-    (rw zero_plus (key_taken (holds_id id) key entries r new found (rw is (is_id id)) may.1))
-    (λ i other. key_kept (holds_id i) key entries r new found (rw (is, was) (not_id i id (λ same. other (same ∙ sym zero_plus)))))
+    (rw zero_plus (key_taken (holds_id id) key entries r new found (rw is (eq-eqb id id refl)) may.1))
+    (λ i other. key_kept (holds_id i) key entries r new found (rw (is, was) (ne_eqb id i (λ same. other (sym same ∙ sym zero_plus)))))
   where
     zero_plus : 0 + id ≡ id
     zero_plus = omega arith
@@ -105,7 +100,7 @@ ids_finish ids key place entries r new None found at was is one = ids_kept ids k
 ids_finish ids key place entries r new (Some id) found at was is one =
     range_set (λ i. key_in (holds_id i) entries) (λ i. key_in (holds_id i) (change_first (has_key key) (change_entry (λ o. new)) entries)) 0 ids id None one.0
     (rw zero_plus (key_none (holds_id id) (change_first (has_key key) (change_entry (λ o. new)) entries) nobody))
-    (λ i other. key_kept (holds_id i) key entries r new found (rw (is, was) (sym (not_id i id (λ same. other (same ∙ sym zero_plus))))))
+    (λ i other. key_kept (holds_id i) key entries r new found (rw (is, was) (sym (ne_eqb id i (λ same. other (sym same ∙ sym zero_plus))))))
   where
     zero_plus : 0 + id ≡ id
     zero_plus = omega arith
@@ -114,7 +109,7 @@ ids_finish ids key place entries r new (Some id) found at was is one =
     nobody =
         rw (requests_changed (λ o. new) key entries place r at)
         (none_left (holds_id id r) (holds_id id new) (length (filter (holds_id id) (set (requests_of entries) place new))) (length (filter (holds_id id) (requests_of entries)))
-        (count_set (holds_id id) (requests_of entries) place new r at.within (at.there r)) (rw was (is_id id)) (rw is refl) one.1)
+        (count_set (holds_id id) (requests_of entries) place new r at.within (at.there r)) (rw was (eq-eqb id id refl)) (rw is refl) one.1)
 
 -- ---- what is read
 

@@ -1,5 +1,5 @@
 -- What is kept by place stays what it says, through each change of the live requests.
-use Rattle.std.proofs.Common.{◌≡◌, ℕ, zero, suc, ◌+◌, ◌==◌, ◌<◌, ◌≤◌, Bool, true, false, ◌&&◌, List, [], ◌∷◌, ◌++◌, map, length, get_or, set, Option, Some, None, refl, ap, ap₂, sym, ◌∙◌, arith}
+use Rattle.std.proofs.Common.{◌≡◌, ℕ, zero, suc, ◌+◌, ◌==◌, ◌<◌, ◌≤◌, Bool, true, false, List, [], ◌∷◌, ◌++◌, map, length, get_or, set, Option, Some, None, refl, ap, ap₂, sym, ◌∙◌, arith}
 use Rattle.std.specs.Prelude.{IfSome, IsSomeAnd, if◌then◌else◌, option_map}
 use Rattle.std.specs.List.{AllByRecursion, filter, find, position, remove}
 use Rattle.std.proofs.lemmas.List.{get_or-map, map-set, map_push, set-get_or}
@@ -73,9 +73,6 @@ count_removed q (x ∷ xs) zero old within is = rw (count_cons q x xs, is) (omeg
 count_removed q (x ∷ xs) (suc place) old within is = rw (count_cons q x (remove xs place), count_cons q x xs) (omega (arith, count_removed q xs place old (omega (arith, within)) is))
 
 -- ---- which requests hold back which
-
-and_false : (b : Bool) → (b && false) ≡ false
-and_false b = grind arith
 
 -- one that is done holds back none
 done_holds : (x r : LiveRequest) → r.done ≡ true → holds_back x r ≡ false

@@ -56,14 +56,11 @@ pub answer_names : (test : LiveRequest → Bool) (entries : List KeyedRequest) (
 answer_names test entries None own is = sym (none_named test entries (sym is))
 answer_names test entries (Some k) own is = let found = named test entries k own (sym is) in found.named ∙ sym found.first
 
-some_and : (o : Option LiveRequest) (r : LiveRequest) (P : LiveRequest → Type 0) → o ≡ Some r → P r → IsSomeAnd o P
-some_and o r P is holds = rw is holds
-
 pub answer_passes : (test : LiveRequest → Bool) (P : LiveRequest → Type 0) (entries : List KeyedRequest) (answer : Option ℕ) → ((r : LiveRequest) → test r ≡ true → P r) → HaveOwnKeys entries
     → answer ≡ key_in test entries → IfSome answer (λ k. IsSomeAnd (request_in k entries) P)
 answer_passes test P entries None so own is = tt
 answer_passes test P entries (Some k) so own is =
-    let found = named test entries k own (sym is) in some_and (request_in k entries) found.request P found.named (so found.request found.passes)
+    let found = named test entries k own (sym is) in rw found.named (so found.request found.passes)
 
 -- ---- by number
 

@@ -19,6 +19,7 @@ use Rattle.flight_table.proofs.Index.{change-constant}
 use Rattle.flight_table.proofs.KeyLaws.{by_number, found_by_number, request_listed}
 use Rattle.flight_table.proofs.TableChanges.{IsStep, sound-put}
 use Rattle.std.proofs.lemmas.Bool.Decides.{nat_tests}
+use Rattle.std.proofs.lemmas.Option.{same_Some}
 
 -- what it means to be ready
 pub record IsReady (table : FlightTable) (r : LiveRequest) : Type 0 where
@@ -146,11 +147,7 @@ step_finished table r sound =
 
 -- what a call's condition says of the request that the key names
 pub needs : (P : KeyedTable → LiveRequest → Type 0) (old now : KeyedTable) (key : ℕ) (r : LiveRequest) → old ≡ now → request_at key old ≡ Some r → IsSomeAnd (request_at key now) (P now) → P old r
-needs P old now key r same found holds = by_request (request_at key old) found (subst (λ t. IsSomeAnd (request_at key t) (P t)) (sym same) holds)
-  where
-    by_request : (o : Option LiveRequest) → o ≡ Some r → IsSomeAnd o (P old) → P old r
-    by_request None found holds = absurd (cc)
-    by_request (Some q) found holds = let is : q ≡ r = cc in rw is at holds
+needs P old now key r same found holds = rw found at (subst (λ t. IsSomeAnd (request_at key t) (P t)) (sym same) holds)
 
 -- what is known of the request that a key names
 pub known : (keyed : KeyedTable) (key : ℕ) (r : LiveRequest) → IsSound keyed → request_at key keyed ≡ Some r
@@ -166,9 +163,6 @@ pub record IsChanged (old new : KeyedTable) (key : ℕ) (change : LiveRequest �
   pub table : IfSome (request_at key old) (λ r. table_of new ≡ change_number r.number change (table_of old))
   pub laws : IsSound new
 
-if_request : (o : Option LiveRequest) (r : LiveRequest) (P : LiveRequest → Type 0) → o ≡ Some r → P r → IfSome o P
-if_request o r P is holds = rw is holds
-
 number_put : (change : LiveRequest → LiveRequest) (r : LiveRequest) (live : List LiveRequest) → find (has_number r.number) live ≡ Some r
     → change_first (has_number r.number) change live ≡ change_first (has_number r.number) (λ o. change r) live
 number_put change r [] found = refl
@@ -183,7 +177,7 @@ changed : (old : KeyedTable) (key : ℕ) (change : LiveRequest → LiveRequest) 
 changed old key change r request entries sound found is made own step =
     record {
       state = ap (λ (es : List KeyedRequest). record old { entries = es }) same;
-      table = if_request (request_at key old) r (λ q. table_of (record old { entries = entries }) ≡ change_number q.number change (table_of old)) found numbered;
+      table = rw found numbered;
       laws = record {
         limits = sound.limits;
         table = subst IsSoundTable (sym (numbered ∙ put)) (sound-put (table_of old) r (change r) sound.table by_its_number step);
@@ -217,7 +211,7 @@ sends old now key r same found ready = needs (λ t q. IsTrue (is_ready (table_of
 
 -- what is known of the request that a key names, seen by a caller
 pub seen : (P : KeyedTable → LiveRequest → Type 0) (old now : KeyedTable) (key : ℕ) (r : LiveRequest) → old ≡ now → request_at key old ≡ Some r → P old r → IfSome (request_at key now) (P now)
-seen P old now key r same found holds = subst (λ t. IfSome (request_at key t) (P t)) same (if_request (request_at key old) r (P old) found holds)
+seen P old now key r same found holds = subst (λ t. IfSome (request_at key t) (P t)) same (rw found holds)
 
 -- ---- what the calls below ask
 
@@ -239,10 +233,7 @@ same_name : (ids : ℕ) (live : List LiveRequest) (old now : Option ℕ) → now
 same_name ids live None None same = tt
 same_name ids live None (Some id) same = absurd (cc (same))
 same_name ids live (Some held) None same = absurd (cc (same))
-same_name ids live (Some held) (Some id) same = sym (held_same id held same)
-  where
-    held_same : (a b : ℕ) → Some a ≡ Some b → a ≡ b
-    held_same a b same = cc
+same_name ids live (Some held) (Some id) same = sym (same_Some id held same)
 
 pub keeps_name : (ids : ℕ) (live : List LiveRequest) (key : ℕ) (entries : List KeyedRequest) (r new : LiveRequest) → request_in key entries ≡ Some r → new.id ≡ r.id → IsSomeAnd (request_in key entries) (λ old. MayName ids live old.id new.id)
 keeps_name ids live key entries r new found same = rw found (same_name ids live r.id new.id same)
