@@ -3,7 +3,7 @@ use Rattle.std.proofs.Common.{◌≡◌, ◌≢◌, ℕ, zero, suc, ◌+◌, ◌
 use Rattle.std.specs.Prelude.{if◌then◌else◌, option_map}
 use Rattle.std.specs.List.{AllByRecursion, filter, find, list_any, position, range_with_len}
 use Rattle.std.proofs.lemmas.Bool.{cases_lt}
-use Rattle.std.proofs.lemmas.List.{get_or-map, get_or_past}
+use Rattle.std.proofs.lemmas.List.{get_or-map, get_or_past, map_push}
 use Rattle.bus_words.proofs.FirstPlaces.{find-none}
 use Rattle.bus_words.specs.Places.{change_first, without_first}
 use Rattle.flight_table.specs.Clients.{AreOwned, has_own_key, has_own_source, own_done, own_finished, own_part, own_requests, requests_of_clients}
@@ -13,6 +13,7 @@ use Rattle.flight_table.specs.declared.clients.OwnRequest.{OwnRequest}
 use Rattle.flight_table.proofs.HeldIds.{range_set}
 use Rattle.bus_words.proofs.MappedPlaces.{length_map, map_same}
 use Rattle.std.proofs.lemmas.List.FromFn.{length-range_with_len, get_or-range_with_len}
+use Rattle.bus_words.proofs.PlaceChanges.{all-append}
 
 abbrev own_if : Bool → KeyedRequest → List OwnRequest → List OwnRequest
 own_if b e own = if b then own_part e ∷ own else own
@@ -160,8 +161,7 @@ same_own key source done e one two three = λ i. record { key = one i; source = 
 
 few_added : (clients : ℕ) (entries : List KeyedRequest) (e : KeyedRequest) → AllByRecursion (λ (r : LiveRequest). r.client < clients) (requests_of entries) → e.request.client < clients
     → AllByRecursion (λ (r : LiveRequest). r.client < clients) (requests_of (entries ++ e ∷ []))
-few_added clients [] e few within = (within, tt)
-few_added clients (x ∷ entries) e few within = (few.0, few_added clients entries e few.1 within)
+few_added clients entries e few within = rw (map_push (λ (o : KeyedRequest). o.request) entries e) (all-append (λ (r : LiveRequest). r.client < clients) (requests_of entries) e.request few within)
 
 few_changed : (clients key : ℕ) (entries : List KeyedRequest) (new : LiveRequest) → AllByRecursion (λ (r : LiveRequest). r.client < clients) (requests_of entries) → new.client < clients
     → AllByRecursion (λ (r : LiveRequest). r.client < clients) (requests_of (change_first (has_key key) (change_entry (λ o. new)) entries))

@@ -20,6 +20,8 @@ use Rattle.flight_table.proofs.Steps.{with_live}
 use Rattle.flight_table.proofs.TableChanges.{all-map, count-none, from_numbers, sound-without, to_numbers}
 use Rattle.std.proofs.lemmas.Bool.Decides.{nat_tests}
 use Rattle.flight_table.proofs.Kept.{count_pushed}
+use Rattle.bus_words.proofs.MappedPlaces.{length_map}
+use Rattle.std.proofs.lemmas.List.{map_push}
 
 abbrev number_of : LiveRequest → ℕ
 number_of r = r.number
@@ -133,14 +135,6 @@ at_most_64 table limits sound =
 
 -- ---- the table with keys, after one more request
 
-requests-append : (entries : List KeyedRequest) (entry : KeyedRequest) → requests_of (entries ++ entry ∷ []) ≡ requests_of entries ++ entry.request ∷ []
-requests-append [] entry = refl
-requests-append (e ∷ entries) entry = ap (λ (live : List LiveRequest). e.request ∷ live) (requests-append entries entry)
-
-length-requests : (entries : List KeyedRequest) → length (requests_of entries) ≡ length entries
-length-requests [] = refl
-length-requests (e ∷ entries) = ap suc (length-requests entries)
-
 -- what a request has to meet to be accepted
 pub record MayAccept (keyed : KeyedTable) (client source : ℕ) : Type 0 where
   pub there : client < keyed.limits.clients
@@ -189,7 +183,7 @@ pub room_left : (old now : KeyedTable) (client : ℕ) (held : HeldMessage) (plan
 room_left old now client held plan same sound may =
     let request = flight_for old.accepted client held plan in
     let table = new_table old client held plan sound (before old now client held.source same may) in
-    omega (arith, at_most_64 (with_request request (table_of old)) sound.limits table, length-append (requests_of old.entries) (request ∷ []), length-requests old.entries)
+    omega (arith, at_most_64 (with_request request (table_of old)) sound.limits table, length-append (requests_of old.entries) (request ∷ []), length_map (λ (e : KeyedRequest). e.request) old.entries)
 
 -- a client that has room is one of 8, and has fewer than 8 live requests
 pub known_client : (old now : KeyedTable) (client : ℕ) → old ≡ now → IsSound old → client < now.limits.clients → client < 8
@@ -210,7 +204,7 @@ pub accepted_laws : (old now : KeyedTable) (client key : ℕ) (held : HeldMessag
 accepted_laws old now client key held plan request entries same sound may is made own =
     let table = new_table old client held plan sound (before old now client held.source same may) in
     let requests : requests_of entries ≡ requests_of old.entries ++ flight_for old.accepted client held plan ∷ [] =
-    ap requests_of made ∙ requests-append old.entries (record { key = key; request = request }) ∙ ap (λ (r : LiveRequest). requests_of old.entries ++ r ∷ []) is in
+    ap requests_of made ∙ map_push (λ (e : KeyedRequest). e.request) old.entries (record { key = key; request = request }) ∙ ap (λ (r : LiveRequest). requests_of old.entries ++ r ∷ []) is in
     record {
       limits = sound.limits;
       table = subst (λ live. IsSoundTable (record { limits = old.limits; accepted = old.accepted + 1; live = live })) (sym requests) table;
