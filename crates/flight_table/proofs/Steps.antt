@@ -216,17 +216,9 @@ seen P old now key r same found holds = subst (λ t. IfSome (request_at key t) (
 -- ---- what the calls below ask
 
 -- a request that only sent or answered
-pub progresses : (key : ℕ) (entries : List KeyedRequest) (r new : LiveRequest) → request_in key entries ≡ Some r → IsProgress r new → IsSomeAnd (request_in key entries) (λ old. IsProgress old new)
-progresses key entries r new found progress = rw found progress
-
-pub sent_progress : (id : ℕ) (r new : LiveRequest) → new ≡ with_sent id r → IsProgress r new
-sent_progress id r new is = rw is (record { number = refl; client = refl; source = refl; operation = refl; plan = refl; done = refl })
-
-pub answered_progress : (r new : LiveRequest) → new ≡ with_answered r → IsProgress r new
-answered_progress r new is = rw is (record { number = refl; client = refl; source = refl; operation = refl; plan = refl; done = refl })
-
-pub write_progress : (r new : LiveRequest) → new ≡ with_write r → IsProgress r new
-write_progress r new is = rw is (record { number = refl; client = refl; source = refl; operation = refl; plan = refl; done = refl })
+pub progresses : (change : LiveRequest → LiveRequest) (key : ℕ) (entries : List KeyedRequest) (r new : LiveRequest) → IsProgress r (change r) → request_in key entries ≡ Some r → new ≡ change r
+    → IsSomeAnd (request_in key entries) (λ old. IsProgress old new)
+progresses change key entries r new progress found same = rw (found, same) progress
 
 -- it keeps its ID
 same_name : (ids : ℕ) (live : List LiveRequest) (old now : Option ℕ) → now ≡ old → MayName ids live old now
