@@ -1,27 +1,25 @@
 -- Each client's live requests, through each change of the live requests.
-use Rattle.std.proofs.Common.{◌≡◌, ◌≢◌, ℕ, zero, suc, ◌+◌, ◌==◌, ◌<◌, ◌≤◌, Bool, true, false, ◌&&◌, ◌||◌, List, [], ◌∷◌, ◌++◌, map, length, get_or, set, replicate, Option, Some, None, refl, ap, sym, ◌∙◌, arith, IsSome, ◌⊎◌, inl, inr}
+use Rattle.std.proofs.Common.{◌≡◌, ◌≢◌, ℕ, zero, suc, ◌+◌, ◌==◌, ◌<◌, ◌≤◌, Bool, true, false, List, [], ◌∷◌, ◌++◌, map, length, get_or, set, replicate, Option, Some, None, refl, ap, sym, ◌∙◌, arith, IsSome, ◌⊎◌, inl, inr}
 use Rattle.std.specs.Prelude.{if◌then◌else◌, option_map}
 use Rattle.std.specs.List.{AllByRecursion, filter, find, list_any, position, range_with_len}
 use Rattle.std.proofs.lemmas.Bool.{cases_lt}
-use Rattle.std.proofs.lemmas.List.{get_or-map, get_or_past}
+use Rattle.std.proofs.lemmas.List.{get_or-map, get_or_past, map_push}
 use Rattle.bus_words.proofs.FirstPlaces.{find-none}
 use Rattle.bus_words.specs.Places.{change_first, without_first}
 use Rattle.flight_table.specs.Clients.{AreOwned, has_own_key, has_own_source, own_done, own_finished, own_part, own_requests, requests_of_clients}
 use Rattle.flight_table.specs.LiveRequests.{LiveRequest, finished}
 use Rattle.flight_table.specs.Tables.{KeyedRequest, change_entry, has_key, has_source, is_done_of, is_of, key_in, request_in, requests_of}
 use Rattle.flight_table.specs.declared.clients.OwnRequest.{OwnRequest}
-use Rattle.flight_table.proofs.HeldIds.{length_range, range_at, range_set}
+use Rattle.flight_table.proofs.HeldIds.{range_set}
 use Rattle.bus_words.proofs.MappedPlaces.{length_map, map_same}
+use Rattle.std.proofs.lemmas.List.FromFn.{length-range_with_len, get_or-range_with_len}
+use Rattle.bus_words.proofs.PlaceChanges.{all-append}
 
 abbrev own_if : Bool → KeyedRequest → List OwnRequest → List OwnRequest
 own_if b e own = if b then own_part e ∷ own else own
 
 own_cons : (e : KeyedRequest) (entries : List KeyedRequest) (client : ℕ) → own_requests (e ∷ entries) client ≡ own_if (is_of client e.request) e (own_requests entries client)
-own_cons e entries client = by_test (is_of client e.request)
-  where
-    by_test : (b : Bool) → map own_part (if b then e ∷ filter (λ o. is_of client o.request) entries else filter (λ o. is_of client o.request) entries) ≡ own_if b e (own_requests entries client)
-    by_test true = refl
-    by_test false = refl
+own_cons e entries client = grind arith
 
 other_client : (client own : ℕ) → client ≢ own → (own == client) ≡ false
 other_client client own other = grind (arith, other)
@@ -33,11 +31,7 @@ own_client client own same = grind (arith, same)
 
 pushed_own : (entries : List KeyedRequest) (e : KeyedRequest) (client : ℕ) → is_of client e.request ≡ true → own_requests (entries ++ e ∷ []) client ≡ own_requests entries client ++ own_part e ∷ []
 pushed_own [] e client is = rw (own_cons e [] client, is) refl
-pushed_own (x ∷ entries) e client is = rw (own_cons x (entries ++ e ∷ []) client, own_cons x entries client, pushed_own entries e client is) (by_test (is_of client x.request))
-  where
-    by_test : (b : Bool) → own_if b x (own_requests entries client ++ own_part e ∷ []) ≡ own_if b x (own_requests entries client) ++ own_part e ∷ []
-    by_test true = refl
-    by_test false = refl
+pushed_own (x ∷ entries) e client is = grind (arith, pushed_own entries e client is)
 
 pushed_other : (entries : List KeyedRequest) (e : KeyedRequest) (client : ℕ) → is_of client e.request ≡ false → own_requests (entries ++ e ∷ []) client ≡ own_requests entries client
 pushed_other [] e client is = rw (own_cons e [] client, is) refl
@@ -64,15 +58,8 @@ owned_add clients entries e within =
 kept_own : (key : ℕ) (entries : List KeyedRequest) (r new : LiveRequest) (client : ℕ) → request_in key entries ≡ Some r → new.client ≡ r.client → new.source ≡ r.source → new.done ≡ r.done
     → own_requests (change_first (has_key key) (change_entry (λ o. new)) entries) client ≡ own_requests entries client
 kept_own key [] r new client found whose source done = refl
-kept_own key (x ∷ entries) r new client found whose source done = by_key (x.key == key) found (λ later. kept_own key entries r new client later whose source done)
-  where
-    by_key : (b : Bool) → option_map (λ (o : KeyedRequest). o.request) (if b then Some x else find (has_key key) entries) ≡ Some r
-        → (request_in key entries ≡ Some r → own_requests (change_first (has_key key) (change_entry (λ o. new)) entries) client ≡ own_requests entries client)
-        → own_requests (if b then change_entry (λ o. new) x ∷ entries else x ∷ change_first (has_key key) (change_entry (λ o. new)) entries) client ≡ own_requests (x ∷ entries) client
-    by_key true here rest =
-        let is : x.request ≡ r = cc in
-        rw (own_cons (change_entry (λ o. new) x) entries client, own_cons x entries client, is, whose, source, done) refl
-    by_key false later rest = rw (own_cons x (change_first (has_key key) (change_entry (λ o. new)) entries) client, own_cons x entries client, rest later) refl
+kept_own key (x ∷ entries) r new client found whose source done =
+    grind (arith, whose, source, done, λ (later : request_in key entries ≡ Some r). kept_own key entries r new client later whose source done)
 
 pub owned_set : (clients key : ℕ) (entries : List KeyedRequest) (r new : LiveRequest) → request_in key entries ≡ Some r → new.client ≡ r.client → new.source ≡ r.source → new.done ≡ r.done
     → requests_of_clients clients (change_first (has_key key) (change_entry (λ o. new)) entries) ≡ requests_of_clients clients entries
@@ -84,35 +71,13 @@ owned_set clients key entries r new found whose source done =
 finished_own : (key : ℕ) (entries : List KeyedRequest) (r : LiveRequest) (client : ℕ) → request_in key entries ≡ Some r → is_of client r ≡ true
     → own_requests (change_first (has_key key) (change_entry (λ o. finished r)) entries) client ≡ change_first (has_own_key key) own_finished (own_requests entries client)
 finished_own key [] r client found is = refl
-finished_own key (x ∷ entries) r client found is = by_key (x.key == key) refl found (λ later. finished_own key entries r client later is)
-  where
-    skipped : (b : Bool) (own : List OwnRequest) → (x.key == key) ≡ false → own_if b x (change_first (has_own_key key) own_finished own) ≡ change_first (has_own_key key) own_finished (own_if b x own)
-    skipped true own other = rw other refl
-    skipped false own other = refl
-
-    by_key : (b : Bool) → (x.key == key) ≡ b → option_map (λ (o : KeyedRequest). o.request) (if b then Some x else find (has_key key) entries) ≡ Some r
-        → (request_in key entries ≡ Some r → own_requests (change_first (has_key key) (change_entry (λ o. finished r)) entries) client ≡ change_first (has_own_key key) own_finished (own_requests entries client))
-        → own_requests (if b then change_entry (λ o. finished r) x ∷ entries else x ∷ change_first (has_key key) (change_entry (λ o. finished r)) entries) client
-        ≡ change_first (has_own_key key) own_finished (own_requests (x ∷ entries) client)
-    by_key true this here rest =
-        let same : x.request ≡ r = cc in
-        rw (own_cons (change_entry (λ o. finished r) x) entries client, own_cons x entries client, same, is, this) refl
-    by_key false other later rest =
-        rw (own_cons x (change_first (has_key key) (change_entry (λ o. finished r)) entries) client, own_cons x entries client, rest later) (skipped (is_of client x.request) (own_requests entries client) other)
+finished_own key (x ∷ entries) r client found is = grind (arith, is, λ (later : request_in key entries ≡ Some r). finished_own key entries r client later is)
 
 -- a change that leaves a request another client's
 changed_other : (key : ℕ) (entries : List KeyedRequest) (r new : LiveRequest) (client : ℕ) → request_in key entries ≡ Some r → is_of client r ≡ false → is_of client new ≡ false
     → own_requests (change_first (has_key key) (change_entry (λ o. new)) entries) client ≡ own_requests entries client
 changed_other key [] r new client found was is = refl
-changed_other key (x ∷ entries) r new client found was is = by_key (x.key == key) found (λ later. changed_other key entries r new client later was is)
-  where
-    by_key : (b : Bool) → option_map (λ (o : KeyedRequest). o.request) (if b then Some x else find (has_key key) entries) ≡ Some r
-        → (request_in key entries ≡ Some r → own_requests (change_first (has_key key) (change_entry (λ o. new)) entries) client ≡ own_requests entries client)
-        → own_requests (if b then change_entry (λ o. new) x ∷ entries else x ∷ change_first (has_key key) (change_entry (λ o. new)) entries) client ≡ own_requests (x ∷ entries) client
-    by_key true here rest =
-        let same : x.request ≡ r = cc in
-        rw (own_cons (change_entry (λ o. new) x) entries client, own_cons x entries client, same, was, is) refl
-    by_key false later rest = rw (own_cons x (change_first (has_key key) (change_entry (λ o. new)) entries) client, own_cons x entries client, rest later) refl
+changed_other key (x ∷ entries) r new client found was is = grind (arith, was, is, λ (later : request_in key entries ≡ Some r). changed_other key entries r new client later was is)
 
 pub owned_finish : (clients key : ℕ) (entries : List KeyedRequest) (r : LiveRequest) → request_in key entries ≡ Some r → r.client < clients
     → requests_of_clients clients (change_first (has_key key) (change_entry (λ o. finished r)) entries) ≡ set (requests_of_clients clients entries) r.client (change_first (has_own_key key) own_finished (own_requests entries r.client))
@@ -126,31 +91,11 @@ owned_finish clients key entries r found within =
 removed_own : (key : ℕ) (entries : List KeyedRequest) (r : LiveRequest) (client : ℕ) → request_in key entries ≡ Some r → is_of client r ≡ true
     → own_requests (without_first (has_key key) entries) client ≡ without_first (has_own_key key) (own_requests entries client)
 removed_own key [] r client found is = refl
-removed_own key (x ∷ entries) r client found is = by_key (x.key == key) refl found (λ later. removed_own key entries r client later is)
-  where
-    skipped : (b : Bool) (own : List OwnRequest) → (x.key == key) ≡ false → own_if b x (without_first (has_own_key key) own) ≡ without_first (has_own_key key) (own_if b x own)
-    skipped true own other = rw other refl
-    skipped false own other = refl
-
-    by_key : (b : Bool) → (x.key == key) ≡ b → option_map (λ (o : KeyedRequest). o.request) (if b then Some x else find (has_key key) entries) ≡ Some r
-        → (request_in key entries ≡ Some r → own_requests (without_first (has_key key) entries) client ≡ without_first (has_own_key key) (own_requests entries client))
-        → own_requests (if b then entries else x ∷ without_first (has_key key) entries) client ≡ without_first (has_own_key key) (own_requests (x ∷ entries) client)
-    by_key true this here rest =
-        let same : x.request ≡ r = cc in
-        rw (own_cons x entries client, same, is, this) refl
-    by_key false other later rest = rw (own_cons x (without_first (has_key key) entries) client, own_cons x entries client, rest later) (skipped (is_of client x.request) (own_requests entries client) other)
+removed_own key (x ∷ entries) r client found is = grind (arith, is, λ (later : request_in key entries ≡ Some r). removed_own key entries r client later is)
 
 removed_other : (key : ℕ) (entries : List KeyedRequest) (r : LiveRequest) (client : ℕ) → request_in key entries ≡ Some r → is_of client r ≡ false → own_requests (without_first (has_key key) entries) client ≡ own_requests entries client
 removed_other key [] r client found was = refl
-removed_other key (x ∷ entries) r client found was = by_key (x.key == key) found (λ later. removed_other key entries r client later was)
-  where
-    by_key : (b : Bool) → option_map (λ (o : KeyedRequest). o.request) (if b then Some x else find (has_key key) entries) ≡ Some r
-        → (request_in key entries ≡ Some r → own_requests (without_first (has_key key) entries) client ≡ own_requests entries client)
-        → own_requests (if b then entries else x ∷ without_first (has_key key) entries) client ≡ own_requests (x ∷ entries) client
-    by_key true here rest =
-        let same : x.request ≡ r = cc in
-        rw (own_cons x entries client, same, was) refl
-    by_key false later rest = rw (own_cons x (without_first (has_key key) entries) client, own_cons x entries client, rest later) refl
+removed_other key (x ∷ entries) r client found was = grind (arith, was, λ (later : request_in key entries ≡ Some r). removed_other key entries r client later was)
 
 pub owned_remove : (clients key : ℕ) (entries : List KeyedRequest) (r : LiveRequest) → request_in key entries ≡ Some r → r.client < clients
     → requests_of_clients clients (without_first (has_key key) entries) ≡ set (requests_of_clients clients entries) r.client (without_first (has_own_key key) (own_requests entries r.client))
@@ -162,16 +107,7 @@ owned_remove clients key entries r found within =
 
 own_there : (key : ℕ) (entries : List KeyedRequest) (r : LiveRequest) (client : ℕ) → request_in key entries ≡ Some r → is_of client r ≡ true → IsSome (find (has_own_key key) (own_requests entries client))
 own_there key [] r client found is = absurd (cc (found))
-own_there key (x ∷ entries) r client found is = rw (own_cons x entries client) (by_key (x.key == key) refl found (is_of client x.request) refl (λ later. own_there key entries r client later is))
-  where
-    by_key : (b : Bool) → (x.key == key) ≡ b → option_map (λ (o : KeyedRequest). o.request) (if b then Some x else find (has_key key) entries) ≡ Some r → (a : Bool) → is_of client x.request ≡ a
-        → (request_in key entries ≡ Some r → IsSome (find (has_own_key key) (own_requests entries client))) → IsSome (find (has_own_key key) (own_if a x (own_requests entries client)))
-    by_key true this here true own rest = rw this refl
-    by_key true this here false own rest =
-        let same : x.request ≡ r = cc in
-        absurd (cc (own, is, same))
-    by_key false other later true own rest = rw other (rest later)
-    by_key false other later false own rest = rest later
+own_there key (x ∷ entries) r client found is = grind (arith, is, λ (later : request_in key entries ≡ Some r). own_there key entries r client later is)
 
 pub own_placed : (key : ℕ) (entries : List KeyedRequest) (r : LiveRequest) → request_in key entries ≡ Some r → IsSome (position (has_own_key key) (own_requests entries r.client))
 own_placed key entries r found = by_place (position (has_own_key key) (own_requests entries r.client)) refl (own_there key entries r r.client found (own_client r.client r.client refl))
@@ -183,7 +119,7 @@ own_placed key entries r found = by_place (position (has_own_key key) (own_reque
 -- ---- what is read
 
 pub length_clients : (clients : ℕ) (entries : List KeyedRequest) → length (requests_of_clients clients entries) ≡ clients
-length_clients clients entries = length_map (own_requests entries) (range_with_len 0 clients) ∙ length_range 0 clients
+length_clients clients entries = length_map (own_requests entries) (range_with_len 0 clients) ∙ length-range_with_len 0 clients
 
 none_own : (clients client : ℕ) (entries : List KeyedRequest) → AllByRecursion (λ (r : LiveRequest). r.client < clients) (requests_of entries) → clients ≤ client → own_requests entries client ≡ []
 none_own clients client [] few beyond = refl
@@ -197,36 +133,21 @@ own_list clients client entries kept owned = ap (λ (lists : List (List OwnReque
   where
     by_client : (client < clients) ⊎ (clients ≤ client) → get_or (requests_of_clients clients entries) client [] ≡ own_requests entries client
     by_client (inl below) =
-        get_or-map (own_requests entries) (range_with_len 0 clients) client 0 [] (rw (length_range 0 clients) below) ∙ ap (own_requests entries) (range_at 0 clients client 0 below ∙ omega arith)
+        get_or-map (own_requests entries) (range_with_len 0 clients) client 0 [] (rw (length-range_with_len 0 clients) below) ∙ ap (own_requests entries) (get_or-range_with_len 0 clients client 0 below ∙ omega arith)
     by_client (inr beyond) =
         get_or_past (requests_of_clients clients entries) client [] (rw (length_clients clients entries) beyond) ∙ sym (none_own clients client entries owned.few beyond)
 
 pub count_own : (client : ℕ) (entries : List KeyedRequest) → length (own_requests entries client) ≡ length (filter (is_of client) (requests_of entries))
 count_own client [] = refl
-count_own client (x ∷ entries) = rw (own_cons x entries client) (by_test (is_of client x.request) (count_own client entries))
-  where
-    by_test : (b : Bool) → length (own_requests entries client) ≡ length (filter (is_of client) (requests_of entries))
-        → length (own_if b x (own_requests entries client)) ≡ length (if b then x.request ∷ filter (is_of client) (requests_of entries) else filter (is_of client) (requests_of entries))
-    by_test true rest = ap suc rest
-    by_test false rest = rest
+count_own client (x ∷ entries) = grind (arith, count_own client entries)
 
 pub source_own : (client source : ℕ) (entries : List KeyedRequest) → list_any (has_own_source source) (own_requests entries client) ≡ list_any (has_source client source) (requests_of entries)
 source_own client source [] = refl
-source_own client source (x ∷ entries) = rw (own_cons x entries client, ← source_own client source entries) (by_test (is_of client x.request))
-  where
-    by_test : (b : Bool) → list_any (has_own_source source) (own_if b x (own_requests entries client)) ≡ (b && (x.request.source == source) || list_any (has_own_source source) (own_requests entries client))
-    by_test true = refl
-    by_test false = refl
+source_own client source (x ∷ entries) = grind (arith, source_own client source entries)
 
 pub done_own : (client : ℕ) (entries : List KeyedRequest) → option_map (λ (o : OwnRequest). o.key) (find own_done (own_requests entries client)) ≡ key_in (is_done_of client) entries
 done_own client [] = refl
-done_own client (x ∷ entries) = rw (own_cons x entries client) (by_tests (is_of client x.request) x.request.done refl (done_own client entries))
-  where
-    by_tests : (b d : Bool) → x.request.done ≡ d → option_map (λ (o : OwnRequest). o.key) (find own_done (own_requests entries client)) ≡ key_in (is_done_of client) entries
-        → option_map (λ (o : OwnRequest). o.key) (find own_done (own_if b x (own_requests entries client))) ≡ option_map (λ (o : KeyedRequest). o.key) (if b && d then Some x else find (λ o. is_done_of client o.request) entries)
-    by_tests true true done rest = rw done refl
-    by_tests true false done rest = rw done rest
-    by_tests false d done rest = rest
+done_own client (x ∷ entries) = grind (arith, done_own client entries)
 
 -- no requests
 pub none_owned : (a clients : ℕ) → map (λ (client : ℕ). own_requests [] client) (range_with_len a clients) ≡ replicate clients []
@@ -240,28 +161,17 @@ same_own key source done e one two three = λ i. record { key = one i; source = 
 
 few_added : (clients : ℕ) (entries : List KeyedRequest) (e : KeyedRequest) → AllByRecursion (λ (r : LiveRequest). r.client < clients) (requests_of entries) → e.request.client < clients
     → AllByRecursion (λ (r : LiveRequest). r.client < clients) (requests_of (entries ++ e ∷ []))
-few_added clients [] e few within = (within, tt)
-few_added clients (x ∷ entries) e few within = (few.0, few_added clients entries e few.1 within)
+few_added clients entries e few within = rw (map_push (λ (o : KeyedRequest). o.request) entries e) (all-append (λ (r : LiveRequest). r.client < clients) (requests_of entries) e.request few within)
 
 few_changed : (clients key : ℕ) (entries : List KeyedRequest) (new : LiveRequest) → AllByRecursion (λ (r : LiveRequest). r.client < clients) (requests_of entries) → new.client < clients
     → AllByRecursion (λ (r : LiveRequest). r.client < clients) (requests_of (change_first (has_key key) (change_entry (λ o. new)) entries))
 few_changed clients key [] new few within = tt
-few_changed clients key (x ∷ entries) new few within = by_key (x.key == key) (few_changed clients key entries new few.1 within)
-  where
-    by_key : (b : Bool) → AllByRecursion (λ (r : LiveRequest). r.client < clients) (requests_of (change_first (has_key key) (change_entry (λ o. new)) entries))
-        → AllByRecursion (λ (r : LiveRequest). r.client < clients) (requests_of (if b then change_entry (λ o. new) x ∷ entries else x ∷ change_first (has_key key) (change_entry (λ o. new)) entries))
-    by_key true rest = (within, few.1)
-    by_key false rest = (few.0, rest)
+few_changed clients key (x ∷ entries) new few within = grind (arith, few.0, few.1, within, few_changed clients key entries new few.1 within)
 
 few_left : (clients key : ℕ) (entries : List KeyedRequest) → AllByRecursion (λ (r : LiveRequest). r.client < clients) (requests_of entries)
     → AllByRecursion (λ (r : LiveRequest). r.client < clients) (requests_of (without_first (has_key key) entries))
 few_left clients key [] few = tt
-few_left clients key (x ∷ entries) few = by_key (x.key == key) (few_left clients key entries few.1)
-  where
-    by_key : (b : Bool) → AllByRecursion (λ (r : LiveRequest). r.client < clients) (requests_of (without_first (has_key key) entries))
-        → AllByRecursion (λ (r : LiveRequest). r.client < clients) (requests_of (if b then entries else x ∷ without_first (has_key key) entries))
-    by_key true rest = few.1
-    by_key false rest = (few.0, rest)
+few_left clients key (x ∷ entries) few = grind (arith, few.0, few.1, few_left clients key entries few.1)
 
 pub kept_added : (clients client source : ℕ) (done : Bool) (entries after : List KeyedRequest) (kept now : List (List OwnRequest)) (key : ℕ) (r : LiveRequest) → AreOwned clients entries kept → r.client < clients
     → client ≡ r.client → source ≡ r.source → done ≡ r.done → after ≡ entries ++ record { key = key; request = r } ∷ []

@@ -1,8 +1,7 @@
 -- The holders of the IDs, through each change of the live requests.
-use Rattle.std.proofs.Common.{◌≡◌, ◌≢◌, ℕ, zero, suc, ◌+◌, ◌==◌, ◌<◌, ◌≤◌, Bool, true, false, not, ◌||◌, is_none, List, [], ◌∷◌, ◌++◌, map, length, get_or, set, Option, Some, None, refl, ap, sym, ◌∙◌, arith}
-use Rattle.std.specs.Prelude.{IfSome, if◌then◌else◌, option_map}
+use Rattle.std.proofs.Common.{◌≡◌, ◌≢◌, ℕ, zero, suc, ◌+◌, ◌<◌, ◌≤◌, Bool, true, false, is_none, List, [], ◌∷◌, ◌++◌, map, length, get_or, set, Option, Some, None, refl, ap, sym, ◌∙◌, arith}
+use Rattle.std.specs.Prelude.{IfSome, if◌then◌else◌}
 use Rattle.std.specs.List.{filter, find, list_any, position, range_with_len}
-use Rattle.std.proofs.lemmas.Bool.{eqb-true}
 use Rattle.std.proofs.Common.{replicate}
 use Rattle.std.proofs.lemmas.List.{get_or-map, get_or_past}
 use Rattle.bus_words.proofs.FirstPlaces.{find-first, find-none, position_is_first}
@@ -13,78 +12,35 @@ use Rattle.flight_table.specs.Order.{free_id, holds_id, is_free}
 use Rattle.flight_table.specs.Tables.{KeyedRequest, change_entry, has_key, key_in, request_in, requests_of}
 use Rattle.flight_table.proofs.Kept.{IsPlaced, count_set, requests_changed}
 use Rattle.bus_words.proofs.MappedPlaces.{length_map, map_same, position_map, position_same}
+use Rattle.std.proofs.lemmas.List.FromFn.{length-range_with_len, get_or-range_with_len}
+use Rattle.std.proofs.lemmas.Bool.Decides.{nat_tests}
+use Rattle.std.proofs.lemmas.Bool.{eq-eqb, ne_eqb}
 
 -- ---- the key of the first that passes a test, after a change
 
 key_pushed : (q : LiveRequest → Bool) (entries : List KeyedRequest) (e : KeyedRequest) → q e.request ≡ false → key_in q (entries ++ e ∷ []) ≡ key_in q entries
 key_pushed q [] e fails = rw fails refl
-key_pushed q (x ∷ entries) e fails = by_test (q x.request) (key_pushed q entries e fails)
-  where
-    by_test : (b : Bool) → key_in q (entries ++ e ∷ []) ≡ key_in q entries
-        → option_map (λ (o : KeyedRequest). o.key) (if b then Some x else find (λ o. q o.request) (entries ++ e ∷ [])) ≡ option_map (λ (o : KeyedRequest). o.key) (if b then Some x else find (λ o. q o.request) entries)
-    by_test true rest = refl
-    by_test false rest = rest
+key_pushed q (x ∷ entries) e fails = grind (arith, key_pushed q entries e fails)
 
 -- the changed one passes as it did
 key_kept : (q : LiveRequest → Bool) (key : ℕ) (entries : List KeyedRequest) (r new : LiveRequest) → request_in key entries ≡ Some r → q new ≡ q r → key_in q (change_first (has_key key) (change_entry (λ o. new)) entries) ≡ key_in q entries
 key_kept q key [] r new found same = refl
-key_kept q key (x ∷ entries) r new found same = by_key (x.key == key) found (λ later. key_kept q key entries r new later same)
-  where
-    pass : (b : Bool) (xs ys : List KeyedRequest) → key_in q xs ≡ key_in q ys
-        → option_map (λ (o : KeyedRequest). o.key) (if b then Some x else find (λ o. q o.request) xs) ≡ option_map (λ (o : KeyedRequest). o.key) (if b then Some x else find (λ o. q o.request) ys)
-    pass true xs ys rest = refl
-    pass false xs ys rest = rest
-
-    changed : (a b : Bool) → a ≡ b → option_map (λ (o : KeyedRequest). o.key) (if a then Some (change_entry (λ o. new) x) else find (λ o. q o.request) entries) ≡ option_map (λ (o : KeyedRequest). o.key) (if b then Some x else find (λ o. q o.request) entries)
-    changed true b is = rw (← is) refl
-    changed false b is = rw (← is) refl
-
-    by_key : (b : Bool) → option_map (λ (o : KeyedRequest). o.request) (if b then Some x else find (has_key key) entries) ≡ Some r
-        → (request_in key entries ≡ Some r → key_in q (change_first (has_key key) (change_entry (λ o. new)) entries) ≡ key_in q entries)
-        → key_in q (if b then change_entry (λ o. new) x ∷ entries else x ∷ change_first (has_key key) (change_entry (λ o. new)) entries) ≡ key_in q (x ∷ entries)
-    by_key true here rest =
-        let is : x.request ≡ r = cc in
-        changed (q new) (q x.request) (same ∙ ap q (sym is))
-    by_key false later rest = pass (q x.request) (change_first (has_key key) (change_entry (λ o. new)) entries) entries (rest later)
+key_kept q key (x ∷ entries) r new found same = grind (arith, same, λ (later : request_in key entries ≡ Some r). key_kept q key entries r new later same)
 
 -- the changed one passes, and no other did
 key_taken : (q : LiveRequest → Bool) (key : ℕ) (entries : List KeyedRequest) (r new : LiveRequest) → request_in key entries ≡ Some r → q new ≡ true → list_any q (requests_of entries) ≡ false
     → key_in q (change_first (has_key key) (change_entry (λ o. new)) entries) ≡ Some key
 key_taken q key [] r new found passes none = absurd (cc (found))
-key_taken q key (x ∷ entries) r new found passes none = by_key (x.key == key) refl found (q x.request) refl none (λ later rest. key_taken q key entries r new later passes rest)
-  where
-    by_key : (b : Bool) → (x.key == key) ≡ b → option_map (λ (o : KeyedRequest). o.request) (if b then Some x else find (has_key key) entries) ≡ Some r → (a : Bool) → q x.request ≡ a → (a || list_any q (requests_of entries)) ≡ false
-        → (request_in key entries ≡ Some r → list_any q (requests_of entries) ≡ false → key_in q (change_first (has_key key) (change_entry (λ o. new)) entries) ≡ Some key)
-        → key_in q (if b then change_entry (λ o. new) x ∷ entries else x ∷ change_first (has_key key) (change_entry (λ o. new)) entries) ≡ Some key
-    by_key true is here a fails none rest = rw passes (ap (λ (k : ℕ). Some k) (eqb-true x.key key is))
-    by_key false is later true fails none rest = absurd (cc (none))
-    by_key false is later false fails none rest = rw fails (rest later none)
+key_taken q key (x ∷ entries) r new found passes none = grind (arith, nat_tests, passes, λ (later : request_in key entries ≡ Some r). key_taken q key entries r new later passes)
 
 key_none : (q : LiveRequest → Bool) (entries : List KeyedRequest) → length (filter q (requests_of entries)) ≡ 0 → key_in q entries ≡ None
 key_none q [] none = refl
-key_none q (x ∷ entries) none = by_test (q x.request) none (key_none q entries)
-  where
-    by_test : (b : Bool) → length (if b then x.request ∷ filter q (requests_of entries) else filter q (requests_of entries)) ≡ 0 → (length (filter q (requests_of entries)) ≡ 0 → key_in q entries ≡ None)
-        → option_map (λ (o : KeyedRequest). o.key) (if b then Some x else find (λ o. q o.request) entries) ≡ None
-    by_test true none rest = absurd (omega (arith, none))
-    by_test false none rest = rest none
+key_none q (x ∷ entries) none = grind (arith, key_none q entries)
 
 -- one that doesn't pass was taken out
 key_without : (q : LiveRequest → Bool) (key : ℕ) (entries : List KeyedRequest) (r : LiveRequest) → request_in key entries ≡ Some r → q r ≡ false → key_in q (without_first (has_key key) entries) ≡ key_in q entries
 key_without q key [] r found fails = refl
-key_without q key (x ∷ entries) r found fails = by_key (x.key == key) found (λ later. key_without q key entries r later fails)
-  where
-    pass : (b : Bool) (xs ys : List KeyedRequest) → key_in q xs ≡ key_in q ys
-        → option_map (λ (o : KeyedRequest). o.key) (if b then Some x else find (λ o. q o.request) xs) ≡ option_map (λ (o : KeyedRequest). o.key) (if b then Some x else find (λ o. q o.request) ys)
-    pass true xs ys rest = refl
-    pass false xs ys rest = rest
-
-    by_key : (b : Bool) → option_map (λ (o : KeyedRequest). o.request) (if b then Some x else find (has_key key) entries) ≡ Some r
-        → (request_in key entries ≡ Some r → key_in q (without_first (has_key key) entries) ≡ key_in q entries) → key_in q (if b then entries else x ∷ without_first (has_key key) entries) ≡ key_in q (x ∷ entries)
-    by_key true here rest =
-        let is : x.request ≡ r = cc in
-        rw (is, fails) refl
-    by_key false later rest = pass (q x.request) (without_first (has_key key) entries) entries (rest later)
+key_without q key (x ∷ entries) r found fails = grind (arith, fails, λ (later : request_in key entries ≡ Some r). key_without q key entries r later fails)
 
 -- ---- the list of the holders
 
@@ -107,16 +63,6 @@ range_set f g a (suc n) (suc k) v within is others =
     moved : (a k : ℕ) → a + 1 + k ≡ a + suc k
     moved a k = omega arith
 
-pub length_range : (a n : ℕ) → length (range_with_len a n) ≡ n
-length_range a zero = refl
-length_range a (suc n) = ap suc (length_range (a + 1) n)
-
-not_id : (id held : ℕ) → id ≢ held → (held == id) ≡ false
-not_id id held other = grind (arith, other)
-
-is_id : (id : ℕ) → (id == id) ≡ true
-is_id id = grind arith
-
 pub ids_add : (ids : ℕ) (entries : List KeyedRequest) (e : KeyedRequest) → e.request.id ≡ None → holders_of_ids ids (entries ++ e ∷ []) ≡ holders_of_ids ids entries
 ids_add ids entries e none = map_same (λ id. key_in (holds_id id) (entries ++ e ∷ [])) (λ id. key_in (holds_id id) entries) (range_with_len 0 ids) (λ id. key_pushed (holds_id id) entries e (rw none refl))
 
@@ -136,8 +82,8 @@ pub ids_set : (ids key : ℕ) (entries : List KeyedRequest) (r new : LiveRequest
 ids_set ids key entries r new None None found was is may = ids_kept ids key entries r new found (is ∙ sym was)
 ids_set ids key entries r new None (Some id) found was is may =
     range_set (λ i. key_in (holds_id i) entries) (λ i. key_in (holds_id i) (change_first (has_key key) (change_entry (λ o. new)) entries)) 0 ids id (Some key) may.0
-    (rw zero_plus (key_taken (holds_id id) key entries r new found (rw is (is_id id)) may.1))
-    (λ i other. key_kept (holds_id i) key entries r new found (rw (is, was) (not_id i id (λ same. other (same ∙ sym zero_plus)))))
+    (rw zero_plus (key_taken (holds_id id) key entries r new found (rw is (eq-eqb id id refl)) may.1))
+    (λ i other. key_kept (holds_id i) key entries r new found (rw (is, was) (ne_eqb id i (λ same. other (sym same ∙ sym zero_plus)))))
   where
     zero_plus : 0 + id ≡ id
     zero_plus = omega arith
@@ -145,9 +91,7 @@ ids_set ids key entries r new (Some held) None found was is may = absurd may
 ids_set ids key entries r new (Some held) (Some id) found was is may = ids_kept ids key entries r new found (is ∙ ap (λ (i : ℕ). Some i) (sym may) ∙ sym was)
 
 none_left : (a b : Bool) (m n : ℕ) → m + (if a then 1 else 0) ≡ n + (if b then 1 else 0) → a ≡ true → b ≡ false → n ≤ 1 → m ≡ 0
-none_left true true m n sum held free one = absurd (cc (free))
-none_left true false m n sum held free one = omega (arith, sum, one)
-none_left false b m n sum held free one = absurd (cc (held))
+none_left a b m n sum held free one = grind (arith, sum, held, free, one)
 
 -- a request that is done gives its ID back
 pub ids_finish : (ids key place : ℕ) (entries : List KeyedRequest) (r new : LiveRequest) (old : Option ℕ) → request_in key entries ≡ Some r → IsPlaced key entries place r → r.id ≡ old → new.id ≡ None
@@ -156,7 +100,7 @@ ids_finish ids key place entries r new None found at was is one = ids_kept ids k
 ids_finish ids key place entries r new (Some id) found at was is one =
     range_set (λ i. key_in (holds_id i) entries) (λ i. key_in (holds_id i) (change_first (has_key key) (change_entry (λ o. new)) entries)) 0 ids id None one.0
     (rw zero_plus (key_none (holds_id id) (change_first (has_key key) (change_entry (λ o. new)) entries) nobody))
-    (λ i other. key_kept (holds_id i) key entries r new found (rw (is, was) (sym (not_id i id (λ same. other (same ∙ sym zero_plus))))))
+    (λ i other. key_kept (holds_id i) key entries r new found (rw (is, was) (sym (ne_eqb id i (λ same. other (sym same ∙ sym zero_plus))))))
   where
     zero_plus : 0 + id ≡ id
     zero_plus = omega arith
@@ -165,23 +109,13 @@ ids_finish ids key place entries r new (Some id) found at was is one =
     nobody =
         rw (requests_changed (λ o. new) key entries place r at)
         (none_left (holds_id id r) (holds_id id new) (length (filter (holds_id id) (set (requests_of entries) place new))) (length (filter (holds_id id) (requests_of entries)))
-        (count_set (holds_id id) (requests_of entries) place new r at.within (at.there r)) (rw was (is_id id)) (rw is refl) one.1)
+        (count_set (holds_id id) (requests_of entries) place new r at.within (at.there r)) (rw was (eq-eqb id id refl)) (rw is refl) one.1)
 
 -- ---- what is read
 
 is_free_by_key : (entries : List KeyedRequest) (id : ℕ) → is_none (key_in (holds_id id) entries) ≡ is_free (requests_of entries) id
 is_free_by_key [] id = refl
-is_free_by_key (x ∷ entries) id = by_test (holds_id id x.request) (is_free_by_key entries id)
-  where
-    by_test : (b : Bool) → is_none (key_in (holds_id id) entries) ≡ not (list_any (holds_id id) (requests_of entries))
-        → is_none (option_map (λ (o : KeyedRequest). o.key) (if b then Some x else find (λ o. holds_id id o.request) entries)) ≡ not (b || list_any (holds_id id) (requests_of entries))
-    by_test true rest = refl
-    by_test false rest = rest
-
-pub range_at : (a n k d : ℕ) → k < n → get_or (range_with_len a n) k d ≡ a + k
-range_at a zero k d within = absurd (omega (arith, within))
-range_at a (suc n) zero d within = omega arith
-range_at a (suc n) (suc k) d within = range_at (a + 1) n k d (omega (arith, within)) ∙ omega arith
+is_free_by_key (x ∷ entries) id = grind (arith, is_free_by_key entries id)
 
 first_in_range : (p : ℕ → Bool) (n : ℕ) → position p (range_with_len 0 n) ≡ find p (range_with_len 0 n)
 first_in_range p n = by_place (position p (range_with_len 0 n)) refl
@@ -190,7 +124,7 @@ first_in_range p n = by_place (position p (range_with_len 0 n)) refl
     by_place None missing = sym (find-none p (range_with_len 0 n) missing)
     by_place (Some k) found =
         let first = position_is_first p (range_with_len 0 n) k found in
-        let same : get_or (range_with_len 0 n) k 0 ≡ k = range_at 0 n k 0 (rw (length_range 0 n) at first.within) ∙ omega arith in
+        let same : get_or (range_with_len 0 n) k 0 ≡ k = get_or-range_with_len 0 n k 0 (rw (length-range_with_len 0 n) at first.within) ∙ omega arith in
         sym (find-first p (range_with_len 0 n) k 0 first ∙ ap (λ (i : ℕ). Some i) same)
 
 -- the first ID without a holder is the smallest free one
@@ -202,11 +136,11 @@ first_free ids entries =
 
 pub holder_is : (ids id : ℕ) (entries : List KeyedRequest) → id < ids → get_or (holders_of_ids ids entries) id None ≡ key_in (holds_id id) entries
 holder_is ids id entries within =
-    get_or-map (λ i. key_in (holds_id i) entries) (range_with_len 0 ids) id 0 None (rw (length_range 0 ids) within)
-    ∙ ap (λ i. key_in (holds_id i) entries) (range_at 0 ids id 0 within ∙ omega arith)
+    get_or-map (λ i. key_in (holds_id i) entries) (range_with_len 0 ids) id 0 None (rw (length-range_with_len 0 ids) within)
+    ∙ ap (λ i. key_in (holds_id i) entries) (get_or-range_with_len 0 ids id 0 within ∙ omega arith)
 
 pub length_holders : (ids : ℕ) (entries : List KeyedRequest) → length (holders_of_ids ids entries) ≡ ids
-length_holders ids entries = length_map (λ id. key_in (holds_id id) entries) (range_with_len 0 ids) ∙ length_range 0 ids
+length_holders ids entries = length_map (λ id. key_in (holds_id id) entries) (range_with_len 0 ids) ∙ length-range_with_len 0 ids
 
 pub no_holder : (ids id : ℕ) (entries : List KeyedRequest) → ids ≤ id → get_or (holders_of_ids ids entries) id None ≡ None
 no_holder ids id entries beyond = get_or_past (holders_of_ids ids entries) id None (rw (length_holders ids entries) beyond)

@@ -1,9 +1,8 @@
 -- The requests of an index under changes of the slab.
-use Rattle.std.proofs.Common.{◌<◌, ◌⊎◌, ◌∙◌, is_some, true, false, Bool, count_by, OnSome, zero, ◌≡◌, ◌≢◌, ℕ, suc, ◌+◌, ◌==◌, List, [], ◌∷◌, ◌++◌, map, length, Option, Some, None, refl, ap, sym, arith, length-append, get_or, set, subst, IsSome}
-use Rattle.std.specs.Prelude.{if◌then◌else◌, option_map}
-use Rattle.std.specs.List.{AllByRecursion, find, position, position_or_len}
+use Rattle.std.proofs.Common.{◌<◌, ◌∙◌, is_some, true, Bool, count_by, OnSome, zero, ◌≡◌, ◌≢◌, ℕ, suc, ◌+◌, ◌==◌, List, [], ◌∷◌, ◌++◌, map, length, Option, Some, None, refl, ap, sym, arith, length-append, get_or, set, IsSome, inl, inr}
+use Rattle.std.specs.List.{AllByRecursion, find, position}
 use Rattle.bus_words.proofs.FirstPlaces.{find-none}
-use Rattle.std.proofs.lemmas.Bool.{eq-eqb, eqb-true, lt-ltb, ne_eqb}
+use Rattle.std.proofs.lemmas.Bool.{cases_eq, eq-eqb, ne_eqb}
 use Rattle.std.proofs.lemmas.Grind.{common_steps}
 use Rattle.bus_words.specs.Places.{AreDistinct, change_first, without_first}
 use Rattle.bus_words.proofs.PlaceChanges.{all-append, all-without_first}
@@ -11,8 +10,10 @@ use Rattle.slab.proofs.SlabLemmas.{Updates-with_value}
 use Rattle.slab.specs.Slab.{Slab, with_value, get, ContainsKey, slab_len, Updates}
 use Rattle.flight_table.specs.Inside.{IsIndex, entries_in, entry_in, stored}
 use Rattle.flight_table.specs.LiveRequests.{LiveRequest}
-use Rattle.flight_table.specs.Tables.{KeyedRequest, change_entry, has_key, request_in, requests_of}
+use Rattle.flight_table.specs.Tables.{KeyedRequest, change_entry, has_key, request_in, requests_of, key_in}
 use Rattle.bus_words.proofs.MappedPlaces.{position_map}
+use Rattle.std.proofs.lemmas.Bool.Decides.{nat_tests}
+use Rattle.std.specs.Prelude.{Some}
 
 abbrev AreOthers : ℕ → List ℕ → Type 0
 AreOthers key ks = AllByRecursion (λ k. k ≢ key) ks
@@ -42,11 +43,7 @@ fresh s key (k ∷ ks) none there = (λ e. grind (arith, none, e, there.0), fres
 
 fresh-request : (s : Slab LiveRequest) (key : ℕ) (ks : List ℕ) → AreOthers key ks → request_in key (entries_in s ks) ≡ None
 fresh-request s key [] others = refl
-fresh-request s key (k ∷ ks) others = by_test (k == key) refl (fresh-request s key ks others.1)
-  where
-    by_test : (b : Bool) → (k == key) ≡ b → request_in key (entries_in s ks) ≡ None → option_map (λ (entry : KeyedRequest). entry.request) (if b then Some (entry_in s k) else find (has_key key) (entries_in s ks)) ≡ None
-    by_test true is rest = absurd (others.0 (eqb-true k key is))
-    by_test false is rest = rest
+fresh-request s key (k ∷ ks) others = grind (arith, nat_tests, others.0, fresh-request s key ks others.1)
 
 -- ---- one more request
 
@@ -81,44 +78,22 @@ fresh-add s key ks index none = fresh-request s key ks (fresh s key ks none inde
 
 pub stored-request : (s : Slab LiveRequest) (key : ℕ) (ks : List ℕ) → IsSome (request_in key (entries_in s ks)) → request_in key (entries_in s ks) ≡ Some (stored s key)
 stored-request s key [] some = absurd (grind (arith, some))
-stored-request s key (k ∷ ks) some = by_test (k == key) refl (stored-request s key ks) some
-  where
-    by_test : (b : Bool) → (k == key) ≡ b → (IsSome (request_in key (entries_in s ks)) → request_in key (entries_in s ks) ≡ Some (stored s key)) → IsSome (option_map (λ (entry : KeyedRequest). entry.request) (if b then Some (entry_in s k) else find (has_key key) (entries_in s ks)))
-        → option_map (λ (entry : KeyedRequest). entry.request) (if b then Some (entry_in s k) else find (has_key key) (entries_in s ks)) ≡ Some (stored s key)
-    by_test true is rest here = rw (eqb-true k key is) refl
-    by_test false is rest later = rest later
+stored-request s key (k ∷ ks) some = grind (arith, nat_tests, stored-request s key ks)
 
 pub key-there : (s : Slab LiveRequest) (key : ℕ) (ks : List ℕ) → AllByRecursion (ContainsKey s) ks → IsSome (request_in key (entries_in s ks)) → ContainsKey s key
 key-there s key [] there some = absurd (grind (arith, some))
-key-there s key (k ∷ ks) there some = by_test (k == key) refl (key-there s key ks there.1) some
-  where
-    by_test : (b : Bool) → (k == key) ≡ b → (IsSome (request_in key (entries_in s ks)) → ContainsKey s key) → IsSome (option_map (λ (entry : KeyedRequest). entry.request) (if b then Some (entry_in s k) else find (has_key key) (entries_in s ks))) → ContainsKey s key
-    by_test true is rest here = rw (← eqb-true k key is) there.0
-    by_test false is rest later = rest later
+key-there s key (k ∷ ks) there some = grind (arith, nat_tests, there.0, key-there s key ks there.1)
 
 -- ---- another request in its place
 
 pub entries-set : (s t : Slab LiveRequest) (key : ℕ) (r : LiveRequest) (ks : List ℕ) → AreDistinct ks → Updates s t key (Some r)
     → entries_in t ks ≡ change_first (has_key key) (change_entry (λ o. r)) (entries_in s ks)
 entries-set s t key r [] distinct u = refl
-entries-set s t key r (k ∷ ks) distinct u = by_test (k == key) refl (entries-set s t key r ks distinct.1 u)
-  where
-    by_test : (b : Bool) → (k == key) ≡ b → entries_in t ks ≡ change_first (has_key key) (change_entry (λ o. r)) (entries_in s ks)
-        → entries_in t (k ∷ ks) ≡ (if b then record { key = k; request = r } ∷ entries_in s ks else entry_in s k ∷ change_first (has_key key) (change_entry (λ o. r)) (entries_in s ks))
-    by_test true is rest =
-        let same : k ≡ key = eqb-true k key is in
-        let changed : get t k ≡ Some r = rw same u.changed in
-        let tail : entries_in t ks ≡ entries_in s ks = entries-same s t key ks (rw (← same) distinct.0) u.others in
-        rw (changed, tail) refl
-    by_test false is rest =
-        let kept : get t k ≡ get s k = u.others k (λ e. grind (arith, is, e)) in
-        rw (kept, rest) refl
-
-eqb-cases : (x y : ℕ) → (x ≡ y) ⊎ (x ≢ y)
-eqb-cases x y = grind arith
+entries-set s t key r (k ∷ ks) distinct u =
+    grind (arith, nat_tests, u.changed, u.others k, λ (here : k ≡ key). entries-same s t key ks (rw (← here) distinct.0) u.others, entries-set s t key r ks distinct.1 u)
 
 kept : (s t : Slab LiveRequest) (key k : ℕ) (r : LiveRequest) → Updates s t key (Some r) → ContainsKey s k → ContainsKey t k
-kept s t key k r u there = grind (arith, u.changed, u.others k, there, eqb-cases k key)
+kept s t key k r u there = grind (arith, u.changed, u.others k, there)
 
 there-set : (s t : Slab LiveRequest) (ks : List ℕ) (key : ℕ) (r : LiveRequest) → Updates s t key (Some r) → AllByRecursion (ContainsKey s) ks → AllByRecursion (ContainsKey t) ks
 there-set s t [] key r u there = tt
@@ -142,34 +117,21 @@ index-set s ks key r index there =
 pub change-constant : (change : LiveRequest → LiveRequest) (key : ℕ) (entries : List KeyedRequest) (r request : LiveRequest) → request_in key entries ≡ Some r → request ≡ change r
     → change_first (has_key key) (change_entry (λ o. request)) entries ≡ change_first (has_key key) (change_entry change) entries
 change-constant change key [] r request found is = refl
-change-constant change key (entry ∷ entries) r request found is = by_test (entry.key == key) found (λ later. change-constant change key entries r request later is)
-  where
-    by_test : (b : Bool) → option_map (λ (e : KeyedRequest). e.request) (if b then Some entry else find (has_key key) entries) ≡ Some r
-        → (request_in key entries ≡ Some r → change_first (has_key key) (change_entry (λ o. request)) entries ≡ change_first (has_key key) (change_entry change) entries)
-        → (if b then change_entry (λ o. request) entry ∷ entries else entry ∷ change_first (has_key key) (change_entry (λ o. request)) entries)
-        ≡ (if b then change_entry change entry ∷ entries else entry ∷ change_first (has_key key) (change_entry change) entries)
-    by_test true here rest =
-        let same : entry.request ≡ r = cc in
-        rw (is, same) refl
-    by_test false later rest = ap (λ (es : List KeyedRequest). entry ∷ es) (rest later)
+change-constant change key (entry ∷ entries) r request found is = grind (arith, is, λ (later : request_in key entries ≡ Some r). change-constant change key entries r request later is)
 
 -- ---- a request less
 
 without-others : (key : ℕ) (ks : List ℕ) → AreDistinct ks → AreOthers key (without_first (λ k. k == key) ks)
 without-others key [] distinct = tt
-without-others key (k ∷ ks) distinct = by_test (k == key) refl (without-others key ks distinct.1)
-  where
-    by_test : (b : Bool) → (k == key) ≡ b → AreOthers key (without_first (λ k. k == key) ks) → AreOthers key (if b then ks else k ∷ without_first (λ k. k == key) ks)
-    by_test true is rest = rw (← eqb-true k key is) distinct.0
-    by_test false is rest = (λ e. grind (arith, is, e), rest)
+without-others key (k ∷ ks) distinct =
+    elim (cases_eq k key) [
+      | inl same ↦ rw (eq-eqb k key same, ← same) distinct.0
+      | inr other ↦ rw (ne_eqb k key other) (other, without-others key ks distinct.1)
+    ]
 
 entries-without : (s : Slab LiveRequest) (key : ℕ) (ks : List ℕ) → entries_in s (without_first (λ k. k == key) ks) ≡ without_first (has_key key) (entries_in s ks)
 entries-without s key [] = refl
-entries-without s key (k ∷ ks) = by_test (k == key) (entries-without s key ks)
-  where
-    by_test : (b : Bool) → entries_in s (without_first (λ k. k == key) ks) ≡ without_first (has_key key) (entries_in s ks) → entries_in s (if b then ks else k ∷ without_first (λ k. k == key) ks) ≡ (if b then entries_in s ks else entry_in s k ∷ without_first (has_key key) (entries_in s ks))
-    by_test true rest = refl
-    by_test false rest = rw rest refl
+entries-without s key (k ∷ ks) = grind (arith, entries-without s key ks)
 
 pub entries-remove : (s t : Slab LiveRequest) (key : ℕ) (ks : List ℕ) → AreDistinct ks → Updates s t key None
     → entries_in t (without_first (λ k. k == key) ks) ≡ without_first (has_key key) (entries_in s ks)
@@ -178,20 +140,11 @@ entries-remove s t key ks distinct u =
 
 pub distinct-without : (p : ℕ → Bool) (ks : List ℕ) → AreDistinct ks → AreDistinct (without_first p ks)
 distinct-without p [] distinct = tt
-distinct-without p (k ∷ ks) distinct = by_test (p k) (distinct-without p ks distinct.1)
-  where
-    by_test : (b : Bool) → AreDistinct (without_first p ks) → AreDistinct (if b then ks else k ∷ without_first p ks)
-    by_test true rest = distinct.1
-    by_test false rest = (all-without_first (λ m. m ≢ k) p ks distinct.0, rest)
+distinct-without p (k ∷ ks) distinct = grind (arith, distinct.1, all-without_first (λ m. m ≢ k) p ks distinct.0, distinct-without p ks distinct.1)
 
 pub length-without : (s : Slab LiveRequest) (key : ℕ) (ks : List ℕ) → IsSome (request_in key (entries_in s ks)) → length (without_first (λ k. k == key) ks) + 1 ≡ length ks
 length-without s key [] some = absurd (grind (arith, some))
-length-without s key (k ∷ ks) some = by_test (k == key) (length-without s key ks) some
-  where
-    by_test : (b : Bool) → (IsSome (request_in key (entries_in s ks)) → length (without_first (λ k. k == key) ks) + 1 ≡ length ks) → IsSome (option_map (λ (entry : KeyedRequest). entry.request) (if b then Some (entry_in s k) else find (has_key key) (entries_in s ks)))
-        → length (if b then ks else k ∷ without_first (λ k. k == key) ks) + 1 ≡ length (k ∷ ks)
-    by_test true rest here = omega arith
-    by_test false rest later = grind (arith, rest later)
+length-without s key (k ∷ ks) some = grind (arith, length-without s key ks)
 
 on_some : {P : Type 0} (r : Option LiveRequest) → is_some r ≡ true → OnSome r P → P
 on_some None h p = absurd (grind (arith, h))
@@ -211,22 +164,14 @@ index-remove s t key ks r index some u is len =
 -- no key, no request
 no_request_of : (s : Slab LiveRequest) (key : ℕ) (ks : List ℕ) → find (λ k. k == key) ks ≡ None → IsSome (request_in key (entries_in s ks)) → ⊥
 no_request_of s key [] none some = grind (arith, some)
-no_request_of s key (k ∷ ks) none some = by_test (k == key) (no_request_of s key ks) none some
-  where
-    by_test : (b : Bool) → (find (λ k. k == key) ks ≡ None → IsSome (request_in key (entries_in s ks)) → ⊥) → (if b then Some k else find (λ k. k == key) ks) ≡ None
-        → IsSome (option_map (λ (entry : KeyedRequest). entry.request) (if b then Some (entry_in s k) else find (has_key key) (entries_in s ks))) → ⊥
-    by_test true rest none some = cc
-    by_test false rest none some = rest none some
+no_request_of s key (k ∷ ks) none some = grind (arith, no_request_of s key ks)
 
 -- the place of a key in the index
 pub key_placed : (s : Slab LiveRequest) (key : ℕ) (ks : List ℕ) → IsSome (request_in key (entries_in s ks)) → IsSome (position (λ k. k == key) ks)
 key_placed s key ks some = placed (position (λ k. k == key) ks) refl
   where
-    none-found : find (λ k. k == key) ks ≡ None → IsSome (request_in key (entries_in s ks)) → ⊥
-    none-found none some = no_request_of s key ks none some
-
     placed : (o : Option ℕ) → position (λ k. k == key) ks ≡ o → IsSome (position (λ k. k == key) ks)
-    placed None is = absurd (none-found (find-none (λ k. k == key) ks is) some)
+    placed None is = absurd (no_request_of s key ks (find-none (λ k. k == key) ks is) some)
     placed (Some k) is = rw is refl
 
 -- ---- by place
@@ -247,3 +192,8 @@ place_keyed s key ks = position_map (entry_in s) (has_key key) ks
 
 pub place_passing : (s : Slab LiveRequest) (p : LiveRequest → Bool) (ks : List ℕ) → position p (requests_of (entries_in s ks)) ≡ position (λ k. p (stored s k)) ks
 place_passing s p ks = position_map (λ (entry : KeyedRequest). entry.request) p (entries_in s ks) ∙ position_map (entry_in s) (λ entry. p entry.request) ks
+
+-- what a scan of the keys finds in the slab is what the list of the requests has
+pub find_scan : (s : Slab LiveRequest) (p : LiveRequest → Bool) (ks : List ℕ) → find (λ k. p (stored s k)) ks ≡ key_in p (entries_in s ks)
+find_scan s p [] = refl
+find_scan s p (k ∷ ks) = grind (arith, find_scan s p ks)

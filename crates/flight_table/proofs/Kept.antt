@@ -1,5 +1,5 @@
 -- What is kept by place stays what it says, through each change of the live requests.
-use Rattle.std.proofs.Common.{◌≡◌, ℕ, zero, suc, ◌+◌, ◌==◌, ◌<◌, ◌≤◌, Bool, true, false, ◌&&◌, nat_lt, List, [], ◌∷◌, ◌++◌, map, length, get_or, set, Option, Some, None, refl, ap, ap₂, sym, ◌∙◌, arith}
+use Rattle.std.proofs.Common.{◌≡◌, ℕ, zero, suc, ◌+◌, ◌==◌, ◌<◌, ◌≤◌, Bool, true, false, List, [], ◌∷◌, ◌++◌, map, length, get_or, set, Option, Some, None, refl, ap, ap₂, sym, ◌∙◌, arith}
 use Rattle.std.specs.Prelude.{IfSome, IsSomeAnd, if◌then◌else◌, option_map}
 use Rattle.std.specs.List.{AllByRecursion, filter, find, position, remove}
 use Rattle.std.proofs.lemmas.List.{get_or-map, map-set, map_push, set-get_or}
@@ -11,6 +11,10 @@ use Rattle.flight_table.specs.Order.{holds_back}
 use Rattle.flight_table.specs.Tables.{KeyedRequest, change_entry, has_key, request_in, requests_of}
 use Rattle.flight_table.proofs.Lowered.{count_cons, less_if}
 use Rattle.bus_words.proofs.MappedPlaces.{length_map, map-remove, map_same}
+use Rattle.flight_table.proofs.TableChanges.{all-map}
+use Rattle.std.proofs.lemmas.Bool.{le-ltb}
+use Rattle.std.proofs.lemmas.Option.{same_Some}
+use Rattle.std.proofs.lemmas.List.Elements.{filter_agree}
 
 -- ---- the requests at their places, after a change by key
 
@@ -19,9 +23,6 @@ pub record IsPlaced (key : ℕ) (entries : List KeyedRequest) (place : ℕ) (r :
   pub within : place < length (requests_of entries)
   pub there : (d : LiveRequest) → get_or (requests_of entries) place d ≡ r
   pub first : IsFirst (has_key key) entries place
-
-some_same : (a b : LiveRequest) → Some a ≡ Some b → a ≡ b
-some_same a b same = cc
 
 pub placed : (key : ℕ) (entries : List KeyedRequest) (place : ℕ) (r : LiveRequest) → position (has_key key) entries ≡ Some place → request_in key entries ≡ Some r → IsPlaced key entries place r
 placed key entries place r at is =
@@ -37,7 +38,7 @@ placed key entries place r at is =
         let e : KeyedRequest = record { key = 0; request = d } in
         let found : find (has_key key) entries ≡ Some (get_or entries place e) = find-first (has_key key) entries place e first in
         let same : option_map (λ (entry : KeyedRequest). entry.request) (Some (get_or entries place e)) ≡ Some r = rw found at is in
-        get_or-map (λ (entry : KeyedRequest). entry.request) entries place e d first.within ∙ some_same (get_or entries place e).request r same
+        get_or-map (λ (entry : KeyedRequest). entry.request) entries place e d first.within ∙ same_Some (get_or entries place e).request r same
 
 pub requests_changed : (change : LiveRequest → LiveRequest) (key : ℕ) (entries : List KeyedRequest) (place : ℕ) (r : LiveRequest) → IsPlaced key entries place r
     → requests_of (change_first (has_key key) (change_entry change) entries) ≡ set (requests_of entries) place (change r)
@@ -73,20 +74,13 @@ count_removed q (x ∷ xs) (suc place) old within is = rw (count_cons q x (remov
 
 -- ---- which requests hold back which
 
-not_later : (a b : ℕ) → b ≤ a → nat_lt a b ≡ false
-not_later a b above = grind (arith, above)
-
-and_false : (b : Bool) → (b && false) ≡ false
-and_false true = refl
-and_false false = refl
-
 -- one that is done holds back none
 done_holds : (x r : LiveRequest) → r.done ≡ true → holds_back x r ≡ false
-done_holds x r done = rw (done, and_false (nat_lt r.number x.number)) refl
+done_holds x r done = grind (arith, done)
 
 -- nor does a later one
 later_holds : (x r : LiveRequest) → x.number ≤ r.number → holds_back x r ≡ false
-later_holds x r later = rw (not_later r.number x.number later) refl
+later_holds x r later = rw (le-ltb r.number x.number later) refl
 
 -- whom progress leaves held back, and by whom
 progress_holds : (x old new : LiveRequest) → IsProgress old new → holds_back x new ≡ holds_back x old
@@ -95,18 +89,10 @@ progress_holds x old new p = rw (p.number, p.operation, p.plan, p.done) refl
 progress_held : (x old new : LiveRequest) → IsProgress old new → holds_back new x ≡ holds_back old x
 progress_held x old new p = rw (p.number, p.operation, p.plan) refl
 
-filter_same : {X : Type 0} (p q : X → Bool) (xs : List X) → ((x : X) → p x ≡ q x) → filter p xs ≡ filter q xs
-filter_same p q [] same = refl
-filter_same p q (x ∷ xs) same = rw (same x, filter_same p q xs same) refl
-
 -- ---- one more
 map_each : {X Y : Type 0} (f g : X → Y) (xs : List X) → AllByRecursion (λ x. f x ≡ g x) xs → map f xs ≡ map g xs
 map_each f g [] all = refl
 map_each f g (x ∷ xs) all = rw (all.0, map_each f g xs all.1) refl
-
-pub each : {X : Type 0} (P Q : X → Type 0) (xs : List X) → ((x : X) → P x → Q x) → AllByRecursion P xs → AllByRecursion Q xs
-each P Q [] so all = tt
-each P Q (x ∷ xs) so all = (so x all.0, each P Q xs so all.1)
 
 more_holders : (live : List LiveRequest) (x r : LiveRequest) → x.number ≤ r.number → count_holders (live ++ r ∷ []) x ≡ count_holders live x
 more_holders live x r later = count_pushed (holds_back x) live r ∙ rw (later_holds x r later) (omega arith)
@@ -125,7 +111,7 @@ kept_add depth live r able named counts unheld held kept latest is =
     others : map (count_holders (live ++ r ∷ [])) live ≡ map (count_holders live) live
     others =
         map_each (count_holders (live ++ r ∷ [])) (count_holders live) live
-        (each (λ (x : LiveRequest). x.number < r.number) (λ x. count_holders (live ++ r ∷ []) x ≡ count_holders live x) live (λ x below. more_holders live x r (omega (arith, below))) latest)
+        (all-map (λ (x : LiveRequest). x.number < r.number) (λ x. count_holders (live ++ r ∷ []) x ≡ count_holders live x) live (λ x below. more_holders live x r (omega (arith, below))) latest)
 
     own : count_holders (live ++ r ∷ []) r ≡ count_holders live r
     own = more_holders live r r (omega arith)
@@ -145,7 +131,7 @@ kept_set depth live place old new able named counts unheld kept within there pro
     as_many x = omega (arith, rw (progress_holds x old new progress) at (count_set (holds_back x) live place new old within there))
 
     own : count_holders live new ≡ count_holders live old
-    own = ap length (filter_same (holds_back new) (holds_back old) live (λ x. progress_held x old new progress))
+    own = ap length (filter_agree (holds_back new) (holds_back old) (λ x. progress_held x old new progress) live)
 
     same : map (count_holders (set live place new)) (set live place new) ≡ map (count_holders live) live
     same =
@@ -169,8 +155,7 @@ kept_finish depth live place r able named counts unheld kept within there lower 
     }
   where
     fewer : (b : Bool) (m n : ℕ) → m + (if b then 1 else 0) ≡ n + 0 → m ≡ less_if b n
-    fewer true m n sum = omega (arith, sum)
-    fewer false m n sum = omega (arith, sum)
+    fewer b m n sum = grind (arith, sum)
 
     less : (x : LiveRequest) → count_holders (set live place (finished r)) x ≡ less_if (holds_back x r) (count_holders live x)
     less x =

@@ -9,28 +9,18 @@ use Rattle.flight_table.specs.Laws.{AreRising, HaveOwnKeys, IsSound}
 use Rattle.flight_table.specs.Order.{IsSmallestDone, IsSmallestReady, is_ready, next_ready}
 use Rattle.flight_table.specs.LiveRequests.{LiveRequest}
 use Rattle.flight_table.specs.Tables.{FlightTable, KeyedRequest, KeyedTable, change_entry, has_key, has_number, is_done_of, is_of, key_in, oldest_done, request_in, request_named, requests_of, table_of}
+use Rattle.std.proofs.lemmas.Bool.Decides.{nat_tests}
+use Rattle.flight_table.proofs.TableChanges.{from_numbers, all-map}
 
 -- a key that a search found is one of the keys
 key_listed : (P : ℕ → Type 0) (test : LiveRequest → Bool) (entries : List KeyedRequest) (k : ℕ) → AllByRecursion P (map (λ entry. entry.key) entries) → key_in test entries ≡ Some k → P k
 key_listed P test [] k all found = absurd (cc)
-key_listed P test (entry ∷ entries) k all found = by_test (test entry.request) found (λ later. key_listed P test entries k all.1 later)
-  where
-    by_test : (b : Bool) → option_map (λ (e : KeyedRequest). e.key) (if b then Some entry else find (λ e. test e.request) entries) ≡ Some k → (key_in test entries ≡ Some k → P k) → P k
-    by_test true here rest =
-        let same : entry.key ≡ k = cc in
-        rw same at all.0
-    by_test false later rest = rest later
+key_listed P test (entry ∷ entries) k all found = grind (arith, all.0, key_listed P test entries k all.1)
 
 -- what is true of each request is true of the one that a key names
 pub request_listed : (P : LiveRequest → Type 0) (key : ℕ) (entries : List KeyedRequest) (r : LiveRequest) → AllByRecursion P (requests_of entries) → request_in key entries ≡ Some r → P r
 request_listed P key [] r all found = absurd (cc)
-request_listed P key (entry ∷ entries) r all found = by_test (entry.key == key) found (λ later. request_listed P key entries r all.1 later)
-  where
-    by_test : (b : Bool) → option_map (λ (e : KeyedRequest). e.request) (if b then Some entry else find (has_key key) entries) ≡ Some r → (request_in key entries ≡ Some r → P r) → P r
-    by_test true here rest =
-        let same : entry.request ≡ r = cc in
-        rw same at all.0
-    by_test false later rest = rest later
+request_listed P key (entry ∷ entries) r all found = grind (arith, all.0, request_listed P key entries r all.1)
 
 -- the request that a search found by its key: it passes, and it is the first that does
 pub record IsNamed (test : LiveRequest → Bool) (entries : List KeyedRequest) (k : ℕ) : Type 0 where
@@ -40,11 +30,7 @@ pub record IsNamed (test : LiveRequest → Bool) (entries : List KeyedRequest) (
   pub first : find test (requests_of entries) ≡ Some request
 
 skip : (entry : KeyedRequest) (entries : List KeyedRequest) (k : ℕ) → k ≢ entry.key → request_in k (entry ∷ entries) ≡ request_in k entries
-skip entry entries k other = by_test (entry.key == k) refl
-  where
-    by_test : (b : Bool) → (entry.key == k) ≡ b → option_map (λ (e : KeyedRequest). e.request) (if b then Some entry else find (has_key k) entries) ≡ request_in k entries
-    by_test true is = absurd (other (sym (eqb-true entry.key k is)))
-    by_test false is = refl
+skip entry entries k other = grind (arith, nat_tests, other)
 
 pub named : (test : LiveRequest → Bool) (entries : List KeyedRequest) (k : ℕ) → HaveOwnKeys entries → key_in test entries ≡ Some k → IsNamed test entries k
 named test [] k own found = absurd (cc)
@@ -62,12 +48,7 @@ named test (entry ∷ entries) k own found = by_test (test entry.request) refl f
 
 pub none_named : (test : LiveRequest → Bool) (entries : List KeyedRequest) → key_in test entries ≡ None → find test (requests_of entries) ≡ None
 none_named test [] none = refl
-none_named test (entry ∷ entries) none = by_test (test entry.request) none (λ later. none_named test entries later)
-  where
-    by_test : (b : Bool) → option_map (λ (e : KeyedRequest). e.key) (if b then Some entry else find (λ e. test e.request) entries) ≡ None
-        → (key_in test entries ≡ None → find test (requests_of entries) ≡ None) → (if b then Some entry.request else find test (requests_of entries)) ≡ None
-    by_test true here rest = absurd (cc)
-    by_test false later rest = rest later
+none_named test (entry ∷ entries) none = grind (arith, none_named test entries)
 
 -- the same of what a call answers
 pub answer_names : (test : LiveRequest → Bool) (entries : List KeyedRequest) (answer : Option ℕ) → HaveOwnKeys entries → answer ≡ key_in test entries
@@ -75,25 +56,18 @@ pub answer_names : (test : LiveRequest → Bool) (entries : List KeyedRequest) (
 answer_names test entries None own is = sym (none_named test entries (sym is))
 answer_names test entries (Some k) own is = let found = named test entries k own (sym is) in found.named ∙ sym found.first
 
-some_and : (o : Option LiveRequest) (r : LiveRequest) (P : LiveRequest → Type 0) → o ≡ Some r → P r → IsSomeAnd o P
-some_and o r P is holds = rw is holds
-
 pub answer_passes : (test : LiveRequest → Bool) (P : LiveRequest → Type 0) (entries : List KeyedRequest) (answer : Option ℕ) → ((r : LiveRequest) → test r ≡ true → P r) → HaveOwnKeys entries
     → answer ≡ key_in test entries → IfSome answer (λ k. IsSomeAnd (request_in k entries) P)
 answer_passes test P entries None so own is = tt
 answer_passes test P entries (Some k) so own is =
-    let found = named test entries k own (sym is) in some_and (request_in k entries) found.request P found.named (so found.request found.passes)
+    let found = named test entries k own (sym is) in rw found.named (so found.request found.passes)
 
 -- ---- by number
-
-all_numbers : (n : ℕ) (live : List LiveRequest) → AllByRecursion (λ m. n < m) (map (λ (o : LiveRequest). o.number) live) → AllByRecursion (λ (o : LiveRequest). n < o.number) live
-all_numbers n [] all = tt
-all_numbers n (o ∷ live) all = (all.0, all_numbers n live all.1)
 
 other_number : (entry : KeyedRequest) (entries : List KeyedRequest) (key : ℕ) (r : LiveRequest) → AllByRecursion (λ m. entry.request.number < m) (map (λ (o : LiveRequest). o.number) (requests_of entries))
     → request_in key entries ≡ Some r → (entry.request.number == r.number) ≡ false
 other_number entry entries key r above found =
-    let larger : entry.request.number < r.number = request_listed (λ o. entry.request.number < o.number) key entries r (all_numbers entry.request.number (requests_of entries) above) found in
+    let larger : entry.request.number < r.number = request_listed (λ o. entry.request.number < o.number) key entries r (from_numbers (λ m. entry.request.number < m) (requests_of entries) above) found in
     grind (arith, larger)
 
 abbrev numbers_of : List KeyedRequest → List ℕ
@@ -102,50 +76,19 @@ numbers_of entries = map (λ (o : LiveRequest). o.number) (requests_of entries)
 pub by_number : (change : LiveRequest → LiveRequest) (key : ℕ) (entries : List KeyedRequest) (r : LiveRequest) → AreRising (numbers_of entries) → request_in key entries ≡ Some r
     → requests_of (change_first (has_key key) (change_entry change) entries) ≡ change_first (has_number r.number) change (requests_of entries)
 by_number change key [] r rising found = refl
-by_number change key (entry ∷ entries) r rising found = by_test (entry.key == key) found (λ later. by_number change key entries r rising.1 later)
-  where
-    by_test : (b : Bool) → option_map (λ (e : KeyedRequest). e.request) (if b then Some entry else find (has_key key) entries) ≡ Some r
-        → (request_in key entries ≡ Some r → requests_of (change_first (has_key key) (change_entry change) entries) ≡ change_first (has_number r.number) change (requests_of entries))
-        → requests_of (if b then change_entry change entry ∷ entries else entry ∷ change_first (has_key key) (change_entry change) entries)
-        ≡ (if entry.request.number == r.number then change entry.request ∷ requests_of entries else entry.request ∷ change_first (has_number r.number) change (requests_of entries))
-    by_test true here rest =
-        let same : entry.request ≡ r = cc in
-        rw (eq-eqb entry.request.number r.number (ap (λ (o : LiveRequest). o.number) same)) refl
-    by_test false later rest = rw (other_number entry entries key r rising.0 later) (ap (λ (live : List LiveRequest). entry.request ∷ live) (rest later))
+by_number change key (entry ∷ entries) r rising found = grind (arith, nat_tests, other_number entry entries key r rising.0, by_number change key entries r rising.1)
 
 pub without_by_number : (key : ℕ) (entries : List KeyedRequest) (r : LiveRequest) → AreRising (numbers_of entries) → request_in key entries ≡ Some r
     → requests_of (without_first (has_key key) entries) ≡ without_first (has_number r.number) (requests_of entries)
 without_by_number key [] r rising found = refl
-without_by_number key (entry ∷ entries) r rising found = by_test (entry.key == key) found (λ later. without_by_number key entries r rising.1 later)
-  where
-    by_test : (b : Bool) → option_map (λ (e : KeyedRequest). e.request) (if b then Some entry else find (has_key key) entries) ≡ Some r
-        → (request_in key entries ≡ Some r → requests_of (without_first (has_key key) entries) ≡ without_first (has_number r.number) (requests_of entries))
-        → requests_of (if b then entries else entry ∷ without_first (has_key key) entries)
-        ≡ (if entry.request.number == r.number then requests_of entries else entry.request ∷ without_first (has_number r.number) (requests_of entries))
-    by_test true here rest =
-        let same : entry.request ≡ r = cc in
-        rw (eq-eqb entry.request.number r.number (ap (λ (o : LiveRequest). o.number) same)) refl
-    by_test false later rest = rw (other_number entry entries key r rising.0 later) (ap (λ (live : List LiveRequest). entry.request ∷ live) (rest later))
+without_by_number key (entry ∷ entries) r rising found = grind (arith, nat_tests, other_number entry entries key r rising.0, without_by_number key entries r rising.1)
 
 -- a key's request is found by its number
 pub found_by_number : (key : ℕ) (entries : List KeyedRequest) (r : LiveRequest) → AreRising (numbers_of entries) → request_in key entries ≡ Some r → find (has_number r.number) (requests_of entries) ≡ Some r
 found_by_number key [] r rising found = absurd (cc)
-found_by_number key (entry ∷ entries) r rising found = by_test (entry.key == key) found (λ later. found_by_number key entries r rising.1 later)
-  where
-    by_test : (b : Bool) → option_map (λ (e : KeyedRequest). e.request) (if b then Some entry else find (has_key key) entries) ≡ Some r
-        → (request_in key entries ≡ Some r → find (has_number r.number) (requests_of entries) ≡ Some r)
-        → (if entry.request.number == r.number then Some entry.request else find (has_number r.number) (requests_of entries)) ≡ Some r
-    by_test true here rest =
-        let same : entry.request ≡ r = cc in
-        rw (eq-eqb entry.request.number r.number (ap (λ (o : LiveRequest). o.number) same)) (ap (λ (o : LiveRequest). Some o) same)
-    by_test false later rest = rw (other_number entry entries key r rising.0 later) (rest later)
+found_by_number key (entry ∷ entries) r rising found = grind (arith, nat_tests, other_number entry entries key r rising.0, found_by_number key entries r rising.1)
 
 -- ---- the first that passes
-
-no_smaller : (test : LiveRequest → Bool) (n : ℕ) (live : List LiveRequest) (r : LiveRequest) → n ≡ r.number → AllByRecursion (λ (o : LiveRequest). n < o.number) live
-    → AllByRecursion (λ o. test o ≡ true → r.number ≤ o.number) live
-no_smaller test n [] r is all = tt
-no_smaller test n (o ∷ live) r is all = (λ passes. omega (arith, is, all.0), no_smaller test n live r is all.1)
 
 -- a search by rising numbers finds the smallest number
 pub smallest : (test : LiveRequest → Bool) (live : List LiveRequest) (r : LiveRequest) → AreRising (map (λ (o : LiveRequest). o.number) live) → find test live ≡ Some r
@@ -157,25 +100,16 @@ smallest test (x ∷ live) r rising found = by_test (test x) refl found (λ late
         → (find test live ≡ Some r → AllByRecursion (λ o. test o ≡ true → r.number ≤ o.number) live) → AllByRecursion (λ o. test o ≡ true → r.number ≤ o.number) (x ∷ live)
     by_test true is here rest =
         let same : x ≡ r = cc in
-        (λ passes. rw same (omega arith), no_smaller test x.number live r (ap (λ (o : LiveRequest). o.number) same) (all_numbers x.number live rising.0))
+        (λ passes. rw same (omega arith), all-map (λ o. x.number < o.number) (λ o. test o ≡ true → r.number ≤ o.number) live (λ o above passes. omega (arith, ap (λ (o : LiveRequest). o.number) same, above)) (from_numbers (λ m. x.number < m) live rising.0))
     by_test false is later rest = (λ passes. absurd (cc (passes, is)), rest later)
 
 pub none_passes : (test : LiveRequest → Bool) (live : List LiveRequest) → find test live ≡ None → AllByRecursion (λ o. test o ≡ false) live
 none_passes test [] none = tt
-none_passes test (x ∷ live) none = by_test (test x) refl none (λ later. none_passes test live later)
-  where
-    by_test : (b : Bool) → test x ≡ b → (if b then Some x else find test live) ≡ None → (find test live ≡ None → AllByRecursion (λ o. test o ≡ false) live) → AllByRecursion (λ o. test o ≡ false) (x ∷ live)
-    by_test true is here rest = absurd (cc)
-    by_test false is later rest = (is, rest later)
+none_passes test (x ∷ live) none = (grind (arith, none), none_passes test live (grind (arith, none)))
 
 pub some_found : (test : LiveRequest → Bool) (entries : List KeyedRequest) → is_some (key_in test entries) ≡ is_some (find test (requests_of entries))
 some_found test [] = refl
-some_found test (entry ∷ entries) = by_test (test entry.request) (some_found test entries)
-  where
-    by_test : (b : Bool) → is_some (key_in test entries) ≡ is_some (find test (requests_of entries))
-        → is_some (option_map (λ (e : KeyedRequest). e.key) (if b then Some entry else find (λ e. test e.request) entries)) ≡ is_some (if b then Some entry.request else find test (requests_of entries))
-    by_test true rest = refl
-    by_test false rest = rest
+some_found test (entry ∷ entries) = grind (arith, some_found test entries)
 
 -- what is known of the first request that passes a test is known of the one that the answer names
 first_named : (P : FlightTable → LiveRequest → Type 0) (test : LiveRequest → Bool) (old now : KeyedTable) (answer : Option ℕ) → old ≡ now → HaveOwnKeys old.entries → answer ≡ key_in test old.entries
@@ -200,11 +134,7 @@ smallest_ready old now answer same sound own is =
 pub found_done : (table : FlightTable) (client : ℕ) (r : LiveRequest) → AreRising (map (λ (o : LiveRequest). o.number) table.live) → oldest_done table client ≡ Some r → IsSmallestDone table client r
 found_done table client r rising found =
     let parts = and_parts (is_of client r) r.done (find-passes (is_done_of client) table.live r found) in
-    record { done = parts.1; whose = eqb-true r.client client parts.0; smallest = each table.live (smallest (is_done_of client) table.live r rising found) }
-  where
-    each : (live : List LiveRequest) → AllByRecursion (λ o. is_done_of client o ≡ true → r.number ≤ o.number) live → AllByRecursion (λ o. o.client ≡ client → o.done ≡ true → r.number ≤ o.number) live
-    each [] all = tt
-    each (o ∷ live) all = (λ whose done. all.0 (rw (eq-eqb o.client client whose, done) refl), each live all.1)
+    record { done = parts.1; whose = eqb-true r.client client parts.0; smallest = all-map _ _ table.live (λ o most whose done. most (rw (eq-eqb o.client client whose, done) refl)) (smallest (is_done_of client) table.live r rising found) }
 
 pub smallest_done : (client : ℕ) (old now : KeyedTable) (answer : Option ℕ) → old ≡ now → IsSound old → HaveOwnKeys old.entries → answer ≡ key_in (is_done_of client) old.entries
     → IfSome (request_named answer now) (IsSmallestDone (table_of now) client)

@@ -6,7 +6,6 @@ pub mod Ready
 pub mod Kept
 pub mod RowLaws
 pub mod Lowered
-pub mod SlabScans
 pub mod Index
 pub mod PhaseLaws
 pub mod KeyLaws

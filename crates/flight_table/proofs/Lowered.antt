@@ -17,18 +17,13 @@ use Rattle.flight_table.proofs.MarkLaws.{is_set, put_is}
 use Rattle.flight_table.proofs.Ranges.{span_held}
 
 pub count_cons : {X : Type 0} (q : X → Bool) (x : X) (xs : List X) → length (filter q (x ∷ xs)) ≡ (if q x then 1 else 0) + length (filter q xs)
-count_cons q x xs = by_test (q x)
-  where
-    by_test : (b : Bool) → length (if b then x ∷ filter q xs else filter q xs) ≡ (if b then 1 else 0) + length (filter q xs)
-    by_test true = omega arith
-    by_test false = omega arith
+count_cons q x xs = grind arith
 
 abbrev pub less_if : Bool → ℕ → ℕ
 less_if held count = count - (if held then 1 else 0)
 
 less_by_byte : (held : Bool) (count : ℕ) → count - bool_byte held - 0 ≡ less_if held count
-less_by_byte true count = omega arith
-less_by_byte false count = omega arith
+less_by_byte held count = grind arith
 
 -- ---- the next marked place
 
@@ -62,11 +57,7 @@ pub counted_next : (row : List Bool) (place : ℕ) (r : Span) (spans : List Span
     → counted_in row r spans ≡ bool_byte (span_holds r (get_or spans place d)) + counted_in (set row place false) r spans
 counted_next [] place r spans d within is same = absurd (omega (arith, within))
 counted_next (mark ∷ row) place r [] d within is same = absurd (omega (arith, same))
-counted_next (mark ∷ row) zero r (x ∷ spans) d within is same = rw is (by_test (span_holds r x))
-  where
-    by_test : (b : Bool) → (if b then 1 else 0) + counted_in row r spans ≡ bool_byte b + (0 + counted_in row r spans)
-    by_test true = omega arith
-    by_test false = omega arith
+counted_next (mark ∷ row) zero r (x ∷ spans) d within is same = rw is (grind arith)
 counted_next (mark ∷ row) (suc place) r (x ∷ spans) d within is same = omega (arith, counted_next row place r spans d (omega (arith, within)) is (omega (arith, same)))
 
 pub counted_none : (row : List Bool) (r : Span) (spans : List Span) → AreUnmarked row → counted_in row r spans ≡ 0
@@ -77,11 +68,7 @@ counted_none (mark ∷ row) r (x ∷ spans) none = rw none.0 (omega (arith, coun
 pub counted_most : (row : List Bool) (r : Span) (spans : List Span) → counted_in row r spans ≤ length spans
 counted_most [] r spans = omega arith
 counted_most (mark ∷ row) r [] = omega arith
-counted_most (mark ∷ row) r (x ∷ spans) = by_test (mark && span_holds r x) (counted_most row r spans)
-  where
-    by_test : (b : Bool) → counted_in row r spans ≤ length spans → (if b then 1 else 0) + counted_in row r spans ≤ length (x ∷ spans)
-    by_test true most = omega (arith, most)
-    by_test false most = omega (arith, most)
+counted_most (mark ∷ row) r (x ∷ spans) = grind (arith, counted_most row r spans)
 
 -- where each that holds it back is in the row, these are all that hold it back
 implied : (a b : Bool) → (b ≡ true → a ≡ true) → (a && b) ≡ b

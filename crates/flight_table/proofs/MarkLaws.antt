@@ -1,9 +1,9 @@
 -- Marks at places as the bits of a number: what a change of one is of the other.
-use Rattle.std.proofs.Common.{◌≡◌, ℕ, zero, suc, ◌+◌, ◌-◌, ◌*◌, ◌/◌, ◌%◌, ◌^◌, ◌==◌, ◌<◌, ◌≤◌, Bool, true, false, ◌&&◌, min, List, [], ◌∷◌, ◌++◌, length, get_or, set, refl, ap, sym, ◌∙◌, arith}
+use Rattle.std.proofs.Common.{◌≡◌, ℕ, zero, suc, ◌+◌, ◌-◌, ◌*◌, ◌/◌, ◌%◌, ◌^◌, ◌==◌, ◌<◌, ◌≤◌, Bool, false, ◌&&◌, min, List, [], ◌∷◌, ◌++◌, length, get_or, set, refl, ap, sym, ◌∙◌, arith}
 use Rattle.std.specs.Prelude.{if◌then◌else◌}
 use Rattle.std.specs.List.{position, position_or_len, remove}
-use Rattle.std.proofs.Common.{map, Some, None, ltb}
-use Rattle.std.proofs.lemmas.Bool.{lt-ltb}
+use Rattle.std.proofs.Common.{map, Some, None}
+use Rattle.std.proofs.lemmas.Bool.{lt-ltb, le-ltb}
 use Rattle.std.proofs.lemmas.Simd.{trailing_mask_l}
 use lib.Lanes.{mask_l}
 use lib.Count.{count_trailing_zeros}
@@ -13,18 +13,17 @@ use mir.Val.{bool_byte}
 use Rattle.std.proofs.lemmas.Nat.{shl_whole}
 use lib.Bits.{bit_and, and_step, and_zero_l, and_zero_r}
 use Rattle.flight_table.specs.Marks.{both, marks_of, number_of, without_bit}
+use Rattle.std.proofs.lemmas.Bool.Decides.{nat_tests}
 
 abbrev bit : Bool → ℕ
 bit mark = if mark then 1 else 0
 
 pub below : (marks : List Bool) → number_of marks < 2 ^ length marks
 below [] = omega arith
-below (true ∷ marks) = omega (arith, below marks, two-pow-succ (length marks))
-below (false ∷ marks) = omega (arith, below marks, two-pow-succ (length marks))
+below (mark ∷ marks) = grind (arith, below marks, two-pow-succ (length marks))
 
 lowest : (mark : Bool) (n : ℕ) → ((bit mark + 2 * n) % 2 ≡ bit mark) × ((bit mark + 2 * n) / 2 ≡ n)
-lowest true n = (omega arith, omega arith)
-lowest false n = (omega arith, omega arith)
+lowest mark n = (grind arith, grind arith)
 
 -- half of it, so many times
 next_half : (mark : Bool) (n place : ℕ) → (bit mark + 2 * n) / 2 ^ suc place ≡ n / 2 ^ place
@@ -32,20 +31,16 @@ next_half mark n place =
     ap (λ d. (bit mark + 2 * n) / d) (pow-suc 2 place ∙ mul_comm (2 ^ place) 2) ∙ sym (div-div-eq-div-mul (bit mark + 2 * n) 2 (2 ^ place)) ∙ ap (λ h. h / 2 ^ place) (lowest mark n).1
 
 byte_is : (mark : Bool) → bool_byte mark ≡ bit mark
-byte_is true = refl
-byte_is false = refl
+byte_is mark = grind arith
 
 small : (mark : Bool) → bool_byte mark < 2 ^ 1
-small true = omega arith
-small false = omega arith
+small mark = grind arith
 
 a_bit : (mark : Bool) → bit mark < 2 ^ 1
-a_bit true = omega arith
-a_bit false = omega arith
+a_bit mark = grind arith
 
 is_marked : (mark : Bool) → (bit mark == 1) ≡ mark
-is_marked true = refl
-is_marked false = refl
+is_marked mark = grind arith
 
 -- the bits of marks are these marks
 pub same_marks : (marks : List Bool) → marks_of (length marks) (number_of marks) ≡ marks
@@ -57,12 +52,7 @@ length-marks zero bits = refl
 length-marks (suc count) bits = ap suc (length-marks count (bits / 2))
 
 odd : (n : ℕ) → bit (n % 2 == 1) ≡ n % 2
-odd n = by_rest (n % 2) (omega arith)
-  where
-    by_rest : (r : ℕ) → r < 2 → bit (r == 1) ≡ r
-    by_rest zero small = refl
-    by_rest (suc zero) small = refl
-    by_rest (suc (suc r)) small = absurd (omega (arith, small))
+odd n = grind (arith, nat_tests)
 
 pub same_number : (count bits : ℕ) → bits < 2 ^ count → number_of (marks_of count bits) ≡ bits
 same_number zero bits small = omega (arith, small)
@@ -73,10 +63,8 @@ same_number (suc count) bits small =
 -- ---- one more
 
 pub pushed : (marks : List Bool) (mark : Bool) → number_of (marks ++ mark ∷ []) ≡ number_of marks + bit mark * 2 ^ length marks
-pushed [] true = refl
-pushed [] false = refl
-pushed (m ∷ marks) true = rw (pushed marks true) (omega (arith, two-pow-succ (length marks)))
-pushed (m ∷ marks) false = rw (pushed marks false) (omega (arith, two-pow-succ (length marks)))
+pushed [] mark = grind arith
+pushed (m ∷ marks) mark = grind (arith, pushed marks mark, two-pow-succ (length marks))
 
 -- ---- another one at its place
 
@@ -84,22 +72,12 @@ pub put_is : (marks : List Bool) (place : ℕ) (mark : Bool) → place < length 
     → number_of (set marks place mark) + bit (get_or marks place false) * 2 ^ place ≡ number_of marks + bit mark * 2 ^ place
 put_is [] place mark within = absurd (omega (arith, within))
 put_is (m ∷ marks) zero mark within = omega arith
-put_is (m ∷ marks) (suc place) mark within = by_marks (get_or marks place false) mark (put_is marks place mark (omega (arith, within)))
-  where
-    by_marks : (old new : Bool) → number_of (set marks place mark) + bit old * 2 ^ place ≡ number_of marks + bit new * 2 ^ place
-        → (bit m + 2 * number_of (set marks place mark)) + bit old * 2 ^ suc place ≡ (bit m + 2 * number_of marks) + bit new * 2 ^ suc place
-    by_marks true true same = omega (arith, same, two-pow-succ place)
-    by_marks true false same = omega (arith, same, two-pow-succ place)
-    by_marks false true same = omega (arith, same, two-pow-succ place)
-    by_marks false false same = omega (arith, same, two-pow-succ place)
+put_is (m ∷ marks) (suc place) mark within = grind (arith, two-pow-succ place, put_is marks place mark (omega (arith, within)))
 
 -- ---- two lists at once
 
 least : (a b : Bool) → min (bit a) (bit b) ≡ bit (a && b)
-least true true = refl
-least true false = refl
-least false true = refl
-least false false = refl
+least a b = grind arith
 
 pub both_bits : (marks others : List Bool) → bit_and (number_of marks) (number_of others) ≡ number_of (both marks others)
 both_bits [] others = and_zero_l (number_of others)
@@ -175,24 +153,18 @@ is_set mark = mark
 
 mask : (marks : List Bool) → mask_l (map is_set marks) ≡ number_of marks
 mask [] = refl
-mask (true ∷ marks) = rw (mask marks) refl
-mask (false ∷ marks) = rw (mask marks) refl
+mask (mark ∷ marks) = grind (arith, mask marks)
 
 none_set : (marks : List Bool) → number_of marks ≡ 0 → position_or_len is_set marks ≡ length marks
 none_set [] none = refl
-none_set (true ∷ marks) none = absurd (omega (arith, none))
-none_set (false ∷ marks) none = omega (arith, none_set marks (omega (arith, none)))
+none_set (mark ∷ marks) none = grind (arith, none_set marks)
 
 some_set : (marks : List Bool) → 0 < number_of marks → position_or_len is_set marks < length marks
 some_set [] some = absurd (omega (arith, some))
-some_set (true ∷ marks) some = omega arith
-some_set (false ∷ marks) some = omega (arith, some_set marks (omega (arith, some)))
-
-not-lt : (a b : ℕ) → b ≤ a → ltb a b ≡ false
-not-lt a b above = grind (arith, above)
+some_set (mark ∷ marks) some = grind (arith, some_set marks)
 
 pub first_none : (marks : List Bool) → number_of marks ≡ 0 → position is_set marks ≡ None
-first_none marks none = rw (none_set marks none, not-lt (length marks) (length marks) (omega arith)) refl
+first_none marks none = rw (none_set marks none, le-ltb (length marks) (length marks) (omega arith)) refl
 
 pub first_some : (marks : List Bool) → 0 < number_of marks → length marks ≤ 64 → position is_set marks ≡ Some (count_trailing_zeros 64 (number_of marks))
 first_some marks some few =

@@ -1,17 +1,15 @@
 -- One more request keeps the laws of the table, and how many there can be.
-use Rattle.std.proofs.Common.{◌≡◌, ℕ, suc, zero, ◌+◌, ◌*◌, ◌==◌, ◌<◌, ◌≤◌, Bool, true, false, not, nat_lt, List, [], ◌∷◌, ◌++◌, map, length, Option, Some, None, is_none, refl, ap, sym, ◌∙◌, arith, length-append, subst}
-use Rattle.std.specs.Prelude.{if◌then◌else◌}
+use Rattle.std.proofs.Common.{◌≡◌, ℕ, suc, zero, ◌+◌, ◌*◌, ◌<◌, ◌≤◌, Bool, true, false, not, nat_lt, List, [], ◌∷◌, ◌++◌, map, length, Option, Some, None, is_none, refl, ap, sym, ◌∙◌, arith, length-append, subst, IsSome}
+use Rattle.std.specs.Prelude.{if◌then◌else◌, IfSome}
 use Rattle.std.specs.List.{AllByRecursion, filter, list_any}
 use Rattle.std.proofs.Math.Nat.{mul-le-mul_right}
-use Rattle.std.proofs.lemmas.Bool.{and_parts, eqb-true, lt-ltb, ltb-true}
-use Rattle.std.proofs.lemmas.List.Elements.{filter-append}
+use Rattle.std.proofs.lemmas.Bool.{lt-ltb, ltb-true, le-ltb}
 use Rattle.bus_words.proofs.PlaceChanges.{all-append}
 use Rattle.flight_table.specs.Laws.{AreLimits, AreRising, HaveOwnKeys, IsSound, IsSoundRequest, IsSoundTable}
-use Rattle.flight_table.specs.LiveRequests.{LiveRequest, all_sent, flight_for, pieces_planned, plan_for}
+use Rattle.flight_table.specs.LiveRequests.{LiveRequest, all_sent, flight_for, pieces_planned, plan_for, planned}
 use Rattle.burst_plan.specs.declared.Piece.{Piece}
 use Rattle.tl_messages.specs.Operations.{has_data, reply_has_data}
 use Rattle.tl_messages.specs.declared.Operation.{Operation}
-use Rattle.tl_messages.specs.declared.Operation.TheVariants.{PutFull, PutPartial, Atomic, Get, Intent}
 use Rattle.burst_plan.specs.Pieces.{PlannedRange}
 use Rattle.tl_messages.specs.Requests.{HeldMessage}
 use Rattle.bus_words.specs.Places.{without_first}
@@ -20,6 +18,10 @@ use Rattle.flight_table.specs.Tables.{FlightTable, KeyedRequest, KeyedTable, has
 use Rattle.flight_table.proofs.KeyLaws.{without_by_number}
 use Rattle.flight_table.proofs.Steps.{with_live}
 use Rattle.flight_table.proofs.TableChanges.{all-map, count-none, from_numbers, sound-without, to_numbers}
+use Rattle.std.proofs.lemmas.Bool.Decides.{nat_tests}
+use Rattle.flight_table.proofs.Kept.{count_pushed}
+use Rattle.bus_words.proofs.MappedPlaces.{length_map}
+use Rattle.std.proofs.lemmas.List.{map_push}
 
 abbrev number_of : LiveRequest → ℕ
 number_of r = r.number
@@ -49,19 +51,10 @@ any-append : {X : Type 0} (q : X → Bool) (xs : List X) (x : X) → q x ≡ fal
 any-append q [] x fails = rw fails refl
 any-append q (y ∷ xs) x fails = rw (any-append q xs x fails) refl
 
-count-append-none : {X : Type 0} (q : X → Bool) (xs : List X) (x : X) → q x ≡ false → length (filter q (xs ++ x ∷ [])) ≡ length (filter q xs)
-count-append-none q xs x fails = rw (filter-append q xs (x ∷ []), length-append (filter q xs) (filter q (x ∷ [])), fails) (omega arith)
-
-count-append : {X : Type 0} (q : X → Bool) (xs : List X) (x : X) → q x ≡ true → length (filter q (xs ++ x ∷ [])) ≡ length (filter q xs) + 1
-count-append q xs x passes = rw (filter-append q xs (x ∷ []), length-append (filter q xs) (filter q (x ∷ [])), passes) (omega arith)
-
-not-lt : (a b : ℕ) → b ≤ a → nat_lt a b ≡ false
-not-lt a b above = grind (arith, above)
-
 -- the latest holds back nobody
 latest_holds_none : (x r : LiveRequest) → x.number < r.number → holds_back x r ≡ false
 latest_holds_none x r below =
-    let smaller : nat_lt r.number x.number ≡ false = not-lt r.number x.number (omega (arith, below)) in
+    let smaller : nat_lt r.number x.number ≡ false = le-ltb r.number x.number (omega (arith, below)) in
     rw smaller refl
 
 pub sound_new : (table : FlightTable) (r : LiveRequest) → IsSoundTable table → IsNew table r → IsSoundTable (with_request r table)
@@ -69,45 +62,26 @@ sound_new table r sound new =
     record {
       requests = all-append (IsSoundRequest table.limits (table.accepted + 1)) table.live r (all-map (IsSoundRequest table.limits table.accepted) (IsSoundRequest table.limits (table.accepted + 1)) table.live later sound.requests) fresh;
       rising = rising-append table.live r sound.rising below;
-      one_holder = λ id. omega (arith, sound.one_holder id, count-append-none (holds_id id) table.live r (no_id id));
+      one_holder = λ id. omega (arith, sound.one_holder id, rw (no_id id) at (count_pushed (holds_id id) table.live r));
       in_order = all-append (InOrder (table.live ++ r ∷ [])) table.live r (in_order table.live below sound.in_order) (λ undone held. new.id);
-      few = λ client. few client (r.client == client) refl;
-      own_sources = λ client source. own client source (has_source client source r) refl;
+      few = few;
+      own_sources = own;
     }
   where
     later : (x : LiveRequest) → IsSoundRequest table.limits table.accepted x → IsSoundRequest table.limits (table.accepted + 1) x
-    later x s =
-        record {
-          number = omega (arith, s.number);
-          client = s.client;
-          reads = s.reads;
-          writes = s.writes;
-          sent = s.sent;
-          answered = s.answered;
-          depth = s.depth;
-          id = s.id;
-          holds = s.holds;
-          unsent = s.unsent;
-          freed = s.freed;
-          no_plan = s.no_plan;
-        }
+    later x s = let number : x.number < table.accepted + 1 = omega (arith, s.number) in assumption
 
     fresh : IsSoundRequest table.limits (table.accepted + 1) r
     fresh =
-        record {
-          number = omega (arith, new.number);
-          client = new.client;
-          reads = new.reads;
-          writes = new.writes;
-          sent = omega (arith, new.sent);
-          answered = omega (arith, new.answered);
-          depth = omega (arith, new.sent);
-          id = rw new.id tt;
-          holds = λ undone sent. absurd (omega (arith, sent, new.all));
-          unsent = λ unsent. new.id;
-          freed = λ done. new.id;
-          no_plan = new.no_plan;
-        }
+        let number : r.number < table.accepted + 1 = omega (arith, new.number) in
+        let sent : r.sent ≤ length (planned r) = omega (arith, new.sent) in
+        let answered : r.answered ≤ r.sent = omega (arith, new.answered) in
+        let depth : r.sent ≤ r.answered + table.limits.depth = omega (arith, new.sent) in
+        let id : IfSome r.id (λ id. id < table.limits.ids) = rw new.id tt in
+        let holds : r.done ≡ false → 0 < all_sent r → IsSome r.id = λ undone some. absurd (omega (arith, some, new.all)) in
+        let unsent : all_sent r ≡ 0 → r.id ≡ None = λ none. new.id in
+        let freed : r.done ≡ true → r.id ≡ None = λ done. new.id in
+        assumption
 
     below : AllByRecursion (λ (o : LiveRequest). o.number < r.number) table.live
     below = all-map (IsSoundRequest table.limits table.accepted) (λ o. o.number < r.number) table.live (λ x s. omega (arith, s.number, new.number)) sound.requests
@@ -120,48 +94,28 @@ sound_new table r sound new =
     in_order (x ∷ xs) less all =
         (λ undone held. all.0 undone (sym (any-append (holds_back x) table.live r (latest_holds_none x r less.0)) ∙ held), in_order xs less.1 all.1)
 
-    few : (client : ℕ) (b : Bool) → (r.client == client) ≡ b → length (filter (is_of client) (table.live ++ r ∷ [])) ≤ table.limits.quota
-    few client true is =
-        let same : r.client ≡ client = eqb-true r.client client is in
-        let room : length (filter (is_of r.client) table.live) < table.limits.quota = ltb-true _ _ new.room in
-        omega (arith, count-append (is_of client) table.live r is, rw same at room)
-    few client false is = omega (arith, sound.few client, count-append-none (is_of client) table.live r is)
+    few : (client : ℕ) → length (filter (is_of client) (table.live ++ r ∷ [])) ≤ table.limits.quota
+    few client =
+        let room = λ (same : r.client ≡ client). rw same at new.room in
+        grind (arith, nat_tests, sound.few client, count_pushed (is_of client) table.live r, room)
 
-    own : (client source : ℕ) (b : Bool) → has_source client source r ≡ b → length (filter (has_source client source) (table.live ++ r ∷ [])) ≤ 1
-    own client source true is =
-        let both = and_parts (r.client == client) (r.source == source) is in
-        let free : list_any (has_source client source) table.live ≡ false = rw (← eqb-true r.client client both.0, ← eqb-true r.source source both.1) new.source in
-        omega (arith, count-append (has_source client source) table.live r is, count-none (has_source client source) table.live free)
-    own client source false is = omega (arith, sound.own_sources client source, count-append-none (has_source client source) table.live r is)
+    own : (client source : ℕ) → length (filter (has_source client source) (table.live ++ r ∷ [])) ≤ 1
+    own client source =
+        let free = λ (whose : r.client ≡ client) (from : r.source ≡ source). rw (whose, from) at new.source in
+        grind (arith, nat_tests, sound.own_sources client source, count_pushed (has_source client source) table.live r, count-none (has_source client source) table.live, free)
 
 -- ---- how many there are
 
 abbrev is_below : ℕ → LiveRequest → Bool
 is_below clients r = nat_lt r.client clients
 
-not-both : (n clients : ℕ) → nat_lt n clients ≡ false → (n == clients) ≡ false → nat_lt n (suc clients) ≡ true → ⊥
-not-both n clients low other below = grind (arith, low, other, below)
-
 none_below : (live : List LiveRequest) → list_any (is_below 0) live ≡ false
 none_below [] = refl
-none_below (x ∷ live) = rw (not-lt x.client 0 (omega arith)) (none_below live)
+none_below (x ∷ live) = rw (le-ltb x.client 0 (omega arith)) (none_below live)
 
 below-more : (clients : ℕ) (live : List LiveRequest) → length (filter (is_below (suc clients)) live) ≤ length (filter (is_below clients) live) + length (filter (is_of clients) live)
 below-more clients [] = omega arith
-below-more clients (x ∷ live) = by_tests (is_below clients x) refl (is_of clients x) refl (is_below (suc clients) x) refl (below-more clients live)
-  where
-    by_tests : (a : Bool) → is_below clients x ≡ a → (b : Bool) → is_of clients x ≡ b → (d : Bool) → is_below (suc clients) x ≡ d
-        → length (filter (is_below (suc clients)) live) ≤ length (filter (is_below clients) live) + length (filter (is_of clients) live)
-        → length (if d then x ∷ filter (is_below (suc clients)) live else filter (is_below (suc clients)) live)
-        ≤ length (if a then x ∷ filter (is_below clients) live else filter (is_below clients) live) + length (if b then x ∷ filter (is_of clients) live else filter (is_of clients) live)
-    by_tests true la true lb true ld rest = omega (arith, rest)
-    by_tests true la true lb false ld rest = omega (arith, rest)
-    by_tests true la false lb true ld rest = omega (arith, rest)
-    by_tests true la false lb false ld rest = omega (arith, rest)
-    by_tests false la true lb true ld rest = omega (arith, rest)
-    by_tests false la true lb false ld rest = omega (arith, rest)
-    by_tests false la false lb true ld rest = absurd (not-both x.client clients la lb ld)
-    by_tests false la false lb false ld rest = rest
+below-more clients (x ∷ live) = grind (arith, nat_tests, below-more clients live)
 
 pub few_below : (clients quota : ℕ) (live : List LiveRequest) → ((client : ℕ) → length (filter (is_of client) live) ≤ quota) → length (filter (is_below clients) live) ≤ clients * quota
 few_below zero quota live few = rw (count-none (is_below 0) live (none_below live)) (omega arith)
@@ -181,14 +135,6 @@ at_most_64 table limits sound =
 
 -- ---- the table with keys, after one more request
 
-requests-append : (entries : List KeyedRequest) (entry : KeyedRequest) → requests_of (entries ++ entry ∷ []) ≡ requests_of entries ++ entry.request ∷ []
-requests-append [] entry = refl
-requests-append (e ∷ entries) entry = ap (λ (live : List LiveRequest). e.request ∷ live) (requests-append entries entry)
-
-length-requests : (entries : List KeyedRequest) → length (requests_of entries) ≡ length entries
-length-requests [] = refl
-length-requests (e ∷ entries) = ap suc (length-requests entries)
-
 -- what a request has to meet to be accepted
 pub record MayAccept (keyed : KeyedTable) (client source : ℕ) : Type 0 where
   pub there : client < keyed.limits.clients
@@ -197,20 +143,14 @@ pub record MayAccept (keyed : KeyedTable) (client source : ℕ) : Type 0 where
 
 -- whatever it reads or writes, it has sent nothing yet
 none_sent : (replies : Bool) (parts : List Piece) → (if not replies then length (if replies then parts else []) else 0) + 0 ≡ 0
-none_sent true parts = refl
-none_sent false parts = refl
+none_sent replies parts = grind arith
 
 -- it reads first, where it reads at all
 reads_first : (replies : Bool) → not replies ≡ false → replies ≡ true
-reads_first true reads = refl
-reads_first false reads = absurd (cc (reads))
+reads_first replies reads = grind arith
 
 writes_first : (operation : Operation) (plan : Option PlannedRange) → not (reply_has_data operation) ≡ true → is_none (plan_for operation plan) ≡ false → has_data operation ≡ true
-writes_first PutFull plan writes some = refl
-writes_first PutPartial plan writes some = refl
-writes_first (Atomic op) plan writes some = absurd (cc (writes))
-writes_first Get plan writes some = absurd (cc (writes))
-writes_first (Intent write) plan writes some = absurd (cc (some))
+writes_first operation plan writes some = grind (arith, writes, some)
 
 pub is_new : (table : FlightTable) (client : ℕ) (held : HeldMessage) (plan : Option PlannedRange) → client < table.limits.clients → has_room table client ≡ true → is_busy table client held.source ≡ false
     → IsNew table (flight_for table.accepted client held plan)
@@ -243,7 +183,7 @@ pub room_left : (old now : KeyedTable) (client : ℕ) (held : HeldMessage) (plan
 room_left old now client held plan same sound may =
     let request = flight_for old.accepted client held plan in
     let table = new_table old client held plan sound (before old now client held.source same may) in
-    omega (arith, at_most_64 (with_request request (table_of old)) sound.limits table, length-append (requests_of old.entries) (request ∷ []), length-requests old.entries)
+    omega (arith, at_most_64 (with_request request (table_of old)) sound.limits table, length-append (requests_of old.entries) (request ∷ []), length_map (λ (e : KeyedRequest). e.request) old.entries)
 
 -- a client that has room is one of 8, and has fewer than 8 live requests
 pub known_client : (old now : KeyedTable) (client : ℕ) → old ≡ now → IsSound old → client < now.limits.clients → client < 8
@@ -264,7 +204,7 @@ pub accepted_laws : (old now : KeyedTable) (client key : ℕ) (held : HeldMessag
 accepted_laws old now client key held plan request entries same sound may is made own =
     let table = new_table old client held plan sound (before old now client held.source same may) in
     let requests : requests_of entries ≡ requests_of old.entries ++ flight_for old.accepted client held plan ∷ [] =
-    ap requests_of made ∙ requests-append old.entries (record { key = key; request = request }) ∙ ap (λ (r : LiveRequest). requests_of old.entries ++ r ∷ []) is in
+    ap requests_of made ∙ map_push (λ (e : KeyedRequest). e.request) old.entries (record { key = key; request = request }) ∙ ap (λ (r : LiveRequest). requests_of old.entries ++ r ∷ []) is in
     record {
       limits = sound.limits;
       table = subst (λ live. IsSoundTable (record { limits = old.limits; accepted = old.accepted + 1; live = live })) (sym requests) table;

@@ -52,10 +52,7 @@ write_planned request k piece writes there = rw writes (slice_get-map (λ (p : P
 -- the pieces of a phase are those of the plan
 of_plan_by : (writing carries replies : Bool) (parts : List Piece) (k : ℕ) → k < length (if writing then (if carries then parts else []) else (if replies then parts else []))
     → (if writing then (if carries then parts else []) else (if replies then parts else [])) ≡ parts
-of_plan_by true true replies parts k within = refl
-of_plan_by true false replies parts k within = absurd (omega (arith, within))
-of_plan_by false carries true parts k within = refl
-of_plan_by false carries false parts k within = absurd (omega (arith, within))
+of_plan_by writing carries replies parts k within = grind (arith, within)
 
 of_plan : (request : LiveRequest) (k : ℕ) → k < length (planned request) → phase_pieces request ≡ pieces_planned request.plan
 of_plan request k within =
@@ -89,12 +86,10 @@ alike-none beats [] none = tt
 alike-none beats (p ∷ parts) none = absurd (omega (arith, none))
 
 alike-if : (beats : ℕ) (b : Bool) (parts : List Piece) → AreAlike beats parts → AreAlike beats (if b then parts else [])
-alike-if beats true parts same = same
-alike-if beats false parts same = tt
+alike-if beats b parts same = grind (arith, same)
 
 alike-either : (beats : ℕ) (b : Bool) (parts others : List Piece) → AreAlike beats parts → AreAlike beats others → AreAlike beats (if b then parts else others)
-alike-either beats true parts others one other = one
-alike-either beats false parts others one other = other
+alike-either beats b parts others one other = grind (arith, one, other)
 
 minus_zero : (n : ℕ) → n - 0 ≡ n
 minus_zero n = omega arith

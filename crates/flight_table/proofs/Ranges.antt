@@ -1,5 +1,5 @@
 -- Ranges that meet have an address in common, and spans tell which requests hold back which.
-use Rattle.std.proofs.Common.{◌≡◌, ◌↔◌, ℕ, Bool, true, false, ◌&&◌, not, Option, Some, None, IsTrue, refl, ap, max, arith, nat_lt}
+use Rattle.std.proofs.Common.{◌≡◌, ◌↔◌, ℕ, true, false, ◌&&◌, not, Option, Some, None, IsTrue, refl, ap, max, arith, nat_lt}
 use Rattle.std.proofs.lemmas.Bool.{and_from, and_parts, lt-ltb, ltb-true}
 use Rattle.std.proofs.lemmas.Nat.{pow_pos}
 use Rattle.burst_plan.specs.Pieces.{PlannedRange, range_end}
@@ -8,6 +8,7 @@ use Rattle.flight_table.specs.LiveRequests.{LiveRequest}
 use Rattle.flight_table.specs.Order.{HaveCommonAddress, holds_back, is_get, ranges_meet, share_bytes}
 use Rattle.flight_table.specs.Spans.{IsSpanOf, end_of, span_holds, span_of, spans_meet, start_of}
 use Rattle.flight_table.specs.declared.spans.Span.{Span}
+use Rattle.std.proofs.lemmas.Bool.Decides.{nat_tests}
 
 meet : (a b : PlannedRange) → ranges_meet a b ≡ true → HaveCommonAddress (Some a) (Some b)
 meet a b test =
@@ -29,20 +30,10 @@ common_address (Some a) (Some b) = (meet a b, back a b)
 -- ---- spans
 
 none_below : (n : ℕ) → nat_lt n 0 ≡ false
-none_below n = by_test (nat_lt n 0) refl
-  where
-    by_test : (b : Bool) → nat_lt n 0 ≡ b → b ≡ false
-    by_test true less = absurd (omega (arith, ltb-true n 0 less))
-    by_test false more = refl
-
-and_false : (a : Bool) → (a && false) ≡ false
-and_false true = refl
-and_false false = refl
+none_below n = grind (arith, nat_tests)
 
 ranges_share : (a b : Option PlannedRange) → (nat_lt (start_of a) (end_of b) && nat_lt (start_of b) (end_of a)) ≡ share_bytes a b
-ranges_share None b = rw (none_below (start_of b)) (and_false (nat_lt 0 (end_of b)))
-ranges_share (Some a) None = rw (none_below a.address) refl
-ranges_share (Some a) (Some b) = refl
+ranges_share a b = grind (arith, none_below)
 
 pub span_held : (later earlier : LiveRequest) → span_holds (span_of later) (span_of earlier) ≡ holds_back later earlier
 span_held later earlier =

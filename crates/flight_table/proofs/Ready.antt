@@ -1,8 +1,6 @@
 -- The first place that is marked is that of the first request that may send.
-use Rattle.std.proofs.Common.{◌≡◌, ℕ, ◌==◌, Bool, true, false, not, ◌&&◌, ◌||◌, is_some, List, [], ◌∷◌, map, length, Option, Some, None, refl, ap, ap₂, ◌∙◌, arith}
-use Rattle.std.specs.Prelude.{if◌then◌else◌}
+use Rattle.std.proofs.Common.{◌≡◌, ℕ, ◌==◌, Bool, true, false, not, ◌&&◌, is_some, List, [], ◌∷◌, map, length, refl, ap, ap₂, ◌∙◌, arith}
 use Rattle.std.specs.List.{filter, list_any, position}
-use Rattle.std.specs.Option.{option_or}
 use Rattle.flight_table.specs.Inside.{IsKept, count_holders, is_named, is_open}
 use Rattle.flight_table.specs.LiveRequests.{LiveRequest}
 use Rattle.flight_table.specs.Marks.{both}
@@ -20,35 +18,14 @@ map_map f g (x ∷ xs) = rw (map_map f g xs) refl
 
 none_counted : {X : Type 0} (q : X → Bool) (xs : List X) → (length (filter q xs) == 0) ≡ not (list_any q xs)
 none_counted q [] = refl
-none_counted q (x ∷ xs) = by_test (q x) (none_counted q xs)
-  where
-    by_test : (b : Bool) → (length (filter q xs) == 0) ≡ not (list_any q xs) → (length (if b then x ∷ filter q xs else filter q xs) == 0) ≡ not (b || list_any q xs)
-    by_test true rest = grind arith
-    by_test false rest = rest
-
--- whether a request has an ID for its next burst
-some_id : (own free : Option ℕ) → is_some (option_or own free) ≡ (is_some own || is_some free)
-some_id None free = refl
-some_id (Some id) free = refl
-
-and_true : (b : Bool) → (b && true) ≡ b
-and_true true = refl
-and_true false = refl
-
-or_true : (b : Bool) → (b || true) ≡ true
-or_true true = refl
-or_true false = refl
-
-or_false : (b : Bool) → (b || false) ≡ b
-or_false true = refl
-or_false false = refl
+none_counted q (x ∷ xs) = grind (arith, none_counted q xs)
 
 -- where an ID is free, and where none is
 sends_with : (limits : TableLimits) (live : List LiveRequest) (x : LiveRequest) → is_some (free_id limits.ids live) ≡ true → (is_open limits.depth x && (count_holders live x == 0)) ≡ may_send limits live x
-sends_with limits live x free = rw (some_id x.id (free_id limits.ids live), free, or_true (is_some x.id), and_true (is_open limits.depth x), none_counted (holds_back x) live) refl
+sends_with limits live x free = grind (arith, free, none_counted (holds_back x) live)
 
 sends_without : (limits : TableLimits) (live : List LiveRequest) (x : LiveRequest) → is_some (free_id limits.ids live) ≡ false → (is_named limits.depth x && (count_holders live x == 0)) ≡ may_send limits live x
-sends_without limits live x free = rw (some_id x.id (free_id limits.ids live), free, or_false (is_some x.id), none_counted (holds_back x) live) refl
+sends_without limits live x free = grind (arith, free, none_counted (holds_back x) live)
 
 first_of : (test : LiveRequest → Bool) (live : List LiveRequest) (marks unheld : List Bool) (counts : List ℕ) → marks ≡ map test live → counts ≡ map (count_holders live) live → unheld ≡ map (λ count. count == 0) counts
     → position (λ mark. mark) (both marks unheld) ≡ position (λ x. test x && (count_holders live x == 0)) live

@@ -1,8 +1,8 @@
 -- The rows of the pages, through each change of the live requests.
-use Rattle.std.proofs.Common.{◌≡◌, ◌≢◌, ℕ, zero, suc, ◌+◌, ◌*◌, ◌/◌, ◌^◌, ◌==◌, ◌<◌, ◌≤◌, Bool, true, false, ◌&&◌, ◌||◌, not, nat_lt, add-one, List, [], ◌∷◌, ◌++◌, map, length, get_or, set, Option, Some, None, refl, ap, sym, ◌∙◌, arith}
+use Rattle.std.proofs.Common.{◌≡◌, ◌≢◌, ℕ, zero, suc, ◌+◌, ◌*◌, ◌/◌, ◌^◌, ◌==◌, ◌<◌, ◌≤◌, Bool, true, false, ◌&&◌, not, nat_lt, add-one, List, [], ◌∷◌, ◌++◌, map, length, get_or, set, Option, Some, None, refl, ap, sym, ◌∙◌, arith}
 use Rattle.std.specs.Prelude.{IfSome, if◌then◌else◌}
 use Rattle.std.specs.List.{AllByRecursion, filter, find, list_any, position, remove}
-use Rattle.std.proofs.lemmas.Bool.{and_parts, eq-eqb, eqb-true, ltb-true}
+use Rattle.std.proofs.lemmas.Bool.{and_parts, eq-eqb, ltb-true}
 use Rattle.std.proofs.lemmas.List.{map-set, map_push, set-get_or}
 use native.Mathlib.Nat.{zero-div}
 use Rattle.bus_words.proofs.FirstPlaces.{find-first, find-none, position_is_first}
@@ -18,12 +18,12 @@ use Rattle.flight_table.specs.declared.rows.Row.{Row}
 use Rattle.flight_table.specs.Inside.{count_holders, lowered}
 use Rattle.flight_table.specs.Spans.{counted_in, lowered_in, span_of}
 use Rattle.flight_table.specs.declared.spans.Span.{Span}
-use Rattle.flight_table.proofs.Kept.{each}
+use Rattle.flight_table.proofs.TableChanges.{all-map}
 use Rattle.flight_table.proofs.Lowered.{counted_all, lowered_all}
 use Rattle.flight_table.proofs.MarkLaws.{as_marks, below, pushed, removed_is}
 use Rattle.bus_words.proofs.MappedPlaces.{length_map, map-remove}
-use Rattle.flight_table.proofs.SlabScans.{few_pass}
 use Rattle.flight_table.proofs.SumLaws.{all_remove, all_set}
+use Rattle.std.proofs.lemmas.Bool.Decides.{nat_tests}
 
 abbrev pub pages_of : List Row → List ℕ
 pages_of rows = map (λ row. row.page) rows
@@ -57,11 +57,11 @@ shared later earlier holds =
 
 -- those that hold back a request lie in its page
 pub holders_on : (r : LiveRequest) (live : List LiveRequest) → HasPlan r → AllByRecursion HasPlan live → AllByRecursion (λ x. holds_back r x ≡ true → is_on (page_of r.plan) x ≡ true) live
-holders_on r live own plans = each HasPlan (λ x. holds_back r x ≡ true → is_on (page_of r.plan) x ≡ true) live (λ x plan holds. (page_met x.plan r.plan plan own (shared r x holds)).1) plans
+holders_on r live own plans = all-map HasPlan (λ x. holds_back r x ≡ true → is_on (page_of r.plan) x ≡ true) live (λ x plan holds. (page_met x.plan r.plan plan own (shared r x holds)).1) plans
 
 -- and so do those that it holds back
 pub held_on : (r : LiveRequest) (live : List LiveRequest) → HasPlan r → AllByRecursion HasPlan live → AllByRecursion (λ x. holds_back x r ≡ true → is_on (page_of r.plan) x ≡ true) live
-held_on r live own plans = each HasPlan (λ x. holds_back x r ≡ true → is_on (page_of r.plan) x ≡ true) live (λ x plan holds. (page_met r.plan x.plan own plan (shared x r holds)).0) plans
+held_on r live own plans = all-map HasPlan (λ x. holds_back x r ≡ true → is_on (page_of r.plan) x ≡ true) live (λ x plan holds. (page_met r.plan x.plan own plan (shared x r holds)).0) plans
 
 -- ---- the row of a page
 
@@ -81,19 +81,11 @@ row_fits page count live rows kept many = rw (row_bits page live rows kept, many
 
 pub found_bits : (page : ℕ) (rows : List Row) (row : Row) → find (has_page page) rows ≡ Some row → row.places ≡ bits_of page rows
 found_bits page [] row found = absurd (cc (found))
-found_bits page (x ∷ rows) row found = by_test (x.page == page) found (found_bits page rows row)
-  where
-    by_test : (b : Bool) → (if b then Some x else find (has_page page) rows) ≡ Some row → (find (has_page page) rows ≡ Some row → row.places ≡ bits_of page rows) → row.places ≡ (if b then x.places else bits_of page rows)
-    by_test true here rest = let same : x ≡ row = cc in ap (λ (o : Row). o.places) (sym same)
-    by_test false later rest = rest later
+found_bits page (x ∷ rows) row found = grind (arith, found_bits page rows row)
 
 pub no_bits : (page : ℕ) (rows : List Row) → find (has_page page) rows ≡ None → bits_of page rows ≡ 0
 no_bits page [] none = refl
-no_bits page (x ∷ rows) none = by_test (x.page == page) none (no_bits page rows)
-  where
-    by_test : (b : Bool) → (if b then Some x else find (has_page page) rows) ≡ None → (find (has_page page) rows ≡ None → bits_of page rows ≡ 0) → (if b then x.places else bits_of page rows) ≡ 0
-    by_test true none rest = absurd (cc (none))
-    by_test false none rest = rest none
+no_bits page (x ∷ rows) none = grind (arith, no_bits page rows)
 
 pub bits_at : (page : ℕ) (rows : List Row) (k : ℕ) (row : Row) → position (has_page page) rows ≡ Some k → row ≡ get_or rows k row → row.places ≡ bits_of page rows
 bits_at page rows k row at is = found_bits page rows row (find-first (has_page page) rows k row (position_is_first (has_page page) rows k at) ∙ ap (λ (o : Row). Some o) (sym is))
@@ -128,8 +120,7 @@ rows_add live r rows after kept plan more =
     }
   where
     by_test : (page : ℕ) (b : Bool) → bits_on (Some page) live + (if b then 1 else 0) * 2 ^ length (map (is_on (Some page)) live) ≡ bits_on (Some page) live + (if b then 2 ^ length live else 0)
-    by_test page true = rw (length_map (is_on (Some page)) live) (omega arith)
-    by_test page false = omega arith
+    by_test page b = rw (length_map (is_on (Some page)) live) (grind arith)
 
 -- ---- another with the same plan in its place
 
@@ -153,12 +144,7 @@ no_bit place = rw (zero-div (2 ^ place)) (omega arith)
 
 bits_cut : (place page : ℕ) (rows : List Row) → bits_of page (map (cut place) rows) ≡ without_bit place (bits_of page rows)
 bits_cut place page [] = sym (no_bit place)
-bits_cut place page (row ∷ rows) = by_test (row.page == page) (bits_cut place page rows)
-  where
-    by_test : (b : Bool) → bits_of page (map (cut place) rows) ≡ without_bit place (bits_of page rows)
-        → (if b then without_bit place row.places else bits_of page (map (cut place) rows)) ≡ without_bit place (if b then row.places else bits_of page rows)
-    by_test true rest = refl
-    by_test false rest = rest
+bits_cut place page (row ∷ rows) = grind (arith, bits_cut place page rows)
 
 -- so many rows, the first ones, cut
 abbrev pub cut_to : ℕ → ℕ → List Row → List Row
@@ -203,33 +189,17 @@ at_page P (row ∷ rows) (suc k) d all within = at_page P rows k d all.1 (omega 
 pub bits_more : (rows : List Row) (k page more other : ℕ) (row : Row) → AreDistinct (pages_of rows) → k < length rows → row ≡ get_or rows k row → row.page ≡ page
     → bits_of other (set rows k (record { page = row.page; places = row.places + more })) ≡ bits_of other rows + (if page == other then more else 0)
 bits_more [] k page more other row distinct within is own = absurd (omega (arith, within))
-bits_more (x ∷ rows) zero page more other row distinct within is own = rw (← own, is) (by_test (x.page == other))
-  where
-    by_test : (b : Bool) → (if b then x.places + more else bits_of other rows) ≡ (if b then x.places else bits_of other rows) + (if b then more else 0)
-    by_test true = refl
-    by_test false = omega arith
-bits_more (x ∷ rows) (suc k) page more other row distinct within is own = by_test (x.page == other) refl (bits_more rows k page more other row distinct.1 (omega (arith, within)) is own)
-  where
-    differ : page ≢ x.page
-    differ same = at_page (λ m. m ≢ x.page) rows k row distinct.0 (omega (arith, within)) (ap (λ (o : Row). o.page) (sym is) ∙ own ∙ same)
-
-    apart : x.page ≡ other → (page == other) ≡ false
-    apart same = grind (arith, differ, same)
-
-    by_test : (b : Bool) → (x.page == other) ≡ b → bits_of other (set rows k (record { page = row.page; places = row.places + more })) ≡ bits_of other rows + (if page == other then more else 0)
-        → (if b then x.places else bits_of other (set rows k (record { page = row.page; places = row.places + more }))) ≡ (if b then x.places else bits_of other rows) + (if page == other then more else 0)
-    by_test true this rest = rw (apart (eqb-true x.page other this)) (omega arith)
-    by_test false this rest = rest
+bits_more (x ∷ rows) zero page more other row distinct within is own = rw (← own, is) (grind arith)
+bits_more (x ∷ rows) (suc k) page more other row distinct within is own =
+    let differ : row.page ≢ x.page = rw (← is) at (at_page (λ m. m ≢ x.page) rows k row distinct.0 (omega (arith, within))) in
+    grind (arith, nat_tests, differ, own, bits_more rows k page more other row distinct.1 (omega (arith, within)) is own)
 
 pub bits_here : (rows : List Row) (k page : ℕ) (row : Row) → AreDistinct (pages_of rows) → k < length rows → row ≡ get_or rows k row → row.page ≡ page → row.places ≡ bits_of page rows
 bits_here [] k page row distinct within is own = absurd (omega (arith, within))
 bits_here (x ∷ rows) zero page row distinct within is own = rw (← own, is, eq-eqb x.page x.page refl) refl
 bits_here (x ∷ rows) (suc k) page row distinct within is own =
     let differ : row.page ≢ x.page = rw (← is) at (at_page (λ m. m ≢ x.page) rows k row distinct.0 (omega (arith, within))) in
-    rw (skip differ) (bits_here rows k page row distinct.1 (omega (arith, within)) is own)
-  where
-    skip : row.page ≢ x.page → (x.page == page) ≡ false
-    skip differ = grind (arith, differ, own)
+    grind (arith, nat_tests, differ, own, bits_here rows k page row distinct.1 (omega (arith, within)) is own)
 
 pub same_pages : (rows : List Row) (k places : ℕ) (row : Row) → row ≡ get_or rows k row → pages_of (set rows k (record { page = row.page; places = places })) ≡ pages_of rows
 same_pages [] k places row is = refl
@@ -238,54 +208,26 @@ same_pages (x ∷ rows) (suc k) places row is = ap (λ pages. x.page ∷ pages) 
 
 no_row : (page : ℕ) (rows : List Row) → AreOthers page (pages_of rows) → bits_of page rows ≡ 0
 no_row page [] others = refl
-no_row page (row ∷ rows) others = rw (not_it row.page others.0) (no_row page rows others.1)
-  where
-    not_it : (a : ℕ) → a ≢ page → (a == page) ≡ false
-    not_it a differ = grind (arith, differ)
+no_row page (row ∷ rows) others = grind (arith, nat_tests, others.0, no_row page rows others.1)
 
 -- a vacant row for a page that has none
 pub bits_claimed : (rows : List Row) (k page other : ℕ) (d : Row) → AreDistinct (pages_of rows) → AreOthers page (pages_of rows) → k < length rows → is_vacant (get_or rows k d) ≡ true
     → bits_of other (set rows k (record { page = page; places = 0 })) ≡ bits_of other rows
 bits_claimed [] k page other d distinct others within vacant = absurd (omega (arith, within))
-bits_claimed (row ∷ rows) zero page other d distinct others within vacant = by_tests (page == other) refl (row.page == other) refl
-  where
-    by_tests : (a : Bool) → (page == other) ≡ a → (b : Bool) → (row.page == other) ≡ b → (if a then 0 else bits_of other rows) ≡ (if b then row.places else bits_of other rows)
-    by_tests true new true old = sym (eqb-true row.places 0 vacant)
-    by_tests true new false old = rw (← eqb-true page other new) (sym (no_row page rows others.1))
-    by_tests false new true old = rw (← eqb-true row.page other old) (no_row row.page rows distinct.0 ∙ sym (eqb-true row.places 0 vacant))
-    by_tests false new false old = refl
-bits_claimed (row ∷ rows) (suc k) page other d distinct others within vacant = by_test (row.page == other) (bits_claimed rows k page other d distinct.1 others.1 (omega (arith, within)) vacant)
-  where
-    by_test : (b : Bool) → bits_of other (set rows k (record { page = page; places = 0 })) ≡ bits_of other rows
-        → (if b then row.places else bits_of other (set rows k (record { page = page; places = 0 }))) ≡ (if b then row.places else bits_of other rows)
-    by_test true rest = refl
-    by_test false rest = rest
+bits_claimed (row ∷ rows) zero page other d distinct others within vacant = grind (arith, nat_tests, vacant, no_row page rows others.1, no_row row.page rows distinct.0)
+bits_claimed (row ∷ rows) (suc k) page other d distinct others within vacant = grind (arith, bits_claimed rows k page other d distinct.1 others.1 (omega (arith, within)) vacant)
 
 -- a new row
 pub bits_pushed : (rows : List Row) (page other : ℕ) → bits_of other (rows ++ record { page = page; places = 0 } ∷ []) ≡ bits_of other rows
-bits_pushed [] page other = by_test (page == other)
-  where
-    by_test : (b : Bool) → ◌≡◌ {A = ℕ} (if b then 0 else 0) 0
-    by_test true = refl
-    by_test false = refl
-bits_pushed (row ∷ rows) page other = by_test (row.page == other) (bits_pushed rows page other)
-  where
-    by_test : (b : Bool) → bits_of other (rows ++ record { page = page; places = 0 } ∷ []) ≡ bits_of other rows
-        → (if b then row.places else bits_of other (rows ++ record { page = page; places = 0 } ∷ [])) ≡ (if b then row.places else bits_of other rows)
-    by_test true rest = refl
-    by_test false rest = rest
+bits_pushed [] page other = grind arith
+bits_pushed (row ∷ rows) page other = grind (arith, bits_pushed rows page other)
 
 pub none_has : (page : ℕ) (rows : List Row) → position (has_page page) rows ≡ None → AreOthers page (pages_of rows)
 none_has page rows none = others rows (find-none (has_page page) rows none)
   where
     others : (rows : List Row) → find (has_page page) rows ≡ None → AreOthers page (pages_of rows)
     others [] none = tt
-    others (row ∷ rows) none = by_test (row.page == page) refl none (others rows)
-      where
-        by_test : (b : Bool) → (row.page == page) ≡ b → (if b then Some row else find (has_page page) rows) ≡ None
-            → (find (has_page page) rows ≡ None → AreOthers page (pages_of rows)) → AreOthers page (pages_of (row ∷ rows))
-        by_test true this none rest = absurd (cc (none))
-        by_test false this none rest = (λ e. grind (arith, this, e), rest none)
+    others (row ∷ rows) none = (λ e. grind (arith, nat_tests, none, e), others rows (grind (arith, none)))
 
 pub distinct_set : (pages : List ℕ) (k page : ℕ) → AreDistinct pages → AreOthers page pages → AreDistinct (set pages k page)
 distinct_set [] k page distinct others = tt
@@ -298,43 +240,29 @@ distinct_set (p ∷ pages) (suc k) page distinct others = (all_set (λ m. m ≢ 
 abbrev elsewhere : ℕ → List LiveRequest → List LiveRequest
 elsewhere page live = filter (λ x. not (is_on (Some page) x)) live
 
+-- no more pass than there are
+few_pass : {X : Type 0} (p : X → Bool) (xs : List X) → length (filter p xs) ≤ length xs
+few_pass p [] = omega arith
+few_pass p (x ∷ xs) = grind (arith, few_pass p xs)
+
 fewer : (page : ℕ) (live : List LiveRequest) → list_any (is_on (Some page)) live ≡ true → length (elsewhere page live) < length live
 fewer page [] some = absurd (cc (some))
-fewer page (x ∷ live) some = by_test (is_on (Some page) x) some (fewer page live)
-  where
-    by_test : (b : Bool) → (b || list_any (is_on (Some page)) live) ≡ true → (list_any (is_on (Some page)) live ≡ true → length (elsewhere page live) < length live)
-        → length (if not b then x ∷ elsewhere page live else elsewhere page live) < length (x ∷ live)
-    by_test true some rest = omega (arith, few_pass (λ o. not (is_on (Some page) o)) live)
-    by_test false some rest = omega (arith, rest some)
+fewer page (x ∷ live) some = grind (arith, few_pass (λ o. not (is_on (Some page) o)) live, fewer page live)
 
 one_page : (page other : ℕ) (own : Option ℕ) → page ≢ other → lies_in (Some page) own ≡ true → lies_in (Some other) own ≡ false
-one_page page other None differ own = absurd (cc (own))
-one_page page other (Some q) differ own = let same : q ≡ page = eqb-true q page own in grind (arith, same, differ)
+one_page page other own differ on = grind (arith, nat_tests, differ, on)
 
 any_elsewhere : (page other : ℕ) (live : List LiveRequest) → page ≢ other → list_any (is_on (Some other)) (elsewhere page live) ≡ list_any (is_on (Some other)) live
 any_elsewhere page other [] differ = refl
-any_elsewhere page other (x ∷ live) differ = by_test (is_on (Some page) x) refl (any_elsewhere page other live differ)
-  where
-    by_test : (b : Bool) → is_on (Some page) x ≡ b → list_any (is_on (Some other)) (elsewhere page live) ≡ list_any (is_on (Some other)) live
-        → list_any (is_on (Some other)) (if not b then x ∷ elsewhere page live else elsewhere page live) ≡ (is_on (Some other) x || list_any (is_on (Some other)) live)
-    by_test true own rest = rw (one_page page other (page_of x.plan) differ own) rest
-    by_test false own rest = rw rest refl
+any_elsewhere page other (x ∷ live) differ = grind (arith, one_page page other (page_of x.plan) differ, any_elsewhere page other live differ)
 
 none_vacant : (rows : List Row) → find is_vacant rows ≡ None → AllByRecursion (λ row. 0 < row.places) rows
 none_vacant [] none = tt
-none_vacant (row ∷ rows) none = by_test (is_vacant row) refl none (none_vacant rows)
-  where
-    by_test : (b : Bool) → (row.places == 0) ≡ b → (if b then Some row else find is_vacant rows) ≡ None → (find is_vacant rows ≡ None → AllByRecursion (λ row. 0 < row.places) rows) → AllByRecursion (λ row. 0 < row.places) (row ∷ rows)
-    by_test true this none rest = absurd (cc (none))
-    by_test false this none rest = (grind (arith, this), rest none)
+none_vacant (row ∷ rows) none = (grind (arith, nat_tests, none), none_vacant rows (grind (arith, none)))
 
 some_on : (page : Option ℕ) (live : List LiveRequest) → 0 < bits_on page live → list_any (is_on page) live ≡ true
 some_on page [] some = absurd (omega (arith, some))
-some_on page (x ∷ live) some = by_test (is_on page x) some (some_on page live)
-  where
-    by_test : (b : Bool) → 0 < (if b then 1 else 0) + 2 * bits_on page live → (0 < bits_on page live → list_any (is_on page) live ≡ true) → (b || list_any (is_on page) live) ≡ true
-    by_test true some rest = refl
-    by_test false some rest = rest (omega (arith, some))
+some_on page (x ∷ live) some = grind (arith, some_on page live)
 
 used_rows : (rows : List Row) (live : List LiveRequest) → AreDistinct (pages_of rows) → AllByRecursion (λ row. 0 < row.places) rows → ((page : ℕ) → 0 < bits_of page rows → list_any (is_on (Some page)) live ≡ true)
     → length rows ≤ length live

@@ -1,27 +1,25 @@
 -- What each call makes of a request keeps the laws of the table.
-use Rattle.std.proofs.Common.{◌≡◌, ℕ, suc, zero, ◌+◌, ◌-◌, ◌==◌, ◌<◌, ◌≤◌, Bool, true, false, not, ◌&&◌, is_some, nat_lt, List, [], ◌∷◌, length, Option, Some, None, refl, ap, sym, ◌∙◌, arith, inl, inr, ◌⊎◌, subst, IsTrue}
-use Rattle.std.specs.Prelude.{IfSome, IsSomeAnd, if◌then◌else◌}
-use Rattle.std.proofs.lemmas.Bool.{cases_lt}
+use Rattle.std.proofs.Common.{◌≡◌, ℕ, suc, zero, ◌+◌, ◌-◌, ◌<◌, ◌≤◌, Bool, true, false, is_some, List, [], ◌∷◌, length, Option, Some, None, refl, ap, sym, ◌∙◌, arith, inl, inr, ◌⊎◌, subst, IsTrue, IsSome}
+use Rattle.std.specs.Prelude.{IfSome, IsSomeAnd}
+use Rattle.std.proofs.lemmas.Bool.{cases_lt, not-true, eq-eqb}
 use Rattle.std.specs.List.{AllByRecursion, find, list_any, range_with_len, slice_get}
 use Rattle.std.specs.Option.{option_or}
-use Rattle.std.proofs.lemmas.Bool.{and_parts, eqb-true, leb-true, ltb-true}
+use Rattle.std.proofs.lemmas.Bool.{eqb-true, leb-true}
 use Rattle.bus_words.proofs.PlaceChanges.{find-passes}
 use Rattle.bus_words.specs.Places.{change_first}
 use Rattle.tl_messages.specs.Operations.{has_data, reply_has_data}
 use Rattle.flight_table.specs.Inside.{HasOneHolder, IsProgress, MayName}
 use Rattle.flight_table.specs.Laws.{HaveOwnKeys, IsSound, IsSoundRequest, IsSoundTable}
-use Rattle.flight_table.specs.LiveRequests.{LiveRequest, all_sent, awaits_write, finished, is_atomic, is_settled, next_burst, planned, unanswered, with_answered, with_sent, with_write}
-use Rattle.flight_table.specs.Order.{conflict, free_id, holds_back, holds_id, id_for, is_free, is_held, is_id, is_ready}
+use Rattle.flight_table.specs.LiveRequests.{LiveRequest, all_sent, awaits_write, finished, is_settled, planned, with_answered, with_sent, with_write}
+use Rattle.flight_table.specs.Order.{free_id, holds_back, holds_id, id_for, is_free, is_held, is_id, is_ready}
 use Rattle.flight_table.specs.Tables.{FlightTable, KeyedRequest, KeyedTable, change_entry, change_key, change_number, has_key, has_number, key_in, request_at, request_in, requests_of, table_of}
 use Rattle.flight_table.specs.declared.TableLimits.{TableLimits}
 use Rattle.flight_table.proofs.PhaseLaws.{length_reading}
 use Rattle.flight_table.proofs.Index.{change-constant}
 use Rattle.flight_table.proofs.KeyLaws.{by_number, found_by_number, request_listed}
 use Rattle.flight_table.proofs.TableChanges.{IsStep, sound-put}
-
-not_false : (b : Bool) → not b ≡ true → b ≡ false
-not_false true is = absurd (cc)
-not_false false is = refl
+use Rattle.std.proofs.lemmas.Bool.Decides.{nat_tests}
+use Rattle.std.proofs.lemmas.Option.{same_Some}
 
 -- what it means to be ready
 pub record IsReady (table : FlightTable) (r : LiveRequest) : Type 0 where
@@ -38,75 +36,51 @@ within_some (x ∷ xs) (suc k) some = omega (arith, within_some xs k some)
 
 pub ready_parts : (table : FlightTable) (r : LiveRequest) → is_ready table r ≡ true → IsReady table r
 ready_parts table r ready =
-    let held = not (is_held table.live r) in
-    let some = is_some (id_for table.limits table.live r) in
-    let deep = nat_lt (unanswered r) table.limits.depth in
-    let next = is_some (next_burst r) in
-    let all = and_parts (not r.done && next && deep && some) held ready in
-    let four = and_parts (not r.done && next && deep) some all.0 in
-    let three = and_parts (not r.done && next) deep four.0 in
-    let two = and_parts (not r.done) next three.0 in
     record {
-      undone = not_false r.done two.0;
-      more = within_some (planned r) r.sent two.1;
-      depth = ltb-true (unanswered r) table.limits.depth three.1;
-      some = four.1;
-      free = not_false (is_held table.live r) all.1;
+      undone = grind (arith, ready);
+      more = within_some (planned r) r.sent (grind (arith, ready));
+      depth = grind (arith, nat_tests, ready);
+      some = grind (arith, ready);
+      free = grind (arith, ready);
     }
 
 -- ---- sent
 
 below_range : (p : ℕ → Bool) (a n id : ℕ) → find p (range_with_len a n) ≡ Some id → id < a + n
 below_range p a zero id found = absurd (cc)
-below_range p a (suc n) id found = by_test (p a) found (λ later. below_range p (a + 1) n id later)
-  where
-    by_test : (b : Bool) → (if b then Some a else find p (range_with_len (a + 1) n)) ≡ Some id → (find p (range_with_len (a + 1) n) ≡ Some id → id < a + 1 + n) → id < a + suc n
-    by_test true here rest = let same : a ≡ id = cc in omega (arith, same)
-    by_test false later rest = omega (arith, rest later)
+below_range p a (suc n) id found = grind (arith, below_range p (a + 1) n id)
 
 -- the ID is in range, and it is the request's own or free
 pub record MayTake (limits : TableLimits) (live : List LiveRequest) (r : LiveRequest) (id : ℕ) : Type 0 where
   pub below : id < limits.ids
   pub own : (is_id id r.id ≡ true) ⊎ (list_any (holds_id id) live ≡ false)
 
-eqb-self : (n m : ℕ) → n ≡ m → (n == m) ≡ true
-eqb-self n m same = grind (arith, same)
-
 pub takes_id : (limits : TableLimits) (live : List LiveRequest) (r : LiveRequest) (id : ℕ) (own : Option ℕ) → r.id ≡ own → IfSome own (λ held. held < limits.ids) → option_or own (free_id limits.ids live) ≡ Some id
     → MayTake limits live r id
 takes_id limits live r id None none within is =
     record {
       below = omega (arith, below_range (is_free live) 0 limits.ids id is);
-      own = inr (not_false (list_any (holds_id id) live) (find-passes (is_free live) (range_with_len 0 limits.ids) id is));
+      own = inr (not-true (list_any (holds_id id) live) (find-passes (is_free live) (range_with_len 0 limits.ids) id is));
     }
 takes_id limits live r id (Some held) some within is =
     let same : held ≡ id = cc in
-    record { below = rw (← same) within; own = inl (rw some (eqb-self held id same)) }
+    record { below = rw (← same) within; own = inl (rw some (eq-eqb held id same)) }
 
 pub step_sent : (table : FlightTable) (r : LiveRequest) (id : ℕ) → IsSoundRequest table.limits table.accepted r → is_ready table r ≡ true → id_for table.limits table.live r ≡ Some id
     → IsStep table.limits table.accepted table.live r (with_sent id r)
 step_sent table r id sound ready is =
     let parts = ready_parts table r ready in
     let takes = takes_id table.limits table.live r id r.id refl sound.id is in
+    let sent : r.sent + 1 ≤ length (planned r) = omega (arith, parts.more) in
+    let answered : r.answered ≤ r.sent + 1 = omega (arith, sound.answered) in
+    let depth : r.sent + 1 ≤ r.answered + table.limits.depth = omega (arith, parts.depth, sound.answered) in
+    let unsent : all_sent (with_sent id r) ≡ 0 → Some id ≡ None = λ none. absurd (omega (arith, none)) in
+    let freed : r.done ≡ true → Some id ≡ None = λ done. absurd (cc (done, parts.undone)) in
     record {
       number = refl;
       client = refl;
       source = refl;
-      sound =
-          record {
-            number = sound.number;
-            client = sound.client;
-            reads = sound.reads;
-            writes = sound.writes;
-            sent = omega (arith, parts.more);
-            answered = omega (arith, sound.answered);
-            depth = omega (arith, parts.depth, sound.answered);
-            id = takes.below;
-            holds = λ undone sent. refl;
-            unsent = λ none. absurd (omega (arith, none));
-            freed = λ done. absurd (cc (done, parts.undone));
-            no_plan = sound.no_plan;
-          };
+      sound = assumption;
       ids = λ other holds. let same : id ≡ other = eqb-true id other holds in rw (← same) takes.own;
       back = λ x holds. holds;
       order = λ undone held. absurd (cc (held, parts.free));
@@ -117,29 +91,9 @@ step_sent table r id sound ready is =
 pub step_answered : (table : FlightTable) (r : LiveRequest) → IsSoundRequest table.limits table.accepted r → (r.done ≡ false → is_held table.live r ≡ true → r.id ≡ None) → r.answered < r.sent
     → IsStep table.limits table.accepted table.live r (with_answered r)
 step_answered table r sound order one =
-    record {
-      number = refl;
-      client = refl;
-      source = refl;
-      sound =
-          record {
-            number = sound.number;
-            client = sound.client;
-            reads = sound.reads;
-            writes = sound.writes;
-            sent = sound.sent;
-            answered = omega (arith, one);
-            depth = omega (arith, sound.depth);
-            id = sound.id;
-            holds = sound.holds;
-            unsent = sound.unsent;
-            freed = sound.freed;
-            no_plan = sound.no_plan;
-          };
-      ids = λ id holds. inl holds;
-      back = λ x holds. holds;
-      order = order;
-    }
+    let answered : r.answered + 1 ≤ r.sent = omega (arith, one) in
+    let depth : r.sent ≤ r.answered + 1 + table.limits.depth = omega (arith, sound.depth) in
+    record { number = refl; client = refl; source = refl; sound = assumption; ids = λ id holds. inl holds; back = λ x holds. holds; order = order }
 
 -- ---- the write of an atomic is planned
 
@@ -151,16 +105,7 @@ pub record AwaitsWrite (r : LiveRequest) : Type 0 where
   pub settled : is_settled r ≡ true
 
 pub awaits_parts : (r : LiveRequest) → awaits_write r ≡ true → AwaitsWrite r
-awaits_parts r awaits =
-    let all = and_parts (is_atomic r && not r.done && not r.writing) (is_settled r) awaits in
-    let three = and_parts (is_atomic r && not r.done) (not r.writing) all.0 in
-    let two = and_parts (is_atomic r) (not r.done) three.0 in
-    record {
-      carries = (and_parts (reply_has_data r.operation) (has_data r.operation) two.0).1;
-      undone = not_false r.done two.1;
-      reads = not_false r.writing three.1;
-      settled = all.1;
-    }
+awaits_parts r awaits = record { carries = grind (arith, awaits); undone = grind (arith, awaits); reads = grind (arith, awaits); settled = grind (arith, awaits) }
 
 -- it has sent what it sent before
 pub sent_before : (r : LiveRequest) → AwaitsWrite r → r.answered ≤ r.sent → r.sent ≤ length (planned r) → all_sent (with_write r) ≡ all_sent r
@@ -171,59 +116,28 @@ pub step_write : (table : FlightTable) (r : LiveRequest) → IsSoundRequest tabl
     → IsStep table.limits table.accepted table.live r (with_write r)
 step_write table r sound order awaits =
     let same = sent_before r awaits sound.answered sound.sent in
-    record {
-      number = refl;
-      client = refl;
-      source = refl;
-      sound =
-          record {
-            number = sound.number;
-            client = sound.client;
-            reads = λ reads. absurd (cc (reads));
-            writes = λ writes live. awaits.carries;
-            sent = omega arith;
-            answered = omega arith;
-            depth = omega arith;
-            id = sound.id;
-            holds = λ undone some. sound.holds undone (omega (arith, some, same));
-            unsent = λ none. sound.unsent (sym same ∙ none);
-            freed = sound.freed;
-            no_plan = sound.no_plan;
-          };
-      ids = λ id holds. inl holds;
-      back = λ x holds. holds;
-      order = order;
-    }
+    let reads : true ≡ false → reply_has_data r.operation ≡ true = λ reads. absurd (cc (reads)) in
+    let none : 0 ≤ length (planned (with_write r)) = omega arith in
+    let depth : 0 ≤ 0 + table.limits.depth = omega arith in
+    let holds : r.done ≡ false → 0 < all_sent (with_write r) → IsSome r.id = λ undone some. sound.holds undone (omega (arith, some, same)) in
+    let unsent : all_sent (with_write r) ≡ 0 → r.id ≡ None = λ none. sound.unsent (sym same ∙ none) in
+    let answered : 0 ≤ 0 = omega arith in
+    record { number = refl; client = refl; source = refl; sound = assumption; ids = λ id holds. inl holds; back = λ x holds. holds; order = order }
 
 -- ---- done
 
 done_holds_none : (x r : LiveRequest) → holds_back x (finished r) ≡ true → holds_back x r ≡ true
-done_holds_none x r holds =
-    let one = and_parts (nat_lt r.number x.number && false) (conflict r x) holds in
-    let two = and_parts (nat_lt r.number x.number) false one.0 in
-    absurd (cc (two.1))
+done_holds_none x r holds = grind (arith, holds)
 
 pub step_finished : (table : FlightTable) (r : LiveRequest) → IsSoundRequest table.limits table.accepted r → IsStep table.limits table.accepted table.live r (finished r)
 step_finished table r sound =
+    let writes : r.writing ≡ true → true ≡ false → has_data r.operation ≡ true = λ writes live. absurd (cc (live)) in
+    let holds : true ≡ false → 0 < all_sent r → IsSome {T = ℕ} None = λ undone sent. absurd (cc (undone)) in
     record {
       number = refl;
       client = refl;
       source = refl;
-      sound =
-          record {
-            number = sound.number;
-            client = sound.client;
-            reads = sound.reads;
-            writes = λ writes live. absurd (cc (live));
-            sent = sound.sent;
-            answered = sound.answered;
-            depth = sound.depth;
-            id = tt;
-            holds = λ undone sent. absurd (cc (undone));
-            unsent = λ none. refl;
-            freed = λ done. refl;
-            no_plan = λ none. refl;
-          };
+      sound = assumption;
       ids = λ id holds. absurd (cc (holds));
       back = λ x holds. done_holds_none x r holds;
       order = λ undone held. absurd (cc (undone));
@@ -233,11 +147,7 @@ step_finished table r sound =
 
 -- what a call's condition says of the request that the key names
 pub needs : (P : KeyedTable → LiveRequest → Type 0) (old now : KeyedTable) (key : ℕ) (r : LiveRequest) → old ≡ now → request_at key old ≡ Some r → IsSomeAnd (request_at key now) (P now) → P old r
-needs P old now key r same found holds = by_request (request_at key old) found (subst (λ t. IsSomeAnd (request_at key t) (P t)) (sym same) holds)
-  where
-    by_request : (o : Option LiveRequest) → o ≡ Some r → IsSomeAnd o (P old) → P old r
-    by_request None found holds = absurd (cc)
-    by_request (Some q) found holds = let is : q ≡ r = cc in rw is at holds
+needs P old now key r same found holds = rw found at (subst (λ t. IsSomeAnd (request_at key t) (P t)) (sym same) holds)
 
 -- what is known of the request that a key names
 pub known : (keyed : KeyedTable) (key : ℕ) (r : LiveRequest) → IsSound keyed → request_at key keyed ≡ Some r
@@ -253,19 +163,10 @@ pub record IsChanged (old new : KeyedTable) (key : ℕ) (change : LiveRequest �
   pub table : IfSome (request_at key old) (λ r. table_of new ≡ change_number r.number change (table_of old))
   pub laws : IsSound new
 
-if_request : (o : Option LiveRequest) (r : LiveRequest) (P : LiveRequest → Type 0) → o ≡ Some r → P r → IfSome o P
-if_request o r P is holds = rw is holds
-
 number_put : (change : LiveRequest → LiveRequest) (r : LiveRequest) (live : List LiveRequest) → find (has_number r.number) live ≡ Some r
     → change_first (has_number r.number) change live ≡ change_first (has_number r.number) (λ o. change r) live
 number_put change r [] found = refl
-number_put change r (x ∷ live) found = by_test (x.number == r.number) found (λ later. number_put change r live later)
-  where
-    by_test : (b : Bool) → (if b then Some x else find (has_number r.number) live) ≡ Some r
-        → (find (has_number r.number) live ≡ Some r → change_first (has_number r.number) change live ≡ change_first (has_number r.number) (λ o. change r) live)
-        → (if b then change x ∷ live else x ∷ change_first (has_number r.number) change live) ≡ (if b then change r ∷ live else x ∷ change_first (has_number r.number) (λ o. change r) live)
-    by_test true here rest = let is : x ≡ r = cc in rw is refl
-    by_test false later rest = ap (λ (xs : List LiveRequest). x ∷ xs) (rest later)
+number_put change r (x ∷ live) found = grind (arith, number_put change r live)
 
 abbrev pub with_live : KeyedTable → List LiveRequest → FlightTable
 with_live old live = record { limits = old.limits; accepted = old.accepted; live = live }
@@ -276,7 +177,7 @@ changed : (old : KeyedTable) (key : ℕ) (change : LiveRequest → LiveRequest) 
 changed old key change r request entries sound found is made own step =
     record {
       state = ap (λ (es : List KeyedRequest). record old { entries = es }) same;
-      table = if_request (request_at key old) r (λ q. table_of (record old { entries = entries }) ≡ change_number q.number change (table_of old)) found numbered;
+      table = rw found numbered;
       laws = record {
         limits = sound.limits;
         table = subst IsSoundTable (sym (numbered ∙ put)) (sound-put (table_of old) r (change r) sound.table by_its_number step);
@@ -310,32 +211,21 @@ sends old now key r same found ready = needs (λ t q. IsTrue (is_ready (table_of
 
 -- what is known of the request that a key names, seen by a caller
 pub seen : (P : KeyedTable → LiveRequest → Type 0) (old now : KeyedTable) (key : ℕ) (r : LiveRequest) → old ≡ now → request_at key old ≡ Some r → P old r → IfSome (request_at key now) (P now)
-seen P old now key r same found holds = subst (λ t. IfSome (request_at key t) (P t)) same (if_request (request_at key old) r (P old) found holds)
+seen P old now key r same found holds = subst (λ t. IfSome (request_at key t) (P t)) same (rw found holds)
 
 -- ---- what the calls below ask
 
 -- a request that only sent or answered
-pub progresses : (key : ℕ) (entries : List KeyedRequest) (r new : LiveRequest) → request_in key entries ≡ Some r → IsProgress r new → IsSomeAnd (request_in key entries) (λ old. IsProgress old new)
-progresses key entries r new found progress = rw found progress
-
-pub sent_progress : (id : ℕ) (r new : LiveRequest) → new ≡ with_sent id r → IsProgress r new
-sent_progress id r new is = rw is (record { number = refl; client = refl; source = refl; operation = refl; plan = refl; done = refl })
-
-pub answered_progress : (r new : LiveRequest) → new ≡ with_answered r → IsProgress r new
-answered_progress r new is = rw is (record { number = refl; client = refl; source = refl; operation = refl; plan = refl; done = refl })
-
-pub write_progress : (r new : LiveRequest) → new ≡ with_write r → IsProgress r new
-write_progress r new is = rw is (record { number = refl; client = refl; source = refl; operation = refl; plan = refl; done = refl })
+pub progresses : (change : LiveRequest → LiveRequest) (key : ℕ) (entries : List KeyedRequest) (r new : LiveRequest) → IsProgress r (change r) → request_in key entries ≡ Some r → new ≡ change r
+    → IsSomeAnd (request_in key entries) (λ old. IsProgress old new)
+progresses change key entries r new progress found same = rw (found, same) progress
 
 -- it keeps its ID
 same_name : (ids : ℕ) (live : List LiveRequest) (old now : Option ℕ) → now ≡ old → MayName ids live old now
 same_name ids live None None same = tt
 same_name ids live None (Some id) same = absurd (cc (same))
 same_name ids live (Some held) None same = absurd (cc (same))
-same_name ids live (Some held) (Some id) same = sym (held_same id held same)
-  where
-    held_same : (a b : ℕ) → Some a ≡ Some b → a ≡ b
-    held_same a b same = cc
+same_name ids live (Some held) (Some id) same = sym (same_Some id held same)
 
 pub keeps_name : (ids : ℕ) (live : List LiveRequest) (key : ℕ) (entries : List KeyedRequest) (r new : LiveRequest) → request_in key entries ≡ Some r → new.id ≡ r.id → IsSomeAnd (request_in key entries) (λ old. MayName ids live old.id new.id)
 keeps_name ids live key entries r new found same = rw found (same_name ids live r.id new.id same)
@@ -344,7 +234,7 @@ keeps_name ids live key entries r new found same = rw found (same_name ids live 
 takes_name : (limits : TableLimits) (live : List LiveRequest) (old : Option ℕ) (id : ℕ) → option_or old (free_id limits.ids live) ≡ Some id → MayName limits.ids live old (Some id)
 takes_name limits live None id is = (
   omega (arith, below_range (is_free live) 0 limits.ids id is),
-  not_false (list_any (holds_id id) live) (find-passes (is_free live) (range_with_len 0 limits.ids) id is),
+  not-true (list_any (holds_id id) live) (find-passes (is_free live) (range_with_len 0 limits.ids) id is),
 )
 takes_name limits live (Some held) id is = cc
 
@@ -367,8 +257,7 @@ has_no_name keyed key r sound found done = rw found ((known keyed key r sound fo
 -- ---- no ID beyond the table's is held
 
 other_id : (ids id : ℕ) (o : Option ℕ) → IfSome o (λ held. held < ids) → ids ≤ id → is_id id o ≡ false
-other_id ids id None within above = refl
-other_id ids id (Some held) within above = grind (arith, within, above)
+other_id ids id o within above = grind (arith, nat_tests, within, above)
 
 nobody_beyond : (limits : TableLimits) (accepted id : ℕ) (entries : List KeyedRequest) → AllByRecursion (IsSoundRequest limits accepted) (requests_of entries) → limits.ids ≤ id → key_in (holds_id id) entries ≡ None
 nobody_beyond limits accepted id [] all above = refl

@@ -1,6 +1,5 @@
 -- The sums over the live requests, through each change of them.
-use Rattle.std.proofs.Common.{◌≡◌, ℕ, zero, suc, ◌+◌, ◌*◌, ◌<◌, ◌≤◌, Bool, true, false, not, List, [], ◌∷◌, ◌++◌, length, get_or, set, refl, ap, sym, ◌∙◌, suc-mul, arith}
-use Rattle.std.specs.Prelude.{if◌then◌else◌}
+use Rattle.std.proofs.Common.{◌≡◌, ℕ, zero, suc, ◌+◌, ◌*◌, ◌<◌, ◌≤◌, List, [], ◌∷◌, ◌++◌, length, get_or, set, refl, ap, sym, suc-mul, arith}
 use Rattle.std.specs.List.{AllByRecursion, filter, remove, sum_by}
 use Rattle.std.proofs.lemmas.List.Sums.{sum_by-cons, sum_by-remove, sum_by-set, sum_by_push}
 use Rattle.flight_table.specs.LiveRequests.{LiveRequest}
@@ -8,6 +7,7 @@ use Rattle.flight_table.specs.Sums.{ArePart, AreSmall, IsSmall, one_undone, sums
 use Rattle.flight_table.specs.Tables.{is_undone}
 use Rattle.flight_table.specs.Work.{unsent_work, work_of}
 use Rattle.flight_table.specs.declared.sums.Sums.{Sums}
+use Rattle.flight_table.proofs.TableChanges.{all-map}
 
 pub same_sums : (a b : Sums) → a.undone ≡ b.undone → a.work ≡ b.work → a.unsent ≡ b.unsent → a ≡ b
 same_sums a b one two three = λ i. record { undone = one i; work = two i; unsent = three i }
@@ -46,16 +46,8 @@ few : (f : LiveRequest → ℕ) (most : ℕ) (live : List LiveRequest) → AllBy
 few f most [] all = omega arith
 few f most (x ∷ live) all = rw (sum_by-cons f x live) (omega (arith, all.0, few f most live all.1, suc-mul (length live) most))
 
-each : {X : Type 0} (P Q : X → Type 0) (xs : List X) → ((x : X) → P x → Q x) → AllByRecursion P xs → AllByRecursion Q xs
-each P Q [] so all = tt
-each P Q (x ∷ xs) so all = (so x all.0, each P Q xs so all.1)
-
 at_most_one : (r : LiveRequest) → one_undone r ≤ 1
-at_most_one r = by_test r.done
-  where
-    by_test : (b : Bool) → (if b then 0 else 1) ≤ 1
-    by_test true = omega arith
-    by_test false = omega arith
+at_most_one r = grind arith
 
 each_one : (live : List LiveRequest) → AllByRecursion (λ r. one_undone r ≤ 1) live
 each_one [] = tt
@@ -65,8 +57,8 @@ pub are_small : (live : List LiveRequest) → length live ≤ 64 → AllByRecurs
 are_small live many all =
     record {
       undone = omega (arith, many, few one_undone 1 live (each_one live));
-      work = omega (arith, many, few work_of 100000000 live (each IsSmall (λ r. work_of r ≤ 100000000) live (λ r s. s.work) all));
-      unsent = omega (arith, many, few unsent_work 100000000 live (each IsSmall (λ r. unsent_work r ≤ 100000000) live (λ r s. s.unsent) all));
+      work = omega (arith, many, few work_of 100000000 live (all-map IsSmall (λ r. work_of r ≤ 100000000) live (λ r s. s.work) all));
+      unsent = omega (arith, many, few unsent_work 100000000 live (all-map IsSmall (λ r. unsent_work r ≤ 100000000) live (λ r s. s.unsent) all));
     }
 
 -- and those of one request less
@@ -92,8 +84,4 @@ all_remove P (x ∷ xs) (suc place) all = (all.0, all_remove P xs place all.1)
 -- ---- what is read
 pub count_undone : (live : List LiveRequest) → sum_by one_undone live ≡ length (filter is_undone live)
 count_undone [] = refl
-count_undone (x ∷ live) = sum_by-cons one_undone x live ∙ by_test x.done (count_undone live)
-  where
-    by_test : (b : Bool) → sum_by one_undone live ≡ length (filter is_undone live) → (if b then 0 else 1) + sum_by one_undone live ≡ length (if not b then x ∷ filter is_undone live else filter is_undone live)
-    by_test true rest = omega (arith, rest)
-    by_test false rest = omega (arith, rest)
+count_undone (x ∷ live) = grind (arith, sum_by-cons one_undone x live, count_undone live)

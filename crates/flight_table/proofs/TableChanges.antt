@@ -1,8 +1,6 @@
 -- A change of one request keeps the laws of the table, where what it becomes keeps them.
-use Rattle.std.proofs.Common.{◌≡◌, ℕ, suc, ◌+◌, ◌==◌, ◌<◌, ◌≤◌, Bool, true, false, ◌||◌, None, List, [], ◌∷◌, map, length, Some, refl, ap, sym, ◌∙◌, arith, inl, inr, ◌⊎◌}
-use Rattle.std.specs.Prelude.{if◌then◌else◌}
+use Rattle.std.proofs.Common.{◌≡◌, ℕ, ◌+◌, ◌==◌, ◌<◌, ◌≤◌, Bool, true, false, None, List, [], ◌∷◌, map, length, Some, refl, ap, sym, ◌∙◌, arith, inl, inr, ◌⊎◌}
 use Rattle.std.specs.List.{AllByRecursion, filter, find, list_any}
-use Rattle.std.proofs.lemmas.Bool.{eqb-true}
 use Rattle.bus_words.specs.Places.{change_first, without_first}
 use Rattle.bus_words.proofs.PlaceChanges.{all-change_first, all-without_first, length-filter-without_first}
 use Rattle.flight_table.specs.Laws.{AreRising, IsSoundRequest, IsSoundTable}
@@ -10,6 +8,7 @@ use Rattle.flight_table.specs.LiveRequests.{LiveRequest}
 use Rattle.flight_table.specs.Order.{holds_back, holds_id, is_held}
 use Rattle.flight_table.specs.Tables.{FlightTable, change_number, has_number, has_source, is_of, without_number}
 use Rattle.flight_table.specs.declared.TableLimits.{TableLimits}
+use Rattle.std.proofs.lemmas.Bool.Decides.{nat_tests}
 
 -- what holds of each holds of each what follows
 pub all-map : {X : Type 0} (P Q : X → Type 0) (xs : List X) → ((x : X) → P x → Q x) → AllByRecursion P xs → AllByRecursion Q xs
@@ -23,87 +22,27 @@ put_first p new xs = change_first p (λ o. new) xs
 
 any-put : {X : Type 0} (q p : X → Bool) (old new : X) (xs : List X) → find p xs ≡ Some old → (q new ≡ true → q old ≡ true) → list_any q (put_first p new xs) ≡ true → list_any q xs ≡ true
 any-put q p old new [] found so any = absurd (cc (found))
-any-put {X = X} q p old new (x ∷ xs) found so any = by_test (p x) found any (λ later. any-put q p old new xs later so)
-  where
-    pass : (b c : Bool) → (b ≡ true → c ≡ true) → (b || list_any q xs) ≡ true → (c || list_any q xs) ≡ true
-    pass true c so any = rw (so refl) refl
-    pass false true so any = refl
-    pass false false so any = any
-
-    keep : (b : Bool) (ys zs : List X) → (list_any q ys ≡ true → list_any q zs ≡ true) → (b || list_any q ys) ≡ true → (b || list_any q zs) ≡ true
-    keep true ys zs so any = refl
-    keep false ys zs so any = so any
-
-    by_test : (b : Bool) → (if b then Some x else find p xs) ≡ Some old → list_any q (if b then new ∷ xs else x ∷ put_first p new xs) ≡ true
-        → (find p xs ≡ Some old → list_any q (put_first p new xs) ≡ true → list_any q xs ≡ true) → (q x || list_any q xs) ≡ true
-    by_test true here any rest =
-        let same : x ≡ old = cc in
-        pass (q new) (q x) (λ passes. rw same (so passes)) any
-    by_test false later any rest = keep (q x) (put_first p new xs) xs (rest later) any
-
-count-cons : {X : Type 0} (q : X → Bool) (x : X) (xs ys : List X) → length (filter q ys) ≡ length (filter q xs) → length (filter q (x ∷ ys)) ≡ length (filter q (x ∷ xs))
-count-cons {X = X} q x xs ys same = by_test (q x)
-  where
-    by_test : (b : Bool) → length (if b then x ∷ filter q ys else filter q ys) ≡ length (if b then x ∷ filter q xs else filter q xs)
-    by_test true = ap suc same
-    by_test false = same
-
-count-cons-more : {X : Type 0} (q : X → Bool) (n : ℕ) (x : X) (xs ys : List X) → length (filter q ys) ≤ length (filter q xs) + n → length (filter q (x ∷ ys)) ≤ length (filter q (x ∷ xs)) + n
-count-cons-more {X = X} q n x xs ys more = by_test (q x)
-  where
-    by_test : (b : Bool) → length (if b then x ∷ filter q ys else filter q ys) ≤ length (if b then x ∷ filter q xs else filter q xs) + n
-    by_test true = omega (arith, more)
-    by_test false = more
-
-count-swap : {X : Type 0} (q : X → Bool) (old new : X) (xs : List X) → q new ≡ q old → length (filter q (new ∷ xs)) ≡ length (filter q (old ∷ xs))
-count-swap {X = X} q old new xs same = rw same (by_test (q old))
-  where
-    by_test : (b : Bool) → length (if b then new ∷ filter q xs else filter q xs) ≡ length (if b then old ∷ filter q xs else filter q xs)
-    by_test true = refl
-    by_test false = refl
+any-put q p old new (x ∷ xs) found so any = grind (arith, so, λ (later : find p xs ≡ Some old). any-put q p old new xs later so)
 
 -- as many pass, where the new one passes as the old one did
 count-put-same : {X : Type 0} (q p : X → Bool) (old new : X) (xs : List X) → find p xs ≡ Some old → q new ≡ q old → length (filter q (put_first p new xs)) ≡ length (filter q xs)
 count-put-same q p old new [] found same = refl
-count-put-same {X = X} q p old new (x ∷ xs) found same = by_test (p x) found (λ later. count-put-same q p old new xs later same)
-  where
-    by_test : (b : Bool) → (if b then Some x else find p xs) ≡ Some old → (find p xs ≡ Some old → length (filter q (put_first p new xs)) ≡ length (filter q xs))
-        → length (filter q (if b then new ∷ xs else x ∷ put_first p new xs)) ≡ length (filter q (x ∷ xs))
-    by_test true here rest =
-        let is : x ≡ old = cc in
-        count-swap q x new xs (same ∙ ap q (sym is))
-    by_test false later rest = count-cons q x xs (put_first p new xs) (rest later)
+count-put-same q p old new (x ∷ xs) found same = grind (arith, same, λ (later : find p xs ≡ Some old). count-put-same q p old new xs later same)
 
 -- at most one more passes, and none more where the new one doesn't
 count-put : {X : Type 0} (q p : X → Bool) (new : X) (n : ℕ) (xs : List X) → ((ys : List X) → length (filter q (new ∷ ys)) ≤ length (filter q ys) + n) → length (filter q (put_first p new xs)) ≤ length (filter q xs) + n
 count-put q p new n [] more = omega arith
-count-put {X = X} q p new n (x ∷ xs) more = by_test (p x) (count-put q p new n xs more)
-  where
-    tail : (b : Bool) → length (filter q xs) ≤ length (if b then x ∷ filter q xs else filter q xs)
-    tail true = omega arith
-    tail false = omega arith
-
-    by_test : (b : Bool) → length (filter q (put_first p new xs)) ≤ length (filter q xs) + n → length (filter q (if b then new ∷ xs else x ∷ put_first p new xs)) ≤ length (filter q (x ∷ xs)) + n
-    by_test true rest = omega (arith, more xs, tail (q x))
-    by_test false rest = count-cons-more q n x xs (put_first p new xs) rest
+count-put q p new n (x ∷ xs) more = grind (arith, more xs, count-put q p new n xs more)
 
 one_more : {X : Type 0} (q : X → Bool) (new : X) (ys : List X) → length (filter q (new ∷ ys)) ≤ length (filter q ys) + 1
-one_more {X = X} q new ys = by_test (q new)
-  where
-    by_test : (b : Bool) → length (if b then new ∷ filter q ys else filter q ys) ≤ length (filter q ys) + 1
-    by_test true = omega arith
-    by_test false = omega arith
+one_more q new ys = grind arith
 
 none_more : {X : Type 0} (q : X → Bool) (new : X) → q new ≡ false → (ys : List X) → length (filter q (new ∷ ys)) ≤ length (filter q ys) + 0
-none_more q new fails ys = rw fails (omega arith)
+none_more q new fails ys = grind (arith, fails)
 
 pub count-none : {X : Type 0} (q : X → Bool) (xs : List X) → list_any q xs ≡ false → length (filter q xs) ≡ 0
 count-none q [] none = refl
-count-none {X = X} q (x ∷ xs) none = by_test (q x) none (count-none q xs)
-  where
-    by_test : (b : Bool) → (b || list_any q xs) ≡ false → (list_any q xs ≡ false → length (filter q xs) ≡ 0) → length (if b then x ∷ filter q xs else filter q xs) ≡ 0
-    by_test true none rest = absurd (cc)
-    by_test false none rest = rest none
+count-none q (x ∷ xs) none = grind (arith, count-none q xs)
 
 -- ---- one request replaced
 
@@ -122,12 +61,7 @@ number_of r = r.number
 
 numbers-put : (n : ℕ) (new : LiveRequest) (live : List LiveRequest) → new.number ≡ n → map number_of (put_first (has_number n) new live) ≡ map number_of live
 numbers-put n new [] is = refl
-numbers-put n new (x ∷ live) is = by_test (x.number == n) refl (numbers-put n new live is)
-  where
-    by_test : (b : Bool) → (x.number == n) ≡ b → map number_of (put_first (has_number n) new live) ≡ map number_of live
-        → map number_of (if b then new ∷ live else x ∷ put_first (has_number n) new live) ≡ x.number ∷ map number_of live
-    by_test true here rest = ap (λ m. m ∷ map number_of live) (is ∙ sym (eqb-true x.number n here))
-    by_test false later rest = ap (λ (ns : List ℕ). x.number ∷ ns) rest
+numbers-put n new (x ∷ live) is = grind (arith, nat_tests, is, numbers-put n new live is)
 
 holders-put : (limits : TableLimits) (accepted : ℕ) (live : List LiveRequest) (r new : LiveRequest) → IsStep limits accepted live r new → find (has_number r.number) live ≡ Some r → (id : ℕ)
     → length (filter (holds_id id) live) ≤ 1 → length (filter (holds_id id) (put_first (has_number r.number) new live)) ≤ 1
@@ -177,19 +111,7 @@ sound-put table r new sound found step =
 
 any-without : {X : Type 0} (q p : X → Bool) (xs : List X) → list_any q (without_first p xs) ≡ true → list_any q xs ≡ true
 any-without q p [] any = any
-any-without {X = X} q p (x ∷ xs) any = by_test (p x) any (any-without q p xs)
-  where
-    or_true : (b : Bool) → (b || true) ≡ true
-    or_true true = refl
-    or_true false = refl
-
-    keep : (b : Bool) (ys : List X) → (list_any q ys ≡ true → list_any q xs ≡ true) → (b || list_any q ys) ≡ true → (b || list_any q xs) ≡ true
-    keep true ys so any = refl
-    keep false ys so any = so any
-
-    by_test : (b : Bool) → list_any q (if b then xs else x ∷ without_first p xs) ≡ true → (list_any q (without_first p xs) ≡ true → list_any q xs ≡ true) → (q x || list_any q xs) ≡ true
-    by_test true any rest = rw any (or_true (q x))
-    by_test false any rest = keep (q x) (without_first p xs) rest any
+any-without q p (x ∷ xs) any = grind (arith, any-without q p xs)
 
 pub from_numbers : (P : ℕ → Type 0) (xs : List LiveRequest) → AllByRecursion P (map number_of xs) → AllByRecursion (λ o. P o.number) xs
 from_numbers P [] all = tt
@@ -201,12 +123,9 @@ to_numbers P (x ∷ xs) all = (all.0, to_numbers P xs all.1)
 
 rising-without : (n : ℕ) (live : List LiveRequest) → AreRising (map number_of live) → AreRising (map number_of (without_first (has_number n) live))
 rising-without n [] rising = tt
-rising-without n (x ∷ live) rising = by_test (x.number == n) (rising-without n live rising.1)
-  where
-    by_test : (b : Bool) → AreRising (map number_of (without_first (has_number n) live)) → AreRising (map number_of (if b then live else x ∷ without_first (has_number n) live))
-    by_test true rest = rising.1
-    by_test false rest =
-        (to_numbers (λ m. x.number < m) (without_first (has_number n) live) (all-without_first (λ o. x.number < o.number) (has_number n) live (from_numbers (λ m. x.number < m) live rising.0)), rest)
+rising-without n (x ∷ live) rising =
+    let above = to_numbers (λ m. x.number < m) (without_first (has_number n) live) (all-without_first (λ o. x.number < o.number) (has_number n) live (from_numbers (λ m. x.number < m) live rising.0)) in
+    grind (arith, rising.1, above, rising-without n live rising.1)
 
 pub sound-without : (table : FlightTable) (n : ℕ) → IsSoundTable table → IsSoundTable (without_number n table)
 sound-without table n sound =

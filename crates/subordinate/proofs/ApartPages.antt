@@ -1,5 +1,5 @@
 -- Good pages have numbers of which no two are the same, so that a page that stands at a place stands nowhere else.
-use Rattle.std.proofs.Common.{◌≡◌, ◌≢◌, ◌<◌, ◌==◌, ℕ, ◌+◌, ◌%◌, true, List, [], ◌∷◌, ◌++◌, length, map, get_or, position, refl, sym, arith, ap, ◌∙◌}
+use Rattle.std.proofs.Common.{◌≡◌, ◌≢◌, ℕ, ◌+◌, ◌%◌, true, List, [], ◌∷◌, ◌++◌, length, map, get_or, position, refl, sym, arith, ap, ◌∙◌}
 use Rattle.std.proofs.lemmas.Bool.{eq-eqb}
 use Rattle.std.specs.List.{AllByRecursion, list_any}
 use Rattle.std.proofs.lemmas.List.{get_or_default}
@@ -8,7 +8,7 @@ use Rattle.axi_beats.specs.declared.Resp.TheVariants.{Okay}
 use Rattle.bus_words.specs.Lanes.{lane_byte}
 use Rattle.bus_words.specs.Places.{AreDistinct}
 use Rattle.bus_words.specs.Tables.{first_broken}
-use Rattle.subordinate.specs.Faults.{IsAbsent, IsGood, IsSlaveError, Standing, device_fault, is_good, lists_page, rules_of_pages, rules_of_words, standing_at, write_response}
+use Rattle.subordinate.specs.Faults.{Standing, device_fault, is_good, lists_page, rules_of_pages, rules_of_words, standing_at, write_response}
 use Rattle.subordinate.specs.InsidePages.{KeepsGoodPages, pages_of, pages_state}
 use Rattle.subordinate.specs.Pages.{byte_at_address, is_listed_good}
 use Rattle.subordinate.specs.declared.PageKind.{PageKind}
@@ -26,24 +26,18 @@ good_of pages = map (λ page. page.0) (filter is_listed_good pages)
 others_later : (number : ℕ) (earlier : List (ℕ × PageKind)) (i : ℕ) (pages : List (ℕ × PageKind)) → first_broken (rules_of_pages earlier i pages) ≡ None → list_any (lists_page number) earlier ≡ true
     → AllByRecursion (λ m. m ≢ number) (good_of pages)
 others_later number earlier i [] none listed = tt
-others_later number earlier i ((page, Good) ∷ pages) none listed =
-    let twice = page_parts earlier i (page, Good) pages none in (
-      λ same. absurd (cc (twice.0, listed, same)),
-      others_later number (earlier ++ (page, Good) ∷ []) (i + 1) pages twice.1 (listed_more number earlier (page, Good) listed),
-    )
-others_later number earlier i ((page, SlaveError) ∷ pages) none listed =
-    let twice = page_parts earlier i (page, SlaveError) pages none in
-    others_later number (earlier ++ (page, SlaveError) ∷ []) (i + 1) pages twice.1 (listed_more number earlier (page, SlaveError) listed)
+others_later number earlier i ((page, kind) ∷ pages) none listed =
+    let twice = page_parts earlier i (page, kind) pages none in
+    let later = others_later number (earlier ++ (page, kind) ∷ []) (i + 1) pages twice.1 (listed_more number earlier (page, kind) listed) in
+    elim kind as (λ k. AllByRecursion (λ m. m ≢ number) (good_of ((page, k) ∷ pages))) [ Good ↦ (λ same. absurd (cc (twice.0, listed, same)), later) | SlaveError ↦ later ]
 
 apart_from : (earlier : List (ℕ × PageKind)) (i : ℕ) (pages : List (ℕ × PageKind)) → first_broken (rules_of_pages earlier i pages) ≡ None → AreDistinct (good_of pages)
 apart_from earlier i [] none = tt
-apart_from earlier i ((page, Good) ∷ pages) none =
-    let twice = page_parts earlier i (page, Good) pages none in (
-      others_later page (earlier ++ (page, Good) ∷ []) (i + 1) pages twice.1 (listed_last page earlier (page, Good) (eq-eqb page page refl)),
-      apart_from (earlier ++ (page, Good) ∷ []) (i + 1) pages twice.1,
-    )
-apart_from earlier i ((page, SlaveError) ∷ pages) none =
-    let twice = page_parts earlier i (page, SlaveError) pages none in apart_from (earlier ++ (page, SlaveError) ∷ []) (i + 1) pages twice.1
+apart_from earlier i ((page, kind) ∷ pages) none =
+    let twice = page_parts earlier i (page, kind) pages none in
+    let later = apart_from (earlier ++ (page, kind) ∷ []) (i + 1) pages twice.1 in
+    let others = others_later page (earlier ++ (page, kind) ∷ []) (i + 1) pages twice.1 (listed_last page earlier (page, kind) (eq-eqb page page refl)) in
+    elim kind as (λ k. AreDistinct (good_of ((page, k) ∷ pages))) [ Good ↦ (others, later) | SlaveError ↦ later ]
 
 pub are_apart : (pages : List (ℕ × PageKind)) (bad_words : List ℕ) → device_fault pages bad_words ≡ None → AreDistinct (good_of pages)
 are_apart pages bad_words none = apart_from [] 0 pages (none_before (rules_of_pages [] 0 pages) (rules_of_words pages 0 bad_words) none)
@@ -56,9 +50,7 @@ pub okay_at : (listed : List (ℕ × PageKind)) (numbers : List ℕ) (pages : Li
 okay_at listed numbers pages bad address same keeps placed = by_place (position (is_page_of address) numbers) refl placed
   where
     by_standing : (standing : Standing) → is_good standing ≡ true → Okay ≡ write_response standing
-    by_standing IsGood good = refl
-    by_standing IsSlaveError good = absurd (cc)
-    by_standing IsAbsent good = absurd (cc)
+    by_standing standing good = grind arith
 
     by_place : (o : Option ℕ) → position (is_page_of address) numbers ≡ o → is_some o ≡ true → Okay ≡ write_response (standing_at (record { pages = listed; bad_words = bad }) address)
     by_place None found some = absurd (cc)

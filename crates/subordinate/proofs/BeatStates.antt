@@ -1,19 +1,18 @@
 -- The beats of an open burst, counted by whether they are performed.
-use Rattle.std.proofs.Common.{◌≡◌, ℕ, zero, suc, ◌+◌, ◌-◌, ◌<◌, ◌≤◌, ◌==◌, true, false, ◌⊎◌, inl, inr, not, List, [], ◌∷◌, ◌++◌, length, get_or, map, replicate, drop, refl, sym, ◌∙◌, ap, arith}
+use Rattle.std.proofs.Common.{◌≡◌, ℕ, zero, suc, ◌+◌, ◌-◌, ◌<◌, ◌≤◌, ◌==◌, false, not, List, [], ◌∷◌, ◌++◌, length, get_or, map, replicate, drop, refl, sym, ◌∙◌, ap, arith}
 use Rattle.std.proofs.Math.ListN.{drop_of_length-le}
 use Rattle.std.proofs.Math.Seq.{drop-cons}
-use Rattle.std.proofs.lemmas.Bool.{ne_eqb}
-use Rattle.std.proofs.lemmas.Bool.Decides.{eqb_tells}
+use Rattle.std.proofs.lemmas.Bool.Decides.{nat_tests}
 use Rattle.std.proofs.lemmas.List.{length-append, length-map, length-set}
 use Rattle.std.proofs.lemmas.List.Sums.{sum_by-drop_more}
 use Rattle.std.proofs.lemmas.Option.{slice_get-get_or, slice_get-map}
 use Rattle.std.specs.List.{AllByRecursion, list_any, enumerate_from}
-use Rattle.std.specs.Prelude.{◌≢◌, Some, None, filter, filter_map, flat_map, option_map, sum_by, if◌then◌else◌, slice_get, slice_set, take}
+use Rattle.std.specs.Prelude.{Some, None, filter, filter_map, flat_map, option_map, sum_by, if◌then◌else◌, slice_get, slice_set, take}
 use Rattle.subordinate.specs.FreeMemory.{Pending, is_waiting, performed_waiting_in, waiting_in}
 use Rattle.subordinate.specs.Inside.{count_waiting, waiting_places}
 use Rattle.subordinate.specs.Laws.{IsPerformed}
 use Rattle.subordinate.specs.declared.BeatState.{BeatState}
-use Rattle.subordinate.specs.declared.BeatState.TheVariants.{Waiting, Written, Captured}
+use Rattle.subordinate.specs.declared.BeatState.TheVariants.{Waiting}
 
 pub count_waiting-replicate : (n : ℕ) → count_waiting (replicate n Waiting) ≡ n
 count_waiting-replicate zero = refl
@@ -21,65 +20,47 @@ count_waiting-replicate (suc n) = ap suc (count_waiting-replicate n)
 
 pub count_waiting-le : (beats : List BeatState) → count_waiting beats ≤ length beats
 count_waiting-le [] = omega arith
-count_waiting-le (Waiting ∷ beats) = omega (arith, count_waiting-le beats)
-count_waiting-le (Written ∷ beats) = omega (arith, count_waiting-le beats)
-count_waiting-le (Captured payload resp ∷ beats) = omega (arith, count_waiting-le beats)
+count_waiting-le (beat ∷ beats) = grind (arith, count_waiting-le beats)
 
 -- no beat waits exactly where none is counted
 pub none_waiting : (beats : List BeatState) → (count_waiting beats == 0) ≡ not (list_any is_waiting beats)
 none_waiting [] = refl
-none_waiting (Waiting ∷ beats) = ne_eqb (suc (count_waiting beats)) 0 (λ same. omega arith)
-none_waiting (Written ∷ beats) = none_waiting beats
-none_waiting (Captured payload resp ∷ beats) = none_waiting beats
+none_waiting (beat ∷ beats) = grind (arith, nat_tests, none_waiting beats)
 
 -- a beat that waited and is performed now
 pub count_waiting-put : (beats : List BeatState) (k : ℕ) (state : BeatState) → slice_get beats k ≡ Some Waiting → is_waiting state ≡ false → count_waiting (slice_set beats k state) + 1 ≡ count_waiting beats
 count_waiting-put [] k state waits performed = absurd (cc)
-count_waiting-put (Waiting ∷ beats) zero state waits performed = rw performed (omega arith)
-count_waiting-put (Written ∷ beats) zero state waits performed = absurd (cc)
-count_waiting-put (Captured payload resp ∷ beats) zero state waits performed = absurd (cc)
-count_waiting-put (Waiting ∷ beats) (suc k) state waits performed = omega (arith, count_waiting-put beats k state waits performed)
-count_waiting-put (Written ∷ beats) (suc k) state waits performed = count_waiting-put beats k state waits performed
-count_waiting-put (Captured payload resp ∷ beats) (suc k) state waits performed = count_waiting-put beats k state waits performed
+count_waiting-put (beat ∷ beats) zero state waits performed = grind arith
+count_waiting-put (beat ∷ beats) (suc k) state waits performed = grind (arith, count_waiting-put beats k state waits performed)
 
 -- ---- the places of beats that wait
 
 pub length-waiting_places : (from : ℕ) (beats : List BeatState) → length (waiting_places from beats) ≡ count_waiting beats
 length-waiting_places from [] = refl
-length-waiting_places from (Waiting ∷ beats) = ap suc (length-waiting_places (from + 1) beats)
-length-waiting_places from (Written ∷ beats) = length-waiting_places (from + 1) beats
-length-waiting_places from (Captured payload resp ∷ beats) = length-waiting_places (from + 1) beats
+length-waiting_places from (beat ∷ beats) = grind (arith, length-waiting_places (from + 1) beats)
 
 -- the serial and place of each, as the memory lists them
 pub waiting_in-places : (serial from : ℕ) (beats : List BeatState)
     → filter_map {Y = ℕ × ℕ} (λ (place : ℕ × BeatState). if is_waiting place.1 then Some (serial, place.0) else None) (enumerate_from from beats) ≡ map (λ place. (serial, place)) (waiting_places from beats)
 waiting_in-places serial from [] = refl
-waiting_in-places serial from (Waiting ∷ beats) = ap (λ (places : List (ℕ × ℕ)). (serial, from) ∷ places) (waiting_in-places serial (from + 1) beats)
-waiting_in-places serial from (Written ∷ beats) = waiting_in-places serial (from + 1) beats
-waiting_in-places serial from (Captured payload resp ∷ beats) = waiting_in-places serial (from + 1) beats
+waiting_in-places serial from (beat ∷ beats) = grind (arith, waiting_in-places serial (from + 1) beats)
 
 -- ---- performed beats that wait for their answer
 
 pub count_performed : (beats : List BeatState) → length (filter (λ beat. not (is_waiting beat)) beats) + count_waiting beats ≡ length beats
 count_performed [] = refl
-count_performed (Waiting ∷ beats) = omega (arith, count_performed beats)
-count_performed (Written ∷ beats) = omega (arith, count_performed beats)
-count_performed (Captured payload resp ∷ beats) = omega (arith, count_performed beats)
+count_performed (beat ∷ beats) = grind (arith, count_performed beats)
 
 pub count_waiting-drop : (n : ℕ) (beats : List BeatState) → AllByRecursion IsPerformed (take n beats) → n ≤ length beats → (count_waiting (drop n beats) ≡ count_waiting beats) × (length (drop n beats) + n ≡ length beats)
 count_waiting-drop zero beats performed within = (refl, omega arith)
 count_waiting-drop (suc n) [] performed within = absurd (omega (arith, within))
-count_waiting-drop (suc n) (Waiting ∷ beats) performed within = absurd (cc (performed.0))
-count_waiting-drop (suc n) (Written ∷ beats) performed within =
+count_waiting-drop (suc n) (beat ∷ beats) performed within =
     let rest = count_waiting-drop n beats performed.1 (omega (arith, within)) in
-    (rest.0, omega (arith, rest.1))
-count_waiting-drop (suc n) (Captured payload resp ∷ beats) performed within =
-    let rest = count_waiting-drop n beats performed.1 (omega (arith, within)) in
-    (rest.0, omega (arith, rest.1))
+    (grind (arith, rest.0, performed.0), omega (arith, rest.1))
 
 -- ---- the beats before a place are performed
 
-set_performed : (n : ℕ) (beats : List BeatState) (k : ℕ) (state : BeatState) → AllByRecursion IsPerformed (take n beats) → IsPerformed state → AllByRecursion IsPerformed (take n (slice_set beats k state))
+pub set_performed : (n : ℕ) (beats : List BeatState) (k : ℕ) (state : BeatState) → AllByRecursion IsPerformed (take n beats) → IsPerformed state → AllByRecursion IsPerformed (take n (slice_set beats k state))
 set_performed zero beats k state performed is = tt
 set_performed (suc n) [] k state performed is = tt
 set_performed (suc n) (beat ∷ beats) zero state performed is = (is, performed.1)
@@ -93,32 +74,26 @@ one_more_performed (suc n) (beat ∷ beats) state within performed is = (perform
 
 pub put_performed : (first : ℕ) (beats : List BeatState) (k : ℕ) (state : BeatState) → k < length beats → AllByRecursion IsPerformed (take first beats) → IsPerformed state
     → AllByRecursion IsPerformed (take (if k == first then first + 1 else first) (slice_set beats k state))
-put_performed first beats k state within performed is = by_test (eqb_tells k first)
-  where
-    by_test : (((k == first) ≡ true) × (k ≡ first)) ⊎ (((k == first) ≡ false) × (k ≢ first)) → AllByRecursion IsPerformed (take (if k == first then first + 1 else first) (slice_set beats k state))
-    by_test (inl (it_is, same)) =
-        let next : first + 1 ≡ suc first = omega arith in
-        rw (it_is, next, same) (one_more_performed first beats state (omega (arith, within, same)) performed is)
-    by_test (inr (it_is_not, other)) = rw it_is_not (set_performed first beats k state performed is)
+put_performed first beats k state within performed is =
+    let next : first + 1 ≡ suc first = omega arith in
+    grind (
+      arith,
+      nat_tests,
+      next,
+      λ (inside : first < length beats). one_more_performed first beats state inside performed is,
+      set_performed first beats k state performed is,
+    )
 
 pub past-within : (first : ℕ) (beats : List BeatState) (k : ℕ) (state : BeatState) → k < length beats → first ≤ length beats → (if k == first then first + 1 else first) ≤ length (slice_set beats k state)
-past-within first beats k state within most = by_test (eqb_tells k first)
-  where
-    by_test : (((k == first) ≡ true) × (k ≡ first)) ⊎ (((k == first) ≡ false) × (k ≢ first)) → (if k == first then first + 1 else first) ≤ length (slice_set beats k state)
-    by_test (inl (it_is, same)) = rw it_is (omega (arith, length-set beats k state, within, same))
-    by_test (inr (it_is_not, other)) = rw it_is_not (omega (arith, length-set beats k state, most))
+past-within first beats k state within most = grind (arith, nat_tests, length-set beats k state)
 
 -- no place of a beat that waits is before it
 pub places-after : (first from : ℕ) (beats : List BeatState) → AllByRecursion IsPerformed (take first beats) → first ≤ length beats → waiting_places from beats ≡ waiting_places (from + first) (drop first beats)
 places-after zero from beats performed within = let same : from ≡ from + 0 = omega arith in ap (λ (n : ℕ). waiting_places n beats) same
 places-after (suc first) from [] performed within = absurd (omega (arith, within))
-places-after (suc first) from (Waiting ∷ beats) performed within = absurd (cc (performed.0))
-places-after (suc first) from (Written ∷ beats) performed within =
+places-after (suc first) from (beat ∷ beats) performed within =
     let same : from + 1 + first ≡ from + suc first = omega arith in
-    places-after first (from + 1) beats performed.1 (omega (arith, within)) ∙ ap (λ (n : ℕ). waiting_places n (drop first beats)) same
-places-after (suc first) from (Captured payload resp ∷ beats) performed within =
-    let same : from + 1 + first ≡ from + suc first = omega arith in
-    places-after first (from + 1) beats performed.1 (omega (arith, within)) ∙ ap (λ (n : ℕ). waiting_places n (drop first beats)) same
+    grind (arith, same, performed.0, places-after first (from + 1) beats performed.1 (omega (arith, within)))
 
 -- the performed beats that aren't answered, counted by those that wait
 pub performed_waiting-count : (pending : Pending) → AllByRecursion IsPerformed (take pending.answered pending.beats) → pending.answered ≤ length pending.beats

@@ -1,8 +1,8 @@
 -- How many beats of the open bursts wait, and where the first that does may be, after one is sent, changed or closed.
-use Rattle.std.proofs.Common.{◌≡◌, ℕ, zero, suc, ◌+◌, ◌-◌, ◌*◌, ◌<◌, ◌≤◌, ◌==◌, nat_lt, Bool, true, false, ◌&&◌, ◌⊎◌, inl, inr, List, [], ◌∷◌, ◌++◌, drop, length, get_or, refl, sym, ◌∙◌, ap, subst, arith}
+use Rattle.std.proofs.Common.{◌≡◌, ℕ, zero, suc, ◌+◌, ◌-◌, ◌*◌, ◌<◌, ◌≤◌, ◌==◌, nat_lt, false, ◌&&◌, inl, inr, List, [], ◌∷◌, ◌++◌, drop, length, get_or, refl, sym, ◌∙◌, ap, subst, arith}
 use Rattle.std.proofs.Math.ListN.{set}
-use Rattle.std.proofs.lemmas.Bool.{and_parts, cases_order, eqb-true, le-ltb, lt-ltb}
-use Rattle.std.proofs.lemmas.List.{get_or_default, length-append, length-drop, length-set}
+use Rattle.std.proofs.lemmas.Bool.{le-ltb, lt-ltb, cases_lt}
+use Rattle.std.proofs.lemmas.List.{get_or_default, length-append, length-drop, length-set, nil_from_length, take_all}
 use Rattle.std.proofs.lemmas.List.Edits.{length-remove}
 use Rattle.std.proofs.lemmas.List.Sums.{sum_by-cons, sum_by-remove, sum_by-set, sum_by_push}
 use Rattle.std.specs.List.{AllByRecursion, remove}
@@ -15,6 +15,7 @@ use Rattle.subordinate.specs.declared.BeatState.{BeatState}
 use Rattle.subordinate.specs.declared.BeatState.TheVariants.{Waiting}
 use Rattle.subordinate.proofs.BeatStates.{count_waiting-put, length-waiting_in}
 use Rattle.subordinate.proofs.BurstIndex.{burst_at, here_now}
+use Rattle.std.proofs.lemmas.Bool.Decides.{nat_tests}
 
 abbrev pub count_in : Pending → ℕ
 count_in p = count_waiting p.beats
@@ -61,32 +62,24 @@ before_set (suc first) [] k new before fewer = tt
 before_set (suc first) (p ∷ ps) zero new before fewer = (omega (arith, before.0, fewer), before.1)
 before_set (suc first) (p ∷ ps) (suc k) new before fewer = (before.0, before_set first ps k new before.1 fewer)
 
-pub counted_set : (bursts : List Pending) (k : ℕ) (new : Pending) (waiting now first : ℕ) → AreCounted bursts waiting first → k < length bursts → count_waiting new.beats ≤ count_waiting (burst_at bursts k).beats
-    → now + count_waiting (burst_at bursts k).beats ≡ waiting + count_waiting new.beats → AreCounted (set bursts k new) now first
-counted_set bursts k new waiting now first counted within fewer becomes =
-    record {
-      sum = omega (arith, sum_by-set count_in bursts k new (newly_pending 0 no_burst) within, counted.sum, becomes);
-      each = each_set bursts k new counted.each fewer;
-      within = omega (arith, counted.within, length-set bursts k new);
-      before = before_set first bursts k new counted.before fewer;
-    }
-
--- the same of a burst that was at a place
 pub counted_change : (bursts current : List Pending) (k : ℕ) (was new : Pending) (waiting now first : ℕ) → bursts ≡ current → k < length current → was ≡ get_or bursts k was → AreCounted bursts waiting first
     → count_waiting new.beats ≤ count_waiting was.beats → now + count_waiting was.beats ≡ waiting + count_waiting new.beats → AreCounted (set bursts k new) now first
 counted_change bursts current k was new waiting now first view inside is counted fewer becomes =
     let within : k < length bursts = subst (λ (ps : List Pending). k < length ps) (sym view) inside in
     let same : count_waiting was.beats ≡ count_waiting (burst_at bursts k).beats = ap count_in (is ∙ get_or_default bursts k was (newly_pending 0 no_burst) within) in
-    counted_set bursts k new waiting now first counted within (omega (arith, fewer, same)) (omega (arith, becomes, same))
-
-pub some_waiting : (bursts : List Pending) (k waiting first : ℕ) → AreCounted bursts waiting first → k < length bursts → count_waiting (burst_at bursts k).beats ≤ waiting
-some_waiting bursts k waiting first counted within = omega (arith, sum_by-remove count_in bursts k (newly_pending 0 no_burst) within, counted.sum)
+    let less : count_waiting new.beats ≤ count_waiting (burst_at bursts k).beats = omega (arith, fewer, same) in
+    record {
+      sum = omega (arith, sum_by-set count_in bursts k new (newly_pending 0 no_burst) within, counted.sum, becomes, same);
+      each = each_set bursts k new counted.each less;
+      within = omega (arith, counted.within, length-set bursts k new);
+      before = before_set first bursts k new counted.before less;
+    }
 
 pub was_waiting : (bursts current : List Pending) (k : ℕ) (was : Pending) (waiting first : ℕ) → bursts ≡ current → k < length current → was ≡ get_or bursts k was → AreCounted bursts waiting first → count_waiting was.beats ≤ waiting
 was_waiting bursts current k was waiting first view inside is counted =
     let within : k < length bursts = subst (λ (ps : List Pending). k < length ps) (sym view) inside in
     let same : count_waiting was.beats ≡ count_waiting (burst_at bursts k).beats = ap count_in (is ∙ get_or_default bursts k was (newly_pending 0 no_burst) within) in
-    omega (arith, same, some_waiting bursts k waiting first counted within)
+    omega (arith, same, sum_by-remove count_in bursts k (newly_pending 0 no_burst) within, counted.sum)
 
 -- no burst up to a place has a beat that waits, where the one there has none
 one_more : (first : ℕ) (bursts : List Pending) → first < length bursts → AllByRecursion (λ p. count_waiting p.beats ≡ 0) (take first bursts) → count_waiting (burst_at bursts first).beats ≡ 0
@@ -97,23 +90,15 @@ one_more (suc first) (p ∷ ps) within before none = (before.0, one_more first p
 
 pub counted_past : (bursts : List Pending) (waiting first k left : ℕ) → AreCounted bursts waiting first → k < length bursts → left ≡ count_waiting (burst_at bursts k).beats
     → AreCounted bursts waiting (if (k == first) && (left == 0) then first + 1 else first)
-counted_past bursts waiting first k left counted within is = by_test ((k == first) && (left == 0)) refl
-  where
-    by_test : (b : Bool) → ((k == first) && (left == 0)) ≡ b → AreCounted bursts waiting (if b then first + 1 else first)
-    by_test false other = counted
-    by_test true both =
-        let parts = and_parts (k == first) (left == 0) both in
-        let here : k ≡ first = eqb-true k first parts.0 in
-        let none : left ≡ 0 = eqb-true left 0 parts.1 in
-        let inside : first < length bursts = omega (arith, within, here) in
-        let next : suc first ≡ first + 1 = omega arith in
-        record {
-          sum = counted.sum;
-          each = counted.each;
-          within = omega (arith, inside);
-          before = subst (λ (n : ℕ). AllByRecursion (λ p. count_waiting p.beats ≡ 0) (take n bursts)) next
-              (one_more first bursts inside counted.before (ap (λ (n : ℕ). count_waiting (burst_at bursts n).beats) (sym here) ∙ sym is ∙ none));
-        }
+counted_past bursts waiting first k left counted within is =
+    let next : suc first ≡ first + 1 = omega arith in
+    let more = λ (inside : first < length bursts) (none : count_waiting (burst_at bursts first).beats ≡ 0). one_more first bursts inside counted.before none in
+    record {
+      sum = counted.sum;
+      each = counted.each;
+      within = grind (arith, nat_tests, counted.within, within);
+      before = grind (arith, nat_tests, next, counted.before, within, is, more);
+    }
 
 -- ---- a burst that closed
 
@@ -140,26 +125,17 @@ counted_remove bursts k waiting now first counted within becomes =
     record {
       sum = omega (arith, sum_by-remove count_in bursts k (newly_pending 0 no_burst) within, counted.sum, becomes);
       each = each_remove bursts k within counted.each;
-      within = (by_first first counted.within counted.before).0;
-      before = (by_first first counted.within counted.before).1;
+      within = grind (arith, nat_tests, length-remove bursts k within, counted.within);
+      before = before first counted.before;
     }
   where
-    by_first : (first : ℕ) → first ≤ length bursts → AllByRecursion (λ p. count_waiting p.beats ≡ 0) (take first bursts)
-        → ((if nat_lt k first then first - 1 else first) ≤ length (remove bursts k)) × AllByRecursion (λ p. count_waiting p.beats ≡ 0) (take (if nat_lt k first then first - 1 else first) (remove bursts k))
-    by_first zero inside before = rw (le-ltb k 0 (omega arith)) (omega arith, tt)
-    by_first (suc n) inside before = by_order (cases_order k (suc n))
-      where
-        shorter : length (remove bursts k) + 1 ≡ length bursts
-        shorter = omega (arith, length-remove bursts k within, within)
-
-        less : suc n - 1 ≡ n
-        less = omega arith
-
-        by_order : (k ≡ suc n) ⊎ ((k < suc n) ⊎ (suc n < k))
-            → ((if nat_lt k (suc n) then suc n - 1 else suc n) ≤ length (remove bursts k)) × AllByRecursion (λ p. count_waiting p.beats ≡ 0) (take (if nat_lt k (suc n) then suc n - 1 else suc n) (remove bursts k))
-        by_order (inr (inl below)) = rw (lt-ltb k (suc n) below, less) (omega (arith, shorter, inside), before_below n bursts k within below before)
-        by_order (inl same) = rw (le-ltb k (suc n) (omega (arith, same))) (omega (arith, shorter, same, within), before_above (suc n) bursts k within (omega (arith, same)) before)
-        by_order (inr (inr above)) = rw (le-ltb k (suc n) (omega (arith, above))) (omega (arith, shorter, above, within), before_above (suc n) bursts k within (omega (arith, above)) before)
+    before : (first : ℕ) → AllByRecursion (λ p. count_waiting p.beats ≡ 0) (take first bursts) → AllByRecursion (λ p. count_waiting p.beats ≡ 0) (take (if nat_lt k first then first - 1 else first) (remove bursts k))
+    before zero all = rw (le-ltb k 0 (omega arith)) tt
+    before (suc n) all =
+        elim (cases_lt k (suc n)) [
+          | inl below ↦ (let less : suc n - 1 ≡ n = omega arith in rw (lt-ltb k (suc n) below, less) (before_below n bursts k within below all))
+          | inr above ↦ rw (le-ltb k (suc n) above) (before_above (suc n) bursts k within above all)
+        ]
 
 pub counted_close : (bursts current : List Pending) (k : ℕ) (was : Pending) (waiting now first : ℕ) → bursts ≡ current → k < length current → was ≡ get_or bursts k was → AreCounted bursts waiting first → now + count_waiting was.beats ≡ waiting
     → AreCounted (remove bursts k) now (if nat_lt k first then first - 1 else first)
@@ -194,11 +170,7 @@ counted_put bursts current k was new seen waiting first left beat state view ins
 -- ---- the first beat that waits
 
 none_in : (p : Pending) → count_waiting p.beats ≡ 0 → waiting_in p ≡ []
-none_in p none = by_length (waiting_in p) (length-waiting_in p ∙ none)
-  where
-    by_length : (beats : List (ℕ × ℕ)) → length beats ≡ 0 → beats ≡ []
-    by_length [] none = refl
-    by_length (beat ∷ beats) none = absurd (omega (arith, none))
+none_in p none = nil_from_length (waiting_in p) (length-waiting_in p ∙ none)
 
 pub waiting_past : (first : ℕ) (bursts : List Pending) → AllByRecursion (λ p. count_waiting p.beats ≡ 0) (take first bursts) → flat_map waiting_in (drop first bursts) ≡ flat_map waiting_in bursts
 waiting_past zero bursts before = refl
@@ -209,11 +181,5 @@ waiting_past (suc first) (p ∷ ps) before = waiting_past first ps before.1 ∙ 
 pub waiting_from : (bursts read current : List Pending) (waiting first : ℕ) → read ≡ bursts → bursts ≡ current → AreCounted bursts waiting first
     → flat_map waiting_in (take (length read - first) (drop first read)) ≡ flat_map waiting_in current
 waiting_from bursts read current waiting first same view counted =
-    ap (λ (ps : List Pending). flat_map waiting_in ps) (take_whole (length read - first) (drop first read) (omega (arith, length-drop first read)))
+    ap (λ (ps : List Pending). flat_map waiting_in ps) (take_all (length read - first) (drop first read) (omega (arith, length-drop first read)))
     ∙ ap (λ (ps : List Pending). flat_map waiting_in (drop first ps)) same ∙ waiting_past first bursts counted.before ∙ ap (λ (ps : List Pending). flat_map waiting_in ps) view
-  where
-    take_whole : (n : ℕ) (ps : List Pending) → length ps ≤ n → take n ps ≡ ps
-    take_whole zero [] short = refl
-    take_whole (suc n) [] short = refl
-    take_whole zero (p ∷ ps) short = absurd (omega (arith, short))
-    take_whole (suc n) (p ∷ ps) short = ap (λ (qs : List Pending). p ∷ qs) (take_whole n ps (omega (arith, short)))

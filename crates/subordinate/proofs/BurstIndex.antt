@@ -1,11 +1,11 @@
 -- What stays true of the queues of open bursts, and of the marks of those that may answer, when one is sent, changed or closed.
-use Rattle.std.proofs.Common.{◌≡◌, ℕ, zero, suc, ◌+◌, ◌*◌, ◌/◌, ◌%◌, ◌<◌, ◌≤◌, ◌==◌, Bool, true, false, ◌⊎◌, inl, inr, List, [], ◌∷◌, ◌++◌, drop, length, get_or, map, replicate, refl, sym, ◌∙◌, ap, subst, arith}
+use Rattle.std.proofs.Common.{◌≡◌, ℕ, zero, suc, ◌+◌, ◌*◌, ◌/◌, ◌%◌, ◌<◌, ◌==◌, Bool, true, false, ◌⊎◌, inl, inr, List, [], ◌∷◌, ◌++◌, drop, length, get_or, map, replicate, refl, sym, ◌∙◌, ap, subst, arith}
 use Rattle.std.proofs.Math.ListN.{set}
-use Rattle.std.proofs.lemmas.Bool.{cases_eq, eq-eqb, ne_eqb}
+use Rattle.std.proofs.lemmas.Bool.{cases_eq, ne_eqb}
 use Rattle.std.proofs.lemmas.List.{append-nil, get_or_default, get_or-set_other, get_or-set_same, length-set, map-append}
 use Rattle.std.proofs.lemmas.List.Elements.{filter-append}
 use Rattle.std.proofs.lemmas.List.Recursion.{found_set_other}
-use Rattle.std.proofs.lemmas.Option.{same_Some, slice_get-get_or}
+use Rattle.std.proofs.lemmas.Option.{same_Some, slice_get-get_or, slice_get_within}
 use Rattle.std.specs.List.{position_or_len, remove}
 use Rattle.std.specs.Prelude.{◌≢◌, IfSome, Option, Some, None, filter, find, if◌then◌else◌, option_map, position, slice_get}
 use Rattle.bus_words.proofs.FirstPlaces.{find-first, position_is_first, without_first-first}
@@ -15,7 +15,8 @@ use Rattle.subordinate.specs.FreeMemory.{Pending, has_serial, newly_pending}
 use Rattle.subordinate.specs.Inside.{no_burst}
 use Rattle.subordinate.specs.Laws.{RisesWithin, queue_of}
 use Rattle.subordinate.specs.declared.answers.Answers.{Answers}
-use Rattle.subordinate.proofs.OpenBursts.{rises-at, rises-without_first, serial_at}
+use Rattle.subordinate.proofs.OpenBursts.{rises-at, rises-without_first, serial_at, rises-found}
+use Rattle.std.proofs.lemmas.Bool.Decides.{nat_tests}
 
 -- the open burst at a place
 abbrev pub burst_at : List Pending → ℕ → Pending
@@ -25,67 +26,28 @@ burst_at bursts k = get_or bursts k (newly_pending 0 no_burst)
 
 pub first-serial : (queue : ℕ) (bursts : List Pending) → slice_get (serials_in bursts queue) 0 ≡ option_map (λ (p : Pending). p.serial) (find (is_in queue) bursts)
 first-serial queue [] = refl
-first-serial queue (p ∷ ps) = by_test (is_in queue p) (first-serial queue ps)
-  where
-    by_test : (b : Bool) → slice_get (serials_in ps queue) 0 ≡ option_map (λ (q : Pending). q.serial) (find (is_in queue) ps)
-        → slice_get (map (λ (q : Pending). q.serial) (if b then p ∷ filter (is_in queue) ps else filter (is_in queue) ps)) 0 ≡ option_map (λ (q : Pending). q.serial) (if b then Some p else find (is_in queue) ps)
-    by_test true rest = refl
-    by_test false rest = rest
-
-found_above : (low top : ℕ) (test : Pending → Bool) (bursts : List Pending) (p : Pending) → RisesWithin low top bursts → find test bursts ≡ Some p → low ≤ p.serial
-found_above low top test [] p rises found = absurd (cc (found))
-found_above low top test (q ∷ qs) p rises found = by_test (test q) found (found_above (q.serial + 1) top test qs p rises.1)
-  where
-    by_test : (b : Bool) → (if b then Some q else find test qs) ≡ Some p → (find test qs ≡ Some p → q.serial + 1 ≤ p.serial) → low ≤ p.serial
-    by_test true here rest = omega (arith, rises.0, ap (λ (r : Pending). r.serial) (same_Some q p here))
-    by_test false later rest = omega (arith, rises.0, rest later)
+first-serial queue (p ∷ ps) = grind (arith, first-serial queue ps)
 
 oldest_or_len : (low top : ℕ) (test : Pending → Bool) (bursts : List Pending) (p : Pending) → RisesWithin low top bursts → find test bursts ≡ Some p
     → position_or_len (has_serial p.serial) bursts ≡ position_or_len test bursts
 oldest_or_len low top test [] p rises found = refl
-oldest_or_len low top test (q ∷ qs) p rises found = by_test (test q) refl found (oldest_or_len (q.serial + 1) top test qs p rises.1)
-  where
-    by_test : (b : Bool) → test q ≡ b → (if b then Some q else find test qs) ≡ Some p → (find test qs ≡ Some p → position_or_len (has_serial p.serial) qs ≡ position_or_len test qs)
-        → position_or_len (has_serial p.serial) (q ∷ qs) ≡ position_or_len test (q ∷ qs)
-    by_test true passes here rest =
-        let same : q.serial ≡ p.serial = ap (λ (r : Pending). r.serial) (same_Some q p here) in
-        rw (passes, eq-eqb q.serial p.serial same) refl
-    by_test false fails later rest =
-        let above = found_above (q.serial + 1) top test qs p rises.1 later in
-        rw (fails, ne_eqb q.serial p.serial (λ same. omega (arith, above, same))) (omega (arith, rest later))
+oldest_or_len low top test (q ∷ qs) p rises found = grind (arith, nat_tests, rises-found (q.serial + 1) top test qs p rises.1, oldest_or_len (q.serial + 1) top test qs p rises.1)
 
 place_none : (test : Pending → Bool) (bursts : List Pending) → find test bursts ≡ None → position test bursts ≡ None
-place_none test bursts none = by_place (position test bursts) refl
-  where
-    by_place : (place : Option ℕ) → position test bursts ≡ place → position test bursts ≡ None
-    by_place None is = is
-    by_place (Some k) is =
-        let some = find-first test bursts k (newly_pending 0 no_burst) (position_is_first test bursts k is) in
-        absurd (cc (none, some))
+place_none test bursts none =
+    let k = position_or_len test bursts in
+    grind (arith, λ (place : position test bursts ≡ Some k). find-first test bursts k (newly_pending 0 no_burst) (position_is_first test bursts k place))
 
 -- it is found by a queue's first serial
 pub oldest_place : (queue : ℕ) (bursts : List Pending) (first : Option ℕ) (serial : ℕ) → Rise bursts → first ≡ slice_get (serials_in bursts queue) 0 → first ≡ Some serial
     → position (has_serial serial) bursts ≡ position (is_in queue) bursts
-oldest_place queue bursts first serial rise is some = by_found (find (is_in queue) bursts) refl
-  where
-    by_found : (found : Option Pending) → find (is_in queue) bursts ≡ found → position (has_serial serial) bursts ≡ position (is_in queue) bursts
-    by_found None none =
-        let no : slice_get (serials_in bursts queue) 0 ≡ None = first-serial queue bursts ∙ ap (option_map (λ (p : Pending). p.serial)) none in
-        absurd (cc (is, some, no))
-    by_found (Some p) found =
-        let yes : slice_get (serials_in bursts queue) 0 ≡ Some p.serial = first-serial queue bursts ∙ ap (option_map (λ (q : Pending). q.serial)) found in
-        let same : p.serial ≡ serial = cc (is, some, yes) in
-        rw (← same, oldest_or_len 0 rise.0 (is_in queue) bursts p rise.1 found) refl
+oldest_place queue bursts first serial rise is some =
+    grind (arith, first-serial queue bursts, λ (p : Pending). oldest_or_len 0 rise.0 (is_in queue) bursts p rise.1)
 
 pub oldest_none : (queue : ℕ) (bursts : List Pending) (first : Option ℕ) → first ≡ slice_get (serials_in bursts queue) 0 → first ≡ None
     → (position (is_in queue) bursts ≡ None) × (is_queue_ready bursts queue ≡ false)
-oldest_none queue bursts first is none = by_found (find (is_in queue) bursts) refl
-  where
-    by_found : (found : Option Pending) → find (is_in queue) bursts ≡ found → (position (is_in queue) bursts ≡ None) × (is_queue_ready bursts queue ≡ false)
-    by_found None missing = (place_none (is_in queue) bursts missing, ap is_found_ready missing)
-    by_found (Some p) found =
-        let yes : slice_get (serials_in bursts queue) 0 ≡ Some p.serial = first-serial queue bursts ∙ ap (option_map (λ (q : Pending). q.serial)) found in
-        absurd (cc (is, none, yes))
+oldest_none queue bursts first is none =
+    grind (arith, first-serial queue bursts, place_none (is_in queue) bursts)
 
 -- ---- no bursts
 
@@ -109,75 +71,51 @@ serials_append queue bursts burst =
     ap (map (λ (p : Pending). p.serial)) (filter-append (is_in queue) bursts (burst ∷ [])) ∙ map-append (λ (p : Pending). p.serial) (filter (is_in queue) bursts) (filter (is_in queue) (burst ∷ []))
 
 ready_append : (queue : ℕ) (bursts : List Pending) (burst : Pending) → is_ready burst ≡ false → is_queue_ready (bursts ++ burst ∷ []) queue ≡ is_queue_ready bursts queue
-ready_append queue [] burst waits = elim (is_in queue burst) as (λ b. is_found_ready (if b then Some burst else None) ≡ false) [ true ↦ waits | false ↦ refl ]
-ready_append queue (p ∷ ps) burst waits =
-    elim (is_in queue p) as (λ b. is_found_ready (if b then Some p else find (is_in queue) (ps ++ burst ∷ [])) ≡ is_found_ready (if b then Some p else find (is_in queue) ps))
-    [ true ↦ refl | false ↦ ready_append queue ps burst waits ]
+ready_append queue [] burst waits = grind arith
+ready_append queue (p ∷ ps) burst waits = grind (arith, ready_append queue ps burst waits)
 
 pub pushed : (bursts : List Pending) (burst : Pending) (queues : List (List ℕ)) (answers : Answers) → AreIndexed bursts queues answers → queue_of burst < 32 → is_ready burst ≡ false
     → AreIndexed (bursts ++ burst ∷ []) (set queues (queue_of burst) (get_or queues (queue_of burst) [] ++ burst.serial ∷ [])) answers
 pushed bursts burst queues answers indexed known waits =
     record {
       many = length-set queues (queue_of burst) _ ∙ indexed.many;
-      row = λ queue. by_queue queue (cases_eq queue (queue_of burst));
+      row = λ queue.
+          grind (
+            arith,
+            nat_tests,
+            indexed.row queue,
+            indexed.many,
+            serials_append queue bursts burst,
+            append-nil (serials_in bursts queue),
+            get_or-set_same queues (queue_of burst) (get_or queues (queue_of burst) [] ++ burst.serial ∷ []) [],
+            get_or-set_other queues (queue_of burst) queue (get_or queues (queue_of burst) [] ++ burst.serial ∷ []) [],
+          );
       marks = λ queue small. indexed.marks queue small ∙ sym (ready_append queue bursts burst waits);
     }
-  where
-    by_queue : (queue : ℕ) → (queue ≡ (queue_of burst)) ⊎ (queue ≡ (queue_of burst) → ⊥) → get_or (set queues (queue_of burst) (get_or queues (queue_of burst) [] ++ burst.serial ∷ [])) queue [] ≡ serials_in (bursts ++ burst ∷ []) queue
-    by_queue queue (inl same) =
-        let in_it : is_in queue burst ≡ true = eq-eqb (queue_of burst) queue (sym same) in
-        let added : serials_in (burst ∷ []) queue ≡ burst.serial ∷ [] = rw in_it refl in
-        ap (λ q. get_or (set queues (queue_of burst) (get_or queues (queue_of burst) [] ++ burst.serial ∷ [])) q []) same ∙ get_or-set_same queues (queue_of burst) (get_or queues (queue_of burst) [] ++ burst.serial ∷ []) [] (omega (arith, indexed.many, known))
-        ∙ ap (λ (serials : List ℕ). serials ++ burst.serial ∷ []) (ap (λ q. get_or queues q []) (sym same) ∙ indexed.row queue) ∙ sym (serials_append queue bursts burst ∙ ap (λ (more : List ℕ). serials_in bursts queue ++ more) added)
-    by_queue queue (inr other) =
-        let not_in : is_in queue burst ≡ false = ne_eqb (queue_of burst) queue (λ same. other (sym same)) in
-        let none : serials_in (burst ∷ []) queue ≡ [] = rw not_in refl in
-        get_or-set_other queues (queue_of burst) queue (get_or queues (queue_of burst) [] ++ burst.serial ∷ []) [] other ∙ indexed.row queue
-        ∙ sym (serials_append queue bursts burst ∙ ap (λ (more : List ℕ). serials_in bursts queue ++ more) none ∙ append-nil (serials_in bursts queue))
 
 -- ---- a burst that changed, and kept its serial and its queue
 
 serials_set : (queue : ℕ) (bursts : List Pending) (k : ℕ) (new : Pending) → k < length bursts → new.serial ≡ serial_at bursts k → queue_of new ≡ queue_of (burst_at bursts k)
     → serials_in (set bursts k new) queue ≡ serials_in bursts queue
 serials_set queue [] k new within same alike = absurd (omega (arith, within))
-serials_set queue (p ∷ ps) zero new within same alike = by_tests (is_in queue new) (is_in queue p) (ap (λ n. n == queue) alike)
-  where
-    by_tests : (a b : Bool) → a ≡ b
-        → map (λ (q : Pending). q.serial) (if a then new ∷ filter (is_in queue) ps else filter (is_in queue) ps) ≡ map (λ (q : Pending). q.serial) (if b then p ∷ filter (is_in queue) ps else filter (is_in queue) ps)
-    by_tests true true agree = ap (λ (serial : ℕ). serial ∷ serials_in ps queue) same
-    by_tests true false agree = absurd (cc (agree))
-    by_tests false true agree = absurd (cc (agree))
-    by_tests false false agree = refl
-serials_set queue (p ∷ ps) (suc k) new within same alike = by_test (is_in queue p) (serials_set queue ps k new (omega (arith, within)) same alike)
-  where
-    by_test : (b : Bool) → serials_in (set ps k new) queue ≡ serials_in ps queue
-        → map (λ (q : Pending). q.serial) (if b then p ∷ filter (is_in queue) (set ps k new) else filter (is_in queue) (set ps k new)) ≡ map (λ (q : Pending). q.serial) (if b then p ∷ filter (is_in queue) ps else filter (is_in queue) ps)
-    by_test true rest = ap (λ (serials : List ℕ). p.serial ∷ serials) rest
-    by_test false rest = rest
+serials_set queue (p ∷ ps) zero new within same alike = grind arith
+serials_set queue (p ∷ ps) (suc k) new within same alike = grind (arith, serials_set queue ps k new (omega (arith, within)) same alike)
 
 -- what is found after it, by what was found before
 abbrev set_found : Pending → Option Pending → Option Pending
 set_found new None = None
 set_found new (Some p) = if p.serial == new.serial then Some new else Some p
 
+set_found_ready : (new : Pending) (found : Option Pending) → (if is_first (option_map (λ (p : Pending). p.serial) found) new.serial then is_ready new else is_found_ready found) ≡ is_found_ready (set_found new found)
+set_found_ready new None = refl
+set_found_ready new (Some p) = elim (p.serial == new.serial) as (λ b. (if b then is_ready new else is_ready p) ≡ is_found_ready (if b then Some new else Some p)) [ true ↦ refl | false ↦ refl ]
+
 find_set : (low top : ℕ) (test : Pending → Bool) (bursts : List Pending) (k : ℕ) (new : Pending) → RisesWithin low top bursts → k < length bursts → new.serial ≡ serial_at bursts k → test new ≡ test (burst_at bursts k)
     → find test (set bursts k new) ≡ set_found new (find test bursts)
 find_set low top test [] k new rises within same alike = absurd (omega (arith, within))
-find_set low top test (p ∷ ps) zero new rises within same alike = by_test (test p) refl (find test ps) refl
-  where
-    by_test : (b : Bool) → test p ≡ b → (later : Option Pending) → find test ps ≡ later → find test (new ∷ ps) ≡ set_found new (find test (p ∷ ps))
-    by_test true passes later is = rw (passes, alike ∙ passes, eq-eqb p.serial new.serial (sym same)) refl
-    by_test false fails None is = rw (fails, alike ∙ fails, is) refl
-    by_test false fails (Some q) is =
-        let above = found_above (p.serial + 1) top test ps q rises.1 is in
-        rw (fails, alike ∙ fails, is, ne_eqb q.serial new.serial (λ equal. omega (arith, equal, same, above))) refl
-find_set low top test (p ∷ ps) (suc k) new rises within same alike = by_test (test p) refl (find_set (p.serial + 1) top test ps k new rises.1 (omega (arith, within)) same alike)
-  where
-    by_test : (b : Bool) → test p ≡ b → find test (set ps k new) ≡ set_found new (find test ps) → find test (p ∷ set ps k new) ≡ set_found new (find test (p ∷ ps))
-    by_test true passes rest =
-        let above = rises-at (p.serial + 1) top ps k rises.1 (omega (arith, within)) in
-        rw (passes, ne_eqb p.serial new.serial (λ equal. omega (arith, equal, same, above))) refl
-    by_test false fails rest = rw fails rest
+find_set low top test (p ∷ ps) zero new rises within same alike = grind (arith, nat_tests, λ (q : Pending). rises-found (p.serial + 1) top test ps q rises.1)
+find_set low top test (p ∷ ps) (suc k) new rises within same alike =
+    grind (arith, nat_tests, rises-at (p.serial + 1) top ps k rises.1 (omega (arith, within)), find_set (p.serial + 1) top test ps k new rises.1 (omega (arith, within)) same alike)
 
 pub changed : (bursts : List Pending) (k : ℕ) (new : Pending) (queues : List (List ℕ)) (old now : Answers) → Rise bursts → AreIndexed bursts queues old → k < length bursts → new.serial ≡ serial_at bursts k
     → queue_of new ≡ queue_of (burst_at bursts k) → queue_of new < 32
@@ -190,18 +128,10 @@ changed bursts k new queues old now rise indexed within same alike known here ot
       marks = λ queue small. by_queue queue small (cases_eq queue (queue_of new));
     }
   where
-    by_found : (found : Option Pending) → (if is_first (option_map (λ (p : Pending). p.serial) found) new.serial then is_ready new else is_found_ready found) ≡ is_found_ready (set_found new found)
-    by_found None = refl
-    by_found (Some p) = elim (p.serial == new.serial) as (λ b. (if b then is_ready new else is_ready p) ≡ is_found_ready (if b then Some new else Some p)) [ true ↦ refl | false ↦ refl ]
-
     by_queue : (queue : ℕ) → queue < 32 → (queue ≡ (queue_of new)) ⊎ (queue ≡ (queue_of new) → ⊥) → is_marked now queue ≡ is_queue_ready (set bursts k new) queue
     by_queue queue small (inl it_is) =
-        let first : slice_get (get_or queues (queue_of new) []) 0 ≡ option_map (λ (p : Pending). p.serial) (find (is_in (queue_of new)) bursts) = ap (λ (row : List ℕ). slice_get row 0) (indexed.row (queue_of new)) ∙ first-serial (queue_of new) bursts in
-        let found : find (is_in (queue_of new)) (set bursts k new) ≡ set_found new (find (is_in (queue_of new)) bursts) = find_set 0 rise.0 (is_in (queue_of new)) bursts k new rise.1 within same (ap (λ n. n == (queue_of new)) alike) in
-        ap (is_marked now) it_is ∙ here
-        ∙ ap (λ (o : Option ℕ). if is_first o new.serial then is_ready new else is_marked old (queue_of new)) first
-        ∙ ap (λ (b : Bool). if is_first (option_map (λ (p : Pending). p.serial) (find (is_in (queue_of new)) bursts)) new.serial then is_ready new else b) (indexed.marks (queue_of new) known)
-        ∙ by_found (find (is_in (queue_of new)) bursts) ∙ ap is_found_ready (sym found) ∙ ap (is_queue_ready (set bursts k new)) (sym it_is)
+        rw (it_is, find_set 0 rise.0 (is_in (queue_of new)) bursts k new rise.1 within same (ap (λ n. n == (queue_of new)) alike))
+        (here ∙ rw (indexed.row (queue_of new), first-serial (queue_of new) bursts, indexed.marks (queue_of new) known) (set_found_ready new (find (is_in (queue_of new)) bursts)))
     by_queue queue small (inr other) =
         let fails : is_in queue new ≡ false = ne_eqb (queue_of new) queue (λ equal. other (sym equal)) in
         let failed : is_in queue (burst_at bursts k) ≡ false = ap (λ n. n == queue) (sym alike) ∙ fails in
@@ -209,8 +139,7 @@ changed bursts k new queues old now rise indexed within same alike known here ot
         ∙ ap is_found_ready (sym (found_set_other (find (is_in queue)) (is_in queue) Some None refl (λ p ps. refl) bursts k new (newly_pending 0 no_burst) failed fails))
 
 pub here_now : (bursts current : List Pending) (k : ℕ) (was : Pending) → bursts ≡ current → k < length current → was ≡ get_or bursts k was → slice_get current k ≡ Some was
-here_now bursts current k was view inside is =
-    ap (λ (ps : List Pending). slice_get ps k) (sym view) ∙ slice_get-get_or bursts k was (subst (λ (ps : List Pending). k < length ps) (sym view) inside) ∙ ap Some (sym is)
+here_now bursts current k was view inside is = rw (← view) (slice_get-get_or bursts k was (rw (← view) at inside) ∙ ap Some (sym is))
 
 -- the same of a burst that was at a place, and is seen there afterwards
 pub noted : (bursts current : List Pending) (k : ℕ) (was new seen : Pending) (queues : List (List ℕ)) (old now : Answers) → bursts ≡ current → Rise current → AreIndexed bursts queues old → k < length current
@@ -250,30 +179,14 @@ read_at bursts current k was p view inside is some =
 
 serials_without : (queue : ℕ) (bursts : List Pending) → serials_in (without_first (is_in queue) bursts) queue ≡ drop 1 (serials_in bursts queue)
 serials_without queue [] = refl
-serials_without queue (p ∷ ps) = by_test (is_in queue p) refl (serials_without queue ps)
-  where
-    by_test : (b : Bool) → is_in queue p ≡ b → serials_in (without_first (is_in queue) ps) queue ≡ drop 1 (serials_in ps queue) → serials_in (without_first (is_in queue) (p ∷ ps)) queue ≡ drop 1 (serials_in (p ∷ ps) queue)
-    by_test true passes rest = rw passes refl
-    by_test false fails rest = rw (fails, fails) rest
+serials_without queue (p ∷ ps) = grind (arith, serials_without queue ps)
 
 without_other : (queue other : ℕ) (bursts : List Pending) → other ≢ queue
     → (serials_in (without_first (is_in queue) bursts) other ≡ serials_in bursts other) × (find (is_in other) (without_first (is_in queue) bursts) ≡ find (is_in other) bursts)
 without_other queue other [] differs = (refl, refl)
-without_other queue other (p ∷ ps) differs = by_tests (cases_eq (queue_of p) queue) (is_in other p) refl (without_other queue other ps differs)
-  where
-    by_tests : (queue_of p ≡ queue) ⊎ (queue_of p ≡ queue → ⊥) → (b : Bool) → is_in other p ≡ b
-        → (serials_in (without_first (is_in queue) ps) other ≡ serials_in ps other) × (find (is_in other) (without_first (is_in queue) ps) ≡ find (is_in other) ps)
-        → (serials_in (without_first (is_in queue) (p ∷ ps)) other ≡ serials_in (p ∷ ps) other) × (find (is_in other) (without_first (is_in queue) (p ∷ ps)) ≡ find (is_in other) (p ∷ ps))
-    by_tests (inl same) b is rest =
-        let passes : is_in queue p ≡ true = eq-eqb (queue_of p) queue same in
-        let fails : is_in other p ≡ false = ne_eqb (queue_of p) other (λ equal. differs (sym equal ∙ same)) in
-        (rw (passes, fails) refl, rw (passes, fails) refl)
-    by_tests (inr not_same) true is rest =
-        let fails : is_in queue p ≡ false = ne_eqb (queue_of p) queue not_same in
-        (rw (fails, is) (ap (λ (serials : List ℕ). p.serial ∷ serials) rest.0), rw (fails, is) refl)
-    by_tests (inr not_same) false is rest =
-        let fails : is_in queue p ≡ false = ne_eqb (queue_of p) queue not_same in
-        (rw (fails, is) rest.0, rw (fails, is) rest.1)
+without_other queue other (p ∷ ps) differs =
+    let rest = without_other queue other ps differs in
+    (grind (arith, nat_tests, rest.0), grind (arith, nat_tests, rest.1))
 
 -- what is known when the oldest burst of a queue, at this place, is taken out
 pub record IsTaken (bursts : List Pending) (queues : List (List ℕ)) (queue k : ℕ) : Type 0 where
@@ -285,7 +198,7 @@ pub taken : (bursts : List Pending) (queues : List (List ℕ)) (answers : Answer
 taken bursts queues answers queue k rise indexed known place =
     record {
       rise = (rise.0, rw (← cut) (rises-without_first 0 rise.0 (is_in queue) bursts rise.1));
-      some = at_least (get_or queues queue []) _ first;
+      some = slice_get_within (get_or queues queue []) 0 _ first;
       first = get_or-set_same queues queue (drop 1 (get_or queues queue [])) [] (omega (arith, indexed.many, known)) ∙ ap (drop 1) (indexed.row queue) ∙ sym (serials_without queue bursts) ∙ ap (λ (ps : List Pending). serials_in ps queue) cut;
     }
   where
@@ -297,32 +210,27 @@ taken bursts queues answers queue k rise indexed known place =
         ap (λ (row : List ℕ). slice_get row 0) (indexed.row queue) ∙ first-serial queue bursts
         ∙ ap (option_map (λ (p : Pending). p.serial)) (find-first (is_in queue) bursts k (newly_pending 0 no_burst) (position_is_first (is_in queue) bursts k place))
 
-    at_least : (row : List ℕ) (serial : ℕ) → slice_get row 0 ≡ Some serial → 0 < length row
-    at_least [] serial some = absurd (cc (some))
-    at_least (x ∷ xs) serial some = omega arith
-
 pub closed : (bursts : List Pending) (queues : List (List ℕ)) (old now : Answers) (queue k : ℕ) → Rise bursts → AreIndexed bursts queues old → queue < 32 → position (is_in queue) bursts ≡ Some k
     → is_marked now queue ≡ is_queue_ready (remove bursts k) queue → ((other : ℕ) → other < 32 → other ≢ queue → is_marked now other ≡ is_marked old other)
     → AreIndexed (remove bursts k) (set queues queue (drop 1 (get_or queues queue []))) now
 closed bursts queues old now queue k rise indexed known place here others =
     record {
       many = length-set queues queue _ ∙ indexed.many;
-      row = λ other. by_row other (cases_eq other queue);
-      marks = λ other small. by_mark other small (cases_eq other queue);
+      row = λ other.
+          elim (cases_eq other queue) [
+            | inl same ↦ rw same (taken bursts queues old queue k rise indexed known place).first
+            | inr differs ↦ get_or-set_other queues queue other _ [] differs ∙ indexed.row other ∙ sym (without_other queue other bursts differs).0 ∙ ap (λ (ps : List Pending). serials_in ps other) cut
+          ];
+      marks = λ other small.
+          elim (cases_eq other queue) [
+            | inl same ↦ rw same here
+            | inr differs ↦
+                others other small differs ∙ indexed.marks other small ∙ ap is_found_ready (sym (without_other queue other bursts differs).1) ∙ ap (λ (ps : List Pending). is_queue_ready ps other) cut
+          ];
     }
   where
     cut : without_first (is_in queue) bursts ≡ remove bursts k
     cut = without_first-first (is_in queue) bursts k (position_is_first (is_in queue) bursts k place)
-
-    by_row : (other : ℕ) → (other ≡ queue) ⊎ (other ≡ queue → ⊥) → get_or (set queues queue (drop 1 (get_or queues queue []))) other [] ≡ serials_in (remove bursts k) other
-    by_row other (inl same) = rw same (taken bursts queues old queue k rise indexed known place).first
-    by_row other (inr differs) =
-        get_or-set_other queues queue other _ [] differs ∙ indexed.row other ∙ sym (without_other queue other bursts differs).0 ∙ ap (λ (ps : List Pending). serials_in ps other) cut
-
-    by_mark : (other : ℕ) → other < 32 → (other ≡ queue) ⊎ (other ≡ queue → ⊥) → is_marked now other ≡ is_queue_ready (remove bursts k) other
-    by_mark other small (inl same) = rw same here
-    by_mark other small (inr differs) =
-        others other small differs ∙ indexed.marks other small ∙ ap is_found_ready (sym (without_other queue other bursts differs).1) ∙ ap (λ (ps : List Pending). is_queue_ready ps other) cut
 
 -- ---- a queue's mark by its ID
 

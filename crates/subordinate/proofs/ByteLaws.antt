@@ -1,11 +1,11 @@
 -- The bytes of good pages, read and set: a byte that is set is read back, and every other byte stays.
-use Rattle.std.proofs.Common.{◌≡◌, ℕ, ◌/◌, ◌%◌, ◌<◌, ◌==◌, Bool, true, false, cond, List, [], ◌∷◌, length, get_or, inl, inr, refl, sym, ◌∙◌, ap, arith}
+use Rattle.std.proofs.Common.{◌≡◌, ℕ, ◌/◌, ◌%◌, ◌<◌, ◌==◌, Bool, true, false, List, [], ◌∷◌, length, get_or, inl, inr, refl, sym, ◌∙◌, ap, arith}
 use Rattle.std.proofs.Math.ListN.{set, length-set}
 use Rattle.std.proofs.Math.Seq.{get_or-set_same, get_or-set_other, set_out}
-use Rattle.std.proofs.lemmas.Bool.{cases_lt, ne_eqb}
-use Rattle.std.proofs.lemmas.Bool.Decides.{eqb_tells}
+use Rattle.std.proofs.lemmas.Bool.{cases_lt, ne_eqb, eq-eqb}
+use Rattle.std.proofs.lemmas.Bool.Decides.{eqb_tells, nat_tests}
 use Rattle.std.specs.List.{AllByRecursion}
-use Rattle.std.specs.Prelude.{Option, Some, None, IfSome, find, is_some, option_map, if◌then◌else◌}
+use Rattle.std.specs.Prelude.{Option, Some, None, IfSome, find, is_some, option_map}
 use Rattle.bus_words.specs.Lanes.{lane_byte}
 use Rattle.bus_words.specs.Places.{change_first}
 use Rattle.subordinate.specs.Effects.{IsWholePage}
@@ -16,22 +16,15 @@ use Rattle.subordinate.proofs.PageLaws.{lane_byte-word_with_byte}
 
 find-change_first-same : {X : Type 0} (p : X → Bool) (f : X → X) (xs : List X) → ((x : X) → p (f x) ≡ p x) → find p (change_first p f xs) ≡ option_map f (find p xs)
 find-change_first-same p f [] same = refl
-find-change_first-same p f (x ∷ xs) same =
-    elim (p x) as (λ b. p (f x) ≡ b → find p (if b then f x ∷ xs else x ∷ change_first p f xs) ≡ option_map f (cond b (Some x) (find p xs)))
-    [ true ↦ (λ passes. rw passes refl) | false ↦ (λ fails. rw (sym (same x) ∙ fails) (find-change_first-same p f xs same)) ]
-    (same x)
+find-change_first-same p f (x ∷ xs) same = grind (arith, same x, find-change_first-same p f xs same)
 
 find-change_first-other : {X : Type 0} (p q : X → Bool) (f : X → X) (xs : List X) → ((x : X) → q (f x) ≡ q x) → ((x : X) → p x ≡ true → q x ≡ false) → find q (change_first p f xs) ≡ find q xs
 find-change_first-other p q f [] same apart = refl
-find-change_first-other p q f (x ∷ xs) same apart =
-    elim (p x) as (λ b. p x ≡ b → find q (if b then f x ∷ xs else x ∷ change_first p f xs) ≡ find q (x ∷ xs))
-    [ true ↦ (λ passes. rw (same x, apart x passes) refl) | false ↦ (λ fails. ap (λ rest. cond (q x) (Some x) rest) (find-change_first-other p q f xs same apart)) ]
-    refl
+find-change_first-other p q f (x ∷ xs) same apart = grind (arith, same x, apart x, find-change_first-other p q f xs same apart)
 
 found_whole : (p : GoodPage → Bool) (memory : Memory) → AllByRecursion IsWholePage memory → IfSome (find p memory) IsWholePage
 found_whole p [] whole = tt
-found_whole p (page ∷ memory) whole =
-    elim (p page) as (λ b. IfSome (cond b (Some page) (find p memory)) IsWholePage) [ true ↦ whole.0 | false ↦ found_whole p memory whole.1 ]
+found_whole p (page ∷ memory) whole = grind (arith, whole.0, found_whole p memory whole.1)
 
 -- ---- one page
 
@@ -48,10 +41,7 @@ byte_in-set_in address byte page small whole =
     let within : word_place address < length page.words = omega (arith, whole) in
     ap (λ word. lane_byte word (address % 8)) (get_or-set_same page.words (word_place address) (word_with_byte (address % 8) byte (get_or page.words (word_place address) 0)) 0 within)
     ∙ lane_byte-word_with_byte (get_or page.words (word_place address) 0) (address % 8) byte (address % 8) small (omega arith)
-    ∙ rw itself refl
-  where
-    itself : ((address % 8) == (address % 8)) ≡ true
-    itself = elim (eqb_tells (address % 8) (address % 8)) [ inl one ↦ one.0 | inr two ↦ absurd (two.1 refl) ]
+    ∙ rw (eq-eqb (address % 8) (address % 8) refl) refl
 
 other_lane : (words : List ℕ) (k lane other byte : ℕ) → (other == lane) ≡ false → other < 8 → byte < 256
     → lane_byte (get_or (set words k (word_with_byte lane byte (get_or words k 0))) k 0) other ≡ lane_byte (get_or words k 0) other
@@ -105,11 +95,7 @@ other_page-read memory address x byte other =
     ∙ sym (byte_at_address-page memory x)
   where
     apart : (page : GoodPage) → holds_address address page ≡ true → holds_address x page ≡ false
-    apart page holds =
-        elim (eqb_tells page.number (address / 4096)) [
-          | inl here ↦ ne_eqb page.number (x / 4096) (λ same. other (sym same ∙ here.1))
-          | inr there ↦ absurd (cc (there.0, holds))
-        ]
+    apart page holds = grind (arith, nat_tests)
 
 -- a byte that is set is read back
 pub byte_at_address-with_byte : (memory : Memory) (address byte : ℕ) → byte < 256 → AllByRecursion IsWholePage memory → is_some (byte_at_address memory address) ≡ true
@@ -140,24 +126,22 @@ byte_at_address-with_byte-other memory address x byte small apart =
 
 -- no byte comes or goes
 pub is_some-with_byte : (memory : Memory) (address x byte : ℕ) → is_some (byte_at_address (with_byte memory address byte) x) ≡ is_some (byte_at_address memory x)
-is_some-with_byte memory address x byte = elim (eqb_tells (x / 4096) (address / 4096)) [ inl same ↦ near same.1 | inr other ↦ ap is_some (other_page-read memory address x byte other.1) ]
-  where
-    in_page : (found : Option GoodPage) → is_some (option_map (byte_in x) (option_map (set_in address byte) found)) ≡ is_some (option_map (byte_in x) found)
-    in_page None = refl
-    in_page (Some page) = refl
-
-    near : x / 4096 ≡ address / 4096 → is_some (byte_at_address (with_byte memory address byte) x) ≡ is_some (byte_at_address memory x)
-    near same =
-        ap is_some (same_page-read memory address x byte same)
-        ∙ in_page (find (holds_address address) memory)
-        ∙ ap (λ found. is_some (option_map (byte_in x) found)) (sym (same_page-find memory x address same))
-        ∙ ap is_some (sym (byte_at_address-page memory x))
+is_some-with_byte memory address x byte =
+    grind (
+      arith,
+      nat_tests,
+      same_page-read memory address x byte,
+      other_page-read memory address x byte,
+      same_page-find memory x address,
+      byte_at_address-page memory x,
+    )
 
 -- pages stay whole
 pub whole-with_byte : (memory : Memory) (address byte : ℕ) → AllByRecursion IsWholePage memory → AllByRecursion IsWholePage (with_byte memory address byte)
 whole-with_byte [] address byte whole = whole
 whole-with_byte (page ∷ memory) address byte whole =
-    elim (holds_address address page) as (λ b. AllByRecursion IsWholePage (if b then set_in address byte page ∷ memory else page ∷ change_first (holds_address address) (set_in address byte) memory)) [
-      | true ↦ (length-set page.words (word_place address) (word_with_byte (address % 8) byte (get_or page.words (word_place address) 0)) ∙ whole.0, whole.1)
-      | false ↦ (whole.0, whole-with_byte memory address byte whole.1)
-    ]
+    grind (
+      arith,
+      length-set page.words (word_place address) (word_with_byte (address % 8) byte (get_or page.words (word_place address) 0)),
+      whole-with_byte memory address byte whole.1,
+    )

@@ -33,32 +33,25 @@ pub payload_of-read : (bus_bytes : ℕ) (memory : Memory) (ar : ArBeat) (n word 
     → merged 0 (word / 2 ^ (8 * first_lane bus_bytes (transfer_address ar.address ar.size n))) lanes ≡ payload_of (byte_in_lane bus_bytes memory ar n)
 payload_of-read bus_bytes memory ar n word lanes is found between = word_of_lanes-same _ _ at
   where
-    by_cover : (lane : ℕ) (b : Bool) → covers_lane bus_bytes ar.address ar.size n lane ≡ b
-        → (if b then lane_byte (word / 2 ^ (8 * first_lane bus_bytes (transfer_address ar.address ar.size n))) lane else lane_byte 0 lane)
-        ≡ unwrap_or (if b then byte_at_address memory (lane_address bus_bytes ar.address ar.size n lane) else None) 0
-    by_cover lane true covered =
-        lane_byte-down word (first_lane bus_bytes (transfer_address ar.address ar.size n)) lane
-        ∙ sym (ap (λ (byte : Option ℕ). unwrap_or byte 0) (byte_at_lane bus_bytes memory ar n lane (Some word) is found covered))
-    by_cover lane false bare = lane_byte-past 0 0 lane (lit< tt) (omega arith)
-
     at : (lane : ℕ) → lane < 8
         → (if has_lane lanes lane then lane_byte (word / 2 ^ (8 * first_lane bus_bytes (transfer_address ar.address ar.size n))) lane else lane_byte 0 lane)
         ≡ unwrap_or (byte_in_lane bus_bytes memory ar n lane) 0
     at lane below =
-        ap (λ b. if b then lane_byte (word / 2 ^ (8 * first_lane bus_bytes (transfer_address ar.address ar.size n))) lane else lane_byte 0 lane) (between lane below)
-        ∙ by_cover lane (covers_lane bus_bytes ar.address ar.size n lane) refl
+        grind (
+          arith,
+          between lane below,
+          lane_byte-down word (first_lane bus_bytes (transfer_address ar.address ar.size n)) lane,
+          lane_byte-past 0 0 lane (lit< tt) (omega arith),
+          byte_at_lane bus_bytes memory ar n lane (Some word) is found,
+        )
 
 -- outside good pages nothing is captured
 pub payload_of-absent : (bus_bytes : ℕ) (memory : Memory) (ar : ArBeat) (n : ℕ) → IsTransferOf bus_bytes ar.address ar.len ar.size n
     → word_at memory (transfer_address ar.address ar.size n) ≡ None → payload_of (byte_in_lane bus_bytes memory ar n) ≡ 0
 payload_of-absent bus_bytes memory ar n is missing = word_of_lanes-same _ (λ lane. 0) at
   where
-    by_cover : (lane : ℕ) (b : Bool) → covers_lane bus_bytes ar.address ar.size n lane ≡ b → unwrap_or (if b then byte_at_address memory (lane_address bus_bytes ar.address ar.size n lane) else None) 0 ≡ 0
-    by_cover lane true covered = ap (λ (byte : Option ℕ). unwrap_or byte 0) (byte_at_lane bus_bytes memory ar n lane None is missing covered)
-    by_cover lane false bare = refl
-
     at : (lane : ℕ) → lane < 8 → unwrap_or (byte_in_lane bus_bytes memory ar n lane) 0 ≡ 0
-    at lane below = by_cover lane (covers_lane bus_bytes ar.address ar.size n lane) refl
+    at lane below = grind (arith, byte_at_lane bus_bytes memory ar n lane None is missing)
 
 pub captured-absent : (bus_bytes : ℕ) (faults : Faults) (memory : Memory) (ar : ArBeat) (n address : ℕ) (resp : Resp) (word : Option ℕ) → IsTransferOf bus_bytes ar.address ar.len ar.size n
     → address ≡ transfer_address ar.address ar.size n → resp ≡ read_response faults address → word ≡ word_at memory address → word ≡ None → Captured 0 resp ≡ captured bus_bytes faults memory ar n

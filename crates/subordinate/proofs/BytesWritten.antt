@@ -4,8 +4,8 @@ use Rattle.std.specs.Prelude.{if◌then◌else◌, fold}
 use Rattle.std.specs.Int.{bit_at}
 use Rattle.std.specs.List.{range_with_len}
 use Rattle.std.proofs.Math.Nat.{add-zero}
-use Rattle.std.proofs.lemmas.Bool.{and_parts, cases_lt, ne_eqb}
-use Rattle.std.proofs.lemmas.Bool.Decides.{eqb_tells}
+use Rattle.std.proofs.lemmas.Bool.{and_parts, cases_lt}
+use Rattle.std.proofs.lemmas.Bool.Decides.{nat_tests}
 use Rattle.std.proofs.lemmas.Nat.{pow_pos}
 use Rattle.std.proofs.lemmas.Nat.Bits.{bit_at_cat_high, bit_at_cat_low, bit_at-zero}
 use Rattle.bus_words.specs.Lanes.{has_lane, lane_byte, word_of_lanes}
@@ -35,17 +35,12 @@ bytes_set test payload first word from count = fold (byte_set test payload first
 
 lane_byte-byte_set-other : (test : ℕ → Bool) (payload first word lane other : ℕ) → (other ≡ first + lane → ⊥) → other < 8 → lane_byte (byte_set test payload first word lane) other ≡ lane_byte word other
 lane_byte-byte_set-other test payload first word lane other apart below =
-    elim (test lane) as (λ b. lane_byte (if b then word_with_byte (first + lane) (lane_byte payload lane) word else word) other ≡ lane_byte word other)
-    [ true ↦ lane_byte-word_with_byte word (first + lane) (lane_byte payload lane) other (lane_byte-lt payload lane) below ∙ rw (ne_eqb other (first + lane) apart) refl | false ↦ refl ]
+    grind (arith, nat_tests, apart, lane_byte-word_with_byte word (first + lane) (lane_byte payload lane) other (lane_byte-lt payload lane) below)
 
 lane_byte-byte_set-same : (test : ℕ → Bool) (payload first word lane : ℕ) → first + lane < 8
     → lane_byte (byte_set test payload first word lane) (first + lane) ≡ (if test lane then lane_byte payload lane else lane_byte word (first + lane))
 lane_byte-byte_set-same test payload first word lane below =
-    elim (test lane) as (λ b. lane_byte (if b then word_with_byte (first + lane) (lane_byte payload lane) word else word) (first + lane) ≡ (if b then lane_byte payload lane else lane_byte word (first + lane)))
-    [ true ↦ lane_byte-word_with_byte word (first + lane) (lane_byte payload lane) (first + lane) (lane_byte-lt payload lane) below ∙ rw itself refl | false ↦ refl ]
-  where
-    itself : ((first + lane) == (first + lane)) ≡ true
-    itself = elim (eqb_tells (first + lane) (first + lane)) [ inl one ↦ one.0 | inr two ↦ absurd (two.1 refl) ]
+    grind (arith, nat_tests, lane_byte-word_with_byte word (first + lane) (lane_byte payload lane) (first + lane) (lane_byte-lt payload lane) below)
 
 -- ---- lanes in a row
 
@@ -64,14 +59,10 @@ lane_byte-bytes_set test payload first word from (suc count) lane low high below
       | inl later ↦
           lane_byte-bytes_set test payload first (byte_set test payload first word from) (from + 1) count lane (omega arith) (omega arith) below
           ∙ ap (λ (byte : ℕ). if test lane then lane_byte payload lane else byte) (lane_byte-byte_set-other test payload first word from (first + lane) (λ same. absurd (omega (arith, same, later))) below)
-      | inr here ↦ at_here (omega arith)
+      | inr here ↦
+          (let same : from ≡ lane = omega arith in lane_byte-bytes_set-past test payload first (byte_set test payload first word from) (from + 1) count (first + lane) (omega arith) below
+          ∙ rw same (lane_byte-byte_set-same test payload first word lane below))
     ]
-  where
-    at_here : from ≡ lane
-        → lane_byte (bytes_set test payload first (byte_set test payload first word from) (from + 1) count) (first + lane) ≡ (if test lane then lane_byte payload lane else lane_byte word (first + lane))
-    at_here same =
-        lane_byte-bytes_set-past test payload first (byte_set test payload first word from) (from + 1) count (first + lane) (omega arith) below
-        ∙ rw same (lane_byte-byte_set-same test payload first word lane below)
 
 -- a word stays a word of its lanes
 byte_set-word : (test : ℕ → Bool) (payload first word lane : ℕ) → word_of_lanes (lane_byte word) ≡ word → word_of_lanes (lane_byte (byte_set test payload first word lane)) ≡ byte_set test payload first word lane
@@ -130,15 +121,8 @@ bytes_set-merged test payload strobes first word fit few fits = sym (bytes_set-w
           | inl before ↦
               lane_byte-bytes_set-past test payload first word 0 8 lane (omega arith) below
               ∙ ap (λ b. if b then lane_byte (payload * 2 ^ (8 * first) % 2 ^ 64) lane else lane_byte word lane) (sym (has_lane-moved_below strobes first lane few before))
-          | inr from ↦ from_first from
+          | inr from ↦ (let whole : first + (lane - first) ≡ lane = omega arith in rw whole at (up (lane - first) (omega arith)))
         ]
-      where
-        from_first : first ≤ lane
-            → lane_byte (bytes_set test payload first word 0 8) lane
-            ≡ (if has_lane (strobes * 2 ^ first % 2 ^ 8) lane then lane_byte (payload * 2 ^ (8 * first) % 2 ^ 64) lane else lane_byte word lane)
-        from_first from =
-            let whole : first + (lane - first) ≡ lane = omega arith in
-            rw whole at (up (lane - first) (omega arith))
 
 -- ---- a transfer
 

@@ -1,27 +1,28 @@
 -- What performing a beat of a legal burst does, by addresses.
-use Rattle.std.proofs.Common.{◌≡◌, ℕ, zero, suc, ◌+◌, ◌*◌, ◌/◌, ◌%◌, ◌<◌, ◌≤◌, ◌==◌, Bool, true, false, ◌&&◌, nat_le, nat_lt, length, inl, inr, refl, sym, ◌∙◌, ap, arith}
+use Rattle.std.proofs.Common.{◌≡◌, ℕ, zero, suc, ◌+◌, ◌*◌, ◌/◌, ◌%◌, ◌<◌, ◌≤◌, Bool, true, false, nat_le, inl, inr, refl, sym, ◌∙◌, ap, arith, subst}
 use Rattle.std.proofs.lemmas.Bool.{cases_lt, leb-true, le-leb, and_parts, and_from}
-use Rattle.std.specs.List.{AllByRecursion, enumerate_from, list_all, range_with_len}
-use Rattle.std.specs.Prelude.{Option, Some, None, IfSome, find, fold, is_some, option_map, slice_get, unwrap_or, if◌then◌else◌}
+use Rattle.std.specs.List.{AllByRecursion, range_with_len}
+use Rattle.std.specs.Prelude.{Option, Some, None, IfSome, find, fold, is_some, slice_get, unwrap_or, if◌then◌else◌}
 use Rattle.bus_words.specs.Lanes.{has_lane, lane_byte, payload_of}
 use Rattle.bus_words.proofs.LaneLaws.{MayGiveBytes, lane_byte-payload_of}
-use Rattle.axi_beats.specs.Bursts.{Burst, WriteBurst, ReadBurst, IsLegal, is_legal_address, is_legal_data}
+use Rattle.axi_beats.specs.Bursts.{Burst, WriteBurst, ReadBurst, IsLegal, is_legal_address}
 use Rattle.axi_beats.specs.Responses.{is_okay}
-use Rattle.axi_beats.specs.Transfers.{IsBusWidth, covers_lane, fits_bus, in_one_page, lane_address, transfer_address, transfer_end, transfer_has}
+use Rattle.axi_beats.specs.Transfers.{IsBusWidth, covers_lane, fits_bus, lane_address, transfer_address, transfer_end, transfer_has}
 use Rattle.axi_beats.specs.declared.ArBeat.{ArBeat}
 use Rattle.axi_beats.specs.declared.AwBeat.{AwBeat}
 use Rattle.axi_beats.specs.declared.Resp.{Resp}
 use Rattle.axi_beats.specs.declared.WBeat.{WBeat}
 use Rattle.axi_beats.proofs.TransferLaws.{covers_lane-mod, lane_address-mod, lane_address_within, mod-lane_address}
 use Rattle.subordinate.specs.Effects.{HasEffect, HasEffectAt, HasGoodPages, IsCaptured, IsWholePage, IsWritten, strobes_byte}
-use Rattle.subordinate.specs.Faults.{IsAbsent, IsGood, IsSlaveError, Standing, is_bad, is_good, lists_page, read_response, read_response_on, standing_at, standing_of_listed}
-use Rattle.subordinate.specs.FreeMemory.{FreeMemory, Pending, beat_at, has_serial, performed, performed_beat, performed_in, byte_in_lane, bytes_written, captured, lane_written, memory_after, memory_with, with_performed, writes_lane}
-use Rattle.subordinate.specs.declared.BeatState.{BeatState}
-use Rattle.subordinate.specs.declared.BeatState.TheVariants.{Waiting, Written, Captured}
-use Rattle.subordinate.specs.Pages.{Memory, byte_at_address, with_byte, word_at}
+use Rattle.subordinate.specs.Faults.{Standing, is_bad, is_good, lists_page, read_response, read_response_on, standing_at, standing_of_listed}
+use Rattle.subordinate.specs.FreeMemory.{FreeMemory, Pending, has_serial, performed, byte_in_lane, bytes_written, captured, lane_written, memory_after, memory_with, with_performed, writes_lane}
+use Rattle.subordinate.specs.declared.BeatState.TheVariants.{Captured}
+use Rattle.subordinate.specs.Pages.{Memory, byte_at_address}
 use Rattle.subordinate.specs.declared.Performed.TheVariants.{Done}
 use Rattle.subordinate.proofs.ByteLaws.{byte_at_address-with_byte, byte_at_address-with_byte-other, is_some-with_byte, whole-with_byte}
 use Rattle.subordinate.proofs.PageLaws.{lane_byte-lt}
+use Rattle.subordinate.proofs.PerformedBeats.{performs_done, Performs}
+use Rattle.subordinate.specs.declared.Performed.{Performed}
 
 -- whether the byte of a lane is set, and is that at x
 abbrev SetsByte : ℕ → AwBeat → ℕ → WBeat → ℕ → ℕ → Type 0
@@ -32,12 +33,10 @@ SetsByte bus_bytes aw n w x lane = (writes_lane bus_bytes aw n w lane ≡ true) 
 lane_written-other : (bus_bytes : ℕ) (aw : AwBeat) (n : ℕ) (w : WBeat) (memory : Memory) (lane x : ℕ) → (SetsByte bus_bytes aw n w x lane → ⊥)
     → byte_at_address (lane_written bus_bytes aw n w memory lane) x ≡ byte_at_address memory x
 lane_written-other bus_bytes aw n w memory lane x apart =
-    elim (writes_lane bus_bytes aw n w lane) as (λ b. (b ≡ true → lane_address bus_bytes aw.address aw.size n lane ≡ x → ⊥)
-    → byte_at_address (if b then with_byte memory (lane_address bus_bytes aw.address aw.size n lane) (lane_byte w.payload lane) else memory) x ≡ byte_at_address memory x) [
-      | true ↦ (λ free. byte_at_address-with_byte-other memory (lane_address bus_bytes aw.address aw.size n lane) x (lane_byte w.payload lane) (lane_byte-lt w.payload lane) (λ same. free refl (sym same)))
-      | false ↦ (λ free. refl)
-    ]
-    (λ writes same. apart (writes, same))
+    grind (
+      arith,
+      λ (writes : writes_lane bus_bytes aw n w lane ≡ true). byte_at_address-with_byte-other memory (lane_address bus_bytes aw.address aw.size n lane) x (lane_byte w.payload lane) (lane_byte-lt w.payload lane) (λ same. apart (writes, sym same)),
+    )
 
 lane_written-same : (bus_bytes : ℕ) (aw : AwBeat) (n : ℕ) (w : WBeat) (memory : Memory) (lane x : ℕ) → SetsByte bus_bytes aw n w x lane → AllByRecursion IsWholePage memory
     → is_some (byte_at_address memory x) ≡ true → byte_at_address (lane_written bus_bytes aw n w memory lane) x ≡ Some (lane_byte w.payload lane)
@@ -46,14 +45,10 @@ lane_written-same bus_bytes aw n w memory lane x sets whole there =
 
 is_some-lane_written : (bus_bytes : ℕ) (aw : AwBeat) (n : ℕ) (w : WBeat) (memory : Memory) (lane x : ℕ)
     → is_some (byte_at_address (lane_written bus_bytes aw n w memory lane) x) ≡ is_some (byte_at_address memory x)
-is_some-lane_written bus_bytes aw n w memory lane x =
-    elim (writes_lane bus_bytes aw n w lane) as (λ b. is_some (byte_at_address (if b then with_byte memory (lane_address bus_bytes aw.address aw.size n lane) (lane_byte w.payload lane) else memory) x) ≡ is_some (byte_at_address memory x))
-    [ true ↦ is_some-with_byte memory (lane_address bus_bytes aw.address aw.size n lane) x (lane_byte w.payload lane) | false ↦ refl ]
+is_some-lane_written bus_bytes aw n w memory lane x = grind (arith, is_some-with_byte memory (lane_address bus_bytes aw.address aw.size n lane) x (lane_byte w.payload lane))
 
 whole-lane_written : (bus_bytes : ℕ) (aw : AwBeat) (n : ℕ) (w : WBeat) (memory : Memory) (lane : ℕ) → AllByRecursion IsWholePage memory → AllByRecursion IsWholePage (lane_written bus_bytes aw n w memory lane)
-whole-lane_written bus_bytes aw n w memory lane whole =
-    elim (writes_lane bus_bytes aw n w lane) as (λ b. AllByRecursion IsWholePage (if b then with_byte memory (lane_address bus_bytes aw.address aw.size n lane) (lane_byte w.payload lane) else memory))
-    [ true ↦ whole-with_byte memory (lane_address bus_bytes aw.address aw.size n lane) (lane_byte w.payload lane) whole | false ↦ whole ]
+whole-lane_written bus_bytes aw n w memory lane whole = grind (arith, whole-with_byte memory (lane_address bus_bytes aw.address aw.size n lane) (lane_byte w.payload lane) whole)
 
 -- ---- lanes in a row
 
@@ -75,17 +70,11 @@ lanes_written-same bus_bytes aw n w memory from (suc count) x lane low high sets
       | inl later ↦
           lanes_written-same bus_bytes aw n w (lane_written bus_bytes aw n w memory from) (from + 1) count x lane (omega arith) (omega arith) sets (whole-lane_written bus_bytes aw n w memory from whole)
           (is_some-lane_written bus_bytes aw n w memory from x ∙ there)
-      | inr here ↦ at_here (omega arith)
+      | inr here ↦
+          (let same : from ≡ lane = omega arith in rw same
+          (lanes_written-other bus_bytes aw n w (lane_written bus_bytes aw n w memory lane) (lane + 1) count x (λ other past more. absurd (omega (arith, sets.1, more.1)))
+          ∙ lane_written-same bus_bytes aw n w memory lane x sets whole there))
     ]
-  where
-    -- a later lane has another address
-    apart : (other : ℕ) → lane + 1 ≤ other → SetsByte bus_bytes aw n w x other → ⊥
-    apart other past more = absurd (omega (arith, sets.1, more.1))
-
-    at_here : from ≡ lane → byte_at_address (lanes_written bus_bytes aw n w (lane_written bus_bytes aw n w memory from) (from + 1) count) x ≡ Some (lane_byte w.payload lane)
-    at_here same =
-        rw same
-        (lanes_written-other bus_bytes aw n w (lane_written bus_bytes aw n w memory lane) (lane + 1) count x apart ∙ lane_written-same bus_bytes aw n w memory lane x sets whole there)
 
 is_some-lanes_written : (bus_bytes : ℕ) (aw : AwBeat) (n : ℕ) (w : WBeat) (memory : Memory) (from count x : ℕ)
     → is_some (byte_at_address (lanes_written bus_bytes aw n w memory from count) x) ≡ is_some (byte_at_address memory x)
@@ -111,7 +100,7 @@ unfolding bytes_written
 whole-bytes_written bus_bytes memory aw n w whole = whole-lanes_written bus_bytes aw n w memory 0 8 whole
 
 lane_below : (bus_bytes address : ℕ) → IsBusWidth bus_bytes → address % bus_bytes < 8
-lane_below bus_bytes address width = elim width [ inl four ↦ rw four (omega arith) | inr eight ↦ rw eight (omega arith) ]
+lane_below bus_bytes address width = grind arith
 
 -- the byte of a strobed address of the transfer is set by its lane
 strobed_lane : (bus_bytes : ℕ) (aw : AwBeat) (n : ℕ) (w : WBeat) (x : ℕ) → IsBusWidth bus_bytes → fits_bus bus_bytes aw.size ≡ true → 1 ≤ n → strobes_byte bus_bytes aw n w x ≡ true
@@ -137,9 +126,7 @@ lane_strobes bus_bytes aw n w x lane width fits one sets =
     and_from (transfer_has aw.address aw.size n x) (has_lane w.strobes (x % bus_bytes)) (and_from _ _ (le-leb _ _ low) (le-leb _ _ high)) (rw here parts.0)
 
 none_both : (old new : Option ℕ) → is_some new ≡ is_some old → is_some old ≡ false → new ≡ old
-none_both None None same none = refl
-none_both None (Some byte) same none = absurd (cc)
-none_both (Some byte) new same none = absurd (cc)
+none_both old new same none = grind arith
 
 -- a transfer of a write sets the strobed bytes of good pages, and no other byte
 pub is_written : (old new : FreeMemory) (aw : AwBeat) (n : ℕ) (w : WBeat) → IsBusWidth old.bus_bytes → fits_bus old.bus_bytes aw.size ≡ true → 1 ≤ n → HasGoodPages old
@@ -162,43 +149,21 @@ is_written old new aw n w width fits one pages written =
 -- ---- captures
 
 byte_lt : (memory : Memory) (x : ℕ) → unwrap_or (byte_at_address memory x) 0 < 256
-byte_lt memory x = in_word (word_at memory x)
-  where
-    in_word : (word : Option ℕ) → unwrap_or (option_map (λ w. lane_byte w (x % 8)) word) 0 < 256
-    in_word None = omega arith
-    in_word (Some word) = lane_byte-lt word (x % 8)
+byte_lt memory x = grind (arith, lane_byte-lt)
 
 gives_bytes : (bus_bytes : ℕ) (memory : Memory) (ar : ArBeat) (n : ℕ) → MayGiveBytes (byte_in_lane bus_bytes memory ar n)
-gives_bytes bus_bytes memory ar n =
-    record {
-      at = λ lane below.
-          elim (covers_lane bus_bytes ar.address ar.size n lane) as (λ b. unwrap_or (if b then byte_at_address memory (lane_address bus_bytes ar.address ar.size n lane) else None) 0 < 256)
-          [ true ↦ byte_lt memory (lane_address bus_bytes ar.address ar.size n lane) | false ↦ omega arith ];
-    }
+gives_bytes bus_bytes memory ar n = record { at = λ lane below. grind (arith, byte_lt memory (lane_address bus_bytes ar.address ar.size n lane)) }
 
 some_is : (byte : Option ℕ) → is_some byte ≡ true → byte ≡ Some (unwrap_or byte 0)
-some_is None there = absurd (cc)
-some_is (Some byte) there = refl
+some_is byte there = grind arith
 
 -- a page is good that answers OKAY
 pub okay_is_good : (standing : Standing) (bad : Bool) → is_okay (read_response_on standing bad) ≡ true → is_good standing ≡ true
-okay_is_good IsGood bad okay = refl
-okay_is_good IsSlaveError bad okay = okay
-okay_is_good IsAbsent bad okay = okay
+okay_is_good standing bad okay = grind arith
 
 -- a byte of a transfer stands in the page in which the transfer begins
 same_page : (bus_bytes start x : ℕ) → IsBusWidth bus_bytes → start / bus_bytes * bus_bytes + x % bus_bytes ≡ x → x / 4096 ≡ start / 4096
-same_page bus_bytes start x width here =
-    elim width [
-      | inl four ↦ at_four (rw four at here)
-      | inr eight ↦ at_eight (rw eight at here)
-    ]
-  where
-    at_four : start / 4 * 4 + x % 4 ≡ x → x / 4096 ≡ start / 4096
-    at_four here = omega arith
-
-    at_eight : start / 8 * 8 + x % 8 ≡ x → x / 4096 ≡ start / 4096
-    at_eight here = omega arith
+same_page bus_bytes start x width here = elim width [ inl four ↦ (let at = rw four at here in omega (arith, at)) | inr eight ↦ (let at = rw eight at here in omega (arith, at)) ]
 
 -- a transfer of a read captures its bytes, each in its lane, where its page is good and its word isn't bad
 pub is_captured : (state : FreeMemory) (ar : ArBeat) (n payload : ℕ) (resp : Resp) → IsBusWidth state.bus_bytes → fits_bus state.bus_bytes ar.size ≡ true → 1 ≤ n → HasGoodPages state
@@ -238,10 +203,7 @@ is_captured state ar n payload resp width fits one pages captures =
 -- ---- a beat of a legal burst
 
 legal_fits : (bus_bytes address len size burst_type : ℕ) → is_legal_address bus_bytes address len size burst_type ≡ true → fits_bus bus_bytes size ≡ true
-legal_fits bus_bytes address len size burst_type legal =
-    let within = and_parts (fits_bus bus_bytes size && burst_type == 1 && nat_lt len 256) (in_one_page address len size) legal in
-    let short = and_parts (fits_bus bus_bytes size && burst_type == 1) (nat_lt len 256) within.0 in
-    (and_parts (fits_bus bus_bytes size) (burst_type == 1) short.0).0
+legal_fits bus_bytes address len size burst_type legal = grind (arith, legal)
 
 -- performing a beat of a legal burst does what its transfer says, by addresses
 pub has_effect : (state : FreeMemory) (pending : Pending) (beat : ℕ) → IsBusWidth state.bus_bytes → IsLegal state.bus_bytes pending.burst → HasGoodPages state
@@ -256,24 +218,14 @@ has_effect state pending beat width legal pages = by_burst (with_performed state
     by_burst new (ReadBurst ar) legal becomes =
         (_, _, refl, is_captured state ar (beat + 1) _ _ width (legal_fits state.bus_bytes ar.address ar.len ar.size ar.burst legal) (omega arith) pages refl)
     by_burst new (WriteBurst aw data_beats) legal becomes =
-        let address = and_parts (is_legal_address state.bus_bytes aw.address aw.len aw.size aw.burst && length data_beats == aw.len + 1)
-        (list_all (λ transfer. is_legal_data state.bus_bytes aw transfer.0 transfer.1) (enumerate_from 1 data_beats)) legal
-        in
-        let fits = legal_fits state.bus_bytes aw.address aw.len aw.size aw.burst (and_parts (is_legal_address state.bus_bytes aw.address aw.len aw.size aw.burst) (length data_beats == aw.len + 1) address.0).0 in
+        let fits = legal_fits state.bus_bytes aw.address aw.len aw.size aw.burst (grind (arith, legal)) in
         by_data new aw fits (slice_get data_beats beat) becomes
 
 -- the same of the burst with a serial, where the beat was performed just now
 pub has_effect-performed : (state : FreeMemory) (serial beat : ℕ) → IsBusWidth state.bus_bytes → IfSome (find (has_serial serial) state.pending) (λ pending. IsLegal state.bus_bytes pending.burst) → HasGoodPages state
     → (performed state serial beat).1 ≡ Done → HasEffectAt serial beat state (performed state serial beat).0
-has_effect-performed state serial beat width legal pages is_done = by_burst (find (has_serial serial) state.pending) legal is_done
+has_effect-performed state serial beat width legal pages is_done =
+    of_step (performed state serial beat).0 (performs_done state serial beat (performed state serial beat).0 (ap (λ (answer : Performed). ((performed state serial beat).0, answer)) is_done))
   where
-    by_beat : (pending : Pending) (is : Option BeatState) → IsLegal state.bus_bytes pending.burst → (performed_beat state pending beat is).1 ≡ Done → HasEffect state (performed_beat state pending beat is).0 pending.burst beat
-    by_beat pending None legal is_done = absurd (cc)
-    by_beat pending (Some Waiting) legal is_done = has_effect state pending beat width legal pages
-    by_beat pending (Some Written) legal is_done = absurd (cc)
-    by_beat pending (Some (Captured payload resp)) legal is_done = absurd (cc)
-
-    by_burst : (found : Option Pending) → IfSome found (λ pending. IsLegal state.bus_bytes pending.burst) → (performed_in state beat found).1 ≡ Done
-        → IfSome found (λ pending. HasEffect state (performed_in state beat found).0 pending.burst beat)
-    by_burst None legal is_done = tt
-    by_burst (Some pending) legal is_done = by_beat pending (beat_at pending beat) legal is_done
+    of_step : (new : FreeMemory) → Performs state serial beat new → HasEffectAt serial beat state new
+    of_step new did = subst (HasEffectAt serial beat state) (sym did.becomes) (rw did.is_open (has_effect state did.pending beat width (rw did.is_open at legal) pages))

@@ -1,22 +1,20 @@
 -- Tables of rules one after another, the standing of a page by the list of pages, and that no response is EXOKAY.
-use Rattle.std.proofs.Common.{◌≡◌, ℕ, Bool, true, false, List, [], ◌∷◌, ◌++◌, get_or, refl, ap, ◌∙◌}
+use Rattle.std.proofs.Common.{◌≡◌, ℕ, Bool, false, List, [], ◌∷◌, ◌++◌, get_or, refl, ap, ◌∙◌, arith}
 use Rattle.std.specs.Prelude.{Some, None, position, find}
 use Rattle.bus_words.specs.Tables.{first_broken}
 use Rattle.axi_beats.specs.Responses.{is_exokay}
-use Rattle.subordinate.specs.Faults.{IsAbsent, IsGood, IsSlaveError, Standing, lists_page, read_response_on, standing_of_kind, standing_of_listed, write_response}
+use Rattle.subordinate.specs.Faults.{IsAbsent, Standing, lists_page, read_response_on, standing_of_kind, standing_of_listed, write_response}
 use Rattle.bus_words.proofs.FirstPlaces.{position_is_first, find-first, find-none}
 use Rattle.subordinate.specs.declared.PageKind.{PageKind}
 use Rattle.subordinate.specs.declared.DeviceFault.{DeviceFault}
 
 pub first_broken-append-some : (xs ys : List (Bool × DeviceFault)) (fault : DeviceFault) → first_broken xs ≡ Some fault → first_broken (xs ++ ys) ≡ Some fault
 first_broken-append-some [] ys fault found = absurd (cc)
-first_broken-append-some ((true, rule) ∷ xs) ys fault found = found
-first_broken-append-some ((false, rule) ∷ xs) ys fault found = first_broken-append-some xs ys fault found
+first_broken-append-some (row ∷ xs) ys fault found = grind (arith, first_broken-append-some xs ys fault)
 
 pub first_broken-append-none : (xs ys : List (Bool × DeviceFault)) → first_broken xs ≡ None → first_broken (xs ++ ys) ≡ first_broken ys
 first_broken-append-none [] ys none = refl
-first_broken-append-none ((true, rule) ∷ xs) ys none = absurd (cc)
-first_broken-append-none ((false, rule) ∷ xs) ys none = first_broken-append-none xs ys none
+first_broken-append-none (row ∷ xs) ys none = grind (arith, first_broken-append-none xs ys)
 
 -- a listed page's standing is that of its first entry
 pub standing-found : (pages : List (ℕ × PageKind)) (number place : ℕ) (d : ℕ × PageKind) (kind : PageKind) → position (lists_page number) pages ≡ Some place → (get_or pages place d).1 ≡ kind
@@ -29,12 +27,7 @@ standing-missing pages number missing = ap standing_of_listed (find-none (lists_
 
 -- the device never answers EXOKAY
 pub write_plain : (standing : Standing) → is_exokay (write_response standing) ≡ false
-write_plain IsGood = refl
-write_plain IsSlaveError = refl
-write_plain IsAbsent = refl
+write_plain standing = grind arith
 
 pub read_plain : (standing : Standing) (bad : Bool) → is_exokay (read_response_on standing bad) ≡ false
-read_plain IsGood true = refl
-read_plain IsGood false = refl
-read_plain IsSlaveError bad = refl
-read_plain IsAbsent bad = refl
+read_plain standing bad = grind arith

@@ -1,6 +1,6 @@
 -- The bytes of a memory are just those of its good pages: at the opening of pages that aren't refused, and after every beat.
-use Rattle.std.proofs.Common.{◌≡◌, ℕ, ◌+◌, ◌/◌, ◌==◌, Bool, true, false, ◌||◌, cond, List, [], ◌∷◌, ◌++◌, map, inl, inr, refl, ◌∙◌}
-use Rattle.std.proofs.lemmas.Bool.Decides.{eqb_tells}
+use Rattle.std.proofs.Common.{◌≡◌, ℕ, ◌+◌, ◌/◌, ◌==◌, Bool, true, false, List, [], ◌∷◌, ◌++◌, map, refl, ◌∙◌, arith}
+use Rattle.std.proofs.lemmas.Bool.Decides.{nat_tests}
 use Rattle.std.specs.List.{AllByRecursion, list_any}
 use Rattle.std.specs.Prelude.{Option, Some, None, filter, find, is_some, nat_lt, slice_get}
 use Rattle.bus_words.specs.Tables.{first_broken}
@@ -14,20 +14,16 @@ use Rattle.subordinate.specs.Pages.{Memory, byte_at_address, holds_address, is_l
 use Rattle.subordinate.specs.declared.DeviceFault.{DeviceFault}
 use Rattle.subordinate.specs.declared.DeviceFault.TheVariants.{PageRange, PageTwice}
 use Rattle.subordinate.specs.declared.PageKind.{PageKind}
-use Rattle.subordinate.specs.declared.PageKind.TheVariants.{Good, SlaveError}
 use Rattle.subordinate.proofs.EffectLaws.{is_some-bytes_written, whole-bytes_written}
 use Rattle.subordinate.proofs.OpenBursts.{is_some-option_map}
+use Rattle.bus_words.proofs.TableLaws.{unbroken}
+use Rattle.axi_beats.specs.declared.AwBeat.{AwBeat}
 
 -- ---- tables without a broken rule
 
-none_parts : (test : Bool) (rule : DeviceFault) (rows : List (Bool × DeviceFault)) → first_broken ((test, rule) ∷ rows) ≡ None → (test ≡ false) × (first_broken rows ≡ None)
-none_parts true rule rows none = absurd (cc)
-none_parts false rule rows none = (refl, none)
-
 pub none_before : (xs ys : List (Bool × DeviceFault)) → first_broken (xs ++ ys) ≡ None → first_broken xs ≡ None
 none_before [] ys none = refl
-none_before ((true, rule) ∷ xs) ys none = absurd (cc)
-none_before ((false, rule) ∷ xs) ys none = none_before xs ys none
+none_before (row ∷ xs) ys none = grind (arith, none_before xs ys)
 
 -- ---- the opening memory
 
@@ -36,23 +32,20 @@ abbrev keeps : ℕ → Memory → Bool
 keeps number memory = is_some (find (λ page. page.number == number) memory)
 
 pub listed_more : (number : ℕ) (earlier : List (ℕ × PageKind)) (page : ℕ × PageKind) → list_any (lists_page number) earlier ≡ true → list_any (lists_page number) (earlier ++ page ∷ []) ≡ true
-listed_more number [] page = λ listed. absurd (cc)
-listed_more number (first ∷ earlier) page =
-    elim (lists_page number first) as (λ b. (b || list_any (lists_page number) earlier) ≡ true → (b || list_any (lists_page number) (earlier ++ page ∷ [])) ≡ true)
-    [ true ↦ (λ listed. refl) | false ↦ listed_more number earlier page ]
+listed_more number [] page listed = absurd (cc)
+listed_more number (first ∷ earlier) page listed = grind (arith, listed_more number earlier page)
 
 pub listed_last : (number : ℕ) (earlier : List (ℕ × PageKind)) (page : ℕ × PageKind) → lists_page number page ≡ true → list_any (lists_page number) (earlier ++ page ∷ []) ≡ true
 listed_last number [] page here = rw here refl
-listed_last number (first ∷ earlier) page here =
-    elim (lists_page number first) as (λ b. (b || list_any (lists_page number) (earlier ++ page ∷ [])) ≡ true) [ true ↦ refl | false ↦ listed_last number earlier page here ]
+listed_last number (first ∷ earlier) page here = grind (arith, listed_last number earlier page here)
 
 -- what the rules on a page ask: it doesn't stand earlier, and the later ones break none
 pub page_parts : (earlier : List (ℕ × PageKind)) (i : ℕ) (page : ℕ × PageKind) (pages : List (ℕ × PageKind)) → first_broken (rules_of_pages earlier i (page ∷ pages)) ≡ None
     → (list_any (lists_page page.0) earlier ≡ false) × (first_broken (rules_of_pages (earlier ++ page ∷ []) (i + 1) pages) ≡ None)
 page_parts earlier i page pages none =
     let later = rules_of_pages (earlier ++ page ∷ []) (i + 1) pages in
-    let range = none_parts (nat_lt 1048575 page.0) (PageRange i) ((list_any (lists_page page.0) earlier, PageTwice i) ∷ later) none in
-    none_parts (list_any (lists_page page.0) earlier) (PageTwice i) later range.1
+    let range = unbroken (nat_lt 1048575 page.0) (PageRange i) ((list_any (lists_page page.0) earlier, PageTwice i) ∷ later) none in
+    unbroken (list_any (lists_page page.0) earlier) (PageTwice i) later range.1
 
 -- a page that stands earlier isn't among the later ones
 not_later : (number : ℕ) (earlier : List (ℕ × PageKind)) (i : ℕ) (pages : List (ℕ × PageKind)) → first_broken (rules_of_pages earlier i pages) ≡ None → list_any (lists_page number) earlier ≡ true
@@ -60,29 +53,19 @@ not_later : (number : ℕ) (earlier : List (ℕ × PageKind)) (i : ℕ) (pages :
 not_later number earlier i [] none listed = refl
 not_later number earlier i (page ∷ pages) none listed =
     let twice = page_parts earlier i page pages none in
-    let later = not_later number (earlier ++ page ∷ []) (i + 1) pages twice.1 (listed_more number earlier page listed) in
-    elim (eqb_tells page.0 number) [
-      | inl here ↦ absurd (cc (twice.0, listed, here.1))
-      | inr other ↦
-          elim (is_listed_good page) as (λ b. keeps number (map zero_page (cond b (page ∷ filter is_listed_good pages) (filter is_listed_good pages))) ≡ false)
-          [ true ↦ rw (other.0) later | false ↦ later ]
-    ]
+    grind (arith, nat_tests, twice.0, not_later number (earlier ++ page ∷ []) (i + 1) pages twice.1 (listed_more number earlier page listed))
 
 -- the opening memory keeps just the good pages
 keeps-opening_memory : (number : ℕ) (earlier : List (ℕ × PageKind)) (i : ℕ) (pages : List (ℕ × PageKind)) → first_broken (rules_of_pages earlier i pages) ≡ None
     → keeps number (opening_memory pages) ≡ is_good (standing_of_listed (find (lists_page number) pages))
 keeps-opening_memory number earlier i [] none = refl
-keeps-opening_memory number earlier i ((page, Good) ∷ pages) none =
-    let twice = page_parts earlier i (page, Good) pages none in
-    let later = keeps-opening_memory number (earlier ++ (page, Good) ∷ []) (i + 1) pages twice.1 in
-    elim (page == number) as (λ b. is_some (cond b (Some (zero_page (page, Good))) (find (λ p. p.number == number) (opening_memory pages))) ≡ is_good (standing_of_listed (cond b (Some (page, Good)) (find (lists_page number) pages))))
-    [ true ↦ refl | false ↦ later ]
-keeps-opening_memory number earlier i ((page, SlaveError) ∷ pages) none =
-    let twice = page_parts earlier i (page, SlaveError) pages none in
-    let later = keeps-opening_memory number (earlier ++ (page, SlaveError) ∷ []) (i + 1) pages twice.1 in
-    elim (page == number) as (λ b. (page == number) ≡ b → keeps number (opening_memory pages) ≡ is_good (standing_of_listed (cond b (Some (page, SlaveError)) (find (lists_page number) pages))))
-    [ true ↦ (λ here. not_later number (earlier ++ (page, SlaveError) ∷ []) (i + 1) pages twice.1 (listed_last number earlier (page, SlaveError) here)) | false ↦ (λ other. later) ]
-    refl
+keeps-opening_memory number earlier i (page ∷ pages) none =
+    let twice = page_parts earlier i page pages none in
+    grind (
+      arith,
+      keeps-opening_memory number (earlier ++ page ∷ []) (i + 1) pages twice.1,
+      λ (here : lists_page number page ≡ true). not_later number (earlier ++ page ∷ []) (i + 1) pages twice.1 (listed_last number earlier page here),
+    )
 
 whole-opening_memory : (pages : List (ℕ × PageKind)) → AllByRecursion IsWholePage (map zero_page pages)
 unfolding zero_words
@@ -113,12 +96,7 @@ has_good_pages-kept state kept = record { exactly = kept.exactly; whole = kept.w
 -- ---- performing
 
 kept_bytes : (state : FreeMemory) (burst : Burst) (beat x : ℕ) → is_some (byte_at_address (memory_after state burst beat) x) ≡ is_some (byte_at_address state.memory x)
-kept_bytes state (ReadBurst ar) beat x = refl
-kept_bytes state (WriteBurst aw data_beats) beat x = by_data (slice_get data_beats beat)
-  where
-    by_data : (w : Option WBeat) → is_some (byte_at_address (memory_with state aw (beat + 1) w) x) ≡ is_some (byte_at_address state.memory x)
-    by_data None = refl
-    by_data (Some w) = is_some-bytes_written state.bus_bytes state.memory aw (beat + 1) w x
+kept_bytes state burst beat x = grind (arith, λ (aw : AwBeat) (n : ℕ) (w : WBeat). is_some-bytes_written state.bus_bytes state.memory aw n w x)
 
 kept_whole : (state : FreeMemory) (burst : Burst) (beat : ℕ) → AllByRecursion IsWholePage state.memory → AllByRecursion IsWholePage (memory_after state burst beat)
 kept_whole state (ReadBurst ar) beat whole = whole

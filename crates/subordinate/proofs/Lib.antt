@@ -1,13 +1,11 @@
 mod Examples
 pub mod ApartPages
 pub mod BeatStates
-pub mod BoxTransfers
 pub mod ByteLaws
 pub mod BurstCounts
 pub mod BurstIndex
 pub mod BytesRead
 pub mod BytesWritten
-pub mod Changes
 pub mod EffectLaws
 pub mod FaultLaws
 pub mod FirstReady

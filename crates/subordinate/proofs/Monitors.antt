@@ -1,14 +1,14 @@
 -- The open bursts as a monitor of the port knows them: a burst that is sent is open there too, a beat that is performed is none of the port's,
 -- and an answer breaks no rule there, and goes on as the monitor does that takes it. It knows both lists of bursts; bytes are hidden.
 use Rattle.std.proofs.Common.{◌≡◌, ℕ, zero, suc, ◌+◌, ◌==◌, ◌<◌, Bool, true, false, List, [], ◌∷◌, refl, ap, sym, ◌∙◌, subst, arith}
-use Rattle.std.specs.Prelude.{Option, Some, None, IfSome, filter_map, find, if◌then◌else◌, nat_lt, not, slice_get, ⊤}
+use Rattle.std.specs.Prelude.{Option, Some, None, IfSome, filter_map, find, not, slice_get, ⊤}
 use Rattle.std.specs.Bool.{beq}
-use Rattle.std.specs.List.{AllByRecursion, cons_option}
-use Rattle.std.proofs.lemmas.Bool.{eqb-true, lt-leb}
+use Rattle.std.specs.List.{AllByRecursion}
+use Rattle.std.proofs.lemmas.Bool.{lt-leb}
 use Rattle.std.proofs.lemmas.Bool.Decides.{nat_tests}
 use Rattle.std.proofs.lemmas.List.{append-nil}
 use Rattle.std.proofs.lemmas.List.Elements.{filter_map-append}
-use Rattle.std.proofs.lemmas.Option.{same_Some, slice_get_within}
+use Rattle.std.proofs.lemmas.Option.{slice_get_within}
 use Rattle.bus_words.specs.Places.{change_first, without_first}
 use Rattle.axi_beats.specs.Bursts.{Burst, WriteBurst, ReadBurst}
 use Rattle.bus_words.proofs.PlaceChanges.{all-find, find-passes}
@@ -22,11 +22,11 @@ use Rattle.axi_beats.specs.declared.WBeat.{WBeat}
 use Rattle.axi_checker.proofs.LegalBursts.{last_place, open_after_all-burst}
 use Rattle.axi_checker.specs.OpenBursts.{OnB, OnR, open_after, OpenBursts, OpenRead, OpenWrite, read_of_id, reads_after, write_of_id}
 use Rattle.axi_checker.specs.Rules.{axi_fault, beats_sent, open_after_all, open_with_burst}
-use Rattle.subordinate.specs.FreeMemory.{FreeMemory, Pending, after_b_of, after_r_of, beat_after, beat_at, device_port, performed, performed_beat, performed_in, reads_as, send_fault, with_performed, writes_as, gives_last, has_serial, is_read_of, is_write_of, open_bursts_of, open_read_in, open_write_in, pending_after_r, transfers_in, with_beat, with_burst}
+use Rattle.subordinate.specs.FreeMemory.{FreeMemory, Pending, after_b_of, after_r_of, beat_after, beat_at, device_port, performed, reads_as, send_fault, with_performed, writes_as, gives_last, has_serial, is_read_of, is_write_of, open_bursts_of, open_read_in, open_write_in, pending_after_r, transfers_in, with_beat, with_burst}
 use Rattle.subordinate.specs.Inside.{burst_in}
-use Rattle.subordinate.specs.Laws.{IsBeatOf, IsSoundMemory, IsSoundPending, queue_of, queue_of_burst}
+use Rattle.subordinate.specs.Laws.{IsBeatOf, IsSoundMemory, IsSoundPending, queue_of}
 use Rattle.subordinate.specs.declared.BeatState.{BeatState}
-use Rattle.subordinate.specs.declared.BeatState.TheVariants.{Waiting, Written, Captured}
+use Rattle.subordinate.specs.declared.BeatState.TheVariants.{Captured}
 use Rattle.subordinate.proofs.OpenBursts.{writes_have_data}
 
 -- the open writes, and the open reads, that it knows
@@ -35,10 +35,6 @@ writes_in pending = filter_map (λ p. open_write_in p.burst) pending
 
 abbrev pub reads_in : List Pending → List OpenRead
 reads_in pending = filter_map (λ p. open_read_in p.answered p.burst) pending
-
--- one item before both
-same_after : {Y : Type 0} (h : Pending → Option Y) (p : Pending) (ps qs : List Pending) → filter_map h ps ≡ filter_map h qs → filter_map h (p ∷ ps) ≡ filter_map h (p ∷ qs)
-same_after h p ps qs same = ap (cons_option (h p)) same
 
 -- ---- one is sent
 
@@ -71,13 +67,7 @@ known_beats memory (Some burst) unbroken =
 changed_unseen : {Y : Type 0} (h : Pending → Option Y) (test : Pending → Bool) (change : Pending → Pending) (pending : List Pending) → ((p : Pending) → h (change p) ≡ h p)
     → filter_map h (change_first test change pending) ≡ filter_map h pending
 changed_unseen h test change [] unseen = refl
-changed_unseen {Y = Y} h test change (p ∷ ps) unseen =
-    by_test (test p) (changed_unseen h test change ps unseen)
-  where
-    by_test : (here : Bool) → filter_map h (change_first test change ps) ≡ filter_map h ps
-        → filter_map h (if here then change p ∷ ps else p ∷ change_first test change ps) ≡ filter_map h (p ∷ ps)
-    by_test true more = ap (λ (y : Option Y). cons_option y (filter_map h ps)) (unseen p)
-    by_test false more = same_after h p (change_first test change ps) ps more
+changed_unseen h test change (p ∷ ps) unseen = grind (arith, unseen p, changed_unseen h test change ps unseen)
 
 pub outstanding_performed : (memory : FreeMemory) (pending : Pending) (beat : ℕ) → open_bursts_of (with_performed memory pending beat) ≡ open_bursts_of memory
 outstanding_performed memory pending beat =
@@ -86,45 +76,17 @@ outstanding_performed memory pending beat =
 
 -- whatever the call answers
 pub known_performed : (memory : FreeMemory) (serial beat : ℕ) → open_bursts_of (performed memory serial beat).0 ≡ open_bursts_of memory
-known_performed memory serial beat = by_burst (find (has_serial serial) memory.pending)
-  where
-    by_beat : (p : Pending) (state : Option BeatState) → open_bursts_of (performed_beat memory p beat state).0 ≡ open_bursts_of memory
-    by_beat p None = refl
-    by_beat p (Some Waiting) = outstanding_performed memory p beat
-    by_beat p (Some Written) = refl
-    by_beat p (Some (Captured payload resp)) = refl
-
-    by_burst : (found : Option Pending) → open_bursts_of (performed_in memory beat found).0 ≡ open_bursts_of memory
-    by_burst None = refl
-    by_burst (Some p) = by_beat p (beat_at p beat)
+known_performed memory serial beat = grind (arith, outstanding_performed memory)
 
 -- ---- a B comes
 
--- the writes of an ID are those of the port, and the oldest is the oldest there
-write_burst_seen : (id : ℕ) (p : Pending) (burst : Burst) → p.burst ≡ burst → (ps : List Pending) → writes_in (without_first (is_write_of id) ps) ≡ without_first (write_of_id id) (writes_in ps)
-    → writes_in (if writes_as id burst then ps else p ∷ without_first (is_write_of id) ps) ≡ without_first (write_of_id id) (cons_option (open_write_in burst) (writes_in ps))
-write_burst_seen id p (WriteBurst aw ws) is ps more =
-    elim (aw.id == id) as (λ (here : Bool). writes_in (if here then ps else p ∷ without_first (is_write_of id) ps)
-    ≡ (if here then writes_in ps else record { aw = aw; came = aw.len + 1 } ∷ without_first (write_of_id id) (writes_in ps)))
-    [ true ↦ refl | false ↦ ap (λ (burst : Burst). cons_option (open_write_in burst) (writes_in (without_first (is_write_of id) ps))) is ∙ ap (λ (later : List OpenWrite). record { aw = aw; came = aw.len + 1 } ∷ later) more ]
-write_burst_seen id p (ReadBurst ar) is ps more = ap (λ (burst : Burst). cons_option (open_write_in burst) (writes_in (without_first (is_write_of id) ps))) is ∙ more
-
 writes_after_b : (id : ℕ) (pending : List Pending) → writes_in (without_first (is_write_of id) pending) ≡ without_first (write_of_id id) (writes_in pending)
 writes_after_b id [] = refl
-writes_after_b id (p ∷ ps) = write_burst_seen id p p.burst refl ps (writes_after_b id ps)
-
-write_burst_unseen : (id : ℕ) (p : Pending) (burst : Burst) → p.burst ≡ burst → (ps : List Pending) → reads_in (without_first (is_write_of id) ps) ≡ reads_in ps
-    → reads_in (if writes_as id burst then ps else p ∷ without_first (is_write_of id) ps) ≡ cons_option (open_read_in p.answered burst) (reads_in ps)
-write_burst_unseen id p (WriteBurst aw ws) is ps more =
-    elim (aw.id == id) as (λ (here : Bool). reads_in (if here then ps else p ∷ without_first (is_write_of id) ps) ≡ reads_in ps)
-    [ true ↦ refl | false ↦ ap (λ (burst : Burst). cons_option (open_read_in p.answered burst) (reads_in (without_first (is_write_of id) ps))) is ∙ more ]
-write_burst_unseen id p (ReadBurst ar) is ps more =
-    ap (λ (burst : Burst). cons_option (open_read_in p.answered burst) (reads_in (without_first (is_write_of id) ps))) is
-    ∙ ap (λ (later : List OpenRead). record { ar = ar; came = p.answered } ∷ later) more
+writes_after_b id (p ∷ ps) = grind (arith, writes_after_b id ps)
 
 reads_after_b : (id : ℕ) (pending : List Pending) → reads_in (without_first (is_write_of id) pending) ≡ reads_in pending
 reads_after_b id [] = refl
-reads_after_b id (p ∷ ps) = write_burst_unseen id p p.burst refl ps (reads_after_b id ps)
+reads_after_b id (p ∷ ps) = grind (arith, reads_after_b id ps)
 
 pub outstanding_after_b : (memory : FreeMemory) (b : BBeat) → open_after (open_bursts_of memory) (OnB b) ≡ open_bursts_of (after_b_of memory b.id)
 outstanding_after_b memory b = same_bursts _ _ (sym (writes_after_b b.id memory.pending)) (sym (reads_after_b b.id memory.pending))
@@ -136,54 +98,13 @@ abbrev pub HasBeatsToCome : Option Pending → Type 0
 HasBeatsToCome None = ⊤
 HasBeatsToCome (Some p) = p.answered < transfers_in p.burst
 
-last_seen : (answered len : ℕ) → answered < len + 1 → (answered + 1 == len + 1) ≡ not (nat_lt answered len)
-last_seen answered len below = grind (arith, nat_tests)
-
-read_burst_seen : (id : ℕ) (p : Pending) (burst : Burst) → p.burst ≡ burst → (ps : List Pending) → HasBeatsToCome (if reads_as id burst then Some p else find (is_read_of id) ps)
-    → (HasBeatsToCome (find (is_read_of id) ps) → reads_in (pending_after_r id ps) ≡ reads_after id (reads_in ps))
-    → reads_in (if reads_as id burst then (if gives_last p then ps else record p { answered = p.answered + 1 } ∷ ps) else p ∷ pending_after_r id ps)
-    ≡ reads_after id (cons_option (open_read_in p.answered burst) (reads_in ps))
-read_burst_seen id p (WriteBurst aw ws) is ps to_come more = ap (λ (burst : Burst). cons_option (open_read_in p.answered burst) (reads_in (pending_after_r id ps))) is ∙ more to_come
-read_burst_seen id p (ReadBurst ar) is ps to_come more = by_test (ar.id == id) to_come
-  where
-    by_last : (last more_come : Bool) → last ≡ not more_come
-        → reads_in (if last then ps else record p { answered = p.answered + 1 } ∷ ps) ≡ (if more_come then record { ar = ar; came = p.answered + 1 } ∷ reads_in ps else reads_in ps)
-    by_last true true same = absurd (cc)
-    by_last true false same = refl
-    by_last false true same = ap (λ (burst : Burst). cons_option (open_read_in (p.answered + 1) burst) (reads_in ps)) is
-    by_last false false same = absurd (cc)
-
-    by_test : (here : Bool) → HasBeatsToCome (if here then Some p else find (is_read_of id) ps)
-        → reads_in (if here then (if gives_last p then ps else record p { answered = p.answered + 1 } ∷ ps) else p ∷ pending_after_r id ps)
-        ≡ (if here then (if nat_lt p.answered ar.len then record { ar = ar; came = p.answered + 1 } ∷ reads_in ps else reads_in ps) else record { ar = ar; came = p.answered } ∷ reads_after id (reads_in ps))
-    by_test true below =
-        by_last (gives_last p) (nat_lt p.answered ar.len)
-        (ap (λ (burst : Burst). p.answered + 1 == transfers_in burst) is ∙ last_seen p.answered ar.len (subst (λ (burst : Burst). p.answered < transfers_in burst) is below))
-    by_test false later =
-        ap (λ (burst : Burst). cons_option (open_read_in p.answered burst) (reads_in (pending_after_r id ps))) is
-        ∙ ap (λ (reads : List OpenRead). record { ar = ar; came = p.answered } ∷ reads) (more later)
-
 reads_after_r : (id : ℕ) (pending : List Pending) → HasBeatsToCome (find (is_read_of id) pending) → reads_in (pending_after_r id pending) ≡ reads_after id (reads_in pending)
 reads_after_r id [] to_come = refl
-reads_after_r id (p ∷ ps) to_come = read_burst_seen id p p.burst refl ps to_come (reads_after_r id ps)
-
-read_burst_unseen : (id : ℕ) (p : Pending) (burst : Burst) → p.burst ≡ burst → (ps : List Pending) → writes_in (pending_after_r id ps) ≡ writes_in ps
-    → writes_in (if reads_as id burst then (if gives_last p then ps else record p { answered = p.answered + 1 } ∷ ps) else p ∷ pending_after_r id ps)
-    ≡ cons_option (open_write_in burst) (writes_in ps)
-read_burst_unseen id p (WriteBurst aw ws) is ps more =
-    ap (λ (burst : Burst). cons_option (open_write_in burst) (writes_in (pending_after_r id ps))) is
-    ∙ ap (λ (writes : List OpenWrite). record { aw = aw; came = aw.len + 1 } ∷ writes) more
-read_burst_unseen id p (ReadBurst ar) is ps more = by_test (ar.id == id) (gives_last p)
-  where
-    by_test : (here last : Bool)
-        → writes_in (if here then (if last then ps else record p { answered = p.answered + 1 } ∷ ps) else p ∷ pending_after_r id ps) ≡ writes_in ps
-    by_test true true = refl
-    by_test true false = ap (λ (burst : Burst). cons_option (open_write_in burst) (writes_in ps)) is
-    by_test false last = ap (λ (burst : Burst). cons_option (open_write_in burst) (writes_in (pending_after_r id ps))) is ∙ more
+reads_after_r id (p ∷ ps) to_come = grind (arith, nat_tests, reads_after_r id ps)
 
 writes_after_r : (id : ℕ) (pending : List Pending) → writes_in (pending_after_r id pending) ≡ writes_in pending
 writes_after_r id [] = refl
-writes_after_r id (p ∷ ps) = read_burst_unseen id p p.burst refl ps (writes_after_r id ps)
+writes_after_r id (p ∷ ps) = grind (arith, writes_after_r id ps)
 
 pub outstanding_after_r : (memory : FreeMemory) (r : RBeat) → HasBeatsToCome (find (is_read_of r.id) memory.pending) → open_after (open_bursts_of memory) (OnR r) ≡ open_bursts_of (after_r_of memory r.id)
 outstanding_after_r memory r to_come = same_bursts _ _ (sym (writes_after_r r.id memory.pending)) (sym (reads_after_r r.id memory.pending to_come))
@@ -204,35 +125,20 @@ pub record IsOldestWrite (id : ℕ) (pending : List Pending) (p : Pending) : Typ
   pub burst : p.burst ≡ WriteBurst aw ws
   pub seen : find (write_of_id id) (writes_in pending) ≡ Some (record { aw = aw; came = aw.len + 1 })
 
-pub oldest_write_seen : (id : ℕ) (pending : List Pending) (p : Pending) → find (is_write_of id) pending ≡ Some p → IsOldestWrite id pending p
-oldest_write_seen id [] p found = absurd (cc)
-oldest_write_seen id (q ∷ qs) p found = by_burst q.burst refl found (oldest_write_seen id qs p)
-  where
-    Later : Type 0
-    Later = find (is_write_of id) qs ≡ Some p → IsOldestWrite id qs p
+abbrev known_write : Option Pending → Option OpenWrite
+known_write None = None
+known_write (Some p) = open_write_in p.burst
 
-    by_burst : (burst : Burst) → q.burst ≡ burst → (if writes_as id burst then Some q else find (is_write_of id) qs) ≡ Some p → Later → IsOldestWrite id (q ∷ qs) p
-    by_burst (ReadBurst ar) is found later =
-        let more = later found in
-        record { aw = more.aw; ws = more.ws; burst = more.burst; seen = ap (λ (burst : Burst). find (write_of_id id) (cons_option (open_write_in burst) (writes_in qs))) is ∙ more.seen }
-    by_burst (WriteBurst aw ws) is found later = by_test (aw.id == id) refl found
-      where
-        by_test : (here : Bool) → (aw.id == id) ≡ here → (if here then Some q else find (is_write_of id) qs) ≡ Some p → IsOldestWrite id (q ∷ qs) p
-        by_test true same found =
-            record {
-              aw = aw;
-              ws = ws;
-              burst = ap (λ (x : Pending). x.burst) (sym (same_Some q p found)) ∙ is;
-              seen = ap (λ (burst : Burst). find (write_of_id id) (cons_option (open_write_in burst) (writes_in qs))) is ∙ rw same refl;
-            }
-        by_test false other found =
-            let more = later found in
-            record {
-              aw = more.aw;
-              ws = more.ws;
-              burst = more.burst;
-              seen = ap (λ (burst : Burst). find (write_of_id id) (cons_option (open_write_in burst) (writes_in qs))) is ∙ rw other more.seen;
-            }
+found_write : (id : ℕ) (pending : List Pending) → find (write_of_id id) (writes_in pending) ≡ known_write (find (is_write_of id) pending)
+found_write id [] = refl
+found_write id (p ∷ ps) = grind (arith, found_write id ps)
+
+pub oldest_write_seen : (id : ℕ) (pending : List Pending) (p : Pending) → find (is_write_of id) pending ≡ Some p → IsOldestWrite id pending p
+oldest_write_seen id pending p found = by_burst p.burst refl (find-passes (is_write_of id) pending p found)
+  where
+    by_burst : (burst : Burst) → p.burst ≡ burst → writes_as id burst ≡ true → IsOldestWrite id pending p
+    by_burst (ReadBurst ar) is passes = absurd (cc)
+    by_burst (WriteBurst aw ws) is passes = record { aw = aw; ws = ws; burst = is; seen = found_write id pending ∙ ap known_write found ∙ ap open_write_in is }
 
 -- an open read of an ID, as the port knows it
 pub record IsOldestRead (id : ℕ) (pending : List Pending) (p : Pending) : Type 0 where
@@ -240,51 +146,35 @@ pub record IsOldestRead (id : ℕ) (pending : List Pending) (p : Pending) : Type
   pub burst : p.burst ≡ ReadBurst ar
   pub seen : find (read_of_id id) (reads_in pending) ≡ Some (record { ar = ar; came = p.answered })
 
-pub oldest_read_seen : (id : ℕ) (pending : List Pending) (p : Pending) → find (is_read_of id) pending ≡ Some p → IsOldestRead id pending p
-oldest_read_seen id [] p found = absurd (cc)
-oldest_read_seen id (q ∷ qs) p found = by_burst q.burst refl found (oldest_read_seen id qs p)
-  where
-    Later : Type 0
-    Later = find (is_read_of id) qs ≡ Some p → IsOldestRead id qs p
+abbrev known_read : Option Pending → Option OpenRead
+known_read None = None
+known_read (Some p) = open_read_in p.answered p.burst
 
-    by_burst : (burst : Burst) → q.burst ≡ burst → (if reads_as id burst then Some q else find (is_read_of id) qs) ≡ Some p → Later → IsOldestRead id (q ∷ qs) p
-    by_burst (WriteBurst aw ws) is found later =
-        let more = later found in
-        record { ar = more.ar; burst = more.burst; seen = ap (λ (burst : Burst). find (read_of_id id) (cons_option (open_read_in q.answered burst) (reads_in qs))) is ∙ more.seen }
-    by_burst (ReadBurst ar) is found later = by_test (ar.id == id) refl found
-      where
-        by_test : (here : Bool) → (ar.id == id) ≡ here → (if here then Some q else find (is_read_of id) qs) ≡ Some p → IsOldestRead id (q ∷ qs) p
-        by_test true same found =
-            let it : q ≡ p = same_Some q p found in
-            record {
-              ar = ar;
-              burst = ap (λ (x : Pending). x.burst) (sym it) ∙ is;
-              seen =
-                  ap (λ (burst : Burst). find (read_of_id id) (cons_option (open_read_in q.answered burst) (reads_in qs))) is ∙ rw same refl
-                  ∙ ap (λ (x : Pending). Some (record { ar = ar; came = x.answered })) it;
-            }
-        by_test false other found =
-            let more = later found in
-            record { ar = more.ar; burst = more.burst; seen = ap (λ (burst : Burst). find (read_of_id id) (cons_option (open_read_in q.answered burst) (reads_in qs))) is ∙ rw other more.seen }
+found_read : (id : ℕ) (pending : List Pending) → find (read_of_id id) (reads_in pending) ≡ known_read (find (is_read_of id) pending)
+found_read id [] = refl
+found_read id (p ∷ ps) = grind (arith, found_read id ps)
+
+pub oldest_read_seen : (id : ℕ) (pending : List Pending) (p : Pending) → find (is_read_of id) pending ≡ Some p → IsOldestRead id pending p
+oldest_read_seen id pending p found = by_burst p.burst refl (find-passes (is_read_of id) pending p found)
+  where
+    by_burst : (burst : Burst) → p.burst ≡ burst → reads_as id burst ≡ true → IsOldestRead id pending p
+    by_burst (WriteBurst aw ws) is passes = absurd (cc)
+    by_burst (ReadBurst ar) is passes = record { ar = ar; burst = is; seen = found_read id pending ∙ ap known_read found ∙ ap (open_read_in p.answered) is }
 
 -- ---- an answer breaks no rule
 
 -- no ID is above the device's
 id_of_write : (memory : FreeMemory) (id : ℕ) (p : Pending) → IsSoundMemory memory → find (is_write_of id) memory.pending ≡ Some p → id < 16
 id_of_write memory id p sound found =
-    by_burst p.burst (all-find (λ (q : Pending). queue_of q < 32) (is_write_of id) memory.pending p sound.few.known found) (find-passes (is_write_of id) memory.pending p found)
-  where
-    by_burst : (burst : Burst) → queue_of_burst burst < 32 → writes_as id burst ≡ true → id < 16
-    by_burst (WriteBurst aw ws) known same = omega (arith, known, eqb-true aw.id id same)
-    by_burst (ReadBurst ar) known same = absurd (cc)
+    let known = all-find (λ (q : Pending). queue_of q < 32) (is_write_of id) memory.pending p sound.few.known found in
+    let passes = find-passes (is_write_of id) memory.pending p found in
+    grind (arith, nat_tests, known, passes)
 
 id_of_read : (memory : FreeMemory) (id : ℕ) (p : Pending) → IsSoundMemory memory → find (is_read_of id) memory.pending ≡ Some p → id < 16
 id_of_read memory id p sound found =
-    by_burst p.burst (all-find (λ (q : Pending). queue_of q < 32) (is_read_of id) memory.pending p sound.few.known found) (find-passes (is_read_of id) memory.pending p found)
-  where
-    by_burst : (burst : Burst) → queue_of_burst burst < 32 → reads_as id burst ≡ true → id < 16
-    by_burst (WriteBurst aw ws) known same = absurd (cc)
-    by_burst (ReadBurst ar) known same = omega (arith, known, eqb-true ar.id id same)
+    let known = all-find (λ (q : Pending). queue_of q < 32) (is_read_of id) memory.pending p sound.few.known found in
+    let passes = find-passes (is_read_of id) memory.pending p found in
+    grind (arith, nat_tests, known, passes)
 
 pub takes_b : (memory : FreeMemory) (id : ℕ) (resp : Resp) (p : Pending) → IsSoundMemory memory → find (is_write_of id) memory.pending ≡ Some p → is_exokay resp ≡ false
     → axi_fault (device_port memory) (open_bursts_of memory) (OnB (record { id = id; resp = resp })) ≡ None
@@ -295,11 +185,7 @@ takes_b memory id resp p sound found plain =
 -- what a read captured, and so answers, isn't EXOKAY
 pub captured_plain : (burst : Burst) (beats : List BeatState) (n payload : ℕ) (resp : Resp) → AllByRecursion (IsBeatOf burst) beats → slice_get beats n ≡ Some (Captured payload resp) → is_exokay resp ≡ false
 captured_plain burst [] n payload resp all there = absurd (cc)
-captured_plain burst (beat ∷ beats) zero payload resp all there = of_burst burst (subst (IsBeatOf burst) (same_Some beat (Captured payload resp) there) all.0)
-  where
-    of_burst : (burst : Burst) → IsBeatOf burst (Captured payload resp) → is_exokay resp ≡ false
-    of_burst (WriteBurst aw ws) never = absurd never
-    of_burst (ReadBurst ar) plain = plain
+captured_plain burst (beat ∷ beats) zero payload resp all there = grind (arith, all.0)
 captured_plain burst (beat ∷ beats) (suc n) payload resp all there = captured_plain burst beats n payload resp all.1 there
 
 same_flag : (b : Bool) → not (beq b b) ≡ false

@@ -1,28 +1,20 @@
 -- The open bursts of a device: found by serial, and by ID and side; and what sending, performing and answering keep.
-use Rattle.std.proofs.Common.{◌≡◌, ℕ, zero, suc, ◌+◌, ◌*◌, ◌<◌, ◌≤◌, ◌==◌, Bool, true, false, cond, not, List, [], ◌∷◌, ◌++◌, length, get_or, refl, sym, ◌∙◌, ap, subst, arith}
-use Rattle.std.specs.List.{AllByRecursion, list_any, position_or_len}
+use Rattle.std.proofs.Common.{◌≡◌, ℕ, zero, suc, ◌+◌, ◌<◌, ◌≤◌, ◌==◌, Bool, true, false, List, [], ◌∷◌, ◌++◌, length, get_or, refl, sym, ◌∙◌, ap, subst, arith}
+use Rattle.std.specs.List.{AllByRecursion, position_or_len}
 use Rattle.std.specs.List.Sorted.{IsBinarySearchResult, IsNonDecreasingBy, IsSearchInRange}
 use Rattle.std.specs.Ordering.{nat_cmp, ordering_index}
-use Rattle.std.specs.Prelude.{Option, Some, None, Result, Ok, Err, filter, filter_map, find, position, if◌then◌else◌, IfSome, is_some, option_map}
+use Rattle.std.specs.Prelude.{Option, Some, None, Result, Ok, Err, filter, filter_map, find, position, IfSome, is_some, option_map}
 use Rattle.std.specs.Result.{result_ok}
-use Rattle.std.proofs.lemmas.Bool.{lt-ltb, le-ltb, eq-eqb, ne_eqb}
+use Rattle.std.proofs.lemmas.Bool.{lt-ltb, le-ltb, eq-eqb}
 use Rattle.std.proofs.lemmas.Bool.Decides.{nat_tests}
 use Rattle.std.proofs.lemmas.Cmp.{ranked}
 use Rattle.std.proofs.lemmas.List.Sorted.{IsNonDecreasingBy-from_default}
 use Rattle.bus_words.proofs.FirstPlaces.{find-first, find-none, position_is_first}
 use Rattle.bus_words.specs.Places.{change_first, without_first}
-use Rattle.axi_beats.specs.Boxes.{ar_of, aw_of}
 use Rattle.axi_beats.specs.Bursts.{Burst, ReadBurst, WriteBurst}
-use Rattle.axi_beats.specs.declared.ArBeat.{ArBeat}
-use Rattle.axi_beats.specs.declared.AwBeat.{AwBeat}
-use Rattle.axi_beats.specs.declared.BBeat.{BBeat}
-use Rattle.axi_beats.specs.declared.Resp.{Resp}
 use Rattle.axi_checker.specs.OpenBursts.{OpenBursts, lacks_data, read_of_id, write_of_id, write_to_fill}
-use Rattle.subordinate.specs.Faults.{standing_at, write_response}
-use Rattle.subordinate.specs.FreeMemory.{FreeMemory, Pending, b_of, beat_at, gives_last, has_serial, is_read_of, is_waiting, is_write_of, newly_pending, open_bursts_of, open_read_in, open_write_in, pending_after_r, r_of, r_with, start_of}
-use Rattle.subordinate.specs.declared.BeatState.{BeatState}
-use Rattle.subordinate.specs.declared.BeatState.TheVariants.{Waiting, Written, Captured}
-use Rattle.subordinate.specs.Inside.{captured_at, is_beside, no_burst, with_answer}
+use Rattle.subordinate.specs.FreeMemory.{FreeMemory, Pending, gives_last, has_serial, is_read_of, is_write_of, newly_pending, open_bursts_of, open_read_in, open_write_in, pending_after_r}
+use Rattle.subordinate.specs.Inside.{is_beside, no_burst, with_answer}
 use Rattle.subordinate.specs.Laws.{RisesWithin, queue_of, queue_of_burst}
 use Rattle.axi_checker.specs.Rules.{AxiPortLimits, burst_fault, id_of, outstanding_beside}
 use Rattle.axi_checker.specs.declared.AxiRule.{AxiRule}
@@ -39,20 +31,17 @@ rises-append low top (q ∷ qs) p rises last = (rises.0, rises-append (q.serial 
 
 pub rises-without_first : (low top : ℕ) (test : Pending → Bool) (pending : List Pending) → RisesWithin low top pending → RisesWithin low top (without_first test pending)
 rises-without_first low top test [] rises = rises
-rises-without_first low top test (p ∷ ps) rises = by_test (test p) (rises-without_first (p.serial + 1) top test ps rises.1)
-  where
-    by_test : (b : Bool) → RisesWithin (p.serial + 1) top (without_first test ps) → RisesWithin low top (if b then ps else p ∷ without_first test ps)
-    by_test true rest = rises-weaken (p.serial + 1) low top ps (omega (arith, rises.0)) rises.1
-    by_test false rest = (rises.0, rest)
+rises-without_first low top test (p ∷ ps) rises = grind (arith, rises-weaken (p.serial + 1) low top ps, rises-without_first (p.serial + 1) top test ps rises.1)
+
+-- what is found in them has a serial that isn't below
+pub rises-found : (low top : ℕ) (test : Pending → Bool) (pending : List Pending) (p : Pending) → RisesWithin low top pending → find test pending ≡ Some p → low ≤ p.serial
+rises-found low top test [] p rises found = absurd (cc)
+rises-found low top test (q ∷ qs) p rises found = grind (arith, rises-found (q.serial + 1) top test qs p rises.1)
 
 pub rises-change_first : (low top : ℕ) (test : Pending → Bool) (change : Pending → Pending) (pending : List Pending) → ((p : Pending) → (change p).serial ≡ p.serial) → RisesWithin low top pending
     → RisesWithin low top (change_first test change pending)
 rises-change_first low top test change [] same rises = rises
-rises-change_first low top test change (p ∷ ps) same rises = by_test (test p) (rises-change_first (p.serial + 1) top test change ps same rises.1)
-  where
-    by_test : (b : Bool) → RisesWithin (p.serial + 1) top (change_first test change ps) → RisesWithin low top (if b then change p ∷ ps else p ∷ change_first test change ps)
-    by_test true rest = (omega (arith, same p, rises.0), subst (λ n. RisesWithin (n + 1) top ps) (sym (same p)) rises.1)
-    by_test false rest = (rises.0, rest)
+rises-change_first low top test change (p ∷ ps) same rises = grind (arith, same p, rises-change_first (p.serial + 1) top test change ps same rises.1)
 
 -- the serial at a place
 abbrev pub serial_at : List Pending → ℕ → ℕ
@@ -74,15 +63,11 @@ pub position-serial : (low top : ℕ) (pending : List Pending) (k : ℕ) → Ris
 position-serial low top [] k rises within = absurd (omega (arith, within))
 position-serial low top (p ∷ ps) zero rises within = rw (eq-eqb p.serial p.serial refl) refl
 position-serial low top (p ∷ ps) (suc k) rises within =
-    let later : p.serial < serial_at ps k = omega (arith, rises-at (p.serial + 1) top ps k rises.1 (omega (arith, within))) in
-    let rest = position-serial (p.serial + 1) top ps k rises.1 (omega (arith, within)) in
-    rw (ne_eqb p.serial (serial_at ps k) (λ same. omega (arith, later, same))) (omega (arith, rest))
+    grind (arith, nat_tests, rises-at (p.serial + 1) top ps k rises.1 (omega (arith, within)), position-serial (p.serial + 1) top ps k rises.1 (omega (arith, within)))
 
 position-missing : (pending : List Pending) (serial : ℕ) → ((k : ℕ) → k < length pending → serial_at pending k ≡ serial → ⊥) → position_or_len (has_serial serial) pending ≡ length pending
 position-missing [] serial missing = refl
-position-missing (p ∷ ps) serial missing =
-    let rest = position-missing ps serial (λ k within. missing (suc k) (omega (arith, within))) in
-    rw (ne_eqb p.serial serial (missing 0 (omega arith))) (omega (arith, rest))
+position-missing (p ∷ ps) serial missing = grind (arith, nat_tests, missing 0 (omega arith), position-missing ps serial (λ k within. missing (suc k) (omega (arith, within))))
 
 -- a binary search by serial finds the burst, if it is open
 pub place_of_serial : (low top : ℕ) (pending : List Pending) (serial : ℕ) (r : Result ℕ ℕ) → RisesWithin low top pending → IsSearchInRange r (length pending)
@@ -113,80 +98,28 @@ place_of_serial low top pending serial (Err gap) rises within parted =
 -- all writes have their data
 pub writes_have_data : (pending : List Pending) → find lacks_data (filter_map (λ p. open_write_in p.burst) pending) ≡ None
 writes_have_data [] = refl
-writes_have_data (p ∷ ps) = by_burst p.burst (writes_have_data ps)
-  where
-    by_burst : (burst : Burst) → find lacks_data (filter_map (λ q. open_write_in q.burst) ps) ≡ None
-        → find lacks_data (filter_map (λ q. open_write_in q.burst) (record p { burst = burst } ∷ ps)) ≡ None
-    by_burst (WriteBurst aw ws) rest =
-        let done : lacks_data (record { aw = aw; came = aw.len + 1 }) ≡ false = grind (arith, nat_tests) in
-        rw done rest
-    by_burst (ReadBurst ar) rest = rest
+writes_have_data (p ∷ ps) = grind (arith, nat_tests, writes_have_data ps)
 
 -- it knows as many writes, and reads, of an ID
 pub writes_known : (id : ℕ) (pending : List Pending) → length (filter (write_of_id id) (filter_map (λ p. open_write_in p.burst) pending)) ≡ length (filter (is_write_of id) pending)
 writes_known id [] = refl
-writes_known id (p ∷ ps) = by_burst p.burst (writes_known id ps)
-  where
-    by_burst : (burst : Burst) → length (filter (write_of_id id) (filter_map (λ q. open_write_in q.burst) ps)) ≡ length (filter (is_write_of id) ps)
-        → length (filter (write_of_id id) (filter_map (λ q. open_write_in q.burst) (record p { burst = burst } ∷ ps))) ≡ length (filter (is_write_of id) (record p { burst = burst } ∷ ps))
-    by_burst (ReadBurst ar) rest = rest
-    by_burst (WriteBurst aw ws) rest = elim (aw.id == id) as (λ b. length (cond b (record { aw = aw; came = aw.len + 1 } ∷ filter (write_of_id id) (filter_map (λ q. open_write_in q.burst) ps)) (filter (write_of_id id) (filter_map (λ q. open_write_in q.burst) ps)))
-        ≡ length (cond b (record p { burst = WriteBurst aw ws } ∷ filter (is_write_of id) ps) (filter (is_write_of id) ps)))
-        [ true ↦ ap suc rest | false ↦ rest ]
+writes_known id (p ∷ ps) = grind (arith, writes_known id ps)
 
 pub reads_known : (id : ℕ) (pending : List Pending) → length (filter (read_of_id id) (filter_map (λ p. open_read_in p.answered p.burst) pending)) ≡ length (filter (is_read_of id) pending)
 reads_known id [] = refl
-reads_known id (p ∷ ps) = by_burst p.burst (reads_known id ps)
-  where
-    by_burst : (burst : Burst) → length (filter (read_of_id id) (filter_map (λ q. open_read_in q.answered q.burst) ps)) ≡ length (filter (is_read_of id) ps)
-        → length (filter (read_of_id id) (filter_map (λ q. open_read_in q.answered q.burst) (record p { burst = burst } ∷ ps))) ≡ length (filter (is_read_of id) (record p { burst = burst } ∷ ps))
-    by_burst (WriteBurst aw ws) rest = rest
-    by_burst (ReadBurst ar) rest = elim (ar.id == id) as (λ b. length (cond b (record { ar = ar; came = p.answered } ∷ filter (read_of_id id) (filter_map (λ q. open_read_in q.answered q.burst) ps)) (filter (read_of_id id) (filter_map (λ q. open_read_in q.answered q.burst) ps)))
-        ≡ length (cond b (record p { burst = ReadBurst ar } ∷ filter (is_read_of id) ps) (filter (is_read_of id) ps)))
-        [ true ↦ ap suc rest | false ↦ rest ]
-
--- the bursts of a queue are the writes of an ID, or its reads
-pub queue_of_write : (id other : ℕ) → (2 * other == 2 * id) ≡ (other == id)
-queue_of_write id other = grind (arith, nat_tests)
-
-pub queue_of_read : (id other : ℕ) → (2 * other + 1 == 2 * id + 1) ≡ (other == id)
-queue_of_read id other = grind (arith, nat_tests)
+reads_known id (p ∷ ps) = grind (arith, reads_known id ps)
 
 pub in_queue : (burst : Burst) (p : Pending) → (queue_of p == queue_of_burst burst) ≡ is_beside burst p
-in_queue burst p = by_burst burst p.burst
-  where
-    by_burst : (burst : Burst) (held : Burst) → (queue_of (record p { burst = held }) == queue_of_burst burst) ≡ is_beside burst (record p { burst = held })
-    by_burst (WriteBurst aw ws) (WriteBurst aw2 ws2) = queue_of_write aw.id aw2.id
-    by_burst (WriteBurst aw ws) (ReadBurst ar2) = ne_eqb (2 * ar2.id + 1) (2 * aw.id) (λ same. omega (arith, same))
-    by_burst (ReadBurst ar) (WriteBurst aw2 ws2) = ne_eqb (2 * aw2.id) (2 * ar.id + 1) (λ same. omega (arith, same))
-    by_burst (ReadBurst ar) (ReadBurst ar2) = queue_of_read ar.id ar2.id
+in_queue burst p = grind (arith, nat_tests)
 
 pub count_in_queue : (burst : Burst) (pending : List Pending) → length (filter (λ p. queue_of p == queue_of_burst burst) pending) ≡ length (filter (is_beside burst) pending)
 count_in_queue burst [] = refl
-count_in_queue burst (p ∷ ps) = rw (in_queue burst p) (elim (is_beside burst p) as (λ b. length (cond b (p ∷ filter (λ q. queue_of q == queue_of_burst burst) ps) (filter (λ q. queue_of q == queue_of_burst burst) ps)) ≡ length (cond b (p ∷ filter (is_beside burst) ps) (filter (is_beside burst) ps)))
-    [ true ↦ ap suc (count_in_queue burst ps) | false ↦ count_in_queue burst ps ])
+count_in_queue burst (p ∷ ps) = grind (arith, in_queue burst p, count_in_queue burst ps)
 
 -- how many a monitor knows beside a burst
 pub known_beside : (memory : FreeMemory) (burst : Burst) → outstanding_beside (open_bursts_of memory) burst ≡ length (filter (is_beside burst) memory.pending)
 known_beside memory (WriteBurst aw ws) = writes_known aw.id memory.pending
 known_beside memory (ReadBurst ar) = reads_known ar.id memory.pending
-
--- the count of a box's side and ID
-pub beside_write : (held : Option Burst) (aw : AwBeat) (n : ℕ) (pending : List Pending) → aw_of held ≡ Some aw → n ≡ length (filter (is_write_of aw.id) pending)
-    → IfSome held (λ burst. n ≡ length (filter (is_beside burst) pending))
-beside_write None aw n pending is count = tt
-beside_write (Some (WriteBurst aw2 ws)) aw n pending is count =
-    let same : aw ≡ aw2 = cc in
-    subst (λ (beat : AwBeat). n ≡ length (filter (is_write_of beat.id) pending)) same count
-beside_write (Some (ReadBurst ar)) aw n pending is count = absurd (cc)
-
-pub beside_read : (held : Option Burst) (ar : ArBeat) (n : ℕ) (pending : List Pending) → ar_of held ≡ Some ar → n ≡ length (filter (is_read_of ar.id) pending)
-    → IfSome held (λ burst. n ≡ length (filter (is_beside burst) pending))
-beside_read None ar n pending is count = tt
-beside_read (Some (WriteBurst aw ws)) ar n pending is count = absurd (cc)
-beside_read (Some (ReadBurst ar2)) ar n pending is count =
-    let same : ar ≡ ar2 = cc in
-    subst (λ (beat : ArBeat). n ≡ length (filter (is_read_of beat.id) pending)) same count
 
 -- what is judged of a box's burst, by how many a monitor knows beside it
 pub sent_fault : (port : AxiPortLimits) (memory : FreeMemory) (held : Option Burst) (n : ℕ) (fault : Option AxiRule) → IfSome held (λ burst. n ≡ length (filter (is_beside burst) memory.pending))
@@ -211,19 +144,6 @@ found_none test pending none = find-none test pending none
 
 -- ---- the B and R that an ID may give
 
-pub can_b_found : (memory : FreeMemory) (id : ℕ) (p : Pending) (all : Bool) → find (is_write_of id) memory.pending ≡ Some p → all ≡ not (list_any is_waiting p.beats) → all ≡ is_some (b_of memory id)
-can_b_found memory id p all found is = rw found (by_test (list_any is_waiting p.beats) is)
-  where
-    by_test : (b : Bool) → all ≡ not b → all ≡ is_some {T = BBeat} (if b then None else Some (record { id = id; resp = write_response (standing_at memory.faults (start_of p.burst)) }))
-    by_test true is = is
-    by_test false is = is
-
-pub r_with_captured : (id : ℕ) (p : Pending) (state : Option BeatState) → r_with id p state ≡ option_map (λ (found : ℕ × Resp). record { id = id; payload = found.0; resp = found.1; last = gives_last p }) (captured_at state)
-r_with_captured id p None = refl
-r_with_captured id p (Some Waiting) = refl
-r_with_captured id p (Some Written) = refl
-r_with_captured id p (Some (Captured payload resp)) = refl
-
 pub is_some-option_map : {X Y : Type 0} (f : X → Y) (found : Option X) → is_some (option_map f found) ≡ is_some found
 is_some-option_map f None = refl
 is_some-option_map f (Some x) = refl
@@ -232,40 +152,14 @@ is_some-option_map f (Some x) = refl
 
 pub pending_after_r-last : (id : ℕ) (pending : List Pending) (p : Pending) → find (is_read_of id) pending ≡ Some p → gives_last p ≡ true → pending_after_r id pending ≡ without_first (is_read_of id) pending
 pending_after_r-last id [] p found last = refl
-pending_after_r-last id (q ∷ qs) p found last = by_test (is_read_of id q) found (λ later. pending_after_r-last id qs p later last)
-  where
-    by_test : (b : Bool) → (if b then Some q else find (is_read_of id) qs) ≡ Some p → (find (is_read_of id) qs ≡ Some p → pending_after_r id qs ≡ without_first (is_read_of id) qs)
-        → (if b then (if gives_last q then qs else with_answer q ∷ qs) else q ∷ pending_after_r id qs) ≡ (if b then qs else q ∷ without_first (is_read_of id) qs)
-    by_test true here rest =
-        let same : p ≡ q = cc in
-        let here_last : gives_last q ≡ true = subst (λ r. gives_last r ≡ true) same last in
-        rw here_last refl
-    by_test false later rest = ap (λ (ps : List Pending). q ∷ ps) (rest later)
+pending_after_r-last id (q ∷ qs) p found last = grind (arith, pending_after_r-last id qs p)
 
 pub pending_after_r-more : (id : ℕ) (pending : List Pending) (p : Pending) → find (is_read_of id) pending ≡ Some p → gives_last p ≡ false → pending_after_r id pending ≡ change_first (is_read_of id) with_answer pending
 pending_after_r-more id [] p found more = refl
-pending_after_r-more id (q ∷ qs) p found more = by_test (is_read_of id q) found (λ later. pending_after_r-more id qs p later more)
-  where
-    by_test : (b : Bool) → (if b then Some q else find (is_read_of id) qs) ≡ Some p → (find (is_read_of id) qs ≡ Some p → pending_after_r id qs ≡ change_first (is_read_of id) with_answer qs)
-        → (if b then (if gives_last q then qs else with_answer q ∷ qs) else q ∷ pending_after_r id qs) ≡ (if b then with_answer q ∷ qs else q ∷ change_first (is_read_of id) with_answer qs)
-    by_test true here rest =
-        let same : p ≡ q = cc in
-        let here_more : gives_last q ≡ false = subst (λ r. gives_last r ≡ false) same more in
-        rw here_more refl
-    by_test false later rest = ap (λ (ps : List Pending). q ∷ ps) (rest later)
-
-pub can_r_found : (memory : FreeMemory) (id : ℕ) (p : Pending) → find (is_read_of id) memory.pending ≡ Some p → is_some (r_of memory id) ≡ is_some (captured_at (beat_at p p.answered))
-can_r_found memory id p found = rw found (ap is_some (r_with_captured id p (beat_at p p.answered)) ∙ is_some-option_map _ (captured_at (beat_at p p.answered)))
+pending_after_r-more id (q ∷ qs) p found more = grind (arith, pending_after_r-more id qs p)
 
 -- what holds of all open bursts holds of the one at a place
 pub all-at : (P : Pending → Type 0) (pending : List Pending) (k : ℕ) (p : Pending) → AllByRecursion P pending → k < length pending → p ≡ get_or pending k p → P p
 all-at P [] k p all within is = absurd (omega (arith, within))
 all-at P (q ∷ qs) zero p all within is = subst P (sym is) all.0
 all-at P (q ∷ qs) (suc k) p all within is = all-at P qs k p all.1 (omega (arith, within)) is
-
--- without an open write of the ID it gives no B, and without an open read no R
-pub no_b : (memory : FreeMemory) (id : ℕ) → find (is_write_of id) memory.pending ≡ None → b_of memory id ≡ None
-no_b memory id none = rw none refl
-
-pub no_r : (memory : FreeMemory) (id : ℕ) → find (is_read_of id) memory.pending ≡ None → r_of memory id ≡ None
-no_r memory id none = rw none refl

@@ -1,23 +1,23 @@
 -- The queues of a memory's open bursts are the writes, and the reads, of its IDs; and what a device may ask of them.
-use Rattle.std.proofs.Common.{◌≡◌, ℕ, zero, suc, ◌+◌, ◌*◌, ◌<◌, ◌≤◌, ◌==◌, Bool, true, false, List, [], ◌∷◌, length, get_or, refl, sym, ◌∙◌, ap, subst, arith}
+use Rattle.std.proofs.Common.{◌≡◌, ℕ, zero, suc, ◌+◌, ◌*◌, ◌<◌, ◌≤◌, Bool, false, List, [], ◌∷◌, length, get_or, refl, sym, ◌∙◌, ap, subst, arith}
 use Rattle.std.proofs.lemmas.Bool.{eqb-true, ne_eqb}
 use Rattle.std.proofs.lemmas.List.{get_or_default}
 use Rattle.std.proofs.lemmas.List.Folds.{find_at}
 use Rattle.std.proofs.lemmas.Option.{same_Some, slice_get-get_or}
-use Rattle.std.specs.List.{AllByRecursion, list_any, position_or_len}
-use Rattle.std.specs.Prelude.{Option, Some, None, IfSome, IsSome, filter, find, if◌then◌else◌, is_some, position, slice_get}
+use Rattle.std.specs.List.{AllByRecursion}
+use Rattle.std.specs.Prelude.{Option, Some, None, IfSome, IsSome, filter, find, is_some, position, slice_get}
 use Rattle.axi_beats.specs.Bursts.{Burst, ReadBurst, WriteBurst}
-use Rattle.axi_beats.specs.declared.BBeat.{BBeat}
 use Rattle.bus_words.proofs.FirstPlaces.{first-passes, position_is_first}
 use Rattle.bus_words.proofs.PlaceChanges.{find-passes}
-use Rattle.subordinate.specs.Bursts.{can_answer, is_found_ready, is_in, is_queue_ready, is_ready}
-use Rattle.subordinate.specs.Faults.{standing_at, write_response}
-use Rattle.subordinate.specs.FreeMemory.{FreeMemory, Pending, b_from, b_of, is_read_of, is_waiting, is_write_of, newly_pending, r_from, r_of, reads_as, start_of, writes_as}
+use Rattle.subordinate.specs.Bursts.{is_found_ready, is_in, is_queue_ready, is_ready}
+use Rattle.subordinate.specs.FreeMemory.{FreeMemory, Pending, b_from, b_of, is_read_of, is_write_of, newly_pending, r_from, r_of}
 use Rattle.subordinate.specs.Inside.{burst_in, captured_at, is_beside, no_burst}
 use Rattle.subordinate.specs.Laws.{IsSoundMemory, queue_of, queue_of_burst}
 use Rattle.subordinate.specs.declared.BeatState.{BeatState}
 use Rattle.subordinate.proofs.BurstIndex.{burst_at}
-use Rattle.subordinate.proofs.OpenBursts.{all-at, can_r_found, count_in_queue, queue_of_read, queue_of_write}
+use Rattle.subordinate.proofs.OpenBursts.{all-at, count_in_queue}
+use Rattle.bus_words.proofs.MappedPlaces.{position_same}
+use Rattle.std.proofs.lemmas.Bool.Decides.{nat_tests}
 
 -- ---- tests that agree
 
@@ -25,63 +25,33 @@ find_agree : {X : Type 0} (p q : X → Bool) (xs : List X) → ((x : X) → p x 
 find_agree p q [] same = refl
 find_agree p q (x ∷ xs) same = rw (same x, find_agree p q xs same) refl
 
-place_agree : {X : Type 0} (p q : X → Bool) (xs : List X) → ((x : X) → p x ≡ q x) → position_or_len p xs ≡ position_or_len q xs
-place_agree p q [] same = refl
-place_agree p q (x ∷ xs) same = rw (same x, place_agree p q xs same) refl
-
 write_in : (id : ℕ) (p : Pending) → is_in (2 * id) p ≡ is_write_of id p
-write_in id p = by_burst p.burst
-  where
-    by_burst : (held : Burst) → (queue_of_burst held == 2 * id) ≡ writes_as id held
-    by_burst (WriteBurst aw ws) = queue_of_write id aw.id
-    by_burst (ReadBurst ar) = ne_eqb (2 * ar.id + 1) (2 * id) (λ same. omega (arith, same))
+write_in id p = grind (arith, nat_tests)
 
 read_in : (id : ℕ) (p : Pending) → is_in (2 * id + 1) p ≡ is_read_of id p
-read_in id p = by_burst p.burst
-  where
-    by_burst : (held : Burst) → (queue_of_burst held == 2 * id + 1) ≡ reads_as id held
-    by_burst (WriteBurst aw ws) = ne_eqb (2 * aw.id) (2 * id + 1) (λ same. omega (arith, same))
-    by_burst (ReadBurst ar) = queue_of_read id ar.id
+read_in id p = grind (arith, nat_tests)
 
 pub write_place : (id : ℕ) (bursts : List Pending) → position (is_in (2 * id)) bursts ≡ position (is_write_of id) bursts
-write_place id bursts = rw (place_agree (is_in (2 * id)) (is_write_of id) bursts (write_in id)) refl
+write_place id bursts = position_same (is_in (2 * id)) (is_write_of id) bursts (write_in id)
 
 pub read_place : (id : ℕ) (bursts : List Pending) → position (is_in (2 * id + 1)) bursts ≡ position (is_read_of id) bursts
-read_place id bursts = rw (place_agree (is_in (2 * id + 1)) (is_read_of id) bursts (read_in id)) refl
+read_place id bursts = position_same (is_in (2 * id + 1)) (is_read_of id) bursts (read_in id)
 
 -- ---- which IDs may answer
 
 pub ready_b : (memory : FreeMemory) (id : ℕ) → is_queue_ready memory.pending (2 * id) ≡ is_some (b_of memory id)
 ready_b memory id = ap is_found_ready (find_agree (is_in (2 * id)) (is_write_of id) memory.pending (write_in id)) ∙ by_found (find (is_write_of id) memory.pending) refl
   where
-    by_burst : (p : Pending) (held : Burst) → writes_as id held ≡ true
-        → can_answer held p ≡ is_some {T = BBeat} (if list_any is_waiting p.beats then None else Some (record { id = id; resp = write_response (standing_at memory.faults (start_of p.burst)) }))
-    by_burst p (ReadBurst ar) passes = absurd (cc (passes))
-    by_burst p (WriteBurst aw ws) passes = by_test (list_any is_waiting p.beats) refl
-      where
-        by_test : (b : Bool) → list_any is_waiting p.beats ≡ b
-            → can_answer (WriteBurst aw ws) p ≡ is_some {T = BBeat} (if list_any is_waiting p.beats then None else Some (record { id = id; resp = write_response (standing_at memory.faults (start_of p.burst)) }))
-        by_test true is = rw is refl
-        by_test false is = rw is refl
-
     by_found : (found : Option Pending) → find (is_write_of id) memory.pending ≡ found → is_found_ready found ≡ is_some (b_from memory.faults id found)
     by_found None none = refl
-    by_found (Some p) found = by_burst p p.burst (find-passes (is_write_of id) memory.pending p found)
+    by_found (Some p) found = let passes = find-passes (is_write_of id) memory.pending p found in grind (arith, passes)
 
 pub ready_r : (memory : FreeMemory) (id : ℕ) → is_queue_ready memory.pending (2 * id + 1) ≡ is_some (r_of memory id)
-ready_r memory id = by_found (find (is_read_of id) memory.pending) refl
+ready_r memory id = ap is_found_ready (find_agree (is_in (2 * id + 1)) (is_read_of id) memory.pending (read_in id)) ∙ by_found (find (is_read_of id) memory.pending) refl
   where
-    by_burst : (p : Pending) (held : Burst) → reads_as id held ≡ true → can_answer held p ≡ can_answer (ReadBurst (record { id = 0; address = 0; len = 0; size = 0; burst = 1 })) p
-    by_burst p (ReadBurst ar) passes = refl
-    by_burst p (WriteBurst aw ws) passes = absurd (cc (passes))
-
-    by_found : (found : Option Pending) → find (is_read_of id) memory.pending ≡ found → is_queue_ready memory.pending (2 * id + 1) ≡ is_some (r_of memory id)
-    by_found None none =
-        let missing : find (is_in (2 * id + 1)) memory.pending ≡ None = find_agree (is_in (2 * id + 1)) (is_read_of id) memory.pending (read_in id) ∙ none in
-        ap is_found_ready missing ∙ sym (ap (λ (found : Option Pending). is_some (r_from id found)) none)
-    by_found (Some p) found =
-        let here : find (is_in (2 * id + 1)) memory.pending ≡ Some p = find_agree (is_in (2 * id + 1)) (is_read_of id) memory.pending (read_in id) ∙ found in
-        ap is_found_ready here ∙ by_burst p p.burst (find-passes (is_read_of id) memory.pending p found) ∙ sym (can_r_found memory id p found)
+    by_found : (found : Option Pending) → find (is_read_of id) memory.pending ≡ found → is_found_ready found ≡ is_some (r_from id found)
+    by_found None none = refl
+    by_found (Some p) found = let passes = find-passes (is_read_of id) memory.pending p found in grind (arith, passes)
 
 pub first_ready_b : (memory : FreeMemory) (ids : List ℕ) → find (λ id. is_queue_ready memory.pending (2 * id)) ids ≡ find (λ id. is_some (b_of memory id)) ids
 first_ready_b memory ids = find_agree _ _ ids (ready_b memory)

@@ -1,12 +1,12 @@
 -- Words and their bytes: a byte that is set in a word, a word that is changed in a memory, and addresses of one word.
-use Rattle.std.proofs.Common.{◌≡◌, ℕ, zero, suc, ◌+◌, ◌*◌, ◌/◌, ◌%◌, ◌<◌, ◌==◌, true, false, List, get_or, refl, ◌∙◌, ap, arith}
+use Rattle.std.proofs.Common.{◌≡◌, ℕ, zero, suc, ◌+◌, ◌*◌, ◌/◌, ◌%◌, ◌<◌, ◌==◌, true, false, List, get_or, refl, ◌∙◌, ap, arith, [], ◌∷◌, Bool}
 use Rattle.std.proofs.Math.Seq.{set-get_or}
 use Rattle.std.specs.Prelude.{if◌then◌else◌, find, option_map}
 use Rattle.bus_words.specs.Lanes.{lane_byte}
 use Rattle.bus_words.specs.Places.{change_first}
 use Rattle.bus_words.proofs.LaneLaws.{GivesBytes, lane_byte-word_of_lanes}
 use Rattle.subordinate.specs.Pages.{GoodPage, Memory, byte_at_address, holds_address, page_with_word, with_word, word_at, word_place, word_with_byte}
-use Rattle.subordinate.proofs.Changes.{change_first-change_first, change_first-same, change_first-agree, set-set_from}
+use Rattle.std.proofs.Math.ListN.{set}
 
 -- ---- a byte of a word
 
@@ -21,6 +21,29 @@ with_byte_gives word lane byte small =
 
 pub lane_byte-word_with_byte : (word lane byte other : ℕ) → byte < 256 → other < 8 → lane_byte (word_with_byte lane byte word) other ≡ (if other == lane then byte else lane_byte word other)
 lane_byte-word_with_byte word lane byte other small below = lane_byte-word_of_lanes _ other (with_byte_gives word lane byte small) below
+
+-- ---- changes of a first passing entry, one after another
+
+-- two changes are one, where the first leaves the test as it was
+change_first-change_first : {X : Type 0} (p : X → Bool) (f g : X → X) (xs : List X) → ((x : X) → p (f x) ≡ p x) → change_first p g (change_first p f xs) ≡ change_first p (λ x. g (f x)) xs
+change_first-change_first p f g [] same = refl
+change_first-change_first p f g (x ∷ xs) same = grind (arith, same x, change_first-change_first p f g xs same)
+
+-- a change that changes nothing
+change_first-same : {X : Type 0} (p : X → Bool) (f : X → X) (xs : List X) → ((x : X) → f x ≡ x) → change_first p f xs ≡ xs
+change_first-same p f [] same = refl
+change_first-same p f (x ∷ xs) same = grind (arith, same x, change_first-same p f xs same)
+
+-- changes that agree
+change_first-agree : {X : Type 0} (p : X → Bool) (f g : X → X) (xs : List X) → ((x : X) → f x ≡ g x) → change_first p f xs ≡ change_first p g xs
+change_first-agree p f g [] same = refl
+change_first-agree p f g (x ∷ xs) same = rw (same x, change_first-agree p f g xs same) refl
+
+-- a store computed from what stands there, and then another
+set-set_from : (xs : List ℕ) (k : ℕ) (f g : ℕ → ℕ) → set (set xs k (f (get_or xs k 0))) k (g (get_or (set xs k (f (get_or xs k 0))) k 0)) ≡ set xs k (g (f (get_or xs k 0)))
+set-set_from [] k f g = refl
+set-set_from (x ∷ xs) zero f g = refl
+set-set_from (x ∷ xs) (suc k) f g = ap (λ (ys : List ℕ). x ∷ ys) (set-set_from xs k f g)
 
 -- ---- a word of a memory
 

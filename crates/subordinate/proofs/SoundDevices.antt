@@ -1,7 +1,7 @@
 -- What stays true of a device's open bursts when one is sent, performed, answered or closed.
 use Rattle.std.proofs.Common.{◌≡◌, ℕ, zero, suc, ◌+◌, ◌<◌, ◌≤◌, ◌==◌, Bool, true, false, List, [], ◌∷◌, ◌++◌, length, get_or, replicate, refl, sym, ◌∙◌, ap, subst, arith}
 use Rattle.std.proofs.Math.ListN.{set}
-use Rattle.std.proofs.lemmas.List.{append-nil, length-append, length-set, map-append}
+use Rattle.std.proofs.lemmas.List.{append-nil, length-append, length-set, map-append, length-replicate}
 use Rattle.std.specs.List.{AllByRecursion, remove}
 use Rattle.std.specs.Prelude.{Option, Some, None, IfSome, IsSome, filter, find, position, slice_get, take}
 use Rattle.axi_beats.specs.Bursts.{Burst, IsLegal, ReadBurst, WriteBurst}
@@ -12,7 +12,7 @@ use Rattle.axi_checker.specs.Rules.{id_of, outstanding_beside}
 use Rattle.bus_words.proofs.FirstPlaces.{IsFirst, change_first-first, find-first, position_is_first, without_first-first}
 use Rattle.bus_words.proofs.PlaceChanges.{all-append, all-without_first, find-passes}
 use Rattle.std.proofs.lemmas.Bool.{eqb-true}
-use Rattle.std.proofs.lemmas.Option.{same_Some, slice_get-get_or}
+use Rattle.std.proofs.lemmas.Option.{slice_get-get_or}
 use Rattle.bus_words.specs.Places.{change_first}
 use Rattle.subordinate.specs.Device.{DeviceState, after_r}
 use Rattle.subordinate.specs.FreeMemory.{FreeMemory, Pending, beat_after, beat_at, gives_last, has_serial, is_read_of, is_waiting, memory_after, newly_pending, open_bursts_of, performed, transfers_in, with_beat, with_burst}
@@ -26,6 +26,7 @@ use Rattle.subordinate.specs.declared.BeatState.TheVariants.{Waiting, Written, C
 use Rattle.subordinate.proofs.FaultLaws.{read_plain}
 use Rattle.subordinate.specs.Faults.{is_bad, standing_at}
 use Rattle.subordinate.proofs.OpenBursts.{all-at, count_in_queue, known_beside, pending_after_r-last, pending_after_r-more, position-serial, rises-append, rises-change_first, rises-without_first, serial_at}
+use Rattle.subordinate.proofs.BeatStates.{set_performed}
 
 -- ---- lists
 
@@ -34,24 +35,12 @@ all-set P [] k x all new = tt
 all-set P (y ∷ ys) zero x all new = (new, all.1)
 all-set P (y ∷ ys) (suc k) x all new = (all.0, all-set P ys k x all.1 new)
 
-length-replicate : {X : Type 0} (n : ℕ) (x : X) → length (replicate n x) ≡ n
-length-replicate zero x = refl
-length-replicate (suc n) x = ap suc (length-replicate n x)
-
 -- ---- one open burst
-
-performed-set : (n k : ℕ) (beats : List BeatState) (state : BeatState) → AllByRecursion IsPerformed (take n beats) → is_waiting state ≡ false → AllByRecursion IsPerformed (take n (set beats k state))
-performed-set zero k beats state all performed = tt
-performed-set (suc n) k [] state all performed = tt
-performed-set (suc n) zero (beat ∷ beats) state all performed = (performed, all.1)
-performed-set (suc n) (suc k) (beat ∷ beats) state all performed = (all.0, performed-set n k beats state all.1 performed)
 
 performed-more : (n : ℕ) (beats : List BeatState) (state : BeatState) → AllByRecursion IsPerformed (take n beats) → slice_get beats n ≡ Some state → is_waiting state ≡ false
     → AllByRecursion IsPerformed (take (suc n) beats) × (suc n ≤ length beats)
 performed-more n [] state all there performed = absurd (cc)
-performed-more zero (beat ∷ beats) state all there performed =
-    let same : state ≡ beat = cc in
-    ((rw same at performed, tt), omega arith)
+performed-more zero (beat ∷ beats) state all there performed = ((grind (arith, performed), tt), omega arith)
 performed-more (suc n) (beat ∷ beats) state all there performed =
     let rest = performed-more n beats state all.1 there performed in
     ((all.0, rest.0), omega (arith, rest.1))
@@ -62,7 +51,7 @@ sound-with_beat bus_bytes beat state p sound performed of_burst =
       legal = sound.legal;
       whole = length-set p.beats beat state ∙ sound.whole;
       beats = all-set (IsBeatOf p.burst) p.beats beat state sound.beats of_burst;
-      answered = performed-set p.answered beat p.beats state sound.answered performed;
+      answered = set_performed p.answered p.beats beat state sound.answered performed;
       most = omega (arith, sound.most, length-set p.beats beat state);
       one_by_one = sound.one_by_one;
     }
@@ -71,7 +60,7 @@ sound-with_beat bus_bytes beat state p sound performed of_burst =
 captured-read : (burst : Burst) (beats : List BeatState) (n answered payload : ℕ) (resp : Resp) → AllByRecursion (IsBeatOf burst) beats → slice_get beats n ≡ Some (Captured payload resp) → HasAnswered burst answered
 captured-read (ReadBurst ar) beats n answered payload resp all there = tt
 captured-read (WriteBurst aw ws) [] n answered payload resp all there = absurd (cc)
-captured-read (WriteBurst aw ws) (beat ∷ beats) zero answered payload resp all there = absurd (subst (IsBeatOf (WriteBurst aw ws)) (same_Some beat (Captured payload resp) there) all.0)
+captured-read (WriteBurst aw ws) (beat ∷ beats) zero answered payload resp all there = grind (arith, all.0)
 captured-read (WriteBurst aw ws) (beat ∷ beats) (suc n) answered payload resp all there = captured-read (WriteBurst aw ws) beats n answered payload resp all.1 there
 
 pub sound-with_answer : (bus_bytes payload : ℕ) (resp : Resp) (p : Pending) → IsSoundPending bus_bytes p → slice_get p.beats p.answered ≡ Some (Captured payload resp) → IsSoundPending bus_bytes (with_answer p)
@@ -207,11 +196,10 @@ room_changed open_bursts closed spare room_of_closed room_of_spare same room = s
 
 -- a performed beat doesn't wait
 pub beat_after-performed : (memory : FreeMemory) (burst : Burst) (beat : ℕ) → is_waiting (beat_after memory burst beat) ≡ false
-beat_after-performed memory (WriteBurst aw ws) beat = refl
-beat_after-performed memory (ReadBurst ar) beat = refl
+beat_after-performed memory burst beat = grind arith
 
 pub beat_becomes-performed : (memory : FreeMemory) (burst : Burst) (beat : ℕ) (state : BeatState) → state ≡ beat_after memory burst beat → is_waiting state ≡ false
-beat_becomes-performed memory burst beat state is = ap is_waiting is ∙ beat_after-performed memory burst beat
+beat_becomes-performed memory burst beat state is = grind arith
 
 -- and is one of its burst
 pub beat_after-of : (memory : FreeMemory) (burst : Burst) (beat : ℕ) → IsBeatOf burst (beat_after memory burst beat)

@@ -460,8 +460,8 @@ impl Device {
         ensures laws { IsSoundMemory self.new.memory }
     {
         let (burst, beats) = self.open.take_oldest(queue, place).into_parts();
-        push(&mut self.spare, beats);
-        push(&mut self.closed, burst);
+        self.spare.push_reserved(beats);
+        self.closed.push_reserved(burst);
     }
 }
 
@@ -471,19 +471,9 @@ fn spare_beats(alloc: Global) -> Result<Vec<Beats>, AllocError>
 {
     let mut spare = Vec::with_capacity(alloc, MOST_OPEN)?;
     for _ in 0..MOST_OPEN {
-        push(&mut spare, Beats::new(alloc)?);
+        spare.push_reserved(Beats::new(alloc)?);
     }
     Ok(spare)
-}
-
-/// Appends an item for which there is room.
-fn push<T>(items: &mut Vec<T>, item: T)
-    requires { vec_len items.old < vec_capacity items.old }
-    ensures items { items.new.items ≡ items.old.items ++ item ∷ [] }
-    ensures len { vec_len items.new ≡ vec_len items.old + 1 }
-    ensures capacity { vec_capacity items.old ≤ vec_capacity items.new }
-{
-    items.push_reserved(item);
 }
 
 /// Performs a beat of a legal burst, and answers what became of it.

@@ -1,5 +1,5 @@
 -- The strobes of a legal write fit its transfers.
-use Rattle.subordinate.proofs.BoxTransfers.{write_in_box}
+use Rattle.subordinate.proofs.TransferWords.{write_in_box}
 use Rattle.subordinate.proofs.device.carried_out.Goals as goal
 
 pub write-requires-clause-strobes : goal.write-requires-clause-strobes

@@ -3,11 +3,12 @@ use Rattle.bus_words.specs.Places.{change_first}
 use Rattle.flight_table.specs.Inside.{keyed_of}
 use Rattle.flight_table.specs.LiveRequests.{LiveRequest, with_answered}
 use Rattle.flight_table.specs.Tables.{KeyedTable, change_entry, has_key, requests_of, table_of}
-use Rattle.flight_table.proofs.Steps.{IsChanged, keeps_name, answered_progress, change_is, known, progresses, needs, step_answered}
+use Rattle.flight_table.proofs.Steps.{IsChanged, keeps_name, change_is, known, progresses, needs, step_answered}
 use Rattle.flight_table.proofs.flight.Flight.answered.Goals as goal
 
 pub set-requires-clause-progress : goal.set-requires-clause-progress
-set-requires-clause-progress c = progresses c.args.key c.self.inside.live.entries c.get-request.result c.with_answered.result c.get-request.ensures.request (answered_progress c.get-request.result c.with_answered.result c.with_answered.ensures)
+set-requires-clause-progress c =
+    progresses with_answered c.args.key c.self.inside.live.entries c.get-request.result c.with_answered.result (record { number = refl; client = refl; source = refl; operation = refl; plan = refl; done = refl }) c.get-request.ensures.request c.with_answered.ensures
 
 pub set-requires-clause-id : goal.set-requires-clause-id
 set-requires-clause-id c =
@@ -26,11 +27,5 @@ made c =
 pub invariant_of-self : goal.invariant_of-self
 invariant_of-self c = (made c).laws
 
-pub returns-clause-state : goal.returns-clause-state
-returns-clause-state c = (made c).state
-
-pub returns-clause-table : goal.returns-clause-table
-returns-clause-table c = (made c).table
-
-pub returns-clause-laws : goal.returns-clause-laws
-returns-clause-laws c = (made c).laws
+pub returns : goal.returns
+returns c = record { state = (made c).state; table = (made c).table; laws = (made c).laws }

@@ -28,11 +28,5 @@ made c =
 pub invariant_of-self : goal.invariant_of-self
 invariant_of-self c = (made c).laws
 
-pub returns-clause-state : goal.returns-clause-state
-returns-clause-state c = (made c).state
-
-pub returns-clause-table : goal.returns-clause-table
-returns-clause-table c = (made c).table
-
-pub returns-clause-laws : goal.returns-clause-laws
-returns-clause-laws c = (made c).laws
+pub returns : goal.returns
+returns c = record { state = (made c).state; table = (made c).table; laws = (made c).laws }

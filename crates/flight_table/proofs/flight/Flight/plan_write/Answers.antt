@@ -4,11 +4,12 @@ use Rattle.bus_words.specs.Places.{change_first}
 use Rattle.flight_table.specs.Inside.{keyed_of}
 use Rattle.flight_table.specs.LiveRequests.{LiveRequest, awaits_write, with_write}
 use Rattle.flight_table.specs.Tables.{KeyedTable, change_entry, has_key, requests_of, table_of}
-use Rattle.flight_table.proofs.Steps.{IsChanged, awaits_parts, keeps_name, write_progress, change_is, known, needs, progresses, step_write}
+use Rattle.flight_table.proofs.Steps.{IsChanged, awaits_parts, keeps_name, change_is, known, needs, progresses, step_write}
 use Rattle.flight_table.proofs.flight.Flight.plan_write.Goals as goal
 
 pub set-requires-clause-progress : goal.set-requires-clause-progress
-set-requires-clause-progress c = progresses c.args.key c.self.inside.live.entries c.get-request.result c.with_write.result c.get-request.ensures.request (write_progress c.get-request.result c.with_write.result c.with_write.ensures)
+set-requires-clause-progress c =
+    progresses with_write c.args.key c.self.inside.live.entries c.get-request.result c.with_write.result (record { number = refl; client = refl; source = refl; operation = refl; plan = refl; done = refl }) c.get-request.ensures.request c.with_write.ensures
 
 pub set-requires-clause-id : goal.set-requires-clause-id
 set-requires-clause-id c =
@@ -27,11 +28,5 @@ made c =
 pub invariant_of-self : goal.invariant_of-self
 invariant_of-self c = (made c).laws
 
-pub returns-clause-state : goal.returns-clause-state
-returns-clause-state c = (made c).state
-
-pub returns-clause-table : goal.returns-clause-table
-returns-clause-table c = (made c).table
-
-pub returns-clause-laws : goal.returns-clause-laws
-returns-clause-laws c = (made c).laws
+pub returns : goal.returns
+returns c = record { state = (made c).state; table = (made c).table; laws = (made c).laws }

@@ -1,10 +1,10 @@
 use Rattle.std.proofs.Common.{refl, ◌≡◌, ◌∙◌, Some, sym}
 use Rattle.bus_words.specs.Places.{change_first}
 use Rattle.flight_table.specs.Inside.{keyed_of}
-use Rattle.flight_table.specs.LiveRequests.{with_sent}
+use Rattle.flight_table.specs.LiveRequests.{with_sent, LiveRequest}
 use Rattle.flight_table.specs.Order.{id_for}
 use Rattle.flight_table.specs.Tables.{KeyedTable, change_entry, has_key, requests_of, table_of}
-use Rattle.flight_table.proofs.Steps.{IsChanged, sent_name, sent_progress, change_is, known, progresses, ready_parts, seen, sends, step_sent}
+use Rattle.flight_table.proofs.Steps.{IsChanged, sent_name, change_is, known, progresses, ready_parts, seen, sends, step_sent}
 use Rattle.flight_table.proofs.flight.Flight.sent.Goals as goal
 
 pub unwrap-id-requires : goal.unwrap-id-requires
@@ -20,7 +20,8 @@ with_sent-requires c =
     (ready_parts (table_of old) r (sends old c.args.self.now c.args.key r c.self.view_is c.get-request.ensures.request c.requires)).more
 
 pub set-requires-clause-progress : goal.set-requires-clause-progress
-set-requires-clause-progress c = progresses c.args.key c.self.inside.live.entries c.get-request.result c.with_sent.result c.get-request.ensures.request (sent_progress c.unwrap-id.result c.get-request.result c.with_sent.result c.with_sent.ensures)
+set-requires-clause-progress c =
+    progresses (with_sent c.unwrap-id.result) c.args.key c.self.inside.live.entries c.get-request.result c.with_sent.result (record { number = refl; client = refl; source = refl; operation = refl; plan = refl; done = refl }) c.get-request.ensures.request c.with_sent.ensures
 
 pub set-requires-clause-id : goal.set-requires-clause-id
 set-requires-clause-id c =
@@ -40,17 +41,13 @@ made c =
 pub invariant_of-self : goal.invariant_of-self
 invariant_of-self c = (made c).laws
 
-pub returns-clause-id : goal.returns-clause-id
-returns-clause-id c =
+pub returns : goal.returns
+returns c =
     let old : KeyedTable = keyed_of c.self.inside.accepted c.self.inside.live in
-    seen (λ t q. id_for t.limits (requests_of t.entries) q ≡ Some c.unwrap-id.result) old c.args.self.now c.args.key c.get-request.result c.self.view_is c.get-request.ensures.request
-    (sym c.id_for.ensures ∙ c.unwrap-id.ensures)
-
-pub returns-clause-state : goal.returns-clause-state
-returns-clause-state c = (made c).state
-
-pub returns-clause-table : goal.returns-clause-table
-returns-clause-table c = (made c).table
-
-pub returns-clause-laws : goal.returns-clause-laws
-returns-clause-laws c = (made c).laws
+    let name = λ (t : KeyedTable) (q : LiveRequest). id_for t.limits (requests_of t.entries) q ≡ Some c.unwrap-id.result in
+    record {
+      id = seen name old c.args.self.now c.args.key c.get-request.result c.self.view_is c.get-request.ensures.request (sym c.id_for.ensures ∙ c.unwrap-id.ensures);
+      state = (made c).state;
+      table = (made c).table;
+      laws = (made c).laws;
+    }

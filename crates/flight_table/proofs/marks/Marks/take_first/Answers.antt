@@ -11,10 +11,12 @@ record Taken (count bits place : ℕ) (marks : List Bool) : Type 0 where
   less : 1 * 2 ^ place % 18446744073709551616 ≤ bits
   left : marks_of count (bits - 1 * 2 ^ place % 18446744073709551616) ≡ set marks place false
 
-taken : (count bits place : ℕ) (marks : List Bool) → (count ≡ length marks) × (bits ≡ number_of marks) → length marks ≤ 64 → position is_set marks ≡ Some place → Taken count bits place marks
-taken count bits place marks known few at =
-    let marked = next_marked marks place at in
-    let small : place < 64 = omega (arith, marked.within, few) in
+taken : (count bits place : ℕ) (marks : List Bool) (found : Option ℕ) → marks_of count bits ≡ marks → count ≤ 64 → bits < 2 ^ count → ((ms : List Bool) → length ms ≤ 64 → bits ≡ number_of ms → found ≡ position is_set ms) → found ≡ Some place → Taken count bits place marks
+taken count bits place marks found is few fits first some =
+    let known = as_number count bits marks is fits in
+    let short : length marks ≤ 64 = omega (arith, known.0, few) in
+    let marked = next_marked marks place (sym (first marks short known.1) ∙ some) in
+    let small : place < 64 = omega (arith, marked.within, short) in
     let sum : number_of (set marks place false) + 1 * 2 ^ place ≡ number_of marks + 0 * 2 ^ place = rw marked.marked at (put_is marks place false marked.within) in
     record {
       small = small;
@@ -22,22 +24,16 @@ taken count bits place marks known few at =
       left = as_marks count _ (set marks place false) (known.0 ∙ sym (length-set marks place false)) (rw (unit_is place small, known.1) (omega (arith, sum)));
     }
 
-of_first : (count bits place : ℕ) (marks : List Bool) (found : Option ℕ) → marks_of count bits ≡ marks → count ≤ 64 → bits < 2 ^ count → ((ms : List Bool) → length ms ≤ 64 → bits ≡ number_of ms → found ≡ position is_set ms) → found ≡ Some place → Taken count bits place marks
-of_first count bits place marks found is few fits first some =
-    let known = as_number count bits marks is fits in
-    let short : length marks ≤ 64 = omega (arith, known.0, few) in
-    taken count bits place marks known short (sym (first marks short known.1) ∙ some)
-
 pub returns-in_default-clause-first : goal.returns-in_default-clause-first
 returns-in_default-clause-first c =
     let known = as_number c.self.inside.count c.self.inside.bits c.args.self.now c.self.view_is c.self.invariant.1 in
     sym c.in_default.is ∙ c.first_bit.ensures c.args.self.now (omega (arith, known.0, c.self.invariant.0)) known.1
 
 pub overflow_shl-self : goal.overflow_shl-self
-overflow_shl-self c = (of_first c.self.inside.count c.self.inside.bits c.in-Some.place c.args.self.now c.first_bit.result c.self.view_is c.self.invariant.0 c.self.invariant.1 c.first_bit.ensures c.in-Some.is).small
+overflow_shl-self c = (taken c.self.inside.count c.self.inside.bits c.in-Some.place c.args.self.now c.first_bit.result c.self.view_is c.self.invariant.0 c.self.invariant.1 c.first_bit.ensures c.in-Some.is).small
 
 pub overflow_sub-self : goal.overflow_sub-self
-overflow_sub-self c = (of_first c.self.inside.count c.self.inside.bits c.in-Some.place c.args.self.now c.first_bit.result c.self.view_is c.self.invariant.0 c.self.invariant.1 c.first_bit.ensures c.in-Some.is).less
+overflow_sub-self c = (taken c.self.inside.count c.self.inside.bits c.in-Some.place c.args.self.now c.first_bit.result c.self.view_is c.self.invariant.0 c.self.invariant.1 c.first_bit.ensures c.in-Some.is).less
 
 pub returns-clause-first : goal.returns-clause-first
 returns-clause-first c =
@@ -45,4 +41,4 @@ returns-clause-first c =
     sym c.in-Some.is ∙ c.first_bit.ensures c.args.self.now (omega (arith, known.0, c.self.invariant.0)) known.1
 
 pub returns-clause-rest : goal.returns-clause-rest
-returns-clause-rest c = (of_first c.self.inside.count c.self.inside.bits c.in-Some.place c.args.self.now c.first_bit.result c.self.view_is c.self.invariant.0 c.self.invariant.1 c.first_bit.ensures c.in-Some.is).left
+returns-clause-rest c = (taken c.self.inside.count c.self.inside.bits c.in-Some.place c.args.self.now c.first_bit.result c.self.view_is c.self.invariant.0 c.self.invariant.1 c.first_bit.ensures c.in-Some.is).left

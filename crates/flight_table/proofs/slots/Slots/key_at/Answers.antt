@@ -2,8 +2,7 @@ use Rattle.std.proofs.Common.{ap, sym, ◌∙◌}
 use Rattle.std.specs.List.{position}
 use Rattle.flight_table.specs.Inside.{stored}
 use Rattle.flight_table.specs.Tables.{key_in, requests_of}
-use Rattle.flight_table.proofs.Index.{keys_of, place_passing}
-use Rattle.flight_table.proofs.SlabScans.{find_scan}
+use Rattle.flight_table.proofs.Index.{find_scan, keys_of, place_passing}
 use Rattle.flight_table.proofs.slots.Slots.key_at.Goals as goal
 
 pub returns-clause-key : goal.returns-clause-key

@@ -1,7 +1,6 @@
 use Rattle.std.proofs.Common.{List, ◌∙◌, ap}
 use Rattle.flight_table.specs.Tables.{KeyedRequest, key_in, has_number}
-use Rattle.flight_table.proofs.Index.{keys_of}
-use Rattle.flight_table.proofs.SlabScans.{find_scan}
+use Rattle.flight_table.proofs.Index.{find_scan, keys_of}
 use Rattle.flight_table.proofs.slots.Slots.of_number.Goals as goal
 
 pub returns-clause-key : goal.returns-clause-key

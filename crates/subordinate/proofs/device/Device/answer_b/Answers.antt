@@ -8,7 +8,7 @@ use Rattle.subordinate.proofs.FaultLaws.{write_plain}
 use Rattle.subordinate.specs.Faults.{standing_at}
 use Rattle.subordinate.specs.FreeMemory.{is_write_of, open_bursts_of}
 use Rattle.subordinate.proofs.Monitors.{outstanding_after_b, takes_b}
-use Rattle.subordinate.proofs.OpenBursts.{found_none, no_b}
+use Rattle.subordinate.proofs.OpenBursts.{found_none}
 use Rattle.subordinate.proofs.OpenQueues.{queue_known, write_place}
 use Rattle.subordinate.proofs.device.Device.answer_b.Goals as goal
 
@@ -20,7 +20,7 @@ close-requires-clause-queue c =
 
 pub returns-in_err-place-clause-answer : goal.returns-in_err-place-clause-answer
 returns-in_err-place-clause-answer c =
-    c.from_residual.ensures ∙ sym (no_b c.args.self.now.memory c.args.id (found_none (is_write_of c.args.id) c.args.self.now.memory.pending (sym c.oldest_write.ensures.place ∙ c.in_err-place.was)))
+    rw (found_none (is_write_of c.args.id) c.args.self.now.memory.pending (sym c.oldest_write.ensures.place ∙ c.in_err-place.was)) c.from_residual.ensures
 
 pub returns-clause-order : goal.returns-clause-order
 returns-clause-order c = λ answered.
