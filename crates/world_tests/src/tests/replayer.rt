@@ -294,8 +294,12 @@ fn take_next(race: &mut Race, client: u8) -> bool {
             let Some(kept) = race.replayer.expected.get_mut(number as usize) else {
                 return false;
             };
-            let expected = kept.take();
-            expected.is_some_and(|e| e.client == client && is_expected(&race.bench.reply, e))
+            match kept.take() {
+                Some(expected) => {
+                    expected.client == client && is_expected(&race.bench.reply, expected)
+                }
+                None => false,
+            }
         }
         _ => false,
     }
@@ -358,10 +362,13 @@ fn takes_the_rest(race: &mut Race) -> bool {
 
 /// The first byte of the four pages that isn't the replayer's.
 fn first_other(race: &Race) -> Option<u32> {
-    (0..BYTES).find(|k| {
-        let byte = race.replayer.bytes.get(*k as usize).copied();
-        byte.is_none() || race.bench.world.byte(0x10000u32.wrapping_add(*k)) != byte
-    })
+    for k in 0..BYTES {
+        let byte = race.replayer.bytes.get(k as usize).copied();
+        if byte.is_none() || race.bench.world.byte(0x10000u32.wrapping_add(k)) != byte {
+            return Some(k);
+        }
+    }
+    None
 }
 
 /// Whether so many turns go as they must, so many replies are taken, and a drain makes so many steps.
