@@ -216,8 +216,8 @@ fn close(side: &mut Vec<Open>, place: usize) {
 
 /// One more beat came of the burst at a place.
 fn fill(side: &mut Vec<Open>, place: usize) {
-    if let Some(open) = side.get_mut(place) {
-        open.came = open.came.saturating_add(1);
+    if place < side.len() {
+        side[place].came = side[place].came.saturating_add(1);
     }
 }
 
