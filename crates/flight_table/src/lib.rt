@@ -16,8 +16,6 @@ mod scans;
 mod slots;
 mod spans;
 mod sums;
-#[cfg(test)]
-mod tests;
 
 pub use flight::Flight;
 pub use slots::Key;

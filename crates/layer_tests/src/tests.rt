@@ -4,6 +4,7 @@ use std::process::Abort;
 
 mod bursts;
 mod data;
+mod flights;
 mod memories;
 mod messages;
 mod monitors;
