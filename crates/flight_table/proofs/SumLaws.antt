@@ -25,6 +25,16 @@ sums_set live place old new less within there is =
     moved : (f : LiveRequest → ℕ) (n : ℕ) → n + f old ≡ sum_by f live → n + f new ≡ sum_by f (set live place new)
     moved f n was = omega (arith, was, rw there at (sum_by-set f live place new old within))
 
+-- one has become another
+pub sums_moved : (live : List LiveRequest) (place : ℕ) (old new : LiveRequest) (after : Sums) → place < length live → get_or live place old ≡ old
+    → with_sums old after ≡ with_sums new (sums_of live) → after ≡ sums_of (set live place new)
+sums_moved live place old new after within there is =
+    same_sums after (sums_of (set live place new))
+    (moved one_undone after.undone (ap (λ (s : Sums). s.undone) is)) (moved work_of after.work (ap (λ (s : Sums). s.work) is)) (moved unsent_work after.unsent (ap (λ (s : Sums). s.unsent) is))
+  where
+    moved : (f : LiveRequest → ℕ) (n : ℕ) → n + f old ≡ sum_by f live + f new → n ≡ sum_by f (set live place new)
+    moved f n was = omega (arith, was, rw there at (sum_by-set f live place new old within))
+
 pub sums_removed : (live : List LiveRequest) (place : ℕ) (old : LiveRequest) (less : Sums) → place < length live → get_or live place old ≡ old → with_sums old less ≡ sums_of live → less ≡ sums_of (remove live place)
 sums_removed live place old less within there is =
     same_sums less (sums_of (remove live place))

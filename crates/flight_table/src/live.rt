@@ -150,7 +150,7 @@ impl Live {
         self.able.put(place, able);
         self.named.put(place, request.is_named(able));
         self.ids.rename(key, old.id, request.id);
-        self.sums = self.sums.without(&old).with(&request);
+        self.sums = self.sums.moved(&old, &request);
         self.slots.set(key, request);
     }
 

@@ -6,7 +6,8 @@ ghost use Rattle.std.specs.List.{AllByRecursion};
 ghost use Rattle.burst_plan.specs.Pieces.{IsPlannable, range_end};
 ghost use Rattle.flight_table.specs.Rows.{page_of};
 ghost use Rattle.flight_table.specs.Spans.{span_of};
-ghost use Rattle.flight_table.specs.Work.{answers_of_burst, beats_of_burst, later_work, unsent_work, work_of};
+ghost use Rattle.flight_table.specs.Sums.{IsShape};
+ghost use Rattle.flight_table.specs.Work.{unsent_work, work_of};
 
 use crate::spans::Span;
 use crate::sums::Works;
@@ -15,9 +16,9 @@ use std::marker::Model;
 use tl_messages::{Operation, Request};
 
 /// What a request's work is reckoned by: how many bursts its phase has, the beats of each with the answers to it, and the work
-/// of a write that isn't planned yet.
+/// of a write that isn't planned yet. It stays the same while bursts of the phase are sent and answered.
 #[derive(Drop)]
-struct Shape {
+pub(crate) struct Shape {
     count: u64,
     each: u64,
     later: u64,
@@ -329,15 +330,9 @@ impl LiveRequest {
         self.writes()
     }
 
-    /// What its work is reckoned by. Where so many bursts of the phase were sent and so many answered, the bursts to send and
-    /// the beats and answers to come are as said here; the write of an atomic counts from the start.
-    fn shape(&self) -> Shape
-        ensures work { (sent answered : ℕ) → result.count - sent + (result.count - answered) * result.each + result.later
-            ≡ length (drop sent (planned self.now)) + sum_by beats_of_burst (drop answered (planned self.now))
-            + sum_by answers_of_burst (drop answered (planned self.now)) + later_work self.now }
-        ensures count { result.count < 65536 }
-        ensures each { result.each ≤ 512 }
-        ensures later { result.later ≤ 65536 * 258 }
+    /// What its work is reckoned by.
+    pub(crate) fn shape(&self) -> Shape
+        ensures { IsShape result.count result.each result.later self.now }
     {
         let beats = self.piece_beats();
         let answers = if self.writing { 1 } else { beats };
@@ -345,6 +340,27 @@ impl LiveRequest {
             count: u64::from(self.planned()),
             each: beats + answers,
             later: u64::from(self.later()) * (beats + 2),
+        }
+    }
+
+    /// The bursts to send, beats to perform and answers to come, as though no beat of an unanswered burst was performed or
+    /// answered; and of that the work of the bursts that aren't sent. The shape is the request's.
+    #[inline(always)]
+    pub(crate) fn works_in(&self, shape: &Shape) -> Works
+        requires { IsShape shape.now.count shape.now.each shape.now.later self.now }
+        ensures work { result.work ≡ work_of self.now }
+        ensures unsent { result.unsent ≡ unsent_work self.now }
+        ensures most_work { result.work ≤ 100000000 }
+        ensures most_unsent { result.unsent ≤ 100000000 }
+    {
+        if self.done {
+            return Works { work: 0, unsent: 0 };
+        }
+        let unsent = shape.count.saturating_sub(u64::from(self.sent));
+        let unanswered = shape.count.saturating_sub(u64::from(self.answered));
+        Works {
+            work: unsent + unanswered * shape.each + shape.later,
+            unsent: unsent + unsent * shape.each + shape.later,
         }
     }
 
@@ -359,12 +375,6 @@ impl LiveRequest {
         if self.done {
             return Works { work: 0, unsent: 0 };
         }
-        let shape = self.shape();
-        let unsent = shape.count.saturating_sub(u64::from(self.sent));
-        let unanswered = shape.count.saturating_sub(u64::from(self.answered));
-        Works {
-            work: unsent + unanswered * shape.each + shape.later,
-            unsent: unsent + unsent * shape.each + shape.later,
-        }
+        self.works_in(&self.shape())
     }
 }

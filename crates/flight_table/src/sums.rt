@@ -1,5 +1,6 @@
 //! Sums over the live requests.
 ghost use Rattle.std.specs.Prelude.{◌≡◌};
+ghost use Rattle.flight_table.specs.Inside.{IsProgress};
 ghost use Rattle.flight_table.specs.Sums.{ArePart, AreSmall, IsSmall, no_sums, with_sums};
 
 use crate::request::LiveRequest;
@@ -55,6 +56,28 @@ impl Sums {
             undone: self.undone - u64::from(!request.done),
             work: self.work - works.work,
             unsent: self.unsent - works.unsent,
+        }
+    }
+
+    /// The sums where one of those summed has become what sending and answering make of it.
+    pub(crate) fn moved(self, old: &LiveRequest, new: &LiveRequest) -> Self
+        requires part { ArePart old.now self }
+        requires small { AreSmall self }
+        requires progress { IsProgress old.now new.now }
+        ensures sums { with_sums old.now result ≡ with_sums new.now self }
+        ensures small { IsSmall new.now }
+    {
+        let shape = old.shape();
+        let was = old.works_in(&shape);
+        let is = if old.writing == new.writing {
+            new.works_in(&shape)
+        } else {
+            new.works()
+        };
+        Sums {
+            undone: self.undone,
+            work: self.work - was.work + is.work,
+            unsent: self.unsent - was.unsent + is.unsent,
         }
     }
 }

@@ -5,7 +5,7 @@ use Rattle.flight_table.specs.Tables.{requests_of}
 use Rattle.flight_table.proofs.ClientLaws.{kept_same}
 use Rattle.flight_table.proofs.HeldIds.{ids_set, length_holders, may_rename}
 use Rattle.flight_table.specs.Sums.{IsSmall}
-use Rattle.flight_table.proofs.SumLaws.{all_set, are_part, are_small, less_small, sums_set}
+use Rattle.flight_table.proofs.SumLaws.{all_set, are_part, are_small, sums_moved}
 use Rattle.flight_table.proofs.KeyLaws.{request_listed}
 use Rattle.flight_table.proofs.Kept.{kept_set, named_with, placed, requests_changed}
 use Rattle.flight_table.proofs.RowLaws.{HasPlan, rows_set, unchanged}
@@ -21,15 +21,13 @@ rename-requires c =
     (may_rename i.limits.ids (requests_of i.slots) r.id c.args.request.id
     (named_with c.args.key i.slots r (λ old. MayName i.limits.ids (requests_of i.slots) old.id c.args.request.id) c.get-old.ensures.request (rw (← c.self.view_is) at c.requires.id)))
 
-pub without-requires : goal.without-requires
-without-requires c =
+pub moved-self-inside-requires-clause-part : goal.moved-self-inside-requires-clause-part
+moved-self-inside-requires-clause-part c =
     let at = placed c.args.key c.self.inside.slots c.place_of-place.result c.get-old.result c.place_of-place.ensures.place c.get-old.ensures.request in
     rw c.self.invariant.3.sums_are (are_part (requests_of c.self.inside.slots) c.place_of-place.result c.get-old.result at.within (at.there c.get-old.result))
 
-pub with-self-inside-requires : goal.with-self-inside-requires
-with-self-inside-requires c =
-    less_small c.get-old.result c.without.result c.self.inside.sums c.without.ensures
-    (rw c.self.invariant.3.sums_are (are_small (requests_of c.self.inside.slots) c.self.invariant.3.few c.self.invariant.3.small))
+pub moved-self-inside-requires-clause-small : goal.moved-self-inside-requires-clause-small
+moved-self-inside-requires-clause-small c = rw c.self.invariant.3.sums_are (are_small (requests_of c.self.inside.slots) c.self.invariant.3.few c.self.invariant.3.small)
 
 pub invariant_of-self : goal.invariant_of-self
 invariant_of-self c =
@@ -47,8 +45,8 @@ invariant_of-self c =
       rw (c.rename.ensures, c.self.invariant.2, c.set.ensures.entries, ap (λ (q : LiveRequest). q.id) c.old.view_is, ap (λ (q : LiveRequest). q.id) c.request.view_is) (sym (ids_set i.limits.ids c.args.key i.slots r c.args.request r.id c.args.request.id found refl refl names)),
       rw after
           (record {
-            sums_are = c.with-self-inside.ensures.sums ∙ sums_set (requests_of i.slots) place r c.args.request c.without.result at.within (at.there r) (c.without.ensures ∙ c.self.invariant.3.sums_are);
-            small = all_set IsSmall (requests_of i.slots) place c.args.request c.self.invariant.3.small c.with-self-inside.ensures.small;
+            sums_are = sums_moved (requests_of i.slots) place r c.args.request c.moved-self-inside.result at.within (at.there r) (rw c.self.invariant.3.sums_are at c.moved-self-inside.ensures.sums);
+            small = all_set IsSmall (requests_of i.slots) place c.args.request c.self.invariant.3.small c.moved-self-inside.ensures.small;
             few = omega (arith, c.self.invariant.3.few, length-set (requests_of i.slots) place c.args.request);
           }),
       kept_same 8 i.slots c.set.new.self i.clients c.args.key r c.args.request c.self.invariant.4 found progress.client progress.source progress.done
