@@ -1,8 +1,8 @@
 -- A plan's pieces as writes, transfer by transfer, and the operand of an atomic.
-use Rattle.std.proofs.Common.{◌≡◌, ℕ, zero, suc, ◌+◌, ◌-◌, ◌*◌, ◌/◌, ◌^◌, ◌<◌, ◌≤◌, Bool, true, false, List, map, length, Option, Some, None, if◌then◌else◌, refl, sym, ◌∙◌, ap, arith, inl, inr, lit<}
+use Rattle.std.proofs.Common.{◌≡◌, ℕ, zero, suc, ◌+◌, ◌-◌, ◌/◌, ◌^◌, ◌<◌, ◌≤◌, Bool, true, false, List, map, length, Option, Some, None, if◌then◌else◌, refl, sym, ◌∙◌, ap, arith, lit<}
 use Rattle.std.specs.Prelude.{unwrap_or}
 use Rattle.std.specs.List.{range_with_len, slice_get}
-use Rattle.std.proofs.lemmas.Bool.{and_from, and_parts, cases_lt, le-leb}
+use Rattle.std.proofs.lemmas.Bool.{and_from, and_parts, le-leb}
 use Rattle.std.proofs.lemmas.List.FromFn.{length-map-range_with_len, map-range_with_len_more}
 use Rattle.std.proofs.lemmas.Option.{slice_get-get_or}
 use Rattle.std.proofs.lemmas.Simd.{map-map}
@@ -66,11 +66,7 @@ transfer_within range piece n plannable (k, listed) one last =
 
 -- a byte of a range is in one of the words of its beats
 word_below : (size i : ℕ) → i < 2 ^ size → i / 8 < beats_of size true
-word_below size i below =
-    elim (cases_lt size 3) [
-      | inl small ↦ omega (arith, below, pow_mono {i = size} {j = 3} (omega arith))
-      | inr big ↦ let parts : size - 3 + 3 ≡ size = omega arith in let times : 2 ^ size ≡ 2 ^ (size - 3) * 8 = rw parts at (pow-add 2 (size - 3) 3) in omega (arith, below, times)
-    ]
+word_below size i below = grind (arith, pow_mono {i = size} {j = 3}, pow-add 2 (size - 3) 3)
 
 -- the word that holds the first byte of a transfer, counted from the range's start, is that of a beat
 pub word_of_transfer : (range : PlannedRange) (piece : Piece) (k start first address : ℕ) → IsPlannable range → IsListed range piece → k ≤ piece.len → start ≡ first → first ≡ range.address

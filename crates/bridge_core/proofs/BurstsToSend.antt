@@ -1,6 +1,6 @@
 -- The burst that goes next, found with what is kept of its request, and what its sending changes.
-use Rattle.std.proofs.Common.{◌≡◌, ◌<◌, ℕ, ◌%◌, Bool, true, false, List, [], Option, Some, None, IsSome, refl, sym, ◌∙◌, ap, subst, arith}
-use Rattle.std.specs.Prelude.{IfSome, IsSomeAnd, option_map, if◌then◌else◌, slice_get}
+use Rattle.std.proofs.Common.{◌≡◌, ◌<◌, ℕ, ◌%◌, Bool, true, List, Option, Some, None, IsSome, refl, sym, ◌∙◌, ap, subst, arith}
+use Rattle.std.specs.Prelude.{IfSome, IsSomeAnd, option_map}
 use Rattle.std.specs.List.{find}
 use Rattle.std.proofs.lemmas.List.{set-get_or}
 use Rattle.std.proofs.lemmas.Option.{same_Some}
@@ -10,7 +10,7 @@ use Rattle.burst_plan.specs.Pieces.{PlannedRange}
 use Rattle.burst_plan.specs.declared.Piece.{Piece}
 use Rattle.burst_plan.proofs.TranslationLaws.{same_byte-mod}
 use Rattle.flight_table.specs.Laws.{IsSound}
-use Rattle.flight_table.specs.LiveRequests.{LiveRequest, next_burst, pieces_planned, with_sent}
+use Rattle.flight_table.specs.LiveRequests.{LiveRequest, next_burst, with_sent}
 use Rattle.flight_table.proofs.PhaseLaws.{write_at}
 use Rattle.flight_table.specs.Order.{id_for, is_ready}
 use Rattle.flight_table.specs.Tables.{FlightTable, KeyedRequest, KeyedTable, change_key, has_number, request_at, requests_of, table_of}
@@ -19,19 +19,19 @@ use Rattle.bridge_core.specs.Inside.{CanFill, HeldRequest, IsFirstAt, IsKept, Ke
 use Rattle.bridge_core.specs.Laws.{IsServed, IsSoundRequestTable}
 use Rattle.bridge_core.specs.Requests.{BridgedRequest, RequestTable, after_sending, flights_of, may_send, with_sent_burst}
 use Rattle.bridge_core.specs.Sending.{burst_of_piece, next_sending}
-use Rattle.bridge_core.proofs.HeldKeys.{none_joined}
+use Rattle.bridge_core.proofs.TableSteps.{none_joined, IsChanged, changed_table, numbered, shown_at, table_seen}
 use Rattle.bridge_core.proofs.NextSending.{next_sending-none, sends}
-use Rattle.bridge_core.proofs.SentBursts.{IsRangeOf, piece_of_plan, range_is}
+use Rattle.bridge_core.proofs.ReadCounts.{HasRange, range_served}
+use Rattle.bridge_core.proofs.SentBursts.{piece_of_plan}
 use Rattle.bridge_core.proofs.ServedRequests.{served_sent}
-use Rattle.bridge_core.proofs.TableSteps.{IsChanged, changed_table, numbered, shown_at, table_seen}
 
 -- ---- whether a request is ready
 
 pub none_ready : (kept : KeptTable) (table : RequestTable) → shown_table kept ≡ table → IsKept kept → find (is_ready (table_of kept.flight)) (requests_of kept.flight.entries) ≡ None → next_sending table ≡ None
 none_ready kept table view is none =
-    let unsent = subst (λ (t : FlightTable). find (λ (b : BridgedRequest). is_ready t b.flight) (shown_table kept).live ≡ None) (table_seen kept is)
-    (none_joined (is_ready (table_of kept.flight)) kept.helds kept.flight.entries none) in
-    subst (λ (t : RequestTable). next_sending t ≡ None) view (next_sending-none (shown_table kept) unsent)
+    rw (← view)
+    (next_sending-none (shown_table kept) (subst (λ (t : FlightTable). find (λ (b : BridgedRequest). is_ready t b.flight) (shown_table kept).live ≡ None) (table_seen kept is)
+    (none_joined (is_ready (table_of kept.flight)) kept.helds kept.flight.entries none)))
 
 ready_found : (kept : KeptTable) (key : ℕ) → IsKept kept → (at : IsFirstAt (is_ready (table_of kept.flight)) kept.flight key)
     → find (may_send (shown_table kept)) (shown_table kept).live ≡ Some (bridged at.request (held_in kept.helds key))
@@ -40,7 +40,7 @@ ready_found kept key is at =
     (shown_at (is_ready (table_of kept.flight)) kept key at)
 
 pub some_ready : (kept : KeptTable) (table : RequestTable) (key : ℕ) → shown_table kept ≡ table → IsKept kept → IsFirstAt (is_ready (table_of kept.flight)) kept.flight key → IsSome (find (may_send table) table.live)
-some_ready kept table key view is at = subst (λ (t : RequestTable). IsSome (find (may_send t) t.live)) view (rw (ready_found kept key is at) refl)
+some_ready kept table key view is at = rw (← view, ready_found kept key is at) refl
 
 -- what a search found at a key passes the test
 pub passes_at : (test : LiveRequest → Bool) (flight : KeyedTable) (key : ℕ) → IsFirstAt test flight key → IsSomeAnd (request_at key flight) (λ r. test r ≡ true)
@@ -66,8 +66,7 @@ pub record IsGoing (kept : KeptTable) (key : ℕ) (range : PlannedRange) (write 
       ≡ Some (record { request = bridged request (held_in kept.helds key); id = id; burst = burst_of_piece id (bridged request (held_in kept.helds key)) range (write, piece) })
 
 both_parts : (o : Option (Bool × Piece)) (write : Bool) (piece : Piece) → option_map (λ (burst : Bool × Piece). burst.0) o ≡ Some write → option_map (λ (burst : Bool × Piece). burst.1) o ≡ Some piece → o ≡ Some (write, piece)
-both_parts None write piece first second = absurd (cc (first))
-both_parts (Some (a, b)) write piece first second = rw (← same_Some a write first, ← same_Some b piece second) refl
+both_parts o write piece first second = grind arith
 
 pub going : (kept : KeptTable) (key : ℕ) (range : PlannedRange) (write : Bool) (piece : Piece) (id : ℕ) → IsKept kept → IsSoundRequestTable (shown_table kept) → IsFirstAt (is_ready (table_of kept.flight)) kept.flight key
     → IsTold kept.flight key range write piece id → IsGoing kept key range write piece id
@@ -106,11 +105,7 @@ going kept key range write piece id is sound at told =
 
 -- only what has data writes
 writes_data : (flight : LiveRequest) (piece : Piece) → next_burst flight ≡ Some (true, piece) → has_data flight.operation ≡ true
-writes_data flight piece next = by_data (has_data flight.operation) (write_at flight flight.sent piece next).1
-  where
-    by_data : (b : Bool) → slice_get (if b then pieces_planned flight.plan else []) flight.sent ≡ Some piece → b ≡ true
-    by_data true there = refl
-    by_data false there = absurd (cc (there))
+writes_data flight piece next = grind (arith, (write_at flight flight.sent piece next).1)
 
 pub can_fill : (kept : KeptTable) (key : ℕ) (range : PlannedRange) (piece : Piece) (id : ℕ) → IsGoing kept key range true piece id → CanFill (held_in kept.helds key) range piece
 can_fill kept key range piece id goes =
@@ -127,8 +122,8 @@ can_fill kept key range piece id goes =
     held : HeldRequest
     held = held_in kept.helds key
 
-    of : IsRangeOf kept.config kept.regions held.message range
-    of = range_is kept.config kept.regions (bridged goes.request held) range goes.served.pages goes.served goes.plan
+    of : HasRange kept.config kept.regions held.message range
+    of = range_served kept.config kept.regions (bridged goes.request held) range goes.served goes.plan
 
     carries : has_data held.message.operation ≡ true
     carries = ap has_data (sym goes.served.flight.operation) ∙ writes_data goes.request piece goes.next

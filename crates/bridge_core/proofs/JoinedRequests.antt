@@ -1,26 +1,65 @@
--- A request that is accepted joins the table, and what is kept of it goes into the slot of its key.
-use Rattle.std.proofs.Common.{◌≡◌, ◌<◌, ℕ, Bool, true, false, List, [], ◌∷◌, ◌++◌, length, set, Option, Some, None, is_none, is_some, not, refl, sym, ◌∙◌, ap, subst, arith}
-use Rattle.std.specs.Prelude.{option_map}
+-- A request that is accepted joins the table, and what is kept of it goes into the slot of its key; one whose reply is taken leaves.
+use Rattle.std.proofs.Common.{◌≡◌, ℕ, None, refl, ◌∙◌, ap, subst, ◌<◌, Bool, true, List, [], ◌∷◌, ◌++◌, length, set, Option, is_none, is_some, not, sym, arith}
+use Rattle.std.specs.Prelude.{IsSomeAnd, IsTrue, option_map}
+use Rattle.std.proofs.lemmas.Bool.{and_parts}
 use Rattle.std.specs.List.{AllByRecursion}
-use Rattle.bus_words.proofs.PlaceChanges.{all-append}
+use Rattle.bus_words.specs.Places.{without_first}
+use Rattle.bus_words.proofs.PlaceChanges.{all-without_first, find-passes, all-append}
+use Rattle.flight_table.specs.Laws.{IsSound, AreLimits, IsSoundTable}
+use Rattle.flight_table.specs.Tables.{KeyedRequest, KeyedTable, is_done_of, is_of, request_at, without_key, with_entry}
+use Rattle.bridge_core.specs.Inside.{IsFirstAt, IsKept, KeptTable, bridged, held_in, joined, shown_table, HeldRequest}
+use Rattle.bridge_core.specs.Laws.{IsServed, IsSoundRequestTable}
+use Rattle.bridge_core.specs.Requests.{BridgedRequest, RequestTable, first_done, without_done, address_of, newly_live, range_at, range_of}
+use Rattle.bridge_core.proofs.TableSteps.{without_by_key, without_joined, added_joined, table_seen, all-held, kept_put}
 use Rattle.tl_messages.specs.Requests.{HeldMessage, request_of}
 use Rattle.tl_checker.specs.Sound as checker
 use Rattle.burst_plan.specs.PageMap.{IsPageMap}
 use Rattle.burst_plan.specs.Pieces.{PlannedRange}
-use Rattle.flight_table.specs.Laws.{AreLimits, IsSound, IsSoundTable}
 use Rattle.flight_table.specs.LiveRequests.{LiveRequest, flight_for}
-use Rattle.flight_table.specs.Tables.{KeyedTable, request_at, with_entry}
 use Rattle.responses.specs.Gathered.{gathering_of, outline_of}
 use Rattle.bridge_core.specs.Configs.{is_valid, port_of, table_limits_of}
-use Rattle.bridge_core.specs.Inside.{HeldRequest, IsKept, KeptTable, bridged, held_in, joined, shown_table}
-use Rattle.bridge_core.specs.Laws.{IsServed, IsSoundRequestTable}
-use Rattle.bridge_core.specs.Requests.{BridgedRequest, RequestTable, address_of, newly_live, range_at, range_of}
 use Rattle.bridge_core.specs.Requests as requests
 use Rattle.bridge_core.specs.declared.Config.{Config}
-use Rattle.bridge_core.proofs.HeldKeys.{added_joined}
 use Rattle.bridge_core.proofs.ReadCounts.{config_parts}
 use Rattle.bridge_core.proofs.ServedRequests.{served_new}
-use Rattle.bridge_core.proofs.TableSteps.{all-held, kept_put, table_seen}
+
+-- the table after a client's request left
+pub record IsTakenOut (old new : KeptTable) (client : ℕ) : Type 0 where
+  pub kept : IsKept new
+  pub sound : IsSoundRequestTable (shown_table new)
+  pub table : shown_table new ≡ without_done client (shown_table old)
+
+pub taken_out : (old : KeptTable) (flight : KeyedTable) (client key : ℕ) → IsKept old → IsSoundRequestTable (shown_table old) → (at : IsFirstAt (is_done_of client) old.flight key) → flight ≡ without_key key old.flight → IsSound flight
+    → IsTakenOut old (record old { flight = flight }) client
+taken_out old flight client key kept sound at is laws = record { kept = kept_new; sound = sound_new; table = whole }
+  where
+    new : KeptTable
+    new = record old { flight = flight }
+
+    entries : flight.entries ≡ without_first (λ entry. is_done_of client entry.request) old.flight.entries
+    entries = ap (λ (t : KeyedTable). t.entries) is ∙ without_by_key (λ (e : KeyedRequest). is_done_of client e.request) old.flight.entries (record { key = key; request = at.request }) at.laws.keys at.first
+
+    kept_new : IsKept new
+    kept_new = record { limits = ap (λ (t : KeyedTable). t.limits) is ∙ kept.limits; buses = kept.buses; all = kept.all }
+
+    live : (shown_table new).live ≡ without_first (λ b. is_done_of client b.flight) (shown_table old).live
+    live = ap (joined old.helds) entries ∙ without_joined (is_done_of client) old.helds old.flight.entries
+
+    whole : shown_table new ≡ without_done client (shown_table old)
+    whole = rw (live, ap (λ (t : KeyedTable). t.accepted) is) refl
+
+    sound_new : IsSoundRequestTable (shown_table new)
+    sound_new =
+        record {
+          config = sound.config;
+          flights = rw (← (table_seen new kept_new)) laws.table;
+          served = rw live (all-without_first (IsServed old.config old.regions) (λ (b : BridgedRequest). is_done_of client b.flight) (shown_table old).live sound.served);
+        }
+
+pub done_at : (flight : KeyedTable) (client key : ℕ) → (at : IsFirstAt (is_done_of client) flight key) → IsSomeAnd (request_at key flight) (λ r. IsTrue r.done)
+done_at flight client key at =
+    let passes = find-passes (λ (e : KeyedRequest). is_done_of client e.request) flight.entries (record { key = key; request = at.request }) at.first in
+    rw at.named (and_parts (is_of client at.request) at.request.done passes).1
 
 pub limits_made : (config : Config) → is_valid config ≡ true → AreLimits (table_limits_of config)
 limits_made config valid = (config_parts config valid).limits
@@ -42,14 +81,10 @@ pub record IsJoined (old new : KeptTable) (message : HeldMessage) : Type 0 where
   pub table : shown_table new ≡ requests.with_request message (shown_table old)
 
 none_mapped : {A B : Type 0} (f : A → B) (o : Option A) → is_none (option_map f o) ≡ is_none o
-none_mapped f None = refl
-none_mapped f (Some x) = refl
+none_mapped f o = grind arith
 
 pub none_told : {A : Type 0} (o : Option A) (b : Bool) → is_some o ≡ not b → b ≡ is_none o
-none_told None false told = absurd (cc (told))
-none_told None true told = refl
-none_told (Some x) false told = refl
-none_told (Some x) true told = absurd (cc (told))
+none_told o b told = grind arith
 
 pub joins : (old : KeptTable) (flight : KeyedTable) (key : ℕ) (held : HeldRequest) (message : HeldMessage) (range : Option PlannedRange) → IsKept old → IsSoundRequestTable (shown_table old)
     → IsJoining old flight key held message range → IsJoined old (record old { flight = flight; helds = set old.helds key held }) message

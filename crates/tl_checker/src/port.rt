@@ -1,5 +1,5 @@
 //! A port, as its beats come in.
-ghost use Rattle.std.specs.Prelude.{◌≡◌, ℕ, ◌≤◌, Bool, List, [], ◌∷◌, ◌++◌, None, Some, IfOk, IfSome, IsSome, IsErr, if◌then◌else◌, nat_le};
+ghost use Rattle.std.specs.Prelude.{◌≡◌, ℕ, ◌≤◌, Bool, List, [], ◌∷◌, ◌++◌, None, Some, Ok, IfOk, IfSome, IsSome, IsErr, if◌then◌else◌, nat_le};
 ghost use Rattle.std.specs.Option.{option_copied};
 ghost use Rattle.tl_messages.specs.declared.ABeat.{ABeat};
 ghost use Rattle.tl_checker.specs.Inside.{CanJoin, front_at, limits_of, stage_after};
@@ -111,9 +111,19 @@ impl Port {
             → ReadsAs self.old.limits (beats ++ beat.now ∷ []) (is_free self.old.front busy) result self.new.whole }
     {
         let progress = self.judge(beat, busy)?;
+        self.take_judged(beat, busy, progress);
+        Ok(progress)
+    }
+
+    /// Takes a beat that was judged since the last one was taken: `judge` gave this answer, so that no rule is looked at
+    /// twice.
+    pub fn take_judged(&mut self, beat: &ABeat, busy: bool, progress: Progress)
+        requires whole { self.old.whole ≡ None }
+        requires told { judged self.old.limits self.old.front beat.now busy ≡ Ok progress }
+        ensures { self.new ≡ port_after self.old beat.now (Ok progress) }
+    {
         join(&mut self.request, self.stage, self.client, beat);
         self.stage = stage_after(progress);
-        Ok(progress)
     }
 
     /// The request that stands whole, if one does.
