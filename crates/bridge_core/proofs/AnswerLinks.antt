@@ -21,6 +21,7 @@ use Rattle.bridge_core.specs.Laws.{IsPartWay, IsServed, IsSoundBridge, IsSoundRe
 use Rattle.bridge_core.specs.Requests.{BridgedRequest, RequestTable, holder, holds, outline_in}
 use Rattle.responses.specs.Gathered.{reads_of}
 use Rattle.bridge_core.proofs.HolderChanges.{IsNextOf, all-part, filter-found, part-next}
+use Rattle.bridge_core.proofs.NextSending.{present}
 use Rattle.bridge_core.proofs.ReadCounts.{reads_counted}
 use Rattle.bridge_core.proofs.SendingLinks.{sound_requests}
 
@@ -101,13 +102,9 @@ finds_writer state b sound none =
     let writes = drop 1 (filter (write_of_id b.id) state.open_bursts.writes) in
     let listed : open_writes b.id (outstanding_of (holder b.id state.requests.live)) ≡ finds.write ∷ writes =
     sym (sound.linked b.id).writes ∙ filter-found (write_of_id b.id) state.open_bursts.writes finds.write finds.found in
-    by_holder (holder b.id state.requests.live) finds.write writes refl listed
-  where
-    by_holder : (held : Option BridgedRequest) (write : OpenWrite) (writes : List OpenWrite) → holder b.id state.requests.live ≡ held → open_writes b.id (outstanding_of held) ≡ write ∷ writes → FindsWriter state b
-    by_holder None write writes is listed = absurd (cc (listed))
-    by_holder (Some request) write writes is listed =
-        let known = holder_known state.requests b.id request sound.requests is in
-        record { request = request; holder = known; next = next_write b.id request.flight.writing (outstanding request.flight) (one_side request.flight) write writes listed }
+    let (request, is) = present (holder b.id state.requests.live) (grind (arith, listed)) in
+    let next = next_write b.id request.flight.writing (outstanding request.flight) (one_side request.flight) finds.write writes (rw is at listed) in
+    record { request = request; holder = holder_known state.requests b.id request sound.requests is; next = next }
 
 -- what a B that breaks no rule tells of the live request that holds its ID: the oldest of its bursts that aren't answered is a write
 pub record AnsweredWriter (state : BridgeState) (b : BBeat) : Type 0 where
@@ -142,8 +139,7 @@ beats_in-next [] k piece found = absurd (cc (found))
 beats_in-next (p ∷ pieces) zero piece found = grind (arith, sum_by-cons (λ (q : Piece). q.len + 1) p [])
 beats_in-next (p ∷ pieces) (suc k) piece found =
     let next : suc k + 1 ≡ suc (k + 1) = omega arith in
-    let rest = beats_in-next pieces k piece found in
-    rw (next, sum_by-cons (λ (q : Piece). q.len + 1) p (take k pieces), sum_by-cons (λ (q : Piece). q.len + 1) p (take (k + 1) pieces)) (omega (arith, rest))
+    rw (next, sum_by-cons (λ (q : Piece). q.len + 1) p (take k pieces), sum_by-cons (λ (q : Piece). q.len + 1) p (take (k + 1) pieces)) (omega (arith, beats_in-next pieces k piece found))
 
 -- the reads that were answered are some of its reads
 pub answered_least : (flight : LiveRequest) → beats_in (answered_pieces flight) ≤ beats_in (read_pieces flight)
@@ -198,23 +194,15 @@ finds_reader state r sound none =
     let reads = drop 1 (filter (read_of_id r.id) state.open_bursts.reads) in
     let listed : open_reads r.id (came_of (holder r.id state.requests.live)) (outstanding_of (holder r.id state.requests.live)) ≡ finds.read ∷ reads =
     sym (sound.linked r.id).reads ∙ filter-found (read_of_id r.id) state.open_bursts.reads finds.read finds.found in
-    by_holder (holder r.id state.requests.live) finds.read reads refl listed finds.found finds.last
-  where
-    by_holder : (held : Option BridgedRequest) (read : OpenRead) (reads : List OpenRead) → holder r.id state.requests.live ≡ held → open_reads r.id (came_of held) (outstanding_of held) ≡ read ∷ reads
-        → find (read_of_id r.id) state.open_bursts.reads ≡ Some read → r.last ≡ (read.came == read.ar.len) → FindsReader state r
-    by_holder None read reads is listed found last = absurd (cc (listed))
-    by_holder (Some request) read reads is listed found last =
-        let known = holder_known state.requests r.id request sound.requests is in
-        let next = next_read r.id (came_of_next request) request.flight.writing (outstanding request.flight) (one_side request.flight) read reads listed in
-        let opened = ap (open_reads r.id (came_of_next request)) (sym next.is) ∙ listed in
-        let same : open_read r.id (came_of_next request) next.piece ≡ read = cc (opened) in
-        let flag : r.last ≡ (came_of_next request == next.piece.len) = last ∙ ap (λ (o : OpenRead). o.came == o.ar.len) (sym same) in
-        record {
-          request = request;
-          piece = next.piece;
-          rest = next.rest;
-          reader = reader_known state r request next.piece next.rest sound known next.is next.alike (found ∙ ap Some (sym same)) flag;
-        }
+    let (request, is) = present (holder r.id state.requests.live) (grind (arith, listed)) in
+    let mine : open_reads r.id (came_of_next request) (outstanding request.flight) ≡ finds.read ∷ reads = rw is at listed in
+    let next = next_read r.id (came_of_next request) request.flight.writing (outstanding request.flight) (one_side request.flight) finds.read reads mine in
+    let opened = ap (open_reads r.id (came_of_next request)) (sym next.is) ∙ mine in
+    let same : open_read r.id (came_of_next request) next.piece ≡ finds.read = cc (opened) in
+    let flag : r.last ≡ (came_of_next request == next.piece.len) = finds.last ∙ ap (λ (o : OpenRead). o.came == o.ar.len) (sym same) in
+    let known = holder_known state.requests r.id request sound.requests is in
+    let reader = reader_known state r request next.piece next.rest sound known next.is next.alike (finds.found ∙ ap Some (sym same)) flag in
+    record { request = request; piece = next.piece; rest = next.rest; reader = reader }
 
 -- what an R that breaks no rule tells of the live request that holds its ID: the oldest of its bursts that aren't answered is a read, of which
 -- some beats came, this is the next, and its flag `last` is right; and its place among all reads of the request is one of those

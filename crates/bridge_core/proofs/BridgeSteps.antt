@@ -79,8 +79,7 @@ abbrev Answers : Option AxiRule → ⊤ → Type 0
 Answers fault taken = MatchOption fault (◌≡◌ {A = Result ⊤ AxiRule} (Ok taken) (Ok tt)) (λ rule. ◌≡◌ {A = Result ⊤ AxiRule} (Ok taken) (Err rule))
 
 no_fault : (fault : Option AxiRule) (taken : ⊤) → Answers fault taken → fault ≡ None
-no_fault None taken is = refl
-no_fault (Some rule) taken is = absurd (cc (is))
+no_fault fault taken is = grind arith
 
 pub unbroken : (state : BridgeState) (port : AxiPortLimits) (beat : AxiBeat) (taken : ⊤) → port ≡ axi_port_of state.requests.config → Answers (axi_fault port state.open_bursts beat) taken
     → axi_fault (axi_port_of state.requests.config) state.open_bursts beat ≡ None

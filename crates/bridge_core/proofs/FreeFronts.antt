@@ -9,7 +9,7 @@ use Rattle.axi_beats.specs.declared.RBeat.{RBeat}
 use Rattle.axi_beats.specs.declared.Resp.{Resp}
 use Rattle.flight_table.specs.Tables.{has_source, is_busy}
 use Rattle.bridge_core.specs.Laws.{IsFreeFront}
-use Rattle.bridge_core.specs.Requests.{BridgedRequest, RequestTable, after_read, after_response, flight_table_of, flights_of, is_done_for, newly_live, settled, with_read, with_request, with_response, with_sent_burst, without_done}
+use Rattle.bridge_core.specs.Requests.{BridgedRequest, RequestTable, after_read, after_response, flight_table_of, flights_of, is_done_for, newly_live, with_read, with_request, with_response, with_sent_burst, without_done}
 
 -- the requests that have a source
 abbrev AnyHas : ℕ → ℕ → List BridgedRequest → Bool
@@ -27,9 +27,6 @@ any_left client source p (r ∷ live) none = grind (arith, any_left client sourc
 any_more : (client source : ℕ) (live : List BridgedRequest) (new : BridgedRequest) → AnyHas client source live ≡ false → has_source client source new.flight ≡ false → AnyHas client source (live ++ new ∷ []) ≡ false
 any_more client source [] new none other = rw other refl
 any_more client source (r ∷ live) new none other = grind (arith, any_more client source live new)
-
-settled-source : (client source : ℕ) (request : BridgedRequest) → has_source client source (settled request).flight ≡ has_source client source request.flight
-settled-source client source request = grind arith
 
 -- a front in a table, after a change of the table
 abbrev pub StaysFree : RequestTable → RequestTable → Type 0

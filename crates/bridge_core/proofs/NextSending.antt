@@ -76,16 +76,11 @@ pub next_sending-none : (table : RequestTable) → find (may_send table) table.l
 next_sending-none table none = rw none refl
 
 -- a request may send, so a burst goes
-abbrev IsPresent : {X : Type 0} → Option X → Type 0
+abbrev pub IsPresent : {X : Type 0} → Option X → Type 0
 IsPresent {X = X} o = (x : X) × (o ≡ Some x)
 
-present : {X : Type 0} (o : Option X) → is_some o ≡ true → IsPresent o
+pub present : {X : Type 0} (o : Option X) → is_some o ≡ true → IsPresent o
 present o some = grind arith
-
-planned_range : (table : RequestTable) (request : BridgedRequest) → IsSoundRequest (flight_table_of table).limits table.accepted request.flight
-    → IsReady (flight_table_of table) request.flight → (plan : Option PlannedRange) → request.flight.plan ≡ plan → IsPresent request.flight.plan
-planned_range table request sound ready None is = absurd (cc (sound.no_plan is, ready.undone))
-planned_range table request sound ready (Some range) is = (range, is)
 
 pub sends : (table : RequestTable) (request : BridgedRequest) (id : ℕ) (range : PlannedRange) (next : Bool × Piece) → find (may_send table) table.live ≡ Some request
     → id_for (table_limits_of table.config) (flights_of table.live) request.flight ≡ Some id → request.flight.plan ≡ Some range → next_burst request.flight ≡ Some next
@@ -101,7 +96,7 @@ pub next_sending-some : (table : RequestTable) (request : BridgedRequest) → Is
 next_sending-some table request sound found =
     let ready = ready_parts (flight_table_of table) request.flight (find-passes (may_send table) table.live request found) in
     let each = all-find (λ (r : BridgedRequest). IsSoundRequest (flight_table_of table).limits table.accepted r.flight) (may_send table) table.live request (sound_requests table sound) found in
-    let (range, plan) = planned_range table request each ready request.flight.plan refl in
+    let (range, plan) = present request.flight.plan (grind (arith, each.no_plan, ready.undone)) in
     let (id, id_is) = present (id_for (table_limits_of table.config) (flights_of table.live) request.flight) ready.some in
     let blank : Bool × Piece = (false, record { address = 0; len = 0; size = 0 }) in
     let next = slice_get-get_or (planned request.flight) request.flight.sent blank ready.more in

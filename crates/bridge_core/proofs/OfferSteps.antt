@@ -150,9 +150,8 @@ pub record IsMade (requests : RequestTable) (open_bursts : OpenBursts) (client :
   pub ports_are : ArePorts requests.config new_ports
 
 -- a request can be accepted
-record HasPlace (table : RequestTable) (client : ℕ) : Type 0 where
-  room : has_room (flight_table_of table) client ≡ true
-  number : table.accepted < 2 ^ 48
+abbrev HasPlace : RequestTable → ℕ → Type 0
+HasPlace table client = (has_room (flight_table_of table) client ≡ true) × (table.accepted < 2 ^ 48)
 
 has_place : (table : RequestTable) (client : ℕ) → no_place table client ≡ None → HasPlace table client
 has_place table client none = grind (arith, nat_tests)
@@ -241,7 +240,7 @@ module _ {ports : List PortState} {requests : RequestTable} {open_bursts : OpenB
       let s : new_ports ≡ slice_set ports client (with_whole port message) = rw place.there at set_is in
       let room = has_room_for held j in
       rw (s, get_set ports client (with_whole port message) (slice_get_within ports client port place.there))
-      (record { message = message; whole = refl; limits = place.limits; there = o.below; room = room.room; free = (free_message Whole j).source; number = room.number })
+      (record { message = message; whole = refl; limits = place.limits; there = o.below; room = room.0; free = (free_message Whole j).source; number = room.1 })
 
   pub made_whole : (taken_ports new_ports : List PortState) (new_requests : RequestTable) (number : ℕ) → IfSome (slice_get ports client) (λ port. None ≡ held_back requests client (judged port.limits port.front beat busy))
       → IfSome (slice_get ports client) (λ port. Ok Whole ≡ judged port.limits port.front beat busy) → IfSome (slice_get ports client) (λ port. taken_ports ≡ slice_set ports client (port_after port beat (Ok Whole)))
@@ -262,5 +261,5 @@ module _ {ports : List PortState} {requests : RequestTable} {open_bursts : OpenB
       rw (all, t, number_is)
       (made (slice_set ports client new) (with_request message requests) (offer.Accepted requests.accepted)
       (after_verdict (Ok Whole) j
-      ∙ rw (room.room, lt-leb (2 ^ 48) requests.accepted room.number, message_at ports requests open_bursts client beat port place.there place.limits) (ap (λ (st : BridgeState). with_answer st (offer.Accepted requests.accepted)) (sym after)))
+      ∙ rw (room.0, lt-leb (2 ^ 48) requests.accepted room.1, message_at ports requests open_bursts client beat port place.there place.limits) (ap (λ (st : BridgeState). with_answer st (offer.Accepted requests.accepted)) (sym after)))
       (subst IsSoundBridge (sym after) sound) refl (are_ports_set requests.config ports client new o.ports_are place.limits refl))

@@ -1,5 +1,5 @@
 -- The pieces of a live request's plan: there is one at least, and of an atomic just one.
-use Rattle.std.proofs.Common.{◌≡◌, ℕ, ◌/◌, ◌^◌, ◌≤◌, true, false, ◌&&◌, List, length, Option, Some, None, refl, ap, sym, ◌∙◌, arith}
+use Rattle.std.proofs.Common.{◌≡◌, ℕ, ◌/◌, ◌^◌, ◌≤◌, true, false, ◌&&◌, List, length, Some, None, ap, sym, ◌∙◌, arith}
 use Rattle.std.proofs.lemmas.Bool.{and_parts}
 use Rattle.std.proofs.lemmas.Nat.{pow_pos}
 use Rattle.std.proofs.Math.Pow.{pow_mono}
@@ -20,6 +20,7 @@ use Rattle.bridge_core.specs.Configs.{is_valid, port_of}
 use Rattle.bridge_core.specs.Laws.{IsOfMessage}
 use Rattle.bridge_core.specs.Requests.{BridgedRequest, range_of}
 use Rattle.bridge_core.specs.declared.Config.{Config}
+use Rattle.bridge_core.proofs.NextSending.{present}
 use Rattle.bridge_core.proofs.ReadCounts.{config_parts, itself, plannable, range_known}
 
 -- ---- the range of a message
@@ -59,11 +60,9 @@ pub record HasPlan (config : Config) (request : BridgedRequest) : Type 0 where
 -- a live request that isn't done has one
 pub live_plan : (config : Config) (regions : List Region) (request : BridgedRequest) → is_valid config ≡ true → IsPageMap regions → IsSound (port_of config request.message.client) request.message
     → IsOfMessage config regions request → (request.flight.plan ≡ None → request.flight.done ≡ true) → request.flight.done ≡ false → HasPlan config request
-live_plan config regions request valid map sound of_message no_plan live = by_plan request.flight.plan refl
-  where
-    by_plan : (plan : Option PlannedRange) → request.flight.plan ≡ plan → HasPlan config request
-    by_plan None none = absurd (cc (no_plan none, live))
-    by_plan (Some range) is = record { range = range; is = is; plan = plan_known config regions request.message range valid map sound (sym of_message.plan ∙ is) }
+live_plan config regions request valid map sound of_message no_plan live =
+    let (range, is) = present request.flight.plan (grind (arith, no_plan, live)) in
+    record { range = range; is = is; plan = plan_known config regions request.message range valid map sound (sym of_message.plan ∙ is) }
 
 -- an atomic has at most eight bytes
 atomic_small : (operation : Operation) (size : ℕ) → (reply_has_data operation && has_data operation) ≡ true → ((op : AtomicOp) → operation ≡ Atomic op → size ≤ 3) → size ≤ 3

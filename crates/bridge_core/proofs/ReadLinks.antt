@@ -1,5 +1,5 @@
 -- After an R the outstanding bursts are those of the live requests.
-use Rattle.std.proofs.Common.{◌≡◌, ◌≢◌, ℕ, ◌+◌, ◌==◌, ◌≤◌, Bool, true, false, List, length, refl, ap, sym, ◌∙◌, subst, arith, inl, inr}
+use Rattle.std.proofs.Common.{◌≡◌, ◌≢◌, ℕ, ◌+◌, ◌==◌, ◌≤◌, Bool, true, false, List, length, refl, ap, sym, ◌∙◌, arith, inl, inr}
 use Rattle.std.specs.Prelude.{None, Some}
 use Rattle.std.specs.List.{filter, find}
 use Rattle.std.proofs.lemmas.Bool.{cases_eq, eq-eqb, eqb-true, le-ltb}
@@ -134,8 +134,6 @@ linked_read state r sound none =
     let finds = finds_reader state r sound none in
     λ id.
     elim (cases_eq r.id id) [
-      | inl same ↦
-          subst (λ k. IsLinked k (after_r_beat state r).requests.live (after_r_beat state r).open_bursts) same
-          (linked_read-own state r finds.request finds.piece finds.rest sound finds.reader r.last refl)
+      | inl same ↦ rw (← same) (linked_read-own state r finds.request finds.piece finds.rest sound finds.reader r.last refl)
       | inr other ↦ linked_read-other state r finds.request finds.piece finds.rest sound finds.reader id other
     ]

@@ -1,5 +1,5 @@
 -- After an answer of the memory the outstanding bursts are those of the live requests: what settling a request leaves, and a B.
-use Rattle.std.proofs.Common.{◌≡◌, ◌≢◌, ℕ, ◌≤◌, Bool, true, false, not, List, [], length, refl, subst, arith, inl, inr, ◌⊎◌}
+use Rattle.std.proofs.Common.{◌≡◌, ◌≢◌, ℕ, ◌≤◌, Bool, true, false, not, List, [], length, refl, arith, inl, inr, ◌⊎◌}
 use Rattle.std.specs.Prelude.{None, Option, Some}
 use Rattle.std.specs.List.{filter}
 use Rattle.std.proofs.lemmas.Bool.{cases_eq, leb-true}
@@ -17,7 +17,7 @@ use Rattle.bridge_core.specs.Bridge.{BridgeState, after_b_beat, b_fault}
 use Rattle.bridge_core.specs.Laws.{AreLinked, IsLinked, IsPartWay, IsSoundBridge, came_of, came_of_next, open_reads, open_writes, outstanding, outstanding_of}
 use Rattle.bridge_core.specs.Requests.{BridgedRequest, after_response, holder, holds, settled}
 use Rattle.bridge_core.proofs.AnswerLinks.{FindsWriter, finds_writer, open_reads-writes}
-use Rattle.bridge_core.proofs.HolderChanges.{IsNextOf, filter-without, filter-without-other, find-changed, find-changed-gone, find-changed-other, length-filter-map, part-empty, part-next}
+use Rattle.bridge_core.proofs.HolderChanges.{filter-without, filter-without-other, find-changed, find-changed-gone, find-changed-other, length-filter-map, part-empty, part-next}
 
 -- ---- a request is settled
 
@@ -107,30 +107,24 @@ apart_writes id other apart write is = grind (arith, nat_tests)
 
 linked_response-own : (state : BridgeState) (b : BBeat) → IsSoundBridge state → FindsWriter state b → IsLinked b.id (after_b_beat state b).requests.live (after_b_beat state b).open_bursts
 linked_response-own state b sound found =
+    let flight = found.request.flight in
+    let answered = answered_by b.resp found.request in
+    let linked = sound.linked b.id in
+    let next = part-next (planned flight) flight.answered flight.sent (true, found.next.piece) found.next.rest found.next.is in
+    let left = left_after b.id state.requests.live (after_response b.resp) found.request answered found.holder.held refl found.holder.has_id found.holder.sound.sent (one_holder state sound b.id) in
     record {
       writes = cc (filter-without (write_of_id b.id) state.open_bursts.writes, found.next.is, next.less, left.writes, linked.writes, found.holder.held);
-      reads = cc (
-        next.less,
-        found.next.is,
-        left.reads,
-        linked.reads,
-        found.holder.held,
-        open_reads-writes b.id (came_of_next answered) found.next.rest found.next.alike,
-        open_reads-writes b.id (came_of_next found.request) found.next.rest found.next.alike,
-      );
+      reads =
+          cc (
+            next.less,
+            found.next.is,
+            left.reads,
+            linked.reads,
+            found.holder.held,
+            open_reads-writes b.id (came_of_next answered) found.next.rest found.next.alike,
+            open_reads-writes b.id (came_of_next found.request) found.next.rest found.next.alike,
+          );
     }
-  where
-    answered : BridgedRequest
-    answered = answered_by b.resp found.request
-
-    linked : IsLinked b.id state.requests.live state.open_bursts
-    linked = sound.linked b.id
-
-    next : IsNextOf (planned found.request.flight) found.request.flight.answered found.request.flight.sent (true, found.next.piece) found.next.rest
-    next = part-next (planned found.request.flight) found.request.flight.answered found.request.flight.sent (true, found.next.piece) found.next.rest found.next.is
-
-    left : IsLeft b.id (holder b.id (after_b_beat state b).requests.live) answered
-    left = left_after b.id state.requests.live (after_response b.resp) found.request answered found.holder.held refl found.holder.has_id found.holder.sound.sent (one_holder state sound b.id)
 
 linked_response-other : (state : BridgeState) (b : BBeat) (other : ℕ) → IsSoundBridge state → b.id ≢ other → IsLinked other (after_b_beat state b).requests.live (after_b_beat state b).open_bursts
 linked_response-other state b other sound apart =
@@ -147,7 +141,7 @@ pub linked_response : (state : BridgeState) (b : BBeat) → IsSoundBridge state 
 linked_response state b sound none =
     λ id.
     elim (cases_eq b.id id) [
-      | inl same ↦ subst (λ k. IsLinked k (after_b_beat state b).requests.live (after_b_beat state b).open_bursts) same (linked_response-own state b sound (finds_writer state b sound none))
+      | inl same ↦ rw (← same) (linked_response-own state b sound (finds_writer state b sound none))
       | inr other ↦ linked_response-other state b id sound other
     ]
 

@@ -1,8 +1,8 @@
 -- A live request stays served: a new one, one that sent a burst, and one whose burst was answered.
-use Rattle.std.proofs.Common.{◌≡◌, ℕ, zero, suc, ◌+◌, ◌-◌, ◌==◌, ◌<◌, ◌≤◌, min, Bool, true, false, ◌&&◌, ◌||◌, not, List, [], ◌∷◌, length, drop, take, Option, Some, None, is_none, is_some, IsSome, refl, ap, sym, ◌∙◌, subst, arith}
+use Rattle.std.proofs.Common.{◌≡◌, ℕ, zero, suc, ◌+◌, ◌==◌, ◌<◌, ◌≤◌, min, Bool, true, false, ◌&&◌, ◌||◌, not, List, [], ◌∷◌, length, drop, take, Option, Some, None, is_none, is_some, IsSome, refl, ap, sym, ◌∙◌, arith}
 use Rattle.std.specs.Prelude.{if◌then◌else◌, option_map, slice_get}
 use Rattle.std.specs.List.{AllByRecursion, find}
-use Rattle.std.proofs.lemmas.Bool.{and_parts, eqb-true, leb-false, leb-true, lt-leb}
+use Rattle.std.proofs.lemmas.Bool.{and_parts, eqb-true, leb-true, lt-leb}
 use Rattle.std.proofs.lemmas.List.{take_all}
 use Rattle.std.proofs.lemmas.Bool.Decides.{nat_tests}
 use Rattle.bus_words.specs.Places.{change_first}
@@ -75,23 +75,18 @@ module _ (config : Config) (regions : List Region) (request : BridgedRequest) (v
   to_write : is_settled request.flight ≡ true → (not request.flight.writing && is_some (value_found request)) ≡ true → IsServed config regions (record request { flight = with_write request.flight })
   to_write settles test =
       let parts = and_parts (not request.flight.writing) (is_some (value_found request)) test in
+      let after : BridgedRequest = record request { flight = with_write request.flight } in
       let isnt : request.flight.writing ≡ false = grind (arith, parts.0) in
       let atomic : is_atomic request.flight ≡ true = found_is_atomic config regions request request.gathering counted.flight parts.1 in
       let plan = atomic_plan config regions request valid counted.message counted.flight counted.has atomic in
       let all = leb-true (length (planned request.flight)) request.flight.answered settles in
       let whole = reads_came request.flight isnt (omega (arith, all, length_reading request.flight isnt)) in
-      let some : 0 < length (planned (with_write request.flight)) = omega (arith, length_writing (with_write request.flight) refl, plan.writes) in
+      let some : 0 < length (planned after.flight) = omega (arith, length_writing after.flight refl, plan.writes) in
       let none : came_of_next request ≡ 0 = rw (part-empty (planned request.flight) request.flight.answered request.flight.sent (omega (arith, counted.sent, all))) at counted.next in
-      record {
-        pages = counted.pages;
-        message = counted.message;
-        flight = assumption counted.flight;
-        done = counted.live ∙ sym (lt-leb (length (planned (with_write request.flight))) 0 some);
-        found = λ atomic is live. parts.1;
-        failed = λ atomic isnt over. absurd (cc (isnt));
-        came = subst (λ (parts : List Piece). beats_in parts ≤ request.gathering.came) whole counted.came;
-        next = subst (λ (parts : List Piece). request.gathering.came - beats_in parts ≡ 0) whole none;
-      }
+      let came : beats_in (answered_pieces after.flight) ≤ after.gathering.came = rw (← whole) counted.came in
+      let next : came_of_next after ≡ 0 = rw (← whole) none in
+      let done = lt-leb (length (planned after.flight)) 0 some in
+      grind (arith, parts.1, done, counted.live)
 
   to_end : is_settled request.flight ≡ true → (not request.flight.writing && is_some (value_found request)) ≡ false → IsServed config regions (record request { flight = finished request.flight })
   to_end settles test = grind arith
@@ -234,26 +229,15 @@ module _ {config : Config} {regions : List Region} {limits : TableLimits} {accep
       → IsCounted config regions (after_its_b resp request)
   response_counted resp piece within live burst =
       let flight = request.flight in
+      let after = after_its_b resp request in
       let writes = (write_at flight flight.answered piece burst).0 in
       let has = planned_for live in
       let same : answered_pieces (with_answered flight) ≡ answered_pieces flight = rw writes refl in
       let none : came_of_next request ≡ 0 = rw (first_burst (true, piece) burst within).is at served.next in
-      let still : came_of_next (after_its_b resp request) ≡ 0 = rw same none in
-      record {
-        pages = served.pages;
-        message = served.message;
-        flight = assumption served.flight;
-        live = live;
-        found = λ atomic is going.
-            let plan = atomic_plan config regions request valid served.message served.flight has atomic in
-            let open_ones = leb-false (length (planned flight)) (flight.answered + 1) going in
-            absurd (omega (arith, open_ones, length_writing flight writes, plan.writes));
-        came = rw same served.came;
-        next = rw still (part_way-zero (outstanding (with_answered flight)));
-        answered = omega (arith, within, sound.sent);
-        sent = sound.sent;
-        has = record { range = has.range; is = has.is; plan = has.plan };
-      }
+      let still : came_of_next after ≡ 0 = rw same none in
+      let next : IsPartWay (came_of_next after) (outstanding after.flight) = rw still (part_way-zero (outstanding after.flight)) in
+      let came : beats_in (answered_pieces after.flight) ≤ after.gathering.came = rw same served.came in
+      grind (arith, nat_tests, atomic_plan config regions request valid served.message served.flight has, length_writing flight writes, sound.sent, has)
 
   pub served_response : (resp : Resp) (piece : Piece) → request.flight.answered < request.flight.sent → request.flight.done ≡ false → slice_get (planned request.flight) request.flight.answered ≡ Some (true, piece)
       → IsServed config regions (after_response resp request)
@@ -269,18 +253,8 @@ module _ {config : Config} {regions : List Region} {limits : TableLimits} {accep
       let more = answered_next flight piece read.0 read.1 in
       let all : min (request.gathering.came + 1) (reads_of config.axi_bytes (outline_in request)) ≡ beats_in (answered_pieces (with_answered flight)) = omega (arith, place, more, reading.came, last) in
       let none : came_of_next answered ≡ 0 = omega (arith, all) in
-      record {
-        pages = served.pages;
-        message = served.message;
-        flight = assumption served.flight;
-        live = reading.live;
-        found = λ atomic is going. absurd (cc (read.0, is));
-        came = omega (arith, all);
-        next = rw none (part_way-zero (outstanding answered.flight));
-        answered = omega (arith, reading.within, sound.sent);
-        sent = sound.sent;
-        has = record { range = has.range; is = has.is; plan = has.plan };
-      }
+      let next : IsPartWay (came_of_next answered) (outstanding answered.flight) = rw none (part_way-zero (outstanding answered.flight)) in
+      grind (arith, read.0, reading.within, sound.sent, has)
 
   more_counted : (r : RBeat) (piece : Piece) (count : ℕ) → IsReading request piece count → count < piece.len → request.gathering.came < reads_of config.axi_bytes (outline_in request)
       → IsCounted config regions (after_more_r config.axi_bytes r request)
@@ -288,20 +262,11 @@ module _ {config : Config} {regions : List Region} {limits : TableLimits} {accep
       let flight = request.flight in
       let answered = after_more_r config.axi_bytes r request in
       let has = planned_for reading.live in
+      let writes = (read_at flight flight.answered piece reading.burst).0 in
       let counted : min (request.gathering.came + 1) (reads_of config.axi_bytes (outline_in request)) ≡ beats_in (answered_pieces flight) + (count + 1) = omega (arith, place, reading.came) in
       let below : came_of_next answered ≤ piece.len = omega (arith, counted, more) in
-      record {
-        pages = served.pages;
-        message = served.message;
-        flight = assumption served.flight;
-        live = reading.live;
-        found = λ atomic is going. absurd (cc ((read_at flight flight.answered piece reading.burst).0, is));
-        came = omega (arith, counted);
-        next = rw (first_burst (false, piece) reading.burst reading.within).is below;
-        answered = omega (arith, reading.within, sound.sent);
-        sent = sound.sent;
-        has = record { range = has.range; is = has.is; plan = has.plan };
-      }
+      let next : IsPartWay (came_of_next answered) (outstanding answered.flight) = rw (first_burst (false, piece) reading.burst reading.within).is below in
+      grind (arith, reading.within, sound.sent, has)
 
   pub served_read : (r : RBeat) (piece : Piece) (count : ℕ) → IsReading request piece count → r.last ≡ (count == piece.len) → request.gathering.came < reads_of config.axi_bytes (outline_in request)
       → IsServed config regions (after_read config.axi_bytes r request)

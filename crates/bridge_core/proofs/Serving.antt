@@ -29,9 +29,6 @@ pub record Serving (kept : KeptTable) (key : ℕ) (P : BridgedRequest → Type 0
   pub known : P (bridged r (held_in kept.helds key))
   pub bus : (held_in kept.helds key).bus_bytes ≡ kept.config.axi_bytes
 
-some_and : {X : Type 0} (P : X → Type 0) (o : Option X) (x : X) → o ≡ Some x → IsSomeAnd o P → P x
-some_and P o x is holds = rw is at holds
-
 some_of : {X : Type 0} (P : X → Type 0) (o : Option X) → IsSomeAnd o P → IsSome o
 some_of P None holds = absurd holds
 some_of P (Some x) holds = refl
@@ -50,7 +47,7 @@ holder_serves kept table id key P is keeps sound at few holding =
     record {
       served = all-find (IsServed kept.config kept.regions) (holds id) live one sound.served found;
       sound = all-find (λ (b : BridgedRequest). IsSoundRequest (table_limits_of kept.config) kept.flight.accepted b.flight) (holds id) live one (sound_requests (shown_table kept) sound) found;
-      known = some_and P (holder id live) one found (subst (λ (t : RequestTable). IsSomeAnd (holder id t.live) P) (sym is) holding);
+      known = rw found at (subst (λ (t : RequestTable). IsSomeAnd (holder id t.live) P) (sym is) holding);
       bus = all-held (λ (h : HeldRequest). h.bus_bytes ≡ kept.config.axi_bytes) kept.helds key keeps.buses (omega (arith, few, keeps.all));
     }
 

@@ -1,6 +1,6 @@
 -- Live requests, each kept as its place in the order of bursts and, in the slot of its key, what it asks and was told; and what a change of
 -- one of them keeps of the table: a slot for each key, and what is true of every table.
-use Rattle.std.proofs.Common.{◌≡◌, ◌≢◌, ℕ, ◌==◌, ◌<◌, Bool, false, List, [], ◌∷◌, ◌++◌, map, length, set, Option, Some, None, refl, sym, ◌∙◌, ap, arith, zero, suc, get_or}
+use Rattle.std.proofs.Common.{◌≡◌, ◌≢◌, ℕ, ◌==◌, ◌<◌, Bool, false, List, [], ◌∷◌, ◌++◌, map, length, set, Option, Some, None, refl, sym, ◌∙◌, ap, arith, zero, suc, get_or, true}
 use Rattle.std.specs.Prelude.{IsSome, option_map}
 use Rattle.std.specs.List.{AllByRecursion, find}
 use Rattle.std.proofs.lemmas.Bool.{ne_eqb}
@@ -11,8 +11,9 @@ use Rattle.bus_words.proofs.PlaceChanges.{all-find}
 use Rattle.flight_table.specs.Laws.{HaveOwnKeys, AreRising, IsSound}
 use Rattle.flight_table.specs.LiveRequests.{LiveRequest}
 use Rattle.flight_table.specs.Tables.{KeyedRequest, change_entry, has_key, request_in, requests_of, KeyedTable, change_key, has_number, key_where, table_of}
+use Rattle.bridge_core.specs.Configs.{is_valid}
 use Rattle.bridge_core.specs.Inside.{HeldRequest, bridged, held_in, joined, nothing_held, with_held, IsFirstAt, IsKept, KeptTable, shown_table}
-use Rattle.bridge_core.specs.Requests.{BridgedRequest, flights_of, flight_table_of}
+use Rattle.bridge_core.specs.Requests.{BridgedRequest, RequestTable, flights_of, flight_table_of}
 use Rattle.bridge_core.proofs.HolderChanges.{all-mapped}
 use Rattle.flight_table.proofs.KeyLaws.{named}
 use Rattle.bridge_core.specs.Laws.{IsServed, IsSoundRequestTable}
@@ -129,6 +130,20 @@ first_at test flight key laws keyed =
 pub table_seen : (kept : KeptTable) → IsKept kept → table_of kept.flight ≡ flight_table_of (shown_table kept)
 table_seen kept is = rw (is.limits, flights_joined kept.helds kept.flight.entries) refl
 
+-- what is kept after a call, and the table that it shows
+pub record Shows (new : KeptTable) (shown : RequestTable) : Type 0 where
+  pub kept : IsKept new
+  pub sound : IsSoundRequestTable (shown_table new)
+  pub table : shown_table new ≡ shown
+
+pub shows : {new : KeptTable} {shown : RequestTable} → IsKept new → IsSound new.flight → is_valid new.config ≡ true → shown_table new ≡ shown → AllByRecursion (IsServed new.config new.regions) shown.live → Shows new shown
+shows {new = new} kept laws valid table served =
+    record {
+      kept = kept;
+      sound = record { config = valid; flights = rw (← (table_seen new kept)) laws.table; served = rw (ap (λ (t : RequestTable). t.live) table) served };
+      table = table;
+    }
+
 -- ---- by number
 
 abbrev numbers_of : List KeyedRequest → List ℕ
@@ -178,10 +193,8 @@ kept_put kept flight key held is limits bus =
 -- ---- a change of one request
 
 -- the table after a change of one request and of what is kept of it
-pub record IsChanged (old new : KeptTable) (test : LiveRequest → Bool) (change : BridgedRequest → BridgedRequest) : Type 0 where
-  pub kept : IsKept new
-  pub sound : IsSoundRequestTable (shown_table new)
-  pub table : shown_table new ≡ record (shown_table old) { live = change_first (λ b. test b.flight) change (shown_table old).live }
+abbrev pub IsChanged : KeptTable → KeptTable → (LiveRequest → Bool) → (BridgedRequest → BridgedRequest) → Type 0
+IsChanged old new test change = Shows new (record (shown_table old) { live = change_first (λ b. test b.flight) change (shown_table old).live })
 
 -- what has to be shown of a change: what is kept now is kept over the same bus; both together are what the change makes; and it leaves the request served
 pub record IsStep (kept : KeptTable) (f : LiveRequest → LiveRequest) (old new : HeldRequest) (change : BridgedRequest → BridgedRequest) (r : LiveRequest) : Type 0 where
@@ -192,32 +205,13 @@ pub record IsStep (kept : KeptTable) (f : LiveRequest → LiveRequest) (old new 
 pub changed_table : (old : KeptTable) (flight : KeyedTable) (test : LiveRequest → Bool) (key : ℕ) (f : LiveRequest → LiveRequest) (held : HeldRequest) (change : BridgedRequest → BridgedRequest) → IsKept old
     → IsSoundRequestTable (shown_table old) → (at : IsFirstAt test old.flight key) → key < 64 → flight ≡ change_key key f old.flight → IsSound flight → IsStep old f (held_in old.helds key) held change at.request
     → IsChanged old (record old { flight = flight; helds = set old.helds key held }) test change
-changed_table old flight test key f held change kept sound at few is laws step = record { kept = kept_new; sound = sound_new; table = table }
-  where
-    new : KeptTable
-    new = record old { flight = flight; helds = set old.helds key held }
-
-    within : key < length old.helds
-    within = omega (arith, few, kept.all)
-
-    entries : flight.entries ≡ change_first (λ entry. test entry.request) (change_entry f) old.flight.entries
-    entries = ap (λ (t : KeyedTable). t.entries) is ∙ change_by_key (λ (e : KeyedRequest). test e.request) (change_entry f) old.flight.entries (record { key = key; request = at.request }) at.laws.keys at.first
-
-    kept_new : IsKept new
-    kept_new = kept_put old flight key held kept (ap (λ (t : KeyedTable). t.limits) is) (step.bus ∙ all-held (λ (h : HeldRequest). h.bus_bytes ≡ old.config.axi_bytes) old.helds key kept.buses within)
-
-    live : (shown_table new).live ≡ change_first (λ b. test b.flight) change (shown_table old).live
-    live = ap (joined (set old.helds key held)) entries ∙ changed_joined test change f old.helds old.flight.entries key at.request held at.laws.keys at.first within step.same
-
-    table : shown_table new ≡ record (shown_table old) { live = change_first (λ b. test b.flight) change (shown_table old).live }
-    table = rw (live, ap (λ (t : KeyedTable). t.accepted) is) refl
-
-    served : AllByRecursion (IsServed old.config old.regions) (shown_table new).live
-    served =
-        let one = bridged at.request (held_in old.helds key) in
-        let found = shown_at test old key at in
-        let served_one = step.served (all-find (IsServed old.config old.regions) (λ (b : BridgedRequest). test b.flight) (shown_table old).live one sound.served found) in
-        rw live (all-change_found (IsServed old.config old.regions) (λ b. test b.flight) change (shown_table old).live one found served_one sound.served)
-
-    sound_new : IsSoundRequestTable (shown_table new)
-    sound_new = record { config = sound.config; flights = rw (← (table_seen new kept_new)) laws.table; served = served }
+changed_table old flight test key f held change kept sound at few is laws step =
+    let within : key < length old.helds = omega (arith, few, kept.all) in
+    let one = bridged at.request (held_in old.helds key) in
+    let entries = ap (λ (t : KeyedTable). t.entries) is ∙ change_by_key (λ (e : KeyedRequest). test e.request) (change_entry f) old.flight.entries (record { key = key; request = at.request }) at.laws.keys at.first in
+    let live = ap (joined (set old.helds key held)) entries ∙ changed_joined test change f old.helds old.flight.entries key at.request held at.laws.keys at.first within step.same in
+    let bus = step.bus ∙ all-held (λ (h : HeldRequest). h.bus_bytes ≡ old.config.axi_bytes) old.helds key kept.buses within in
+    let found = shown_at test old key at in
+    let served_one = step.served (all-find (IsServed old.config old.regions) (λ (b : BridgedRequest). test b.flight) (shown_table old).live one sound.served found) in
+    shows (kept_put old flight key held kept (ap (λ (t : KeyedTable). t.limits) is) bus) laws sound.config (rw (live, ap (λ (t : KeyedTable). t.accepted) is) refl)
+    (all-change_found (IsServed old.config old.regions) (λ b. test b.flight) change (shown_table old).live one found served_one sound.served)

@@ -78,21 +78,15 @@ whole_planned bursts = sum_by beats_of_burst bursts + sum_by answers_of_burst bu
 
 whole_of_open : (id came : ℕ) (bursts : List (Bool × Piece)) → sum_by whole_write (open_writes id bursts) + sum_by whole_read (open_reads id came bursts) ≡ whole_planned bursts
 whole_of_open id came [] = refl
-whole_of_open id came ((true, piece) ∷ bursts) =
-    omega (
+whole_of_open id came ((side, piece) ∷ bursts) =
+    grind (
       arith,
       whole_of_open id came bursts,
-      sum_by-cons whole_write (open_write id piece) (open_writes id bursts),
-      sum_by-cons beats_of_burst (true, piece) bursts,
-      sum_by-cons answers_of_burst (true, piece) bursts,
-    )
-whole_of_open id came ((false, piece) ∷ bursts) =
-    omega (
-      arith,
       whole_of_open id 0 bursts,
+      sum_by-cons whole_write (open_write id piece) (open_writes id bursts),
       sum_by-cons whole_read (open_read id came piece) (open_reads id 0 bursts),
-      sum_by-cons beats_of_burst (false, piece) bursts,
-      sum_by-cons answers_of_burst (false, piece) bursts,
+      sum_by-cons beats_of_burst (side, piece) bursts,
+      sum_by-cons answers_of_burst (side, piece) bursts,
     )
 
 -- no more beats came of a request's reads than they have
@@ -152,13 +146,6 @@ work_of_all limits accepted config regions [] open_bursts all served one linked 
 work_of_all limits accepted config regions (r ∷ live) open_bursts all served one linked =
     by_id r.flight.id refl (λ some linked_to. work_of_all limits accepted config regions live some all.1 served.1 (λ id. omega (arith, one id, fewer_after (holds id) r live)) linked_to)
   where
-    undone : (j : ℕ) (b : Bool) → r.flight.id ≡ Some j → r.flight.done ≡ b → r.flight.done ≡ false
-    undone j true some is = absurd (cc (all.0.freed is, some))
-    undone j false some is = is
-
-    own : (j : ℕ) → r.flight.id ≡ Some j → holds j r ≡ true
-    own j some = rw some (eq-eqb j j refl)
-
     -- where another holds the ID, or nobody does
     later : (id : ℕ) → holds id r ≡ false → holder id (r ∷ live) ≡ holder id live
     later id fails = rw fails refl
@@ -185,7 +172,7 @@ work_of_all limits accepted config regions (r ∷ live) open_bursts all served o
           came = others.came;
         }
     by_id (Some j) some rest =
-        let mine : holder j (r ∷ live) ≡ Some r = rw (own j some) refl in
+        let mine : holder j (r ∷ live) ≡ Some r = rw (some, eq-eqb j j refl) refl in
         let writes : filter (write_of_id j) open_bursts.writes ≡ open_writes j (outstanding r.flight) = (linked j).writes ∙ ap (λ h. open_writes j (outstanding_of h)) mine in
         let reads : filter (read_of_id j) open_bursts.reads ≡ open_reads j (came_of_next r) (outstanding r.flight) = (linked j).reads ∙ ap (λ h. open_reads j (came_of h) (outstanding_of h)) mine in
         let others = rest (without_id j open_bursts) (others_linked j some) in
@@ -194,7 +181,7 @@ work_of_all limits accepted config regions (r ∷ live) open_bursts all served o
               omega (
                 arith,
                 others.whole,
-                work_of_undone limits accepted r.flight all.0 (undone j r.flight.done some refl),
+                work_of_undone limits accepted r.flight all.0 (grind (arith, all.0.freed, some)),
                 whole_of_open j (came_of_next r) (outstanding r.flight),
                 sum_apart key_of_write whole_write j open_bursts.writes,
                 sum_apart key_of_read whole_read j open_bursts.reads,
