@@ -1,6 +1,6 @@
 -- What an answer of the memory tells of the live request that holds its ID: it is to the oldest burst that this request has outstanding.
 use Rattle.std.proofs.Common.{◌≡◌, ℕ, zero, suc, ◌+◌, ◌==◌, ◌<◌, ◌≤◌, Bool, true, false, List, [], ◌∷◌, drop, take, refl, ap, sym, ◌∙◌, subst, arith}
-use Rattle.std.specs.Prelude.{None, Option, Some}
+use Rattle.std.specs.Prelude.{None, Some}
 use Rattle.std.specs.List.{AllByRecursion, filter, find, slice_get}
 use Rattle.std.proofs.lemmas.List.Sums.{sum_by-cons, sum_by-take-le}
 use Rattle.std.proofs.lemmas.Bool.Decides.{nat_tests}
@@ -14,7 +14,6 @@ use Rattle.burst_plan.specs.declared.Piece.{Piece}
 use Rattle.flight_table.specs.Laws.{IsSoundRequest}
 use Rattle.flight_table.specs.LiveRequests.{LiveRequest, bursts_of, phase_pieces, planned, read_pieces, with_answered}
 use Rattle.flight_table.proofs.PhaseLaws.{read_at}
-use Rattle.flight_table.specs.Order.{is_id}
 use Rattle.bridge_core.specs.Bridge.{BridgeState, b_fault, r_fault}
 use Rattle.bridge_core.specs.Configs.{axi_port_of, table_limits_of}
 use Rattle.bridge_core.specs.Laws.{IsPartWay, IsServed, IsSoundBridge, IsSoundRequestTable, answered_pieces, beats_in, came_of, came_of_next, open_read, open_reads, open_writes, outstanding, outstanding_of}
@@ -74,18 +73,13 @@ pub record IsHolder (table : RequestTable) (id : ℕ) (request : BridgedRequest)
   pub has_id : request.flight.id ≡ Some id
   pub live : request.flight.done ≡ false
 
-id_held : (own : Option ℕ) (id : ℕ) → is_id id own ≡ true → own ≡ Some id
-id_held own id holds = grind (arith, nat_tests)
-
-undone : (flight : LiveRequest) (id : ℕ) → flight.id ≡ Some id → (flight.done ≡ true → flight.id ≡ None) → flight.done ≡ false
-undone flight id holds freed = grind arith
-
 pub holder_known : (table : RequestTable) (id : ℕ) (request : BridgedRequest) → IsSoundRequestTable table → holder id table.live ≡ Some request → IsHolder table id request
 holder_known table id request sound held =
     let served = all-find (IsServed table.config table.regions) (holds id) table.live request sound.served held in
     let flight_sound = all-find (λ r. IsSoundRequest (table_limits_of table.config) table.accepted r.flight) (holds id) table.live request (sound_requests table sound) held in
-    let holds_it = id_held request.flight.id id (find-passes (holds id) table.live request held) in
-    let live = undone request.flight id holds_it flight_sound.freed in
+    let passes = find-passes (holds id) table.live request held in
+    let holds_it : request.flight.id ≡ Some id = grind (arith, nat_tests, passes) in
+    let live : request.flight.done ≡ false = grind (arith, flight_sound.freed, holds_it) in
     assumption
 
 -- ---- a B

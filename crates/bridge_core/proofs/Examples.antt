@@ -31,24 +31,15 @@ config = record { clients = 2; quota = 4; ids = 16; depth = 2; max_len = 16; max
 these_are_valid : is_valid config ≡ true
 these_are_valid = refl
 
-numbers_of_clients : map (λ n. is_valid (record config { clients = n })) (0 ∷ 1 ∷ 8 ∷ 9 ∷ []) ≡ false ∷ true ∷ true ∷ false ∷ []
-numbers_of_clients = refl
-
-quotas : map (λ n. is_valid (record config { quota = n })) (0 ∷ 1 ∷ 8 ∷ 9 ∷ []) ≡ false ∷ true ∷ true ∷ false ∷ []
-quotas = refl
-
-numbers_of_ids : map (λ n. is_valid (record config { ids = n })) (0 ∷ 1 ∷ 16 ∷ 17 ∷ []) ≡ false ∷ true ∷ true ∷ false ∷ []
-numbers_of_ids = refl
-
-depths : map (λ n. is_valid (record config { depth = n })) (0 ∷ 1 ∷ 4 ∷ 5 ∷ []) ≡ false ∷ true ∷ true ∷ false ∷ []
-depths = refl
+ranges_of_limits : map (λ n. is_valid (record config { clients = n })) (0 ∷ 1 ∷ 8 ∷ 9 ∷ []) ∷ map (λ n. is_valid (record config { quota = n })) (0 ∷ 1 ∷ 8 ∷ 9 ∷ [])
+    ∷ map (λ n. is_valid (record config { ids = n })) (0 ∷ 1 ∷ 16 ∷ 17 ∷ []) ∷ map (λ n. is_valid (record config { depth = n })) (0 ∷ 1 ∷ 4 ∷ 5 ∷ [])
+    ∷ map (λ n. is_valid (record config { max_size = n })) (2 ∷ 3 ∷ 12 ∷ 13 ∷ []) ∷ []
+    ≡ replicate 5 (false ∷ true ∷ true ∷ false ∷ [])
+ranges_of_limits = refl
 
 lengths_of_bursts : map (λ n. is_valid (record config { max_len = n })) (0 ∷ 1 ∷ 2 ∷ 3 ∷ 128 ∷ 255 ∷ 256 ∷ 512 ∷ [])
     ≡ false ∷ true ∷ true ∷ false ∷ true ∷ false ∷ true ∷ false ∷ []
 lengths_of_bursts = refl
-
-sizes_of_requests : map (λ n. is_valid (record config { max_size = n })) (2 ∷ 3 ∷ 12 ∷ 13 ∷ []) ≡ false ∷ true ∷ true ∷ false ∷ []
-sizes_of_requests = refl
 
 widths_of_the_bus : map (λ n. is_valid (record config { axi_bytes = n })) (1 ∷ 2 ∷ 4 ∷ 8 ∷ 16 ∷ []) ≡ false ∷ false ∷ true ∷ true ∷ false ∷ []
 widths_of_the_bus = refl

@@ -3,7 +3,6 @@ pub mod AnswerLinks
 pub mod BridgeSteps
 pub mod BurstWrites
 pub mod BurstsToSend
-pub mod FreeFronts
 pub mod HeldBytes
 pub mod HolderChanges
 pub mod JoinedRequests

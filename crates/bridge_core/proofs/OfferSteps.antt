@@ -17,14 +17,12 @@ use Rattle.tl_checker.proofs.BeatRules.{first_none}
 use Rattle.axi_checker.specs.OpenBursts.{OpenBursts}
 use Rattle.flight_table.specs.Tables.{has_room, is_busy, FlightTable}
 use Rattle.bridge_core.specs.Bridge.{BridgeState, StockedBridge, completed, front_of, message_with, offered, offered_after, refuses_beat, verdict_on, with_front}
-use Rattle.bridge_core.specs.Configs.{port_of}
 use Rattle.bridge_core.specs.Inside.{held_back, ArePorts, CanAccept, bridge_kept, no_place}
 use Rattle.bridge_core.specs.Laws.{IsFreeFront, IsSoundBridge, IsSoundRequestTable}
 use Rattle.bridge_core.specs.Requests.{RequestTable, flight_table_of, newly_live, with_request}
 use Rattle.bridge_core.specs.declared.Offered.{Offered}
 use Rattle.bridge_core.specs.declared.Offered.TheVariants as offer
-use Rattle.bridge_core.proofs.BridgeSteps.{state_in}
-use Rattle.bridge_core.proofs.FreeFronts.{free_accepted}
+use Rattle.bridge_core.proofs.BridgeSteps.{state_in, free_accepted}
 use Rattle.bridge_core.proofs.PortPlaces.{get_set, get_set-other, IsPort, are_ports_set, port_at, set_back, set_twice}
 use Rattle.bridge_core.proofs.SendingLinks.{linked_accepted}
 use Rattle.bridge_core.specs.declared.Config.{Config}
@@ -35,20 +33,7 @@ pub front_at : (ports : List PortState) (requests : RequestTable) (open_bursts :
     → front_of (state_in ports requests open_bursts) client ≡ port.front
 front_at ports requests open_bursts client port there = rw (slice_get-map (λ (p : PortState). p.front) ports client, there) refl
 
-pub verdict_at : (ports : List PortState) (requests : RequestTable) (open_bursts : OpenBursts) (client : ℕ) (beat : ABeat) (port : PortState) (busy : Bool) → slice_get ports client ≡ Some port
-    → port.limits ≡ port_of requests.config client → busy ≡ is_busy (flight_table_of requests) client beat.source
-    → verdict_on (state_in ports requests open_bursts) client beat ≡ judged port.limits port.front beat busy
-verdict_at ports requests open_bursts client beat port busy there limits is = rw (front_at ports requests open_bursts client port there, limits, is) refl
-
-pub message_at : (ports : List PortState) (requests : RequestTable) (open_bursts : OpenBursts) (client : ℕ) (beat : ABeat) (port : PortState) → slice_get ports client ≡ Some port
-    → port.limits ≡ port_of requests.config client → message_with (state_in ports requests open_bursts) client beat ≡ joined port.limits port.front beat
-message_at ports requests open_bursts client beat port there limits = rw (front_at ports requests open_bursts client port there, limits) refl
-
 -- ---- the answer
-
-pub offered_there : (state : BridgeState) (client : ℕ) (beat : ABeat) (verdict : Result Progress TlRule) → client < state.requests.config.clients → verdict_on state client beat ≡ verdict
-    → offered state client beat ≡ offered_after verdict state client beat
-offered_there state client beat verdict below is = rw (lt-leb state.requests.config.clients client below, is) refl
 
 pub offered_back : (state : BridgeState) (client : ℕ) (beat : ABeat) (verdict : Result Progress TlRule) (answer : Offered) → held_back state.requests client verdict ≡ Some answer
     → offered_after verdict state client beat ≡ (state, answer)
@@ -124,6 +109,8 @@ pub refused_kept : (old new : StockedBridge) (client : ℕ) (beat : ABeat) (answ
     → refuses_beat answer ≡ true → new ≡ old
 refused_kept old new client beat answer same is refused = rw (offered_kept old.state client beat (sym (ap refuses_beat same) ∙ refused)) at is
 
+-- ---- what the client's port says decides
+
 abbrev with_answer : BridgeState → Offered → BridgeState × Offered
 with_answer state answer = (state, answer)
 
@@ -186,7 +173,8 @@ module _ {ports : List PortState} {requests : RequestTable} {open_bursts : OpenB
 
   -- what the port says is the verdict
   after_verdict : (verdict : Result Progress TlRule) → verdict ≡ judged port.limits port.front beat busy → offered state client beat ≡ offered_after verdict state client beat
-  after_verdict verdict is = offered_there state client beat verdict o.below (verdict_at ports requests open_bursts client beat port busy place.there place.limits o.busy_is ∙ sym is)
+  after_verdict verdict is =
+      rw (lt-leb requests.config.clients client o.below, front_at ports requests open_bursts client port place.there, ← o.busy_is, ← place.limits, ← is) refl
 
   -- it has to wait
   pub made_back : (answer : Offered) → IfSome (slice_get ports client) (λ port. Some answer ≡ held_back requests client (judged port.limits port.front beat busy)) → Makes ports requests answer
@@ -222,7 +210,7 @@ module _ {ports : List PortState} {requests : RequestTable} {open_bursts : OpenB
       let after = state_set new requests in
       rw s
       (made (slice_set ports client new) requests offer.More
-      (after_verdict (Ok More) j ∙ rw (message_at ports requests open_bursts client beat port place.there place.limits) (ap (λ (st : BridgeState). with_answer st offer.More) (sym after)))
+      (after_verdict (Ok More) j ∙ rw (front_at ports requests open_bursts client port place.there, ← place.limits) (ap (λ (st : BridgeState). with_answer st offer.More) (sym after)))
       (subst IsSoundBridge (sym after) (sound_more state client message o.sound (free_message More j))) refl (are_ports_set requests.config ports client new o.ports_are place.limits place.empty))
 
   -- ---- it completes a request
@@ -261,5 +249,5 @@ module _ {ports : List PortState} {requests : RequestTable} {open_bursts : OpenB
       rw (all, t, number_is)
       (made (slice_set ports client new) (with_request message requests) (offer.Accepted requests.accepted)
       (after_verdict (Ok Whole) j
-      ∙ rw (room.0, lt-leb (2 ^ 48) requests.accepted room.1, message_at ports requests open_bursts client beat port place.there place.limits) (ap (λ (st : BridgeState). with_answer st (offer.Accepted requests.accepted)) (sym after)))
+      ∙ rw (room.0, lt-leb (2 ^ 48) requests.accepted room.1, front_at ports requests open_bursts client port place.there, ← place.limits) (ap (λ (st : BridgeState). with_answer st (offer.Accepted requests.accepted)) (sym after)))
       (subst IsSoundBridge (sym after) sound) refl (are_ports_set requests.config ports client new o.ports_are place.limits refl))

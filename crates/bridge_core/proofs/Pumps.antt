@@ -66,6 +66,8 @@ takes_smallest state client number sound is = by_test (nat_le state.requests.con
     by_test true = tt
     by_test false = by_found (first_done state.requests.live client) refl is
 
+-- ---- whether a burst goes
+
 -- a burst goes
 abbrev pub IsSent : BridgeState → Type 0
 IsSent state = (sending : Sending) × (next_sending state.requests ≡ Some sending)

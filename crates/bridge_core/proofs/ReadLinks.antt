@@ -2,12 +2,12 @@
 use Rattle.std.proofs.Common.{◌≡◌, ◌≢◌, ℕ, ◌+◌, ◌==◌, ◌≤◌, Bool, true, false, List, length, refl, ap, sym, ◌∙◌, arith, inl, inr}
 use Rattle.std.specs.Prelude.{None, Some}
 use Rattle.std.specs.List.{filter, find}
-use Rattle.std.proofs.lemmas.Bool.{cases_eq, eq-eqb, eqb-true, le-ltb}
+use Rattle.std.proofs.lemmas.Bool.{cases_eq, eq-eqb, eqb-true}
 use Rattle.std.proofs.lemmas.Bool.Decides.{nat_tests}
 use Rattle.bus_words.specs.Places.{change_first, without_first}
 use Rattle.axi_beats.specs.declared.RBeat.{RBeat}
 use Rattle.axi_checker.specs.OpenBursts.{OpenRead, read_of_id, reads_after}
-use Rattle.axi_checker.proofs.ReadsAfter.{goes_on, one_more, reads_after-closes, reads_after-goes_on}
+use Rattle.axi_checker.proofs.ReadsAfter.{one_more, reads_after-closes, reads_after-goes_on}
 use Rattle.burst_plan.specs.declared.Piece.{Piece}
 use Rattle.flight_table.specs.LiveRequests.{planned, with_answered}
 use Rattle.responses.specs.Gathered.{after_r}
@@ -38,19 +38,14 @@ after_read-other bus_bytes r other request fails = grind arith
 
 -- ---- the reads of the port
 
-not_at_end : (read : OpenRead) → (read.came == read.ar.len) ≡ false → read.came ≤ read.ar.len → goes_on read ≡ true
-not_at_end read other few = grind (arith, nat_tests)
-
 -- the first read of an ID has one beat more, or is gone
 reads_more : (id : ℕ) (reads : List OpenRead) (came : ℕ) (piece : Piece) → find (read_of_id id) reads ≡ Some (open_read id came piece) → (came == piece.len) ≡ false → came ≤ piece.len
     → reads_after id reads ≡ change_first (read_of_id id) one_more reads
-reads_more id reads came piece found other few = reads_after-goes_on id reads (open_read id came piece) found (not_at_end (open_read id came piece) other few)
+reads_more id reads came piece found other few = reads_after-goes_on id reads (open_read id came piece) found (grind (arith, nat_tests))
 
 reads_less : (id : ℕ) (reads : List OpenRead) (came : ℕ) (piece : Piece) → find (read_of_id id) reads ≡ Some (open_read id came piece) → (came == piece.len) ≡ true
     → reads_after id reads ≡ without_first (read_of_id id) reads
-reads_less id reads came piece found same =
-    let all : came ≡ piece.len = eqb-true came piece.len same in
-    reads_after-closes id reads (open_read id came piece) found (le-ltb came piece.len (omega (arith, all)))
+reads_less id reads came piece found same = reads_after-closes id reads (open_read id came piece) found (grind (arith, nat_tests))
 
 -- a read of another ID
 apart_reads : (id other : ℕ) → id ≢ other → (read : OpenRead) → read_of_id id read ≡ true → read_of_id other read ≡ false

@@ -1,5 +1,5 @@
 -- After an answer of the memory the outstanding bursts are those of the live requests: what settling a request leaves, and a B.
-use Rattle.std.proofs.Common.{◌≡◌, ◌≢◌, ℕ, ◌≤◌, Bool, true, false, not, List, [], length, refl, arith, inl, inr, ◌⊎◌}
+use Rattle.std.proofs.Common.{◌≡◌, ◌≢◌, ℕ, ◌≤◌, Bool, true, false, not, List, length, refl, arith, inl, inr, ◌⊎◌}
 use Rattle.std.specs.Prelude.{None, Option, Some}
 use Rattle.std.specs.List.{filter}
 use Rattle.std.proofs.lemmas.Bool.{cases_eq, leb-true}
@@ -10,7 +10,7 @@ use Rattle.axi_beats.specs.declared.BBeat.{BBeat}
 use Rattle.axi_beats.specs.declared.Resp.{Resp}
 use Rattle.axi_checker.specs.OpenBursts.{OpenWrite, lacks_data, write_of_id, write_to_fill}
 use Rattle.burst_plan.specs.declared.Piece.{Piece}
-use Rattle.flight_table.specs.LiveRequests.{LiveRequest, finished, is_settled, planned, with_answered, with_write}
+use Rattle.flight_table.specs.LiveRequests.{finished, is_settled, planned, with_answered, with_write}
 use Rattle.flight_table.specs.Order.{holds_id, is_id}
 use Rattle.responses.specs.Gathered.{after_b}
 use Rattle.bridge_core.specs.Bridge.{BridgeState, after_b_beat, b_fault}
@@ -42,9 +42,6 @@ settled_as request = grind arith
 pub nothing_left : (request : BridgedRequest) → is_settled request.flight ≡ true → request.flight.sent ≤ length (planned request.flight) → request.flight.sent ≤ request.flight.answered
 nothing_left request is sent = omega (arith, sent, leb-true (length (planned request.flight)) request.flight.answered is)
 
-nothing_outstanding : (flight : LiveRequest) → flight.sent ≤ flight.answered → outstanding flight ≡ []
-nothing_outstanding flight past = part-empty (planned flight) flight.answered flight.sent past
-
 -- ---- what the holder of an ID has outstanding, after one of its requests was settled
 
 -- the same as the request before it was settled
@@ -62,7 +59,7 @@ left_after id live change old answered held changed has sent one =
     elim (settled_as answered) [
       | inl going ↦ rw (find-changed (holds id) change live old held (rw (changed, going.1) (holds_it id answered.flight.id has)), changed, going.1) (record { writes = refl; reads = refl })
       | inr at_end ↦
-          let none = nothing_outstanding answered.flight (nothing_left answered at_end.answered sent) in
+          let none = part-empty (planned answered.flight) answered.flight.answered answered.flight.sent (nothing_left answered at_end.answered sent) in
           elim at_end.becomes [
             | inl writes ↦
                 rw (find-changed (holds id) change live old held (rw (changed, writes.1) (holds_it id answered.flight.id has)), changed, writes.1) (record { writes = rw none refl; reads = rw none refl })

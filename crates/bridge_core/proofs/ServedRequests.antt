@@ -17,7 +17,7 @@ use Rattle.burst_plan.specs.Pieces.{PlannedRange, pieces}
 use Rattle.burst_plan.specs.declared.Piece.{Piece}
 use Rattle.burst_plan.specs.declared.Region.{Region}
 use Rattle.flight_table.specs.Laws.{IsSoundRequest}
-use Rattle.flight_table.specs.LiveRequests.{LiveRequest, bursts_of, finished, is_atomic, is_settled, pieces_planned, plan_for, planned, read_pieces, with_answered, with_write}
+use Rattle.flight_table.specs.LiveRequests.{LiveRequest, bursts_of, finished, is_atomic, is_settled, plan_for, planned, read_pieces, with_answered, with_write}
 use Rattle.flight_table.specs.declared.TableLimits.{TableLimits}
 use Rattle.flight_table.proofs.PhaseLaws.{length_bursts, length_reading, length_writing, read_at, write_at}
 use Rattle.responses.specs.Gathered.{Gathering, after_b, after_r, old_value, reads_of}
@@ -116,9 +116,6 @@ none_planned replies carries = grind arith
 pub atomic_first : (replies carries : Bool) → (replies && carries) ≡ true → not replies ≡ true → ⊥
 atomic_first replies carries atomic writes = grind arith
 
-none_read : (replies : Bool) (parts : List Piece) → beats_in (if not replies then (if replies then parts else []) else take 0 (if replies then parts else [])) ≡ 0
-none_read replies parts = grind arith
-
 -- an atomic has the plan of its range
 atomic_planned : (operation : Operation) (plan : Option PlannedRange) → (reply_has_data operation && has_data operation) ≡ true → plan_for operation plan ≡ plan
 atomic_planned operation plan atomic = grind arith
@@ -140,7 +137,7 @@ served_new table message valid pages sound =
       done = done_by plan refl;
       found = λ atomic is live. absurd (atomic_first (reply_has_data message.operation) (has_data message.operation) atomic is);
       failed = λ atomic isnt over. failed_by atomic over plan refl;
-      came = omega (arith, none_read (reply_has_data message.operation) (pieces_planned plan));
+      came = grind arith;
       next = omega arith;
     }
   where

@@ -1,6 +1,6 @@
 -- Live requests, each kept as its place in the order of bursts and, in the slot of its key, what it asks and was told; and what a change of
 -- one of them keeps of the table: a slot for each key, and what is true of every table.
-use Rattle.std.proofs.Common.{◌≡◌, ◌≢◌, ℕ, ◌==◌, ◌<◌, Bool, false, List, [], ◌∷◌, ◌++◌, map, length, set, Option, Some, None, refl, sym, ◌∙◌, ap, arith, zero, suc, get_or, true}
+use Rattle.std.proofs.Common.{◌≡◌, ◌≢◌, ℕ, ◌==◌, ◌<◌, Bool, false, List, [], ◌∷◌, ◌++◌, map, length, set, Some, None, refl, sym, ◌∙◌, ap, arith, zero, suc, get_or, true}
 use Rattle.std.specs.Prelude.{IsSome, option_map}
 use Rattle.std.specs.List.{AllByRecursion, find}
 use Rattle.std.proofs.lemmas.Bool.{ne_eqb}
@@ -115,14 +115,11 @@ added_joined helds entries key r held none within =
 
 -- ---- a key that a search found
 
-entry_found : (test : LiveRequest → Bool) (entries : List KeyedRequest) (key : ℕ) (r : LiveRequest) (o : Option KeyedRequest) → find (λ entry. test entry.request) entries ≡ o → option_map (λ (e : KeyedRequest). e.key) o ≡ Some key
-    → option_map (λ (e : KeyedRequest). e.request) o ≡ Some r → find (λ entry. test entry.request) entries ≡ Some (record { key = key; request = r })
-entry_found test entries key r o found keyed is = grind arith
-
 pub first_at : (test : LiveRequest → Bool) (flight : KeyedTable) (key : ℕ) → IsSound flight → key_where test flight ≡ Some key → IsFirstAt test flight key
 first_at test flight key laws keyed =
     let names = named test flight.entries key laws.keys keyed in
-    let found = entry_found test flight.entries key names.request (find (λ (e : KeyedRequest). test e.request) flight.entries) refl keyed (sym (find-mapped test (λ (e : KeyedRequest). e.request) flight.entries) ∙ names.first) in
+    let found : find (λ entry. test entry.request) flight.entries ≡ Some (record { key = key; request = names.request }) =
+    grind (arith, keyed, names.first, find-mapped test (λ (e : KeyedRequest). e.request) flight.entries) in
     record { request = names.request; named = names.named; first = found; laws = laws }
 
 -- ---- the table that the order of bursts sees
