@@ -1,9 +1,9 @@
 -- What an answer of the memory tells of the live request that holds its ID: it is to the oldest burst that this request has outstanding.
 use Rattle.std.proofs.Common.{◌≡◌, ℕ, zero, suc, ◌+◌, ◌==◌, ◌<◌, ◌≤◌, Bool, true, false, List, [], ◌∷◌, drop, take, refl, ap, sym, ◌∙◌, subst, arith}
-use Rattle.std.specs.Prelude.{None, Option, Some, if◌then◌else◌}
+use Rattle.std.specs.Prelude.{None, Some}
 use Rattle.std.specs.List.{AllByRecursion, filter, find, slice_get}
 use Rattle.std.proofs.lemmas.List.Sums.{sum_by-cons, sum_by-take-le}
-use Rattle.std.proofs.lemmas.Bool.{eqb-true}
+use Rattle.std.proofs.lemmas.Bool.Decides.{nat_tests}
 use Rattle.bus_words.proofs.PlaceChanges.{all-find, find-passes}
 use Rattle.axi_beats.specs.declared.BBeat.{BBeat}
 use Rattle.axi_beats.specs.declared.RBeat.{RBeat}
@@ -11,18 +11,18 @@ use Rattle.axi_checker.specs.OpenBursts.{OpenRead, OpenWrite, read_of_id, write_
 use Rattle.axi_checker.proofs.InOrder.{finds_read, finds_response}
 use Rattle.burst_plan.specs.Pieces.{PlannedRange}
 use Rattle.burst_plan.specs.declared.Piece.{Piece}
-use Rattle.tl_messages.specs.Operations.{reply_has_data}
 use Rattle.flight_table.specs.Laws.{IsSoundRequest}
-use Rattle.flight_table.specs.LiveRequests.{LiveRequest, bursts_of, phase_pieces, pieces_planned, planned, read_pieces, with_answered}
+use Rattle.flight_table.specs.LiveRequests.{LiveRequest, bursts_of, phase_pieces, planned, read_pieces, with_answered}
 use Rattle.flight_table.proofs.PhaseLaws.{read_at}
-use Rattle.flight_table.specs.Order.{is_id}
 use Rattle.bridge_core.specs.Bridge.{BridgeState, b_fault, r_fault}
 use Rattle.bridge_core.specs.Configs.{axi_port_of, table_limits_of}
 use Rattle.bridge_core.specs.Laws.{IsPartWay, IsServed, IsSoundBridge, IsSoundRequestTable, answered_pieces, beats_in, came_of, came_of_next, open_read, open_reads, open_writes, outstanding, outstanding_of}
 use Rattle.bridge_core.specs.Requests.{BridgedRequest, RequestTable, holder, holds, outline_in}
 use Rattle.responses.specs.Gathered.{reads_of}
-use Rattle.bridge_core.proofs.HolderChanges.{IsNextOf, all-mapped, all-part, filter-found, part-next}
+use Rattle.bridge_core.proofs.HolderChanges.{IsNextOf, all-part, filter-found, part-next}
+use Rattle.bridge_core.proofs.NextSending.{present}
 use Rattle.bridge_core.proofs.ReadCounts.{reads_counted}
+use Rattle.bridge_core.proofs.SendingLinks.{sound_requests}
 
 -- ---- all outstanding bursts of a request are on one side
 
@@ -40,13 +40,11 @@ one_side flight = all-part (λ burst. burst.0 ≡ flight.writing) (planned fligh
 -- what a port sees of bursts of the other side
 pub open_writes-reads : (id : ℕ) (bursts : List (Bool × Piece)) → AreOf false bursts → open_writes id bursts ≡ []
 open_writes-reads id [] all = refl
-open_writes-reads id ((true, piece) ∷ bursts) all = absurd (cc (all.0))
-open_writes-reads id ((false, piece) ∷ bursts) all = open_writes-reads id bursts all.1
+open_writes-reads id (burst ∷ bursts) all = grind (arith, all.0, open_writes-reads id bursts all.1)
 
 pub open_reads-writes : (id came : ℕ) (bursts : List (Bool × Piece)) → AreOf true bursts → open_reads id came bursts ≡ []
 open_reads-writes id came [] all = refl
-open_reads-writes id came ((true, piece) ∷ bursts) all = open_reads-writes id came bursts all.1
-open_reads-writes id came ((false, piece) ∷ bursts) all = absurd (cc (all.0))
+open_reads-writes id came (burst ∷ bursts) all = grind (arith, all.0, open_reads-writes id came bursts all.1)
 
 -- the first of some outstanding bursts, all on its side
 pub record HasNext (side : Bool) (bursts : List (Bool × Piece)) : Type 0 where
@@ -55,22 +53,15 @@ pub record HasNext (side : Bool) (bursts : List (Bool × Piece)) : Type 0 where
   pub is : bursts ≡ (side, piece) ∷ rest
   pub alike : AreOf side rest
 
-other_name : (a b : Bool) (bursts : List (Bool × Piece)) → a ≡ b → AreOf b bursts → AreOf a bursts
-other_name a b bursts same all = subst (λ side. AreOf side bursts) (sym same) all
-
 next_write : (id : ℕ) (side : Bool) (bursts : List (Bool × Piece)) → AreOf side bursts → (write : OpenWrite) (writes : List OpenWrite) → open_writes id bursts ≡ write ∷ writes → HasNext true bursts
-next_write id side [] all write writes is = absurd (cc (is))
-next_write id side ((true, piece) ∷ rest) all write writes is = record { piece = piece; rest = rest; is = refl; alike = other_name true side rest all.0 all.1 }
-next_write id side ((false, piece) ∷ rest) all write writes is =
-    let none : open_writes id rest ≡ [] = open_writes-reads id rest (other_name false side rest all.0 all.1) in
-    absurd (cc (is, none))
+next_write id false bursts all write writes is = absurd (cc (is, open_writes-reads id bursts all))
+next_write id true [] all write writes is = absurd (cc (is))
+next_write id true ((side, piece) ∷ rest) all write writes is = record { piece = piece; rest = rest; is = cc (all.0); alike = all.1 }
 
 next_read : (id came : ℕ) (side : Bool) (bursts : List (Bool × Piece)) → AreOf side bursts → (read : OpenRead) (reads : List OpenRead) → open_reads id came bursts ≡ read ∷ reads → HasNext false bursts
-next_read id came side [] all read reads is = absurd (cc (is))
-next_read id came side ((true, piece) ∷ rest) all read reads is =
-    let none : open_reads id came rest ≡ [] = open_reads-writes id came rest (other_name true side rest all.0 all.1) in
-    absurd (cc (is, none))
-next_read id came side ((false, piece) ∷ rest) all read reads is = record { piece = piece; rest = rest; is = refl; alike = other_name false side rest all.0 all.1 }
+next_read id came true bursts all read reads is = absurd (cc (is, open_reads-writes id came bursts all))
+next_read id came false [] all read reads is = absurd (cc (is))
+next_read id came false ((side, piece) ∷ rest) all read reads is = record { piece = piece; rest = rest; is = cc (all.0); alike = all.1 }
 
 -- ---- the request that holds an ID
 
@@ -82,31 +73,14 @@ pub record IsHolder (table : RequestTable) (id : ℕ) (request : BridgedRequest)
   pub has_id : request.flight.id ≡ Some id
   pub live : request.flight.done ≡ false
 
-id_held : (own : Option ℕ) (id : ℕ) → is_id id own ≡ true → own ≡ Some id
-id_held None id holds = absurd (cc (holds))
-id_held (Some held) id holds = ap Some (eqb-true held id holds)
-
-undone : (flight : LiveRequest) (id : ℕ) → flight.id ≡ Some id → (flight.done ≡ true → flight.id ≡ None) → flight.done ≡ false
-undone flight id holds freed = by_flag flight.done refl
-  where
-    by_flag : (done : Bool) → flight.done ≡ done → done ≡ false
-    by_flag true is = let none = freed is in absurd (cc (none, holds))
-    by_flag false is = refl
-
 pub holder_known : (table : RequestTable) (id : ℕ) (request : BridgedRequest) → IsSoundRequestTable table → holder id table.live ≡ Some request → IsHolder table id request
 holder_known table id request sound held =
-    let served : IsServed table.config table.regions request = all-find (IsServed table.config table.regions) (holds id) table.live request sound.served held in
-    let flight_sound : IsSoundRequest (table_limits_of table.config) table.accepted request.flight =
-    all-find (λ r. IsSoundRequest (table_limits_of table.config) table.accepted r.flight) (holds id) table.live request
-    (all-mapped (IsSoundRequest (table_limits_of table.config) table.accepted) (λ (r : BridgedRequest). r.flight) table.live sound.flights.requests) held in
-    let holds_it : request.flight.id ≡ Some id = id_held request.flight.id id (find-passes (holds id) table.live request held) in
-    record {
-      held = held;
-      served = served;
-      sound = flight_sound;
-      has_id = holds_it;
-      live = undone request.flight id holds_it flight_sound.freed;
-    }
+    let served = all-find (IsServed table.config table.regions) (holds id) table.live request sound.served held in
+    let flight_sound = all-find (λ r. IsSoundRequest (table_limits_of table.config) table.accepted r.flight) (holds id) table.live request (sound_requests table sound) held in
+    let passes = find-passes (holds id) table.live request held in
+    let holds_it : request.flight.id ≡ Some id = grind (arith, nat_tests, passes) in
+    let live : request.flight.done ≡ false = grind (arith, flight_sound.freed, holds_it) in
+    assumption
 
 -- ---- a B
 
@@ -122,13 +96,9 @@ finds_writer state b sound none =
     let writes = drop 1 (filter (write_of_id b.id) state.open_bursts.writes) in
     let listed : open_writes b.id (outstanding_of (holder b.id state.requests.live)) ≡ finds.write ∷ writes =
     sym (sound.linked b.id).writes ∙ filter-found (write_of_id b.id) state.open_bursts.writes finds.write finds.found in
-    by_holder (holder b.id state.requests.live) finds.write writes refl listed
-  where
-    by_holder : (held : Option BridgedRequest) (write : OpenWrite) (writes : List OpenWrite) → holder b.id state.requests.live ≡ held → open_writes b.id (outstanding_of held) ≡ write ∷ writes → FindsWriter state b
-    by_holder None write writes is listed = absurd (cc (listed))
-    by_holder (Some request) write writes is listed =
-        let known = holder_known state.requests b.id request sound.requests is in
-        record { request = request; holder = known; next = next_write b.id request.flight.writing (outstanding request.flight) (one_side request.flight) write writes listed }
+    let (request, is) = present (holder b.id state.requests.live) (grind (arith, listed)) in
+    let next = next_write b.id request.flight.writing (outstanding request.flight) (one_side request.flight) finds.write writes (rw is at listed) in
+    record { request = request; holder = holder_known state.requests b.id request sound.requests is; next = next }
 
 -- what a B that breaks no rule tells of the live request that holds its ID: the oldest of its bursts that aren't answered is a write
 pub record AnsweredWriter (state : BridgeState) (b : BBeat) : Type 0 where
@@ -160,21 +130,14 @@ answered_writer state b sound none =
 -- the transfers of the pieces to a place, with the next one
 pub beats_in-next : (pieces : List Piece) (k : ℕ) (piece : Piece) → slice_get pieces k ≡ Some piece → beats_in (take (k + 1) pieces) ≡ beats_in (take k pieces) + (piece.len + 1)
 beats_in-next [] k piece found = absurd (cc (found))
-beats_in-next (p ∷ pieces) zero piece found =
-    let same : p ≡ piece = cc (found) in
-    sum_by-cons (λ (q : Piece). q.len + 1) p [] ∙ rw same (omega arith)
+beats_in-next (p ∷ pieces) zero piece found = grind (arith, sum_by-cons (λ (q : Piece). q.len + 1) p [])
 beats_in-next (p ∷ pieces) (suc k) piece found =
     let next : suc k + 1 ≡ suc (k + 1) = omega arith in
-    let rest = beats_in-next pieces k piece found in
-    rw (next, sum_by-cons (λ (q : Piece). q.len + 1) p (take k pieces), sum_by-cons (λ (q : Piece). q.len + 1) p (take (k + 1) pieces)) (omega (arith, rest))
+    rw (next, sum_by-cons (λ (q : Piece). q.len + 1) p (take k pieces), sum_by-cons (λ (q : Piece). q.len + 1) p (take (k + 1) pieces)) (omega (arith, beats_in-next pieces k piece found))
 
 -- the reads that were answered are some of its reads
 pub answered_least : (flight : LiveRequest) → beats_in (answered_pieces flight) ≤ beats_in (read_pieces flight)
-answered_least flight = by_side flight.writing
-  where
-    by_side : (writing : Bool) → beats_in (if writing then read_pieces flight else take flight.answered (read_pieces flight)) ≤ beats_in (read_pieces flight)
-    by_side true = omega arith
-    by_side false = sum_by-take-le (λ (p : Piece). p.len + 1) (read_pieces flight) flight.answered
+answered_least flight = grind (arith, sum_by-take-le (λ (p : Piece). p.len + 1) (read_pieces flight) flight.answered)
 
 -- one more of its reads was answered whole
 pub answered_next : (flight : LiveRequest) (piece : Piece) → flight.writing ≡ false → slice_get (read_pieces flight) flight.answered ≡ Some piece
@@ -183,12 +146,7 @@ answered_next flight piece reads read = rw reads (beats_in-next (read_pieces fli
 
 -- a request that reads has a plan
 reader_plan : (flight : LiveRequest) (k : ℕ) (piece : Piece) → slice_get (read_pieces flight) k ≡ Some piece → (range : PlannedRange) × (flight.plan ≡ Some range)
-reader_plan flight k piece found = by_plan flight.plan refl (reply_has_data flight.operation) found
-  where
-    by_plan : (plan : Option PlannedRange) → flight.plan ≡ plan → (reads : Bool) → slice_get (if reads then pieces_planned plan else []) k ≡ Some piece → (range : PlannedRange) × (flight.plan ≡ Some range)
-    by_plan None is true found = absurd (cc (found))
-    by_plan None is false found = absurd (cc (found))
-    by_plan (Some range) is reads found = (range, is)
+reader_plan flight k piece found = grind arith
 
 -- the request that holds the ID of an R, and its oldest outstanding burst: the read that the R belongs to
 pub record IsReader (state : BridgeState) (r : RBeat) (request : BridgedRequest) (piece : Piece) (rest : List (Bool × Piece)) : Type 0 where
@@ -221,18 +179,8 @@ reader_known state r request piece rest sound known first alike found last =
     let counted = reads_counted state.requests.config state.requests.regions request range sound.requests.config known.served.pages known.served planned_so in
     let within = answered_least (with_answered flight) in
     let more = answered_next flight piece side read in
-    record {
-      holder = known;
-      first = first;
-      alike = alike;
-      next = next;
-      read = read;
-      found = found;
-      last = last;
-      few = few;
-      more = more;
-      place = omega (arith, known.served.came, few, counted, within, more);
-    }
+    let place : request.gathering.came < reads_of state.requests.config.axi_bytes (outline_in request) = omega (arith, known.served.came, few, counted, within, more) in
+    assumption
 
 pub finds_reader : (state : BridgeState) (r : RBeat) → IsSoundBridge state → r_fault state r ≡ None → FindsReader state r
 finds_reader state r sound none =
@@ -240,23 +188,15 @@ finds_reader state r sound none =
     let reads = drop 1 (filter (read_of_id r.id) state.open_bursts.reads) in
     let listed : open_reads r.id (came_of (holder r.id state.requests.live)) (outstanding_of (holder r.id state.requests.live)) ≡ finds.read ∷ reads =
     sym (sound.linked r.id).reads ∙ filter-found (read_of_id r.id) state.open_bursts.reads finds.read finds.found in
-    by_holder (holder r.id state.requests.live) finds.read reads refl listed finds.found finds.last
-  where
-    by_holder : (held : Option BridgedRequest) (read : OpenRead) (reads : List OpenRead) → holder r.id state.requests.live ≡ held → open_reads r.id (came_of held) (outstanding_of held) ≡ read ∷ reads
-        → find (read_of_id r.id) state.open_bursts.reads ≡ Some read → r.last ≡ (read.came == read.ar.len) → FindsReader state r
-    by_holder None read reads is listed found last = absurd (cc (listed))
-    by_holder (Some request) read reads is listed found last =
-        let known = holder_known state.requests r.id request sound.requests is in
-        let next = next_read r.id (came_of_next request) request.flight.writing (outstanding request.flight) (one_side request.flight) read reads listed in
-        let opened = ap (open_reads r.id (came_of_next request)) (sym next.is) ∙ listed in
-        let same : open_read r.id (came_of_next request) next.piece ≡ read = cc (opened) in
-        let flag : r.last ≡ (came_of_next request == next.piece.len) = last ∙ ap (λ (o : OpenRead). o.came == o.ar.len) (sym same) in
-        record {
-          request = request;
-          piece = next.piece;
-          rest = next.rest;
-          reader = reader_known state r request next.piece next.rest sound known next.is next.alike (found ∙ ap Some (sym same)) flag;
-        }
+    let (request, is) = present (holder r.id state.requests.live) (grind (arith, listed)) in
+    let mine : open_reads r.id (came_of_next request) (outstanding request.flight) ≡ finds.read ∷ reads = rw is at listed in
+    let next = next_read r.id (came_of_next request) request.flight.writing (outstanding request.flight) (one_side request.flight) finds.read reads mine in
+    let opened = ap (open_reads r.id (came_of_next request)) (sym next.is) ∙ mine in
+    let same : open_read r.id (came_of_next request) next.piece ≡ finds.read = cc (opened) in
+    let flag : r.last ≡ (came_of_next request == next.piece.len) = finds.last ∙ ap (λ (o : OpenRead). o.came == o.ar.len) (sym same) in
+    let known = holder_known state.requests r.id request sound.requests is in
+    let reader = reader_known state r request next.piece next.rest sound known next.is next.alike (finds.found ∙ ap Some (sym same)) flag in
+    record { request = request; piece = next.piece; rest = next.rest; reader = reader }
 
 -- what an R that breaks no rule tells of the live request that holds its ID: the oldest of its bursts that aren't answered is a read, of which
 -- some beats came, this is the next, and its flag `last` is right; and its place among all reads of the request is one of those

@@ -1,13 +1,13 @@
 -- A plan's pieces as writes, transfer by transfer, and the operand of an atomic.
-use Rattle.std.proofs.Common.{◌≡◌, ℕ, zero, suc, ◌+◌, ◌-◌, ◌*◌, ◌/◌, ◌^◌, ◌<◌, ◌≤◌, Bool, true, false, List, map, length, Option, Some, None, if◌then◌else◌, refl, sym, ◌∙◌, ap, arith, inl, inr, lit<}
+use Rattle.std.proofs.Common.{◌≡◌, ℕ, zero, suc, ◌+◌, ◌-◌, ◌/◌, ◌^◌, ◌<◌, ◌≤◌, true, List, map, length, Option, Some, None, if◌then◌else◌, refl, sym, ◌∙◌, ap, arith, lit<}
 use Rattle.std.specs.Prelude.{unwrap_or}
 use Rattle.std.specs.List.{range_with_len, slice_get}
-use Rattle.std.proofs.lemmas.Bool.{and_from, and_parts, cases_lt, le-leb}
+use Rattle.std.proofs.lemmas.Bool.{and_from, and_parts, le-leb}
 use Rattle.std.proofs.lemmas.List.FromFn.{length-map-range_with_len, map-range_with_len_more}
 use Rattle.std.proofs.lemmas.Option.{slice_get-get_or}
 use Rattle.std.proofs.lemmas.Simd.{map-map}
 use Rattle.std.proofs.Math.Pow.{pow-add, pow_mono}
-use Rattle.bus_words.specs.Lanes.{given_at, has_lane, lane_byte}
+use Rattle.bus_words.specs.Lanes.{given_at, lane_byte}
 use Rattle.tl_messages.specs.Lanes.{lane_of}
 use Rattle.tl_messages.specs.Operations.{beats_of, has_data}
 use Rattle.tl_messages.specs.Requests.{HeldMessage, beat_at, byte_given, request_of}
@@ -66,11 +66,7 @@ transfer_within range piece n plannable (k, listed) one last =
 
 -- a byte of a range is in one of the words of its beats
 word_below : (size i : ℕ) → i < 2 ^ size → i / 8 < beats_of size true
-word_below size i below =
-    elim (cases_lt size 3) [
-      | inl small ↦ omega (arith, below, pow_mono {i = size} {j = 3} (omega arith))
-      | inr big ↦ let parts : size - 3 + 3 ≡ size = omega arith in let times : 2 ^ size ≡ 2 ^ (size - 3) * 8 = rw parts at (pow-add 2 (size - 3) 3) in omega (arith, below, times)
-    ]
+word_below size i below = grind (arith, pow_mono {i = size} {j = 3}, pow-add 2 (size - 3) 3)
 
 -- the word that holds the first byte of a transfer, counted from the range's start, is that of a beat
 pub word_of_transfer : (range : PlannedRange) (piece : Piece) (k start first address : ℕ) → IsPlannable range → IsListed range piece → k ≤ piece.len → start ≡ first → first ≡ range.address
@@ -121,13 +117,8 @@ operand_made held carries small single =
     there : slice_get held.beats 0 ≡ Some beat
     there = slice_get-get_or held.beats 0 (record { word = 0; mask = 0 }) (omega (arith, single))
 
-    by_mask : (b : Bool) (byte zero_byte : ℕ) → zero_byte ≡ 0 → (if b then byte else zero_byte) ≡ unwrap_or (if b then Some byte else None) 0
-    by_mask true byte zero_byte none = refl
-    by_mask false byte zero_byte none = none
-
     each : (i : ℕ) → i < 8 → in_word i ≡ unwrap_or (given i) 0
     each i below =
         let first : i / 8 ≡ 0 = omega arith in
-        lane_byte-merged 0 beat.word beat.mask (lane_of (held.address + i)) (omega arith)
-        ∙ by_mask (has_lane beat.mask (lane_of (held.address + i))) (lane_byte beat.word (lane_of (held.address + i))) (lane_byte 0 (lane_of (held.address + i))) (lane_byte-past 0 0 (lane_of (held.address + i)) (lit< tt) (omega arith))
-        ∙ rw (carries, first, there) refl
+        let lane = lane_of (held.address + i) in
+        rw (carries, first, there, lane_byte-merged 0 beat.word beat.mask lane (omega arith), lane_byte-past 0 0 lane (lit< tt) (omega arith)) (grind arith)

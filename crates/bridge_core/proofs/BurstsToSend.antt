@@ -1,37 +1,36 @@
 -- The burst that goes next, found with what is kept of its request, and what its sending changes.
-use Rattle.std.proofs.Common.{◌≡◌, ◌<◌, ℕ, ◌%◌, Bool, true, false, List, [], Option, Some, None, IsSome, refl, sym, ◌∙◌, ap, subst, arith}
-use Rattle.std.specs.Prelude.{IfSome, IsSomeAnd, option_map, if◌then◌else◌, slice_get}
+use Rattle.std.proofs.Common.{◌≡◌, ◌<◌, ℕ, ◌%◌, Bool, true, List, Option, Some, None, IsSome, refl, sym, ◌∙◌, ap, subst, arith}
+use Rattle.std.specs.Prelude.{IfSome, option_map}
 use Rattle.std.specs.List.{find}
 use Rattle.std.proofs.lemmas.List.{set-get_or}
 use Rattle.std.proofs.lemmas.Option.{same_Some}
-use Rattle.bus_words.proofs.PlaceChanges.{all-find, find-passes}
+use Rattle.bus_words.proofs.PlaceChanges.{all-find}
 use Rattle.tl_messages.specs.Operations.{beats_of, has_data}
 use Rattle.burst_plan.specs.Pieces.{PlannedRange}
 use Rattle.burst_plan.specs.declared.Piece.{Piece}
 use Rattle.burst_plan.proofs.TranslationLaws.{same_byte-mod}
 use Rattle.flight_table.specs.Laws.{IsSound}
-use Rattle.flight_table.specs.LiveRequests.{LiveRequest, next_burst, pieces_planned, with_sent}
+use Rattle.flight_table.specs.LiveRequests.{LiveRequest, next_burst, with_sent}
 use Rattle.flight_table.proofs.PhaseLaws.{write_at}
 use Rattle.flight_table.specs.Order.{id_for, is_ready}
 use Rattle.flight_table.specs.Tables.{FlightTable, KeyedRequest, KeyedTable, change_key, has_number, request_at, requests_of, table_of}
-use Rattle.bridge_core.specs.Configs.{table_limits_of}
 use Rattle.bridge_core.specs.Inside.{CanFill, HeldRequest, IsFirstAt, IsKept, KeptTable, bridged, held_in, nothing_held, shown_table}
 use Rattle.bridge_core.specs.Laws.{IsServed, IsSoundRequestTable}
-use Rattle.bridge_core.specs.Requests.{BridgedRequest, RequestTable, after_sending, flights_of, may_send, with_sent_burst}
+use Rattle.bridge_core.specs.Requests.{BridgedRequest, RequestTable, after_sending, may_send, with_sent_burst}
 use Rattle.bridge_core.specs.Sending.{burst_of_piece, next_sending}
-use Rattle.bridge_core.proofs.HeldKeys.{none_joined}
+use Rattle.bridge_core.proofs.TableSteps.{none_joined, IsChanged, Shows, changed_table, numbered, shown_at, table_seen}
 use Rattle.bridge_core.proofs.NextSending.{next_sending-none, sends}
-use Rattle.bridge_core.proofs.SentBursts.{IsRangeOf, piece_of_plan, range_is}
+use Rattle.bridge_core.proofs.ReadCounts.{range_served}
+use Rattle.bridge_core.proofs.SentBursts.{piece_of_plan}
 use Rattle.bridge_core.proofs.ServedRequests.{served_sent}
-use Rattle.bridge_core.proofs.TableSteps.{IsChanged, changed_table, numbered, shown_at, table_seen}
 
 -- ---- whether a request is ready
 
 pub none_ready : (kept : KeptTable) (table : RequestTable) → shown_table kept ≡ table → IsKept kept → find (is_ready (table_of kept.flight)) (requests_of kept.flight.entries) ≡ None → next_sending table ≡ None
 none_ready kept table view is none =
-    let unsent = subst (λ (t : FlightTable). find (λ (b : BridgedRequest). is_ready t b.flight) (shown_table kept).live ≡ None) (table_seen kept is)
-    (none_joined (is_ready (table_of kept.flight)) kept.helds kept.flight.entries none) in
-    subst (λ (t : RequestTable). next_sending t ≡ None) view (next_sending-none (shown_table kept) unsent)
+    rw (← view)
+    (next_sending-none (shown_table kept) (subst (λ (t : FlightTable). find (λ (b : BridgedRequest). is_ready t b.flight) (shown_table kept).live ≡ None) (table_seen kept is)
+    (none_joined (is_ready (table_of kept.flight)) kept.helds kept.flight.entries none)))
 
 ready_found : (kept : KeptTable) (key : ℕ) → IsKept kept → (at : IsFirstAt (is_ready (table_of kept.flight)) kept.flight key)
     → find (may_send (shown_table kept)) (shown_table kept).live ≡ Some (bridged at.request (held_in kept.helds key))
@@ -40,11 +39,7 @@ ready_found kept key is at =
     (shown_at (is_ready (table_of kept.flight)) kept key at)
 
 pub some_ready : (kept : KeptTable) (table : RequestTable) (key : ℕ) → shown_table kept ≡ table → IsKept kept → IsFirstAt (is_ready (table_of kept.flight)) kept.flight key → IsSome (find (may_send table) table.live)
-some_ready kept table key view is at = subst (λ (t : RequestTable). IsSome (find (may_send t) t.live)) view (rw (ready_found kept key is at) refl)
-
--- what a search found at a key passes the test
-pub passes_at : (test : LiveRequest → Bool) (flight : KeyedTable) (key : ℕ) → IsFirstAt test flight key → IsSomeAnd (request_at key flight) (λ r. test r ≡ true)
-passes_at test flight key at = rw at.named (find-passes (λ (e : KeyedRequest). test e.request) flight.entries (record { key = key; request = at.request }) at.first)
+some_ready kept table key view is at = rw (← view, ready_found kept key is at) refl
 
 -- ---- the burst that goes next
 
@@ -66,54 +61,37 @@ pub record IsGoing (kept : KeptTable) (key : ℕ) (range : PlannedRange) (write 
       ≡ Some (record { request = bridged request (held_in kept.helds key); id = id; burst = burst_of_piece id (bridged request (held_in kept.helds key)) range (write, piece) })
 
 both_parts : (o : Option (Bool × Piece)) (write : Bool) (piece : Piece) → option_map (λ (burst : Bool × Piece). burst.0) o ≡ Some write → option_map (λ (burst : Bool × Piece). burst.1) o ≡ Some piece → o ≡ Some (write, piece)
-both_parts None write piece first second = absurd (cc (first))
-both_parts (Some (a, b)) write piece first second = rw (← same_Some a write first, ← same_Some b piece second) refl
+both_parts o write piece first second = grind arith
 
 pub going : (kept : KeptTable) (key : ℕ) (range : PlannedRange) (write : Bool) (piece : Piece) (id : ℕ) → IsKept kept → IsSoundRequestTable (shown_table kept) → IsFirstAt (is_ready (table_of kept.flight)) kept.flight key
     → IsTold kept.flight key range write piece id → IsGoing kept key range write piece id
 going kept key range write piece id is sound at told =
+    let table = shown_table kept in
+    let one = bridged at.request (held_in kept.helds key) in
+    let found = ready_found kept key is at in
+    let plan : at.request.plan ≡ Some range = same_Some at.request.plan (Some range) (rw at.named at told.plan_is) in
+    let next = both_parts (next_burst at.request) write piece (rw at.named at told.write_is) (rw at.named at told.piece_is) in
+    let id_is = subst (λ (t : FlightTable). id_for t.limits t.live at.request ≡ Some id) (table_seen kept is) (rw at.named at told.id_is) in
     record {
-      request = r;
+      request = at.request;
       named = at.named;
       served = all-find (IsServed kept.config kept.regions) (may_send table) table.live one sound.served found;
       plan = plan;
       next = next;
       sending = sends table one id range (write, piece) found id_is plan next;
     }
-  where
-    r : LiveRequest
-    r = at.request
-
-    table : RequestTable
-    table = shown_table kept
-
-    one : BridgedRequest
-    one = bridged r (held_in kept.helds key)
-
-    found : find (may_send table) table.live ≡ Some one
-    found = ready_found kept key is at
-
-    plan : r.plan ≡ Some range
-    plan = same_Some r.plan (Some range) (rw at.named at told.plan_is)
-
-    next : next_burst r ≡ Some (write, piece)
-    next = both_parts (next_burst r) write piece (rw at.named at told.write_is) (rw at.named at told.piece_is)
-
-    id_is : id_for (table_limits_of kept.config) (flights_of table.live) r ≡ Some id
-    id_is = subst (λ (t : FlightTable). id_for t.limits t.live r ≡ Some id) (table_seen kept is) (rw at.named at told.id_is)
 
 -- ---- a write can be filled
 
 -- only what has data writes
 writes_data : (flight : LiveRequest) (piece : Piece) → next_burst flight ≡ Some (true, piece) → has_data flight.operation ≡ true
-writes_data flight piece next = by_data (has_data flight.operation) (write_at flight flight.sent piece next).1
-  where
-    by_data : (b : Bool) → slice_get (if b then pieces_planned flight.plan else []) flight.sent ≡ Some piece → b ≡ true
-    by_data true there = refl
-    by_data false there = absurd (cc (there))
+writes_data flight piece next = grind (arith, (write_at flight flight.sent piece next).1)
 
 pub can_fill : (kept : KeptTable) (key : ℕ) (range : PlannedRange) (piece : Piece) (id : ℕ) → IsGoing kept key range true piece id → CanFill (held_in kept.helds key) range piece
 can_fill kept key range piece id goes =
+    let held = held_in kept.helds key in
+    let of = range_served kept.config kept.regions (bridged goes.request held) range goes.served goes.plan in
+    let carries : has_data held.message.operation ≡ true = ap has_data (sym goes.served.flight.operation) ∙ writes_data goes.request piece goes.next in
     record {
       listed = piece_of_plan goes.request range true piece goes.plan goes.next;
       carries = carries;
@@ -123,41 +101,18 @@ can_fill kept key range piece id goes =
       aligned = goes.served.message.aligned;
       atomic_size = goes.served.message.atomic_size;
     }
-  where
-    held : HeldRequest
-    held = held_in kept.helds key
-
-    of : IsRangeOf kept.config kept.regions held.message range
-    of = range_is kept.config kept.regions (bridged goes.request held) range goes.served.pages goes.served goes.plan
-
-    carries : has_data held.message.operation ≡ true
-    carries = ap has_data (sym goes.served.flight.operation) ∙ writes_data goes.request piece goes.next
 
 -- ---- the table after it
 
-pub record IsSentTable (old new : KeptTable) (number id : ℕ) : Type 0 where
-  pub kept : IsKept new
-  pub sound : IsSoundRequestTable (shown_table new)
-  pub table : shown_table new ≡ with_sent_burst number id (shown_table old)
+abbrev pub IsSentTable : KeptTable → KeptTable → ℕ → ℕ → Type 0
+IsSentTable old new number id = Shows new (with_sent_burst number id (shown_table old))
 
 pub sent_table : (old : KeptTable) (flight : KeyedTable) (key id : ℕ) → IsKept old → IsSoundRequestTable (shown_table old) → (at : IsFirstAt (is_ready (table_of old.flight)) old.flight key) → key < 64
     → flight ≡ change_key key (with_sent id) old.flight → IsSound flight → IsSentTable old (record old { flight = flight }) at.request.number id
-sent_table old flight key id kept sound at few is laws = record { kept = changed.kept; sound = changed.sound; table = changed.table }
-  where
-    r : LiveRequest
-    r = at.request
-
-    of_number : IsFirstAt (has_number r.number) old.flight key
-    of_number =
-        record {
-          request = r;
-          named = at.named;
-          first = numbered (λ (e : KeyedRequest). is_ready (table_of old.flight) e.request) old.flight.entries (record { key = key; request = r }) at.laws.table.rising at.first;
-          laws = at.laws;
-        }
-
-    changed : IsChanged old (record old { flight = flight }) (has_number r.number) (after_sending id)
-    changed =
-        subst (λ (l : List HeldRequest). IsChanged old (record old { flight = flight; helds = l }) (has_number r.number) (after_sending id)) (set-get_or old.helds key nothing_held)
-        (changed_table old flight (has_number r.number) key (with_sent id) (held_in old.helds key) (after_sending id) kept sound of_number few is laws
-        (record { bus = refl; same = refl; served = λ served. served_sent old.config old.regions id (bridged r (held_in old.helds key)) served }))
+sent_table old flight key id kept sound at few is laws =
+    let r = at.request in
+    let first = numbered (λ (e : KeyedRequest). is_ready (table_of old.flight) e.request) old.flight.entries (record { key = key; request = r }) at.laws.table.rising at.first in
+    let of_number : IsFirstAt (has_number r.number) old.flight key = record { request = r; named = at.named; first = first; laws = at.laws } in
+    subst (λ (l : List HeldRequest). IsChanged old (record old { flight = flight; helds = l }) (has_number r.number) (after_sending id)) (set-get_or old.helds key nothing_held)
+    (changed_table old flight (has_number r.number) key (with_sent id) (held_in old.helds key) (after_sending id) kept sound of_number few is laws
+    (record { bus = refl; same = refl; served = λ served. served_sent old.config old.regions id (bridged r (held_in old.helds key)) served }))

@@ -31,24 +31,15 @@ config = record { clients = 2; quota = 4; ids = 16; depth = 2; max_len = 16; max
 these_are_valid : is_valid config ≡ true
 these_are_valid = refl
 
-numbers_of_clients : map (λ n. is_valid (record config { clients = n })) (0 ∷ 1 ∷ 8 ∷ 9 ∷ []) ≡ false ∷ true ∷ true ∷ false ∷ []
-numbers_of_clients = refl
-
-quotas : map (λ n. is_valid (record config { quota = n })) (0 ∷ 1 ∷ 8 ∷ 9 ∷ []) ≡ false ∷ true ∷ true ∷ false ∷ []
-quotas = refl
-
-numbers_of_ids : map (λ n. is_valid (record config { ids = n })) (0 ∷ 1 ∷ 16 ∷ 17 ∷ []) ≡ false ∷ true ∷ true ∷ false ∷ []
-numbers_of_ids = refl
-
-depths : map (λ n. is_valid (record config { depth = n })) (0 ∷ 1 ∷ 4 ∷ 5 ∷ []) ≡ false ∷ true ∷ true ∷ false ∷ []
-depths = refl
+ranges_of_limits : map (λ n. is_valid (record config { clients = n })) (0 ∷ 1 ∷ 8 ∷ 9 ∷ []) ∷ map (λ n. is_valid (record config { quota = n })) (0 ∷ 1 ∷ 8 ∷ 9 ∷ [])
+    ∷ map (λ n. is_valid (record config { ids = n })) (0 ∷ 1 ∷ 16 ∷ 17 ∷ []) ∷ map (λ n. is_valid (record config { depth = n })) (0 ∷ 1 ∷ 4 ∷ 5 ∷ [])
+    ∷ map (λ n. is_valid (record config { max_size = n })) (2 ∷ 3 ∷ 12 ∷ 13 ∷ []) ∷ []
+    ≡ replicate 5 (false ∷ true ∷ true ∷ false ∷ [])
+ranges_of_limits = refl
 
 lengths_of_bursts : map (λ n. is_valid (record config { max_len = n })) (0 ∷ 1 ∷ 2 ∷ 3 ∷ 128 ∷ 255 ∷ 256 ∷ 512 ∷ [])
     ≡ false ∷ true ∷ true ∷ false ∷ true ∷ false ∷ true ∷ false ∷ []
 lengths_of_bursts = refl
-
-sizes_of_requests : map (λ n. is_valid (record config { max_size = n })) (2 ∷ 3 ∷ 12 ∷ 13 ∷ []) ≡ false ∷ true ∷ true ∷ false ∷ []
-sizes_of_requests = refl
 
 widths_of_the_bus : map (λ n. is_valid (record config { axi_bytes = n })) (1 ∷ 2 ∷ 4 ∷ 8 ∷ 16 ∷ []) ≡ false ∷ false ∷ true ∷ true ∷ false ∷ []
 widths_of_the_bus = refl
@@ -192,11 +183,8 @@ work_of_five_gets : work_left (by 1 (get_from 4) four_gets) ≡ 15
 work_of_five_gets = refl
 
 -- each refusal comes before those after it: no client, a rule, no room, no number
-no_client_before_a_rule : answer_to start 2 (a 7 0 3 0 0 0xff 0) ≡ offer.NoClient
-no_client_before_a_rule = refl
-
-a_rule_before_no_room : answer_to four_gets 0 (a 4 0 3 4 0x04 0xff 0) ≡ offer.Refused rule.Align
-a_rule_before_no_room = refl
+before_others : answer_to start 2 (a 7 0 3 0 0 0xff 0) ∷ answer_to four_gets 0 (a 4 0 3 4 0x04 0xff 0) ∷ [] ≡ offer.NoClient ∷ offer.Refused rule.Align ∷ []
+before_others = refl
 
 -- a beat that doesn't complete its request needs no room
 no_room_for_a_whole_request : answers_to four_gets 0 (a 0 0 4 4 0 0xff 1 ∷ a 0 0 4 4 0 0xff 2 ∷ []) ≡ offer.More ∷ offer.NotReady ∷ []
@@ -223,14 +211,11 @@ room_again = refl
 
 -- ---- what goes, and when
 
-one_byte_put : burst_to_send (by 0 (a 0 0 0 0 0x0b 0x08 0x00000000aa000000) start) ≡ Some (write 0 0x1000b 0 (only 0x00000000aa000000 0x08))
-one_byte_put = refl
-
-no_byte_put : burst_to_send (by 0 (a 1 0 3 0 0x08 0x00 0xffffffffffffffff) start) ≡ Some (write 0 0x10008 3 (only 0 0x00))
-no_byte_put = refl
-
-some_bytes_put : burst_to_send (by 0 (a 1 0 3 0 0x08 0x3c 0x1122334455667788) start) ≡ Some (write 0 0x10008 3 (only 0x0000334455660000 0x3c))
-some_bytes_put = refl
+-- a Put of one byte, and two of a part of eight: of no byte and of some
+small_puts : map (λ beat. burst_to_send (by 0 beat start))
+    (a 0 0 0 0 0x0b 0x08 0x00000000aa000000 ∷ a 1 0 3 0 0x08 0x00 0xffffffffffffffff ∷ a 1 0 3 0 0x08 0x3c 0x1122334455667788 ∷ [])
+    ≡ Some (write 0 0x1000b 0 (only 0x00000000aa000000 0x08)) ∷ Some (write 0 0x10008 3 (only 0 0x00)) ∷ Some (write 0 0x10008 3 (only 0x0000334455660000 0x3c)) ∷ []
+small_puts = refl
 
 -- a page in two bursts
 abbrev get_of_a_page : BridgeState
@@ -362,30 +347,19 @@ failed_writes = refl
 abbrev get_of_no_region : BridgeState
 get_of_no_region = by 0 (a 4 0 3 0 0x5000 0xff 0) start
 
-of_no_region : burst_to_send get_of_no_region ≡ None
-of_no_region = refl
-
-reply_of_no_region : reply_to get_of_no_region 0 ≡ Some (d 1 3 0 true 0 true ∷ [])
-reply_of_no_region = refl
-
 abbrev corrupt_put : BridgeState
 corrupt_put = by 0 (record (a 0 0 3 0 0x08 0xff 1) { corrupt = true }) start
-
-a_corrupt_put : burst_to_send corrupt_put ≡ None
-a_corrupt_put = refl
-
-reply_to_a_corrupt_put : reply_to corrupt_put 0 ≡ Some (d 0 3 0 true 0 false ∷ [])
-reply_to_a_corrupt_put = refl
 
 -- a prefetch sends nothing
 abbrev prefetch : BridgeState
 prefetch = by 0 (a 5 1 12 1 0 0xff 0) start
 
-a_prefetch : burst_to_send prefetch ≡ None
-a_prefetch = refl
+these_send_nothing : map burst_to_send (get_of_no_region ∷ corrupt_put ∷ prefetch ∷ []) ≡ replicate 3 None
+these_send_nothing = refl
 
-reply_to_a_prefetch : reply_to prefetch 0 ≡ Some (d 2 12 1 false 0 false ∷ [])
-reply_to_a_prefetch = refl
+replies_to_these : map (λ state. reply_to state 0) (get_of_no_region ∷ corrupt_put ∷ prefetch ∷ [])
+    ≡ Some (d 1 3 0 true 0 true ∷ []) ∷ Some (d 0 3 0 true 0 false ∷ []) ∷ Some (d 2 12 1 false 0 false ∷ []) ∷ []
+replies_to_these = refl
 
 work_of_these : map work_left (get_of_no_region ∷ corrupt_put ∷ prefetch ∷ []) ≡ 0 ∷ 0 ∷ 0 ∷ []
 work_of_these = refl

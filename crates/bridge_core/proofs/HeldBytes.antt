@@ -1,12 +1,12 @@
 -- The bytes that are kept to be written, by operation, and how small an atomic's old value is.
-use Rattle.std.proofs.Common.{◌≡◌, ◌≢◌, ℕ, ◌*◌, ◌%◌, ◌^◌, ◌<◌, ◌≤◌, Bool, true, false, Option, Some, None, refl, arith}
+use Rattle.std.proofs.Common.{◌≡◌, ◌≢◌, ℕ, ◌*◌, ◌%◌, ◌^◌, ◌<◌, ◌≤◌, Bool, true, false, Option, Some, None, arith}
 use Rattle.std.specs.Prelude.{if◌then◌else◌, unwrap_or, option_map}
 use Rattle.std.proofs.Math.Pow.{pow_mono}
 use Rattle.tl_messages.specs.Operations.{beats_of, has_data}
 use Rattle.tl_messages.specs.Requests.{WholeRequest}
 use Rattle.tl_messages.specs.declared.AtomicOp.{AtomicOp}
 use Rattle.tl_messages.specs.declared.Operation.{Operation}
-use Rattle.tl_messages.specs.declared.Operation.TheVariants.{PutFull, PutPartial, Atomic, Get, Intent}
+use Rattle.tl_messages.specs.declared.Operation.TheVariants.{Atomic}
 use Rattle.data_unit.specs.Atomics.{modulus}
 use Rattle.data_unit.specs.Words.{operand_in}
 use Rattle.data_unit.proofs.WordLaws.{operand_in-lt}
@@ -31,11 +31,7 @@ old_small outline gathering small aligned = by_test _ _
 
 -- what isn't an atomic and has data writes the bytes that it gives
 pub put_bytes : (q : WholeRequest) (operation : Operation) (old : ℕ) → has_data operation ≡ true → ((op : AtomicOp) → operation ≢ Atomic op) → bytes_written q operation old ≡ q.bytes
-put_bytes q PutFull old carries other = refl
-put_bytes q PutPartial old carries other = refl
-put_bytes q (Atomic op) old carries other = absurd (other op refl)
-put_bytes q Get old carries other = absurd (cc (carries))
-put_bytes q (Intent write) old carries other = absurd (cc (carries))
+put_bytes q operation old carries other = grind (arith, other)
 
 -- at most eight bytes come in one beat
 pub single_beat : (size : ℕ) → size ≤ 3 → beats_of size true ≡ 1

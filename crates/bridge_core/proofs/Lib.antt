@@ -3,15 +3,12 @@ pub mod AnswerLinks
 pub mod BridgeSteps
 pub mod BurstWrites
 pub mod BurstsToSend
-pub mod FreeFronts
 pub mod HeldBytes
-pub mod HeldKeys
 pub mod HolderChanges
 pub mod JoinedRequests
 pub mod KeyChanges
 pub mod NextSending
 pub mod OfferSteps
-pub mod Offers
 pub mod Openings
 pub mod PlannedPieces
 pub mod PortPlaces
@@ -24,7 +21,5 @@ pub mod SentBursts
 pub mod SentLinks
 pub mod ServedRequests
 pub mod Serving
-pub mod SmallestNumbers
 pub mod TableSteps
-pub mod TakenRequests
 pub mod WorkLeft

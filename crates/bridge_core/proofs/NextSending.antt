@@ -1,5 +1,5 @@
 -- What is known of the burst that goes next, and when one goes.
-use Rattle.std.proofs.Common.{◌≡◌, ℕ, Bool, true, false, is_some, get_or, Option, Some, None, refl, ap, sym, ◌∙◌, subst}
+use Rattle.std.proofs.Common.{◌≡◌, ℕ, Bool, true, false, is_some, get_or, Option, Some, None, refl, ap, sym, ◌∙◌, subst, arith}
 use Rattle.std.specs.Prelude.{option_map, option_and_then}
 use Rattle.std.specs.List.{find}
 use Rattle.std.proofs.lemmas.Option.{option_and_then_some, same_Some, slice_get-get_or}
@@ -12,7 +12,7 @@ use Rattle.flight_table.specs.LiveRequests.{next_burst, planned}
 use Rattle.flight_table.specs.Order.{id_for}
 use Rattle.flight_table.proofs.Steps.{IsReady, ready_parts}
 use Rattle.bridge_core.specs.Configs.{table_limits_of}
-use Rattle.bridge_core.specs.Laws.{IsSoundRequestTable}
+use Rattle.bridge_core.specs.Laws.{IsServed, IsSoundRequestTable}
 use Rattle.bridge_core.specs.Requests.{BridgedRequest, RequestTable, flight_table_of, flights_of, may_send}
 use Rattle.bridge_core.specs.Sending.{Sending, burst_for, burst_of_piece, next_sending, sending_of}
 use Rattle.bridge_core.proofs.SendingLinks.{sound_requests}
@@ -63,22 +63,24 @@ next_found table sending is =
     (λ id id_is with_id. map_some (sending_with request id) (burst_for id request) sending with_id
     (λ burst burst_is same. subst (IsNext table) same (next_parts table request id burst found id_is burst_is))))
 
+-- it is sound and served, as each live request
+pub next_sound : (table : RequestTable) (sending : Sending) → IsSoundRequestTable table → IsNext table sending → IsSoundRequest (table_limits_of table.config) table.accepted sending.request.flight
+next_sound table sending sound next =
+    all-find (λ (r : BridgedRequest). IsSoundRequest (table_limits_of table.config) table.accepted r.flight) (may_send table) table.live sending.request (sound_requests table sound) next.found
+
+pub next_served : (table : RequestTable) (sending : Sending) → IsSoundRequestTable table → IsNext table sending → IsServed table.config table.regions sending.request
+next_served table sending sound next = all-find (IsServed table.config table.regions) (may_send table) table.live sending.request sound.served next.found
+
 -- no request may send, so nothing goes
 pub next_sending-none : (table : RequestTable) → find (may_send table) table.live ≡ None → next_sending table ≡ None
 next_sending-none table none = rw none refl
 
 -- a request may send, so a burst goes
-abbrev IsPresent : {X : Type 0} → Option X → Type 0
+abbrev pub IsPresent : {X : Type 0} → Option X → Type 0
 IsPresent {X = X} o = (x : X) × (o ≡ Some x)
 
-present : {X : Type 0} (o : Option X) → is_some o ≡ true → IsPresent o
-present None some = absurd (cc)
-present (Some x) some = (x, refl)
-
-planned_range : (table : RequestTable) (request : BridgedRequest) → IsSoundRequest (flight_table_of table).limits table.accepted request.flight
-    → IsReady (flight_table_of table) request.flight → (plan : Option PlannedRange) → request.flight.plan ≡ plan → IsPresent request.flight.plan
-planned_range table request sound ready None is = absurd (cc (sound.no_plan is, ready.undone))
-planned_range table request sound ready (Some range) is = (range, is)
+pub present : {X : Type 0} (o : Option X) → is_some o ≡ true → IsPresent o
+present o some = grind arith
 
 pub sends : (table : RequestTable) (request : BridgedRequest) (id : ℕ) (range : PlannedRange) (next : Bool × Piece) → find (may_send table) table.live ≡ Some request
     → id_for (table_limits_of table.config) (flights_of table.live) request.flight ≡ Some id → request.flight.plan ≡ Some range → next_burst request.flight ≡ Some next
@@ -94,7 +96,7 @@ pub next_sending-some : (table : RequestTable) (request : BridgedRequest) → Is
 next_sending-some table request sound found =
     let ready = ready_parts (flight_table_of table) request.flight (find-passes (may_send table) table.live request found) in
     let each = all-find (λ (r : BridgedRequest). IsSoundRequest (flight_table_of table).limits table.accepted r.flight) (may_send table) table.live request (sound_requests table sound) found in
-    let (range, plan) = planned_range table request each ready request.flight.plan refl in
+    let (range, plan) = present request.flight.plan (grind (arith, each.no_plan, ready.undone)) in
     let (id, id_is) = present (id_for (table_limits_of table.config) (flights_of table.live) request.flight) ready.some in
     let blank : Bool × Piece = (false, record { address = 0; len = 0; size = 0 }) in
     let next = slice_get-get_or (planned request.flight) request.flight.sent blank ready.more in

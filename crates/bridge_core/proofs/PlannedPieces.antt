@@ -1,13 +1,13 @@
 -- The pieces of a live request's plan: there is one at least, and of an atomic just one.
-use Rattle.std.proofs.Common.{◌≡◌, ℕ, ◌+◌, ◌*◌, ◌/◌, ◌^◌, ◌<◌, ◌≤◌, true, false, ◌&&◌, List, length, Option, Some, None, refl, ap, sym, ◌∙◌, arith}
+use Rattle.std.proofs.Common.{◌≡◌, ℕ, ◌/◌, ◌^◌, ◌≤◌, true, false, ◌&&◌, List, length, Some, None, ap, sym, ◌∙◌, arith}
 use Rattle.std.proofs.lemmas.Bool.{and_parts}
-use Rattle.std.proofs.lemmas.Nat.{div-mul-add, pow_pos}
+use Rattle.std.proofs.lemmas.Nat.{pow_pos}
 use Rattle.std.proofs.Math.Pow.{pow_mono}
 use Rattle.tl_messages.specs.Operations.{has_data, reply_has_data}
 use Rattle.tl_messages.specs.Requests.{HeldMessage, request_of}
 use Rattle.tl_messages.specs.declared.AtomicOp.{AtomicOp}
 use Rattle.tl_messages.specs.declared.Operation.{Operation}
-use Rattle.tl_messages.specs.declared.Operation.TheVariants.{PutFull, PutPartial, Atomic, Get, Intent}
+use Rattle.tl_messages.specs.declared.Operation.TheVariants.{Atomic}
 use Rattle.tl_checker.specs.Sound.{IsSound}
 use Rattle.burst_plan.specs.PageMap.{IsPageMap}
 use Rattle.burst_plan.specs.Pieces.{IsPlannable, PlannedRange, cut_bytes, pieces}
@@ -20,7 +20,8 @@ use Rattle.bridge_core.specs.Configs.{is_valid, port_of}
 use Rattle.bridge_core.specs.Laws.{IsOfMessage}
 use Rattle.bridge_core.specs.Requests.{BridgedRequest, range_of}
 use Rattle.bridge_core.specs.declared.Config.{Config}
-use Rattle.bridge_core.proofs.ReadCounts.{config_parts, plannable, planned_range, range_known}
+use Rattle.bridge_core.proofs.NextSending.{present}
+use Rattle.bridge_core.proofs.ReadCounts.{config_parts, itself, plannable, range_known}
 
 -- ---- the range of a message
 
@@ -34,21 +35,12 @@ pub record IsPlanOf (config : Config) (message : HeldMessage) (range : PlannedRa
 pub plan_known : (config : Config) (regions : List Region) (message : HeldMessage) (range : PlannedRange) → is_valid config ≡ true → IsPageMap regions → IsSound (port_of config message.client) message
     → plan_for message.operation (range_of config regions (request_of message)) ≡ Some range → IsPlanOf config message range
 plan_known config regions message range valid map sound is =
-    let has = range_known config regions message range map (planned_range message.operation (range_of config regions (request_of message)) range is) in
-    record {
-      plannable = plannable config message range (config_parts config valid) sound has;
-      size = ap (λ (r : PlannedRange). r.size) has.is;
-      bus = ap (λ (r : PlannedRange). r.bus_bytes) has.is;
-      max_len = ap (λ (r : PlannedRange). r.max_len) has.is;
-    }
+    let has = range_known config regions message range map is in
+    let plan : IsPlannable range = plannable config regions message range (config_parts config valid) sound has in
+    grind (arith, has.is)
 
 pub some_pieces : (config : Config) (message : HeldMessage) (range : PlannedRange) → IsPlanOf config message range → 1 ≤ length (pieces range)
 some_pieces config message range plan = some_bursts range plan.plannable
-
-itself : (n : ℕ) → 0 < n → n / n ≡ 1
-itself n some =
-    let whole : 1 * n + 0 ≡ n = omega arith in
-    rw whole at (div-mul-add 1 n 0 some)
 
 -- eight bytes go as one burst
 pub one_piece : (config : Config) (message : HeldMessage) (range : PlannedRange) → is_valid config ≡ true → IsPlanOf config message range → message.size ≤ 3 → length (pieces range) ≡ 1
@@ -68,19 +60,13 @@ pub record HasPlan (config : Config) (request : BridgedRequest) : Type 0 where
 -- a live request that isn't done has one
 pub live_plan : (config : Config) (regions : List Region) (request : BridgedRequest) → is_valid config ≡ true → IsPageMap regions → IsSound (port_of config request.message.client) request.message
     → IsOfMessage config regions request → (request.flight.plan ≡ None → request.flight.done ≡ true) → request.flight.done ≡ false → HasPlan config request
-live_plan config regions request valid map sound of_message no_plan live = by_plan request.flight.plan refl
-  where
-    by_plan : (plan : Option PlannedRange) → request.flight.plan ≡ plan → HasPlan config request
-    by_plan None none = absurd (cc (no_plan none, live))
-    by_plan (Some range) is = record { range = range; is = is; plan = plan_known config regions request.message range valid map sound (sym of_message.plan ∙ is) }
+live_plan config regions request valid map sound of_message no_plan live =
+    let (range, is) = present request.flight.plan (grind (arith, no_plan, live)) in
+    record { range = range; is = is; plan = plan_known config regions request.message range valid map sound (sym of_message.plan ∙ is) }
 
 -- an atomic has at most eight bytes
 atomic_small : (operation : Operation) (size : ℕ) → (reply_has_data operation && has_data operation) ≡ true → ((op : AtomicOp) → operation ≡ Atomic op → size ≤ 3) → size ≤ 3
-atomic_small PutFull size is small = absurd (cc (is))
-atomic_small PutPartial size is small = absurd (cc (is))
-atomic_small (Atomic op) size is small = small op refl
-atomic_small Get size is small = absurd (cc (is))
-atomic_small (Intent write) size is small = absurd (cc (is))
+atomic_small operation size is small = grind arith
 
 -- an atomic reads one piece, and writes one
 pub record IsAtomicPlan (flight : LiveRequest) : Type 0 where

@@ -1,7 +1,6 @@
 -- A client's port by its place among the ports.
-use Rattle.std.proofs.Common.{◌≡◌, ℕ, ◌+◌, ◌<◌, List, [], ◌∷◌, None, Some, length, zero, suc, refl, sym, ◌∙◌, ap, subst, arith}
+use Rattle.std.proofs.Common.{◌≡◌, ℕ, ◌+◌, ◌<◌, List, [], ◌∷◌, None, Some, length, zero, suc, refl, ◌∙◌, ap, subst, arith}
 use Rattle.std.proofs.lemmas.List.{length-set}
-use Rattle.std.proofs.lemmas.Option.{same_Some}
 use Rattle.std.specs.Prelude.{◌≢◌, slice_get, slice_set}
 use Rattle.tl_checker.specs.Ports.{PortState}
 use Rattle.bridge_core.specs.Configs.{port_of}
@@ -23,12 +22,12 @@ get_set-other (y ∷ ys) (suc k) (suc j) x other = get_set-other ys k j x (λ sa
 pub set_twice : {X : Type 0} (xs : List X) (k : ℕ) (x y : X) → slice_set (slice_set xs k x) k y ≡ slice_set xs k y
 set_twice [] k x y = refl
 set_twice (z ∷ zs) zero x y = refl
-set_twice {X = X} (z ∷ zs) (suc k) x y = ap (λ (rest : List X). z ∷ rest) (set_twice zs k x y)
+set_twice (z ∷ zs) (suc k) x y = cc (set_twice zs k x y)
 
 pub set_back : {X : Type 0} (xs : List X) (k : ℕ) (x : X) → slice_get xs k ≡ Some x → slice_set xs k x ≡ xs
 set_back [] k x there = refl
-set_back {X = X} (y ∷ ys) zero x there = ap (λ (first : X). first ∷ ys) (sym (same_Some y x there))
-set_back {X = X} (y ∷ ys) (suc k) x there = ap (λ (rest : List X). y ∷ rest) (set_back ys k x there)
+set_back (y ∷ ys) zero x there = cc
+set_back (y ∷ ys) (suc k) x there = cc (set_back ys k x there)
 
 -- the port of a client
 pub record IsPort (config : Config) (ports : List PortState) (client k : ℕ) : Type 0 where

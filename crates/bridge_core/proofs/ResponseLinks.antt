@@ -1,22 +1,23 @@
 -- After an answer of the memory the outstanding bursts are those of the live requests: what settling a request leaves, and a B.
-use Rattle.std.proofs.Common.{◌≡◌, ◌≢◌, ℕ, ◌≤◌, Bool, true, false, not, ◌&&◌, is_some, List, [], ◌∷◌, length, drop, refl, ap, sym, ◌∙◌, subst, arith, inl, inr, ◌⊎◌}
+use Rattle.std.proofs.Common.{◌≡◌, ◌≢◌, ℕ, ◌≤◌, Bool, true, false, not, List, length, refl, arith, inl, inr, ◌⊎◌}
 use Rattle.std.specs.Prelude.{None, Option, Some}
 use Rattle.std.specs.List.{filter}
-use Rattle.std.proofs.lemmas.Bool.{and_parts, cases_eq, eq-eqb, eqb-true, leb-true, ne_eqb}
+use Rattle.std.proofs.lemmas.Bool.{cases_eq, leb-true}
+use Rattle.std.proofs.lemmas.Bool.Decides.{nat_tests}
 use Rattle.bus_words.specs.Places.{change_first}
 use Rattle.bus_words.proofs.PlaceChanges.{find-without_first-none}
 use Rattle.axi_beats.specs.declared.BBeat.{BBeat}
 use Rattle.axi_beats.specs.declared.Resp.{Resp}
-use Rattle.axi_checker.specs.OpenBursts.{OpenWrite, lacks_data, read_of_id, write_of_id, write_to_fill}
+use Rattle.axi_checker.specs.OpenBursts.{OpenWrite, lacks_data, write_of_id, write_to_fill}
 use Rattle.burst_plan.specs.declared.Piece.{Piece}
-use Rattle.flight_table.specs.LiveRequests.{LiveRequest, finished, is_settled, planned, with_answered, with_write}
+use Rattle.flight_table.specs.LiveRequests.{finished, is_settled, planned, with_answered, with_write}
 use Rattle.flight_table.specs.Order.{holds_id, is_id}
 use Rattle.responses.specs.Gathered.{after_b}
 use Rattle.bridge_core.specs.Bridge.{BridgeState, after_b_beat, b_fault}
-use Rattle.bridge_core.specs.Laws.{AreLinked, IsLinked, IsPartWay, IsSoundBridge, came_of, came_of_next, open_reads, open_write, open_writes, outstanding, outstanding_of}
-use Rattle.bridge_core.specs.Requests.{BridgedRequest, after_response, holder, holds, settled, value_found}
+use Rattle.bridge_core.specs.Laws.{AreLinked, IsLinked, IsPartWay, IsSoundBridge, came_of, came_of_next, open_reads, open_writes, outstanding, outstanding_of}
+use Rattle.bridge_core.specs.Requests.{BridgedRequest, after_response, holder, holds, settled}
 use Rattle.bridge_core.proofs.AnswerLinks.{FindsWriter, finds_writer, open_reads-writes}
-use Rattle.bridge_core.proofs.HolderChanges.{IsNextOf, filter-without, filter-without-other, find-changed, find-changed-gone, find-changed-other, length-filter-map, part-empty, part-next}
+use Rattle.bridge_core.proofs.HolderChanges.{filter-without, filter-without-other, find-changed, find-changed-gone, find-changed-other, length-filter-map, part-empty, part-next}
 
 -- ---- a request is settled
 
@@ -32,27 +33,14 @@ pub record IsAtEnd (request : BridgedRequest) : Type 0 where
   pub becomes : ((request.flight.writing ≡ false) × (settled request ≡ with_its_write request)) ⊎ (settled request ≡ finished_one request)
 
 pub not_so : (b : Bool) → not b ≡ true → b ≡ false
-not_so true is = absurd (cc (is))
-not_so false is = refl
+not_so b is = grind arith
 
 pub settled_as : (request : BridgedRequest) → ((is_settled request.flight ≡ false) × (settled request ≡ request)) ⊎ IsAtEnd request
-settled_as request = by_flag (is_settled request.flight) refl
-  where
-    by_write : (b : Bool) → (not request.flight.writing && is_some (value_found request)) ≡ b → is_settled request.flight ≡ true
-        → ((request.flight.writing ≡ false) × (settled request ≡ with_its_write request)) ⊎ (settled request ≡ finished_one request)
-    by_write true is at_end = inl (not_so request.flight.writing (and_parts (not request.flight.writing) (is_some (value_found request)) is).0, rw (at_end, is) refl)
-    by_write false is at_end = inr (rw (at_end, is) refl)
-
-    by_flag : (b : Bool) → is_settled request.flight ≡ b → ((is_settled request.flight ≡ false) × (settled request ≡ request)) ⊎ IsAtEnd request
-    by_flag true is = inr (record { answered = is; becomes = by_write (not request.flight.writing && is_some (value_found request)) refl is })
-    by_flag false is = inl (is, rw is refl)
+settled_as request = grind arith
 
 -- then nothing is outstanding, whatever is planned beyond
 pub nothing_left : (request : BridgedRequest) → is_settled request.flight ≡ true → request.flight.sent ≤ length (planned request.flight) → request.flight.sent ≤ request.flight.answered
 nothing_left request is sent = omega (arith, sent, leb-true (length (planned request.flight)) request.flight.answered is)
-
-nothing_outstanding : (flight : LiveRequest) → flight.sent ≤ flight.answered → outstanding flight ≡ []
-nothing_outstanding flight past = part-empty (planned flight) flight.answered flight.sent past
 
 -- ---- what the holder of an ID has outstanding, after one of its requests was settled
 
@@ -61,63 +49,31 @@ pub record IsLeft (id : ℕ) (held : Option BridgedRequest) (request : BridgedRe
   pub writes : open_writes id (outstanding_of held) ≡ open_writes id (outstanding request.flight)
   pub reads : open_reads id (came_of held) (outstanding_of held) ≡ open_reads id (came_of_next request) (outstanding request.flight)
 
-left-itself : (id : ℕ) (request : BridgedRequest) → IsLeft id (Some request) request
-left-itself id request = record { writes = refl; reads = refl }
-
-left-write : (id : ℕ) (request : BridgedRequest) → request.flight.sent ≤ request.flight.answered → IsLeft id (Some (with_its_write request)) request
-left-write id request past =
-    let before : outstanding request.flight ≡ [] = nothing_outstanding request.flight past in
-    record { writes = rw before refl; reads = rw before refl }
-
-left-nobody : (id : ℕ) (request : BridgedRequest) → request.flight.sent ≤ request.flight.answered → IsLeft id None request
-left-nobody id request past =
-    let before : outstanding request.flight ≡ [] = nothing_outstanding request.flight past in
-    record { writes = rw before refl; reads = rw before refl }
-
 -- the request that holds an ID, after an answer
 pub holds_it : (id : ℕ) (own : Option ℕ) → own ≡ Some id → is_id id own ≡ true
-holds_it id own is = rw is (eq-eqb id id refl)
+holds_it id own is = grind (arith, nat_tests)
 
 pub left_after : (id : ℕ) (live : List BridgedRequest) (change : BridgedRequest → BridgedRequest) (old answered : BridgedRequest) → holder id live ≡ Some old → change old ≡ settled answered → answered.flight.id ≡ Some id
     → answered.flight.sent ≤ length (planned answered.flight) → length (filter (holds id) live) ≤ 1 → IsLeft id (holder id (change_first (holds id) change live)) answered
 left_after id live change old answered held changed has sent one =
     elim (settled_as answered) [
-      | inl going ↦ still answered (changed ∙ going.1) has (left-itself id answered)
-      | inr at_end ↦ ending (nothing_left answered at_end.answered sent) at_end.becomes
+      | inl going ↦ rw (find-changed (holds id) change live old held (rw (changed, going.1) (holds_it id answered.flight.id has)), changed, going.1) (record { writes = refl; reads = refl })
+      | inr at_end ↦
+          let none = part-empty (planned answered.flight) answered.flight.answered answered.flight.sent (nothing_left answered at_end.answered sent) in
+          elim at_end.becomes [
+            | inl writes ↦
+                rw (find-changed (holds id) change live old held (rw (changed, writes.1) (holds_it id answered.flight.id has)), changed, writes.1) (record { writes = rw none refl; reads = rw none refl })
+            | inr ends ↦ rw (find-changed-gone (holds id) change live old held (rw (changed, ends) refl) one) (record { writes = rw none refl; reads = rw none refl })
+          ]
     ]
-  where
-    still : (new : BridgedRequest) → change old ≡ new → new.flight.id ≡ Some id → IsLeft id (Some new) answered → IsLeft id (holder id (change_first (holds id) change live)) answered
-    still new is holds_still left =
-        let passes : holds id (change old) ≡ true = ap (holds id) is ∙ holds_it id new.flight.id holds_still in
-        let found : holder id (change_first (holds id) change live) ≡ Some new = find-changed (holds id) change live old held passes ∙ ap Some is in
-        rw found left
-
-    gone : (new : BridgedRequest) → change old ≡ new → new.flight.id ≡ None → IsLeft id None answered → IsLeft id (holder id (change_first (holds id) change live)) answered
-    gone new is none left =
-        let fails : holds id (change old) ≡ false = ap (holds id) is ∙ ap (is_id id) none in
-        let found : holder id (change_first (holds id) change live) ≡ None = find-changed-gone (holds id) change live old held fails one in
-        rw found left
-
-    ending : answered.flight.sent ≤ answered.flight.answered → ((answered.flight.writing ≡ false) × (settled answered ≡ with_its_write answered)) ⊎ (settled answered ≡ finished_one answered) → IsLeft id (holder id (change_first (holds id) change live)) answered
-    ending past (inl writes) = still (with_its_write answered) (changed ∙ writes.1) has (left-write id answered past)
-    ending past (inr ends) = gone (finished_one answered) (changed ∙ ends) refl (left-nobody id answered past)
 
 -- ---- who holds the other IDs
 
 not_other : (id other : ℕ) (own : Option ℕ) → id ≢ other → is_id id own ≡ true → is_id other own ≡ false
-not_other id other None apart holds = refl
-not_other id other (Some held) apart holds = let same : held ≡ id = eqb-true held id holds in rw same (ne_eqb id other apart)
+not_other id other own apart holds = grind (arith, nat_tests)
 
 pub settled-other : (other : ℕ) (request : BridgedRequest) → holds other request ≡ false → holds other (settled request) ≡ false
-settled-other other request fails =
-    elim (settled_as request) [
-      | inl going ↦ ap (holds other) going.1 ∙ fails
-      | inr at_end ↦ ending at_end.becomes
-    ]
-  where
-    ending : ((request.flight.writing ≡ false) × (settled request ≡ with_its_write request)) ⊎ (settled request ≡ finished_one request) → holds other (settled request) ≡ false
-    ending (inl writes) = ap (holds other) writes.1 ∙ fails
-    ending (inr ends) = ap (holds other) ends
+settled-other other request fails = grind arith
 
 pub holder-other : (id other : ℕ) (live : List BridgedRequest) (change : BridgedRequest → BridgedRequest) → id ≢ other
     → ((request : BridgedRequest) → holds other request ≡ false → holds other (change request) ≡ false) → holder other (change_first (holds id) change live) ≡ holder other live
@@ -128,9 +84,7 @@ holder-other id other live change apart keeps =
 -- ---- how far the next read is
 
 pub part_way-zero : (bursts : List (Bool × Piece)) → IsPartWay 0 bursts
-part_way-zero [] = refl
-part_way-zero ((true, piece) ∷ bursts) = refl
-part_way-zero ((false, piece) ∷ bursts) = omega arith
+part_way-zero bursts = grind arith
 
 -- ---- a B
 
@@ -146,48 +100,37 @@ answered_by resp request = record request { flight = with_answered request.fligh
 
 -- a write of another ID
 apart_writes : (id other : ℕ) → id ≢ other → (write : OpenWrite) → write_of_id id write ≡ true → write_of_id other write ≡ false
-apart_writes id other apart write is = let same : write.aw.id ≡ id = eqb-true write.aw.id id is in rw same (ne_eqb id other apart)
+apart_writes id other apart write is = grind (arith, nat_tests)
 
 linked_response-own : (state : BridgeState) (b : BBeat) → IsSoundBridge state → FindsWriter state b → IsLinked b.id (after_b_beat state b).requests.live (after_b_beat state b).open_bursts
 linked_response-own state b sound found =
+    let flight = found.request.flight in
+    let answered = answered_by b.resp found.request in
+    let linked = sound.linked b.id in
+    let next = part-next (planned flight) flight.answered flight.sent (true, found.next.piece) found.next.rest found.next.is in
+    let left = left_after b.id state.requests.live (after_response b.resp) found.request answered found.holder.held refl found.holder.has_id found.holder.sound.sent (one_holder state sound b.id) in
     record {
-      writes = filter-without (write_of_id b.id) state.open_bursts.writes ∙ ap (λ (writes : List OpenWrite). drop 1 writes) writes_before ∙ ap (open_writes b.id) (sym next.less) ∙ sym left.writes;
-      reads = reads_before ∙ sym (ap (open_reads b.id (came_of_next answered)) next.less ∙ open_reads-writes b.id (came_of_next answered) found.next.rest found.next.alike) ∙ sym left.reads;
+      writes = cc (filter-without (write_of_id b.id) state.open_bursts.writes, found.next.is, next.less, left.writes, linked.writes, found.holder.held);
+      reads =
+          cc (
+            next.less,
+            found.next.is,
+            left.reads,
+            linked.reads,
+            found.holder.held,
+            open_reads-writes b.id (came_of_next answered) found.next.rest found.next.alike,
+            open_reads-writes b.id (came_of_next found.request) found.next.rest found.next.alike,
+          );
     }
-  where
-    answered : BridgedRequest
-    answered = answered_by b.resp found.request
-
-    next : IsNextOf (planned found.request.flight) found.request.flight.answered found.request.flight.sent (true, found.next.piece) found.next.rest
-    next = part-next (planned found.request.flight) found.request.flight.answered found.request.flight.sent (true, found.next.piece) found.next.rest found.next.is
-
-    left : IsLeft b.id (holder b.id (after_b_beat state b).requests.live) (answered_by b.resp found.request)
-    left =
-        left_after b.id state.requests.live (after_response b.resp) found.request (answered_by b.resp found.request) found.holder.held refl found.holder.has_id found.holder.sound.sent
-        (one_holder state sound b.id)
-
-    writes_before : filter (write_of_id b.id) state.open_bursts.writes ≡ open_write b.id found.next.piece ∷ open_writes b.id found.next.rest
-    writes_before =
-        (sound.linked b.id).writes
-        ∙ ap (λ (held : Option BridgedRequest). open_writes b.id (outstanding_of held)) found.holder.held
-        ∙ ap (open_writes b.id) found.next.is
-
-    reads_before : filter (read_of_id b.id) state.open_bursts.reads ≡ []
-    reads_before =
-        (sound.linked b.id).reads
-        ∙ ap (λ (held : Option BridgedRequest). open_reads b.id (came_of held) (outstanding_of held)) found.holder.held
-        ∙ ap (open_reads b.id (came_of_next found.request)) found.next.is
-        ∙ open_reads-writes b.id (came_of_next found.request) found.next.rest found.next.alike
 
 linked_response-other : (state : BridgeState) (b : BBeat) (other : ℕ) → IsSoundBridge state → b.id ≢ other → IsLinked other (after_b_beat state b).requests.live (after_b_beat state b).open_bursts
 linked_response-other state b other sound apart =
     let same : holder other (after_b_beat state b).requests.live ≡ holder other state.requests.live =
     holder-other b.id other state.requests.live (after_response b.resp) apart (λ request fails. settled-other other (answered_by b.resp request) fails) in
+    let linked = sound.linked other in
     record {
-      writes =
-          filter-without-other (write_of_id other) (write_of_id b.id) state.open_bursts.writes (apart_writes b.id other apart) ∙ (sound.linked other).writes
-          ∙ ap (λ (held : Option BridgedRequest). open_writes other (outstanding_of held)) (sym same);
-      reads = (sound.linked other).reads ∙ ap (λ (held : Option BridgedRequest). open_reads other (came_of held) (outstanding_of held)) (sym same);
+      writes = cc (same, filter-without-other (write_of_id other) (write_of_id b.id) state.open_bursts.writes (apart_writes b.id other apart), linked.writes);
+      reads = cc (same, linked.reads);
     }
 
 -- the link is kept
@@ -195,7 +138,7 @@ pub linked_response : (state : BridgeState) (b : BBeat) → IsSoundBridge state 
 linked_response state b sound none =
     λ id.
     elim (cases_eq b.id id) [
-      | inl same ↦ subst (λ k. IsLinked k (after_b_beat state b).requests.live (after_b_beat state b).open_bursts) same (linked_response-own state b sound (finds_writer state b sound none))
+      | inl same ↦ rw (← same) (linked_response-own state b sound (finds_writer state b sound none))
       | inr other ↦ linked_response-other state b id sound other
     ]
 

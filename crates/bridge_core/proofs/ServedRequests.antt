@@ -1,15 +1,14 @@
 -- A live request stays served: a new one, one that sent a burst, and one whose burst was answered.
-use Rattle.std.proofs.Common.{◌≡◌, ℕ, zero, suc, ◌+◌, ◌-◌, ◌==◌, ◌<◌, ◌≤◌, min, Bool, true, false, ◌&&◌, ◌||◌, not, List, [], ◌∷◌, length, drop, take, Option, Some, None, is_none, is_some, IsSome, refl, ap, sym, ◌∙◌, subst, arith}
+use Rattle.std.proofs.Common.{◌≡◌, ℕ, zero, suc, ◌+◌, ◌==◌, ◌<◌, ◌≤◌, min, Bool, true, false, ◌&&◌, ◌||◌, not, List, [], ◌∷◌, length, drop, take, Option, Some, None, is_none, is_some, IsSome, refl, ap, sym, ◌∙◌, arith}
 use Rattle.std.specs.Prelude.{if◌then◌else◌, option_map, slice_get}
 use Rattle.std.specs.List.{AllByRecursion, find}
-use Rattle.std.proofs.lemmas.Bool.{and_parts, eqb-true, leb-false, leb-true, lt-leb}
+use Rattle.std.proofs.lemmas.Bool.{and_parts, eqb-true, leb-true, lt-leb}
 use Rattle.std.proofs.lemmas.List.{take_all}
+use Rattle.std.proofs.lemmas.Bool.Decides.{nat_tests}
 use Rattle.bus_words.specs.Places.{change_first}
 use Rattle.tl_messages.specs.Operations.{has_data, reply_has_data}
 use Rattle.tl_messages.specs.Requests.{HeldMessage, request_of}
-use Rattle.tl_messages.specs.declared.AtomicOp.TheVariants.{Min, Max, MinU, MaxU, Add, Xor, Or, And, Swap}
 use Rattle.tl_messages.specs.declared.Operation.{Operation}
-use Rattle.tl_messages.specs.declared.Operation.TheVariants.{PutFull, PutPartial, Atomic, Get, Intent}
 use Rattle.tl_checker.specs.Sound.{IsSound}
 use Rattle.axi_beats.specs.declared.RBeat.{RBeat}
 use Rattle.axi_beats.specs.declared.Resp.{Resp}
@@ -18,12 +17,11 @@ use Rattle.burst_plan.specs.Pieces.{PlannedRange, pieces}
 use Rattle.burst_plan.specs.declared.Piece.{Piece}
 use Rattle.burst_plan.specs.declared.Region.{Region}
 use Rattle.flight_table.specs.Laws.{IsSoundRequest}
-use Rattle.flight_table.specs.LiveRequests.{LiveRequest, bursts_of, finished, is_atomic, is_settled, pieces_planned, plan_for, planned, read_pieces, with_answered, with_write}
+use Rattle.flight_table.specs.LiveRequests.{LiveRequest, bursts_of, finished, is_atomic, is_settled, plan_for, planned, read_pieces, with_answered, with_write}
 use Rattle.flight_table.specs.declared.TableLimits.{TableLimits}
 use Rattle.flight_table.proofs.PhaseLaws.{length_bursts, length_reading, length_writing, read_at, write_at}
 use Rattle.responses.specs.Gathered.{Gathering, after_b, after_r, old_value, reads_of}
 use Rattle.responses.specs.Gathered as gathered
-use Rattle.responses.specs.declared.gather.Outline.{Outline}
 use Rattle.bridge_core.specs.Configs.{is_valid, port_of}
 use Rattle.bridge_core.specs.Laws.{IsOfMessage, IsPartWay, IsServed, answered_pieces, beats_in, came_of_next, outstanding}
 use Rattle.bridge_core.specs.Requests.{BridgedRequest, RequestTable, address_of, after_read, after_response, after_sending, newly_live, outline_in, range_of, settled, value_found}
@@ -37,19 +35,9 @@ use Rattle.bridge_core.proofs.ResponseLinks.{part_way-zero}
 
 pub all-change_found : {X : Type 0} (P : X → Type 0) (p : X → Bool) (f : X → X) (xs : List X) (x : X) → find p xs ≡ Some x → P (f x) → AllByRecursion P xs → AllByRecursion P (change_first p f xs)
 all-change_found P p f [] x found now all = tt
-all-change_found {X = X} P p f (y ∷ ys) x found now all = by_test (p y) found (λ later. all-change_found P p f ys x later now all.1)
-  where
-    by_test : (b : Bool) → (if b then Some y else find p ys) ≡ Some x → (find p ys ≡ Some x → AllByRecursion P (change_first p f ys)) → AllByRecursion P (if b then f y ∷ ys else y ∷ change_first p f ys)
-    by_test true here rest =
-        let same : x ≡ y = cc in
-        (rw same at now, all.1)
-    by_test false later rest = (all.0, rest later)
+all-change_found P p f (y ∷ ys) x found now all = grind (arith, all-change_found P p f ys x)
 
 -- ---- the bursts of a request
-
-is_not : (b : Bool) → not b ≡ true → b ≡ false
-is_not true is = absurd (cc (is))
-is_not false is = refl
 
 -- all reads came, once each of their bursts was answered
 pub reads_came : (flight : LiveRequest) → flight.writing ≡ false → length (read_pieces flight) ≤ flight.answered → answered_pieces flight ≡ read_pieces flight
@@ -57,28 +45,12 @@ reads_came flight reads past = rw reads (take_all flight.answered (read_pieces f
 
 -- the old value is that of an atomic
 pub atomic_both : (operation : Operation) → gathered.is_atomic operation ≡ true → (reply_has_data operation && has_data operation) ≡ true
-atomic_both PutFull is = absurd (cc (is))
-atomic_both PutPartial is = absurd (cc (is))
-atomic_both (Atomic Min) is = refl
-atomic_both (Atomic Max) is = refl
-atomic_both (Atomic MinU) is = refl
-atomic_both (Atomic MaxU) is = refl
-atomic_both (Atomic Add) is = refl
-atomic_both (Atomic Xor) is = refl
-atomic_both (Atomic Or) is = refl
-atomic_both (Atomic And) is = refl
-atomic_both (Atomic Swap) is = refl
-atomic_both Get is = absurd (cc (is))
-atomic_both (Intent write) is = absurd (cc (is))
-
-atomic_only : (b : Bool) (outline : Outline) (gathering : Gathering) → gathered.is_atomic outline.operation ≡ b → is_some (old_value outline gathering) ≡ true → b ≡ true
-atomic_only true outline gathering is some = refl
-atomic_only false outline gathering is some = absurd (cc (rw is at some))
+atomic_both operation is = grind arith
 
 pub found_is_atomic : (config : Config) (regions : List Region) (request : BridgedRequest) (gathering : Gathering) → IsOfMessage config regions request
     → is_some (old_value (outline_in request) gathering) ≡ true → is_atomic request.flight ≡ true
 found_is_atomic config regions request gathering of_message some =
-    let atomic : gathered.is_atomic request.message.operation ≡ true = atomic_only (gathered.is_atomic request.message.operation) (outline_in request) gathering refl some in
+    let atomic : gathered.is_atomic request.message.operation ≡ true = grind (arith, some) in
     rw of_message.operation (atomic_both request.message.operation atomic)
 
 -- ---- an answer was counted, and the request is settled
@@ -96,127 +68,64 @@ pub record IsCounted (config : Config) (regions : List Region) (request : Bridge
   pub sent : request.flight.sent ≤ length (planned request.flight)
   pub has : HasPlan config request
 
--- with nothing outstanding no beat of a further read came
-none_came : (flight : LiveRequest) (came : ℕ) → flight.sent ≤ flight.answered → IsPartWay came (outstanding flight) → came ≡ 0
-none_came flight came past part = subst (IsPartWay came) (part-empty (planned flight) flight.answered flight.sent past) part
+module _ (config : Config) (regions : List Region) (request : BridgedRequest) (valid : is_valid config ≡ true) (counted : IsCounted config regions request) where
+  going_on : is_settled request.flight ≡ false → IsServed config regions request
+  going_on going = grind (arith, counted.found)
 
-going_on : (config : Config) (regions : List Region) (request : BridgedRequest) → IsCounted config regions request → is_settled request.flight ≡ false → IsServed config regions request
-going_on config regions request counted going =
-    record {
-      pages = counted.pages;
-      message = counted.message;
-      flight = counted.flight;
-      done = counted.live ∙ sym going;
-      found = λ atomic writing live. counted.found atomic writing going;
-      failed = λ atomic isnt over. absurd (cc (over, counted.live));
-      came = counted.came;
-      next = counted.next;
-    }
+  to_write : is_settled request.flight ≡ true → (not request.flight.writing && is_some (value_found request)) ≡ true → IsServed config regions (record request { flight = with_write request.flight })
+  to_write settles test =
+      let parts = and_parts (not request.flight.writing) (is_some (value_found request)) test in
+      let after : BridgedRequest = record request { flight = with_write request.flight } in
+      let isnt : request.flight.writing ≡ false = grind (arith, parts.0) in
+      let atomic : is_atomic request.flight ≡ true = found_is_atomic config regions request request.gathering counted.flight parts.1 in
+      let plan = atomic_plan config regions request valid counted.message counted.flight counted.has atomic in
+      let all = leb-true (length (planned request.flight)) request.flight.answered settles in
+      let whole = reads_came request.flight isnt (omega (arith, all, length_reading request.flight isnt)) in
+      let some : 0 < length (planned after.flight) = omega (arith, length_writing after.flight refl, plan.writes) in
+      let none : came_of_next request ≡ 0 = rw (part-empty (planned request.flight) request.flight.answered request.flight.sent (omega (arith, counted.sent, all))) at counted.next in
+      let came : beats_in (answered_pieces after.flight) ≤ after.gathering.came = rw (← whole) counted.came in
+      let next : came_of_next after ≡ 0 = rw (← whole) none in
+      let done = lt-leb (length (planned after.flight)) 0 some in
+      grind (arith, parts.1, done, counted.live)
 
-to_write : (config : Config) (regions : List Region) (request : BridgedRequest) → is_valid config ≡ true → IsCounted config regions request → is_settled request.flight ≡ true
-    → (not request.flight.writing && is_some (value_found request)) ≡ true → IsServed config regions (record request { flight = with_write request.flight })
-to_write config regions request valid counted settles test =
-    let parts = and_parts (not request.flight.writing) (is_some (value_found request)) test in
-    let isnt : request.flight.writing ≡ false = is_not request.flight.writing parts.0 in
-    let atomic : is_atomic request.flight ≡ true = found_is_atomic config regions request request.gathering counted.flight parts.1 in
-    let plan = atomic_plan config regions request valid counted.message counted.flight counted.has atomic in
-    let all = leb-true (length (planned request.flight)) request.flight.answered settles in
-    let whole = reads_came request.flight isnt (omega (arith, all, length_reading request.flight isnt)) in
-    let some : 0 < length (planned (with_write request.flight)) = omega (arith, length_writing (with_write request.flight) refl, plan.writes) in
-    let none : came_of_next request ≡ 0 = none_came request.flight (came_of_next request) (omega (arith, counted.sent, all)) counted.next in
-    record {
-      pages = counted.pages;
-      message = counted.message;
-      flight = record { client = counted.flight.client; source = counted.flight.source; operation = counted.flight.operation; plan = counted.flight.plan };
-      done = counted.live ∙ sym (lt-leb (length (planned (with_write request.flight))) 0 some);
-      found = λ atomic is live. parts.1;
-      failed = λ atomic isnt over. absurd (cc (isnt));
-      came = subst (λ (parts : List Piece). beats_in parts ≤ request.gathering.came) whole counted.came;
-      next = subst (λ (parts : List Piece). request.gathering.came - beats_in parts ≡ 0) whole none;
-    }
+  to_end : is_settled request.flight ≡ true → (not request.flight.writing && is_some (value_found request)) ≡ false → IsServed config regions (record request { flight = finished request.flight })
+  to_end settles test = grind arith
 
-to_end : (config : Config) (regions : List Region) (request : BridgedRequest) → IsCounted config regions request → is_settled request.flight ≡ true
-    → (not request.flight.writing && is_some (value_found request)) ≡ false → IsServed config regions (record request { flight = finished request.flight })
-to_end config regions request counted settles test =
-    record {
-      pages = counted.pages;
-      message = counted.message;
-      flight = record { client = counted.flight.client; source = counted.flight.source; operation = counted.flight.operation; plan = counted.flight.plan };
-      done = sym settles;
-      found = λ atomic writing live. absurd (cc (live));
-      failed = λ atomic isnt over. no_value request.flight.writing (value_found request) isnt test;
-      came = counted.came;
-      next = counted.next;
-    }
-  where
-    no_value : (writing : Bool) (value : Option ℕ) → writing ≡ false → (not writing && is_some value) ≡ false → value ≡ None
-    no_value true value isnt test = absurd (cc (isnt))
-    no_value false None isnt test = refl
-    no_value false (Some n) isnt test = absurd (cc (test))
-
-pub settled_served : (config : Config) (regions : List Region) (request : BridgedRequest) → is_valid config ≡ true → IsCounted config regions request → IsServed config regions (settled request)
-settled_served config regions request valid counted = by_flag (is_settled request.flight) refl
-  where
-    by_value : (b : Bool) → (not request.flight.writing && is_some (value_found request)) ≡ b → is_settled request.flight ≡ true
-        → IsServed config regions (record request { flight = if b then with_write request.flight else finished request.flight })
-    by_value true test settles = to_write config regions request valid counted settles test
-    by_value false test settles = to_end config regions request counted settles test
-
-    by_flag : (b : Bool) → is_settled request.flight ≡ b
-        → IsServed config regions
-        (if b
-        then record request { flight = if not request.flight.writing && is_some (value_found request) then with_write request.flight else finished request.flight }
-        else request)
-    by_flag true settles = by_value (not request.flight.writing && is_some (value_found request)) refl settles
-    by_flag false going = going_on config regions request counted going
+  pub settled_served : IsServed config regions (settled request)
+  settled_served = by_flags (is_settled request.flight) (not request.flight.writing && is_some (value_found request)) refl refl
+    where
+      by_flags : (at_end write : Bool) → is_settled request.flight ≡ at_end → (not request.flight.writing && is_some (value_found request)) ≡ write → IsServed config regions (settled request)
+      by_flags false write going test = rw going (going_on going)
+      by_flags true true settles test = rw (settles, test) (to_write settles test)
+      by_flags true false settles test = rw (settles, test) (to_end settles test)
 
 -- ---- a new request
 
 -- what has a plan reads or writes
 has_course : (operation : Operation) (plan : Option PlannedRange) (range : PlannedRange) → plan_for operation plan ≡ Some range → (reply_has_data operation || has_data operation) ≡ true
-has_course PutFull plan range is = refl
-has_course PutPartial plan range is = refl
-has_course (Atomic op) plan range is = refl
-has_course Get plan range is = refl
-has_course (Intent write) plan range is = absurd (cc (is))
+has_course operation plan range is = grind arith
 
 some_planned : (replies carries : Bool) (parts : List Piece) → (replies || carries) ≡ true → 1 ≤ length parts
     → 0 < length (bursts_of (not replies) (if not replies then (if carries then parts else []) else (if replies then parts else [])))
-some_planned true carries parts either some = omega (arith, some, length_bursts false parts)
-some_planned false true parts either some = omega (arith, some, length_bursts true parts)
-some_planned false false parts either some = absurd (cc (either))
+some_planned replies carries parts either some = grind (arith, length_bursts false parts, length_bursts true parts)
 
 none_planned : (replies carries : Bool) → length (bursts_of (not replies) (if not replies then (if carries then [] else []) else (if replies then [] else []))) ≡ 0
-none_planned true carries = refl
-none_planned false true = refl
-none_planned false false = refl
+none_planned replies carries = grind arith
 
 -- an atomic reads at first
 pub atomic_first : (replies carries : Bool) → (replies && carries) ≡ true → not replies ≡ true → ⊥
-atomic_first true carries atomic writes = absurd (cc (writes))
-atomic_first false carries atomic writes = absurd (cc (atomic))
-
-none_read : (replies : Bool) (parts : List Piece) → beats_in (if not replies then (if replies then parts else []) else take 0 (if replies then parts else [])) ≡ 0
-none_read true parts = refl
-none_read false parts = refl
+atomic_first replies carries atomic writes = grind arith
 
 -- an atomic has the plan of its range
 atomic_planned : (operation : Operation) (plan : Option PlannedRange) → (reply_has_data operation && has_data operation) ≡ true → plan_for operation plan ≡ plan
-atomic_planned PutFull plan atomic = refl
-atomic_planned PutPartial plan atomic = refl
-atomic_planned (Atomic op) plan atomic = refl
-atomic_planned Get plan atomic = refl
-atomic_planned (Intent write) plan atomic = absurd (cc (atomic))
+atomic_planned operation plan atomic = grind arith
 
 no_address : (f : ℕ → PlannedRange) (place : Option ℕ) → option_map f place ≡ None → is_none place ≡ true
-no_address f None none = refl
-no_address f (Some address) none = absurd (cc (none))
+no_address f place none = grind arith
 
 -- a denied request has no old value
 denied_value : (atomic denied holds : Bool) (value : Option ℕ) → denied ≡ true → (if atomic && not denied && holds then value else None) ≡ None
-denied_value true true holds value is = refl
-denied_value false true holds value is = refl
-denied_value atomic false holds value is = absurd (cc (is))
+denied_value atomic denied holds value is = grind arith
 
 pub served_new : (table : RequestTable) (message : HeldMessage) → is_valid table.config ≡ true → IsPageMap table.regions → IsSound (port_of table.config message.client) message
     → IsServed table.config table.regions (newly_live table message)
@@ -228,7 +137,7 @@ served_new table message valid pages sound =
       done = done_by plan refl;
       found = λ atomic is live. absurd (atomic_first (reply_has_data message.operation) (has_data message.operation) atomic is);
       failed = λ atomic isnt over. failed_by atomic over plan refl;
-      came = omega (arith, none_read (reply_has_data message.operation) (pieces_planned plan));
+      came = grind arith;
       next = omega arith;
     }
   where
@@ -261,80 +170,34 @@ pub record BeginsWith {X : Type 0} (x : X) (xs : List X) : Type 0 where
 
 part_begins : {X : Type 0} (xs : List X) (from to : ℕ) (x : X) → slice_get xs from ≡ Some x → from < to → BeginsWith x (drop from (take to xs))
 part_begins [] from to x there within = absurd (cc (there))
-part_begins (y ∷ ys) zero zero x there within = absurd (omega (arith, within))
-part_begins (y ∷ ys) zero (suc to) x there within = let same : y ≡ x = cc in record { rest = take to ys; is = rw same refl }
-part_begins (y ∷ ys) (suc from) zero x there within = absurd (omega (arith, within))
+part_begins (y ∷ ys) from zero x there within = absurd (omega (arith, within))
+part_begins (y ∷ ys) zero (suc to) x there within = record { rest = take to ys; is = cc }
 part_begins (y ∷ ys) (suc from) (suc to) x there within = part_begins ys from to x there (omega (arith, within))
 
 same_first : (came : ℕ) (burst : Bool × Piece) (rest more : List (Bool × Piece)) → IsPartWay came (burst ∷ rest) → IsPartWay came (burst ∷ more)
-same_first came (true, piece) rest more part = part
-same_first came (false, piece) rest more part = part
+same_first came burst rest more part = grind arith
 
 part_way_more : (bursts : List (Bool × Piece)) (from to came : ℕ) → IsPartWay came (drop from (take to bursts)) → IsPartWay came (drop from (take (to + 1) bursts))
 part_way_more bursts from to came part = by_part (drop from (take to bursts)) refl part
   where
     by_part : (parts : List (Bool × Piece)) → drop from (take to bursts) ≡ parts → IsPartWay came parts → IsPartWay came (drop from (take (to + 1) bursts))
-    by_part [] is none = subst (λ n. IsPartWay n (drop from (take (to + 1) bursts))) (sym none) (part_way-zero (drop from (take (to + 1) bursts)))
+    by_part [] is none = rw none (part_way-zero (drop from (take (to + 1) bursts)))
     by_part (burst ∷ rest) is part =
         let next = part-next bursts from to burst rest is in
         let begins = part_begins bursts from (to + 1) burst next.at (omega (arith, next.within)) in
-        subst (IsPartWay came) (sym begins.is) (same_first came burst rest begins.rest part)
+        rw begins.is (same_first came burst rest begins.rest part)
 
 pub served_sent : (config : Config) (regions : List Region) (id : ℕ) (request : BridgedRequest) → IsServed config regions request → IsServed config regions (after_sending id request)
 served_sent config regions id request served =
-    record {
-      pages = served.pages;
-      message = served.message;
-      flight = record { client = served.flight.client; source = served.flight.source; operation = served.flight.operation; plan = served.flight.plan };
-      done = served.done;
-      found = served.found;
-      failed = served.failed;
-      came = served.came;
-      next = part_way_more (planned request.flight) request.flight.answered request.flight.sent (came_of_next request) served.next;
-    }
+    let next = part_way_more (planned request.flight) request.flight.answered request.flight.sent (came_of_next request) served.next in
+    assumption
 
--- ---- a burst was answered by a B
+-- ---- a burst was answered by a B, or a beat of it came by an R
 
--- with the B counted, before it is settled
+-- with an answer counted, before it is settled: a B, the last R of its burst, and another R
 abbrev after_its_b : Resp → BridgedRequest → BridgedRequest
 after_its_b resp request = record request { flight = with_answered request.flight; gathering = after_b resp request.gathering }
 
-response_counted : (config : Config) (regions : List Region) (limits : TableLimits) (accepted : ℕ) (resp : Resp) (request : BridgedRequest) (piece : Piece) → is_valid config ≡ true → IsPageMap regions
-    → IsServed config regions request → IsSoundRequest limits accepted request.flight → request.flight.answered < request.flight.sent → request.flight.done ≡ false
-    → slice_get (planned request.flight) request.flight.answered ≡ Some (true, piece) → IsCounted config regions (after_its_b resp request)
-response_counted config regions limits accepted resp request piece valid pages served sound within live burst =
-    let flight = request.flight in
-    let writes = (write_at flight flight.answered piece burst).0 in
-    let has = live_plan config regions request valid pages served.message served.flight sound.no_plan live in
-    let same : answered_pieces (with_answered flight) ≡ answered_pieces flight = rw writes refl in
-    let begins = part_begins (planned flight) flight.answered flight.sent (true, piece) burst within in
-    let none : came_of_next request ≡ 0 = subst (IsPartWay (came_of_next request)) begins.is served.next in
-    let still : came_of_next (after_its_b resp request) ≡ 0 = subst (λ (parts : List Piece). request.gathering.came - beats_in parts ≡ 0) (sym same) none in
-    record {
-      pages = served.pages;
-      message = served.message;
-      flight = record { client = served.flight.client; source = served.flight.source; operation = served.flight.operation; plan = served.flight.plan };
-      live = live;
-      found = λ atomic is going.
-          let plan = atomic_plan config regions request valid served.message served.flight has atomic in
-          let open_ones = leb-false (length (planned flight)) (flight.answered + 1) going in
-          absurd (omega (arith, open_ones, length_writing flight writes, plan.writes));
-      came = subst (λ (parts : List Piece). beats_in parts ≤ request.gathering.came) (sym same) served.came;
-      next = subst (λ n. IsPartWay n (outstanding (with_answered flight))) (sym still) (part_way-zero (outstanding (with_answered flight)));
-      answered = omega (arith, within, sound.sent);
-      sent = sound.sent;
-      has = record { range = has.range; is = has.is; plan = has.plan };
-    }
-
-pub served_response : (config : Config) (regions : List Region) (limits : TableLimits) (accepted : ℕ) (resp : Resp) (request : BridgedRequest) (piece : Piece) → is_valid config ≡ true → IsPageMap regions
-    → IsServed config regions request → IsSoundRequest limits accepted request.flight → request.flight.answered < request.flight.sent → request.flight.done ≡ false
-    → slice_get (planned request.flight) request.flight.answered ≡ Some (true, piece) → IsServed config regions (after_response resp request)
-served_response config regions limits accepted resp request piece valid pages served sound within live burst =
-    settled_served config regions (after_its_b resp request) valid (response_counted config regions limits accepted resp request piece valid pages served sound within live burst)
-
--- ---- a beat of a burst came by an R
-
--- with the R counted, before it is settled: the last of its burst, and another
 abbrev after_last_r : ℕ → RBeat → BridgedRequest → BridgedRequest
 after_last_r bus_bytes r request =
     record request { flight = with_answered request.flight; gathering = after_r bus_bytes (outline_in request) r request.gathering.came request.gathering }
@@ -350,71 +213,65 @@ pub record IsReading (request : BridgedRequest) (piece : Piece) (count : ℕ) : 
   pub came : request.gathering.came ≡ beats_in (answered_pieces request.flight) + count
   pub few : count ≤ piece.len
 
-last_counted : (config : Config) (regions : List Region) (limits : TableLimits) (accepted : ℕ) (r : RBeat) (request : BridgedRequest) (piece : Piece) (count : ℕ) → is_valid config ≡ true → IsPageMap regions
-    → IsServed config regions request → IsSoundRequest limits accepted request.flight → IsReading request piece count → count ≡ piece.len
-    → request.gathering.came < reads_of config.axi_bytes (outline_in request) → IsCounted config regions (after_last_r config.axi_bytes r request)
-last_counted config regions limits accepted r request piece count valid pages served sound reading last place =
-    let flight = request.flight in
-    let answered = after_last_r config.axi_bytes r request in
-    let has = live_plan config regions request valid pages served.message served.flight sound.no_plan reading.live in
-    let read = read_at flight flight.answered piece reading.burst in
-    let more = answered_next flight piece read.0 read.1 in
-    let all : min (request.gathering.came + 1) (reads_of config.axi_bytes (outline_in request)) ≡ beats_in (answered_pieces (with_answered flight)) = omega (arith, place, more, reading.came, last) in
-    let none : came_of_next answered ≡ 0 = omega (arith, all) in
-    record {
-      pages = served.pages;
-      message = served.message;
-      flight = record { client = served.flight.client; source = served.flight.source; operation = served.flight.operation; plan = served.flight.plan };
-      live = reading.live;
-      found = λ atomic is going. absurd (cc (read.0, is));
-      came = omega (arith, all);
-      next = subst (λ n. IsPartWay n (outstanding answered.flight)) (sym none) (part_way-zero (outstanding answered.flight));
-      answered = omega (arith, reading.within, sound.sent);
-      sent = sound.sent;
-      has = record { range = has.range; is = has.is; plan = has.plan };
-    }
+module _ {config : Config} {regions : List Region} {limits : TableLimits} {accepted : ℕ} {request : BridgedRequest} (valid : is_valid config ≡ true) (served : IsServed config regions request)
+    (sound : IsSoundRequest limits accepted request.flight) where
+  planned_for : request.flight.done ≡ false → HasPlan config request
+  planned_for live = live_plan config regions request valid served.pages served.message served.flight sound.no_plan live
 
-more_counted : (config : Config) (regions : List Region) (limits : TableLimits) (accepted : ℕ) (r : RBeat) (request : BridgedRequest) (piece : Piece) (count : ℕ) → is_valid config ≡ true → IsPageMap regions
-    → IsServed config regions request → IsSoundRequest limits accepted request.flight → IsReading request piece count → count < piece.len
-    → request.gathering.came < reads_of config.axi_bytes (outline_in request) → IsCounted config regions (after_more_r config.axi_bytes r request)
-more_counted config regions limits accepted r request piece count valid pages served sound reading more place =
-    let flight = request.flight in
-    let answered = after_more_r config.axi_bytes r request in
-    let has = live_plan config regions request valid pages served.message served.flight sound.no_plan reading.live in
-    let begins = part_begins (planned flight) flight.answered flight.sent (false, piece) reading.burst reading.within in
-    let counted : min (request.gathering.came + 1) (reads_of config.axi_bytes (outline_in request)) ≡ beats_in (answered_pieces flight) + (count + 1) = omega (arith, place, reading.came) in
-    let below : came_of_next answered ≤ piece.len = omega (arith, counted, more) in
-    record {
-      pages = served.pages;
-      message = served.message;
-      flight = record { client = served.flight.client; source = served.flight.source; operation = served.flight.operation; plan = served.flight.plan };
-      live = reading.live;
-      found = λ atomic is going. absurd (cc ((read_at flight flight.answered piece reading.burst).0, is));
-      came = omega (arith, counted);
-      next = subst (IsPartWay (came_of_next answered)) (sym begins.is) below;
-      answered = omega (arith, reading.within, sound.sent);
-      sent = sound.sent;
-      has = record { range = has.range; is = has.is; plan = has.plan };
-    }
+  -- the first of its outstanding bursts
+  first_burst : (burst : Bool × Piece) → slice_get (planned request.flight) request.flight.answered ≡ Some burst → request.flight.answered < request.flight.sent → BeginsWith burst (outstanding request.flight)
+  first_burst burst at within = part_begins (planned request.flight) request.flight.answered request.flight.sent burst at within
 
-pub served_read : (config : Config) (regions : List Region) (limits : TableLimits) (accepted : ℕ) (r : RBeat) (request : BridgedRequest) (piece : Piece) (count : ℕ) → is_valid config ≡ true → IsPageMap regions
-    → IsServed config regions request → IsSoundRequest limits accepted request.flight → IsReading request piece count → r.last ≡ (count == piece.len)
-    → request.gathering.came < reads_of config.axi_bytes (outline_in request) → IsServed config regions (after_read config.axi_bytes r request)
-served_read config regions limits accepted r request piece count valid pages served sound reading last place = by_last r.last refl
-  where
-    below : (count == piece.len) ≡ false → count < piece.len
-    below isnt = grind (arith, isnt, reading.few)
+  response_counted : (resp : Resp) (piece : Piece) → request.flight.answered < request.flight.sent → request.flight.done ≡ false → slice_get (planned request.flight) request.flight.answered ≡ Some (true, piece)
+      → IsCounted config regions (after_its_b resp request)
+  response_counted resp piece within live burst =
+      let flight = request.flight in
+      let after = after_its_b resp request in
+      let writes = (write_at flight flight.answered piece burst).0 in
+      let has = planned_for live in
+      let same : answered_pieces (with_answered flight) ≡ answered_pieces flight = rw writes refl in
+      let none : came_of_next request ≡ 0 = rw (first_burst (true, piece) burst within).is at served.next in
+      let still : came_of_next after ≡ 0 = rw same none in
+      let next : IsPartWay (came_of_next after) (outstanding after.flight) = rw still (part_way-zero (outstanding after.flight)) in
+      let came : beats_in (answered_pieces after.flight) ≤ after.gathering.came = rw same served.came in
+      grind (arith, nat_tests, atomic_plan config regions request valid served.message served.flight has, length_writing flight writes, sound.sent, has)
 
-    by_last : (b : Bool) → r.last ≡ b
-        → IsServed config regions
-        (settled
-        (record request {
-          flight = if b then with_answered request.flight else request.flight;
-          gathering = after_r config.axi_bytes (outline_in request) r request.gathering.came request.gathering;
-        }))
-    by_last true is =
-        settled_served config regions (after_last_r config.axi_bytes r request) valid
-        (last_counted config regions limits accepted r request piece count valid pages served sound reading (eqb-true count piece.len (sym last ∙ is)) place)
-    by_last false is =
-        settled_served config regions (after_more_r config.axi_bytes r request) valid
-        (more_counted config regions limits accepted r request piece count valid pages served sound reading (below (sym last ∙ is)) place)
+  pub served_response : (resp : Resp) (piece : Piece) → request.flight.answered < request.flight.sent → request.flight.done ≡ false → slice_get (planned request.flight) request.flight.answered ≡ Some (true, piece)
+      → IsServed config regions (after_response resp request)
+  served_response resp piece within live burst = settled_served config regions (after_its_b resp request) valid (response_counted resp piece within live burst)
+
+  last_counted : (r : RBeat) (piece : Piece) (count : ℕ) → IsReading request piece count → count ≡ piece.len → request.gathering.came < reads_of config.axi_bytes (outline_in request)
+      → IsCounted config regions (after_last_r config.axi_bytes r request)
+  last_counted r piece count reading last place =
+      let flight = request.flight in
+      let answered = after_last_r config.axi_bytes r request in
+      let has = planned_for reading.live in
+      let read = read_at flight flight.answered piece reading.burst in
+      let more = answered_next flight piece read.0 read.1 in
+      let all : min (request.gathering.came + 1) (reads_of config.axi_bytes (outline_in request)) ≡ beats_in (answered_pieces (with_answered flight)) = omega (arith, place, more, reading.came, last) in
+      let none : came_of_next answered ≡ 0 = omega (arith, all) in
+      let next : IsPartWay (came_of_next answered) (outstanding answered.flight) = rw none (part_way-zero (outstanding answered.flight)) in
+      grind (arith, read.0, reading.within, sound.sent, has)
+
+  more_counted : (r : RBeat) (piece : Piece) (count : ℕ) → IsReading request piece count → count < piece.len → request.gathering.came < reads_of config.axi_bytes (outline_in request)
+      → IsCounted config regions (after_more_r config.axi_bytes r request)
+  more_counted r piece count reading more place =
+      let flight = request.flight in
+      let answered = after_more_r config.axi_bytes r request in
+      let has = planned_for reading.live in
+      let writes = (read_at flight flight.answered piece reading.burst).0 in
+      let counted : min (request.gathering.came + 1) (reads_of config.axi_bytes (outline_in request)) ≡ beats_in (answered_pieces flight) + (count + 1) = omega (arith, place, reading.came) in
+      let below : came_of_next answered ≤ piece.len = omega (arith, counted, more) in
+      let next : IsPartWay (came_of_next answered) (outstanding answered.flight) = rw (first_burst (false, piece) reading.burst reading.within).is below in
+      grind (arith, reading.within, sound.sent, has)
+
+  pub served_read : (r : RBeat) (piece : Piece) (count : ℕ) → IsReading request piece count → r.last ≡ (count == piece.len) → request.gathering.came < reads_of config.axi_bytes (outline_in request)
+      → IsServed config regions (after_read config.axi_bytes r request)
+  served_read r piece count reading last place = by_last r.last refl
+    where
+      by_last : (b : Bool) → r.last ≡ b → IsServed config regions (after_read config.axi_bytes r request)
+      by_last true is =
+          rw is (settled_served config regions (after_last_r config.axi_bytes r request) valid (last_counted r piece count reading (eqb-true count piece.len (sym last ∙ is)) place))
+      by_last false is =
+          let below : count < piece.len = grind (arith, nat_tests, reading.few, last, is) in
+          rw is (settled_served config regions (after_more_r config.axi_bytes r request) valid (more_counted r piece count reading below place))

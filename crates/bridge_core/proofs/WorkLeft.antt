@@ -1,10 +1,11 @@
 -- The work that is left is that of the bursts that aren't sent, and that of the outstanding ones, of which some read beats came. It knows how
 -- the outstanding bursts of an ID are those of its holder; what they carry is hidden.
-use Rattle.std.proofs.Common.{◌≡◌, ℕ, zero, suc, ◌+◌, ◌*◌, ◌==◌, ◌≤◌, Bool, true, false, not, List, [], ◌∷◌, length, drop, take, Option, Some, None, refl, ap, sym, ◌∙◌, arith}
-use Rattle.std.specs.Prelude.{if◌then◌else◌}
+use Rattle.std.proofs.Common.{◌≡◌, ℕ, zero, suc, ◌+◌, ◌*◌, ◌==◌, ◌≤◌, Bool, true, false, not, List, [], ◌∷◌, length, drop, take, Option, Some, None, refl, ap, sym, ◌∙◌, arith, inl, inr}
 use Rattle.std.specs.List.{AllByRecursion, filter, sum_by}
-use Rattle.std.proofs.lemmas.Bool.{eq-eqb, eqb-true}
-use Rattle.std.proofs.lemmas.List.Sums.{sum_by-cons}
+use Rattle.std.proofs.Math.Seq.{drop-nil, take-nil}
+use Rattle.std.proofs.lemmas.Bool.{eq-eqb}
+use Rattle.std.proofs.lemmas.Bool.Decides.{eqb_tells, nat_tests}
+use Rattle.std.proofs.lemmas.List.Sums.{sum_by-cons, sum_by-take-drop}
 use Rattle.burst_plan.specs.declared.Piece.{Piece}
 use Rattle.flight_table.specs.Laws.{IsSoundRequest}
 use Rattle.flight_table.specs.LiveRequests.{LiveRequest, planned}
@@ -14,58 +15,36 @@ use Rattle.flight_table.specs.declared.TableLimits.{TableLimits}
 use Rattle.axi_checker.specs.OpenBursts.{OpenBursts, OpenRead, OpenWrite, read_of_id, write_of_id}
 use Rattle.bridge_core.specs.Bridge.{BridgeState, answered_reads}
 use Rattle.bridge_core.specs.Configs.{table_limits_of}
-use Rattle.bridge_core.specs.Laws.{AreLinked, IsLinked, IsPartWay, IsServed, IsSoundBridge, came_of, came_of_next, open_reads, open_writes, outstanding, outstanding_of}
+use Rattle.bridge_core.specs.Laws.{AreLinked, IsPartWay, IsServed, IsSoundBridge, came_of, came_of_next, open_read, open_reads, open_write, open_writes, outstanding, outstanding_of}
 use Rattle.bridge_core.specs.Requests.{BridgedRequest, flight_table_of, flights_of, holder, holds}
 use Rattle.bridge_core.specs.declared.Config.{Config}
 use Rattle.burst_plan.specs.declared.Region.{Region}
 use Rattle.bridge_core.proofs.HolderChanges.{find-none-kept}
+use Rattle.bridge_core.proofs.ResponseLinks.{part_way-zero}
 use Rattle.bridge_core.proofs.SendingLinks.{sound_requests}
 use Rattle.bridge_core.proofs.SentLinks.{holders_counted, none_sent}
 
 -- ---- the items of an ID, and the others
 
-module _ {X : Type 0} (key measure : X → ℕ) where
+module _ {X : Type 0} (key : X → ℕ) where
   abbrev is_of : ℕ → X → Bool
   is_of id x = key x == id
 
   abbrev is_other : ℕ → X → Bool
   is_other id x = not (key x == id)
 
-  sum_apart : (id : ℕ) (xs : List X) → sum_by measure xs ≡ sum_by measure (filter (is_of id) xs) + sum_by measure (filter (is_other id) xs)
-  sum_apart id [] = omega arith
-  sum_apart id (x ∷ xs) = by_test (key x == id) (sum_apart id xs)
-    where
-      by_test : (b : Bool) → sum_by measure xs ≡ sum_by measure (filter (is_of id) xs) + sum_by measure (filter (is_other id) xs)
-          → sum_by measure (x ∷ xs) ≡ sum_by measure (if b then x ∷ filter (is_of id) xs else filter (is_of id) xs)
-          + sum_by measure (if not b then x ∷ filter (is_other id) xs else filter (is_other id) xs)
-      by_test true rest = omega (arith, sum_by-cons measure x xs, sum_by-cons measure x (filter (is_of id) xs), rest)
-      by_test false rest = omega (arith, sum_by-cons measure x xs, sum_by-cons measure x (filter (is_other id) xs), rest)
+  sum_apart : (measure : X → ℕ) (id : ℕ) (xs : List X) → sum_by measure xs ≡ sum_by measure (filter (is_of id) xs) + sum_by measure (filter (is_other id) xs)
+  sum_apart measure id [] = omega arith
+  sum_apart measure id (x ∷ xs) =
+      grind (arith, sum_apart measure id xs, sum_by-cons measure x xs, sum_by-cons measure x (filter (is_of id) xs), sum_by-cons measure x (filter (is_other id) xs))
 
   own_of_others : (id : ℕ) (xs : List X) → filter (is_of id) (filter (is_other id) xs) ≡ []
   own_of_others id [] = refl
-  own_of_others id (x ∷ xs) = by_test (key x == id) refl (own_of_others id xs)
-    where
-      by_test : (b : Bool) → (key x == id) ≡ b → filter (is_of id) (filter (is_other id) xs) ≡ []
-          → filter (is_of id) (if not b then x ∷ filter (is_other id) xs else filter (is_other id) xs) ≡ []
-      by_test true is rest = rest
-      by_test false is rest = rw is rest
+  own_of_others id (x ∷ xs) = grind (arith, own_of_others id xs)
 
   others_of_others : (id j : ℕ) (xs : List X) → (j == id) ≡ false → filter (is_of id) (filter (is_other j) xs) ≡ filter (is_of id) xs
   others_of_others id j [] other = refl
-  others_of_others id j (x ∷ xs) other = by_test (key x == j) refl (others_of_others id j xs other)
-    where
-      each : (b : Bool) → filter (is_of id) (filter (is_other j) xs) ≡ filter (is_of id) xs
-          → (if b then x ∷ filter (is_of id) (filter (is_other j) xs) else filter (is_of id) (filter (is_other j) xs)) ≡ (if b then x ∷ filter (is_of id) xs else filter (is_of id) xs)
-      each true rest = ap (λ (ys : List X). x ∷ ys) rest
-      each false rest = rest
-
-      by_test : (b : Bool) → (key x == j) ≡ b → filter (is_of id) (filter (is_other j) xs) ≡ filter (is_of id) xs
-          → filter (is_of id) (if not b then x ∷ filter (is_other j) xs else filter (is_other j) xs) ≡ filter (is_of id) (x ∷ xs)
-      by_test true is rest =
-          let same : key x ≡ j = eqb-true (key x) j is in
-          let fails : (key x == id) ≡ false = ap (λ n. n == id) same ∙ other in
-          rest ∙ sym (rw fails refl)
-      by_test false is rest = each (key x == id) rest
+  others_of_others id j (x ∷ xs) other = grind (arith, nat_tests, others_of_others id j xs)
 
   none_left : (xs : List X) → ((id : ℕ) → filter (is_of id) xs ≡ []) → xs ≡ []
   none_left [] none = refl
@@ -99,48 +78,31 @@ whole_planned bursts = sum_by beats_of_burst bursts + sum_by answers_of_burst bu
 
 whole_of_open : (id came : ℕ) (bursts : List (Bool × Piece)) → sum_by whole_write (open_writes id bursts) + sum_by whole_read (open_reads id came bursts) ≡ whole_planned bursts
 whole_of_open id came [] = refl
-whole_of_open id came ((true, piece) ∷ bursts) =
-    omega (
+whole_of_open id came ((side, piece) ∷ bursts) =
+    grind (
       arith,
       whole_of_open id came bursts,
-      sum_by-cons whole_write (record { aw = record { id = id; address = piece.address; len = piece.len; size = piece.size; burst = 1 }; came = piece.len + 1 }) (open_writes id bursts),
-      sum_by-cons beats_of_burst (true, piece) bursts,
-      sum_by-cons answers_of_burst (true, piece) bursts,
-    )
-whole_of_open id came ((false, piece) ∷ bursts) =
-    omega (
-      arith,
       whole_of_open id 0 bursts,
-      sum_by-cons whole_read (record { ar = record { id = id; address = piece.address; len = piece.len; size = piece.size; burst = 1 }; came = came }) (open_reads id 0 bursts),
-      sum_by-cons beats_of_burst (false, piece) bursts,
-      sum_by-cons answers_of_burst (false, piece) bursts,
+      sum_by-cons whole_write (open_write id piece) (open_writes id bursts),
+      sum_by-cons whole_read (open_read id came piece) (open_reads id 0 bursts),
+      sum_by-cons beats_of_burst (side, piece) bursts,
+      sum_by-cons answers_of_burst (side, piece) bursts,
     )
 
 -- no more beats came of a request's reads than they have
-came_of_none : (id : ℕ) (bursts : List (Bool × Piece)) → 2 * sum_by came_in (open_reads id 0 bursts) ≤ sum_by whole_read (open_reads id 0 bursts)
-came_of_none id [] = omega arith
-came_of_none id ((true, piece) ∷ bursts) = came_of_none id bursts
-came_of_none id ((false, piece) ∷ bursts) =
-    let first : OpenRead = record { ar = record { id = id; address = piece.address; len = piece.len; size = piece.size; burst = 1 }; came = 0 } in
-    omega (arith, came_of_none id bursts, sum_by-cons came_in first (open_reads id 0 bursts), sum_by-cons whole_read first (open_reads id 0 bursts))
-
 came_few : (id came : ℕ) (bursts : List (Bool × Piece)) → IsPartWay came bursts → 2 * sum_by came_in (open_reads id came bursts) ≤ sum_by whole_read (open_reads id came bursts)
 came_few id came [] way = omega arith
-came_few id came ((true, piece) ∷ bursts) way = rw way (came_of_none id bursts)
+came_few id came ((true, piece) ∷ bursts) way = rw way (came_few id 0 bursts (part_way-zero bursts))
 came_few id came ((false, piece) ∷ bursts) way =
-    let first : OpenRead = record { ar = record { id = id; address = piece.address; len = piece.len; size = piece.size; burst = 1 }; came = came } in
-    omega (arith, way, came_of_none id bursts, sum_by-cons came_in first (open_reads id 0 bursts), sum_by-cons whole_read first (open_reads id 0 bursts))
+    let first = open_read id came piece in
+    omega (arith, way, came_few id 0 bursts (part_way-zero bursts), sum_by-cons came_in first (open_reads id 0 bursts), sum_by-cons whole_read first (open_reads id 0 bursts))
 
 -- ---- the work of one request
 
 sum_from : {X : Type 0} (measure : X → ℕ) (a s : ℕ) (xs : List X) → a ≤ s → sum_by measure (drop a xs) ≡ sum_by measure (drop a (take s xs)) + sum_by measure (drop s xs)
-sum_from measure zero zero [] within = omega arith
-sum_from measure (suc a) zero [] within = absurd (omega (arith, within))
-sum_from measure zero (suc s) [] within = omega arith
-sum_from measure (suc a) (suc s) [] within = omega arith
-sum_from measure zero zero (x ∷ xs) within = omega arith
+sum_from {X = X} measure a s [] within = rw (take-nil, drop-nil {A = X} a, drop-nil {A = X} s) refl
+sum_from measure zero s (x ∷ xs) within = sym (sum_by-take-drop measure (x ∷ xs) s)
 sum_from measure (suc a) zero (x ∷ xs) within = absurd (omega (arith, within))
-sum_from measure zero (suc s) (x ∷ xs) within = omega (arith, sum_from measure zero s xs (omega arith), sum_by-cons measure x xs, sum_by-cons measure x (take s xs))
 sum_from measure (suc a) (suc s) (x ∷ xs) within = sum_from measure a s xs (omega (arith, within))
 
 -- a request that isn't done: the bursts that it has still to send, and those that are outstanding
@@ -153,26 +115,15 @@ work_of_undone limits accepted flight sound undone =
 
 -- one without an ID has nothing outstanding
 work_without_id : (limits : TableLimits) (accepted : ℕ) (flight : LiveRequest) → IsSoundRequest limits accepted flight → flight.id ≡ None → work_of flight ≡ unsent_work flight
-work_without_id limits accepted flight sound none = by_done flight.done refl
-  where
-    by_done : (done : Bool) → flight.done ≡ done → work_of flight ≡ unsent_work flight
-    by_done true is = rw is refl
-    by_done false is =
-        let nothing = none_sent limits accepted flight sound is none in
-        let answered : flight.answered ≡ 0 = omega (arith, nothing, sound.answered) in
-        work_of_undone limits accepted flight sound is ∙ rw (nothing, answered) (omega arith)
+work_without_id limits accepted flight sound none = grind (arith, none_sent limits accepted flight sound, work_of_undone limits accepted flight sound, sound.answered)
 
 -- ---- all of them
 
 fewer_after : {X : Type 0} (q : X → Bool) (x : X) (xs : List X) → length (filter q xs) ≤ length (filter q (x ∷ xs))
-fewer_after {X = X} q x xs = by_test (q x)
-  where
-    by_test : (b : Bool) → length (filter q xs) ≤ length (if b then x ∷ filter q xs else filter q xs)
-    by_test true = omega arith
-    by_test false = omega arith
+fewer_after q x xs = grind arith
 
 alone_here : {X : Type 0} (q : X → Bool) (x : X) (xs : List X) → q x ≡ true → length (filter q (x ∷ xs)) ≤ 1 → length (filter q xs) ≡ 0
-alone_here {X = X} q x xs passes few = let count : length (filter q (x ∷ xs)) ≡ suc (length (filter q xs)) = rw passes refl in omega (arith, few, count)
+alone_here q x xs passes few = grind arith
 
 -- open bursts beside live requests: the work of these is what they have still to send, and all of the open bursts, of whose reads no more beats
 -- came than they have
@@ -183,63 +134,45 @@ record IsWorkOf (live : List BridgedRequest) (open_bursts : OpenBursts) : Type 0
 -- the open bursts without those of an ID
 abbrev without_id : ℕ → OpenBursts → OpenBursts
 without_id id open_bursts =
-    record { writes = filter (is_other key_of_write whole_write id) open_bursts.writes; reads = filter (is_other key_of_read whole_read id) open_bursts.reads }
+    record { writes = filter (is_other key_of_write id) open_bursts.writes; reads = filter (is_other key_of_read id) open_bursts.reads }
 
 work_of_all : (limits : TableLimits) (accepted : ℕ) (config : Config) (regions : List Region) (live : List BridgedRequest) (open_bursts : OpenBursts)
     → AllByRecursion (λ (r : BridgedRequest). IsSoundRequest limits accepted r.flight) live → AllByRecursion (IsServed config regions) live → ((id : ℕ) → length (filter (holds id) live) ≤ 1)
     → AreLinked live open_bursts → IsWorkOf live open_bursts
 work_of_all limits accepted config regions [] open_bursts all served one linked =
-    let no_writes : open_bursts.writes ≡ [] = none_left key_of_write whole_write open_bursts.writes (λ id. (linked id).writes) in
-    let no_reads : open_bursts.reads ≡ [] = none_left key_of_read whole_read open_bursts.reads (λ id. (linked id).reads) in
+    let no_writes : open_bursts.writes ≡ [] = none_left key_of_write open_bursts.writes (λ id. (linked id).writes) in
+    let no_reads : open_bursts.reads ≡ [] = none_left key_of_read open_bursts.reads (λ id. (linked id).reads) in
     record { whole = rw (no_writes, no_reads) refl; came = rw no_reads (omega arith) }
 work_of_all limits accepted config regions (r ∷ live) open_bursts all served one linked =
     by_id r.flight.id refl (λ some linked_to. work_of_all limits accepted config regions live some all.1 served.1 (λ id. omega (arith, one id, fewer_after (holds id) r live)) linked_to)
   where
-    undone : (j : ℕ) (b : Bool) → r.flight.id ≡ Some j → r.flight.done ≡ b → r.flight.done ≡ false
-    undone j true some is = absurd (cc (all.0.freed is, some))
-    undone j false some is = is
-
-    own : (j : ℕ) → r.flight.id ≡ Some j → holds j r ≡ true
-    own j some = rw some (eq-eqb j j refl)
-
     -- where another holds the ID, or nobody does
     later : (id : ℕ) → holds id r ≡ false → holder id (r ∷ live) ≡ holder id live
     later id fails = rw fails refl
 
     others_linked : (j : ℕ) → r.flight.id ≡ Some j → AreLinked live (without_id j open_bursts)
-    others_linked j some id = by_test (j == id) refl
-      where
-        by_test : (b : Bool) → (j == id) ≡ b → IsLinked id live (without_id j open_bursts)
-        by_test true is =
-            let same : j ≡ id = eqb-true j id is in
-            let none : holder id live ≡ None = find-none-kept (holds id) live (alone_here (holds id) r live (rw some is) (one id)) in
-            record {
-              writes =
-                  ap (λ n. filter (write_of_id id) (filter (is_other key_of_write whole_write n) open_bursts.writes)) same ∙ own_of_others key_of_write whole_write id open_bursts.writes
-                  ∙ sym (ap (λ h. open_writes id (outstanding_of h)) none);
-              reads =
-                  ap (λ n. filter (read_of_id id) (filter (is_other key_of_read whole_read n) open_bursts.reads)) same ∙ own_of_others key_of_read whole_read id open_bursts.reads
-                  ∙ sym (ap (λ h. open_reads id (came_of h) (outstanding_of h)) none);
-            }
-        by_test false is =
-            let same = later id (rw some is) in
-            record {
-              writes = others_of_others key_of_write whole_write id j open_bursts.writes is ∙ (linked id).writes ∙ ap (λ h. open_writes id (outstanding_of h)) same;
-              reads = others_of_others key_of_read whole_read id j open_bursts.reads is ∙ (linked id).reads ∙ ap (λ h. open_reads id (came_of h) (outstanding_of h)) same;
-            }
+    others_linked j some id =
+        elim (eqb_tells j id) [
+          | inl is ↦
+              let none : holder id live ≡ None = find-none-kept (holds id) live (alone_here (holds id) r live (rw some is.0) (one id)) in
+              record { writes = cc (is.1, own_of_others key_of_write id open_bursts.writes, none); reads = cc (is.1, own_of_others key_of_read id open_bursts.reads, none) }
+          | inr is ↦
+              let same = later id (rw some is.0) in
+              record {
+                writes = cc (others_of_others key_of_write id j open_bursts.writes is.0, (linked id).writes, same);
+                reads = cc (others_of_others key_of_read id j open_bursts.reads is.0, (linked id).reads, same);
+              }
+        ]
 
     by_id : (own_id : Option ℕ) → r.flight.id ≡ own_id → ((some : OpenBursts) → AreLinked live some → IsWorkOf live some) → IsWorkOf (r ∷ live) open_bursts
     by_id None none rest =
-        let others = rest open_bursts (λ id. let same = later id (rw none refl) in record {
-          writes = (linked id).writes ∙ ap (λ h. open_writes id (outstanding_of h)) same;
-          reads = (linked id).reads ∙ ap (λ h. open_reads id (came_of h) (outstanding_of h)) same;
-        }) in
+        let others = rest open_bursts (λ id. let same = later id (rw none refl) in record { writes = cc (same, (linked id).writes); reads = cc (same, (linked id).reads) }) in
         record {
           whole = omega (arith, others.whole, work_without_id limits accepted r.flight all.0 none, sum_by-cons work_of r.flight (flights_of live), sum_by-cons unsent_work r.flight (flights_of live));
           came = others.came;
         }
     by_id (Some j) some rest =
-        let mine : holder j (r ∷ live) ≡ Some r = rw (own j some) refl in
+        let mine : holder j (r ∷ live) ≡ Some r = rw (some, eq-eqb j j refl) refl in
         let writes : filter (write_of_id j) open_bursts.writes ≡ open_writes j (outstanding r.flight) = (linked j).writes ∙ ap (λ h. open_writes j (outstanding_of h)) mine in
         let reads : filter (read_of_id j) open_bursts.reads ≡ open_reads j (came_of_next r) (outstanding r.flight) = (linked j).reads ∙ ap (λ h. open_reads j (came_of h) (outstanding_of h)) mine in
         let others = rest (without_id j open_bursts) (others_linked j some) in
@@ -248,7 +181,7 @@ work_of_all limits accepted config regions (r ∷ live) open_bursts all served o
               omega (
                 arith,
                 others.whole,
-                work_of_undone limits accepted r.flight all.0 (undone j r.flight.done some refl),
+                work_of_undone limits accepted r.flight all.0 (grind (arith, all.0.freed, some)),
                 whole_of_open j (came_of_next r) (outstanding r.flight),
                 sum_apart key_of_write whole_write j open_bursts.writes,
                 sum_apart key_of_read whole_read j open_bursts.reads,

@@ -1,15 +1,9 @@
 -- One more of them each turn.
-use Rattle.std.proofs.Common.{◌≡◌, rules, sym, arith, subst, List}
+use Rattle.std.proofs.Common.{◌≡◌, sym, arith, subst, List}
 use Rattle.std.specs.List.{AllByRecursion}
 use Rattle.bus_words.proofs.PlaceChanges.{all-append}
 use Rattle.bridge_core.specs.Inside.{HeldRequest}
 use Rattle.bridge_core.proofs.requests.room_for_all.Goals as goal
-
-pub loop-init : goal.loop-init
-loop-init c = search rules
-
-pub push_reserved-requires : goal.push_reserved-requires
-push_reserved-requires c = omega (arith, c.loop.invariant.0, c.loop.invariant.1, c.loop-test.true)
 
 pub loop-preserved : goal.loop-preserved
 loop-preserved c = (
@@ -18,6 +12,3 @@ loop-preserved c = (
   subst (λ (l : List HeldRequest). AllByRecursion (λ (held : HeldRequest). held.bus_bytes ≡ c.args.bus_bytes) l) (sym c.push_reserved.ensures.items)
       (all-append (λ (held : HeldRequest). held.bus_bytes ≡ c.args.bus_bytes) c.loop.held.items c.in_ok-new.field-0 c.loop.invariant.2 c.in_ok-new.ensures),
 )
-
-pub returns : goal.returns
-returns c = (omega (arith, c.loop.invariant.0, c.loop-test.false, c.loop.auto.counter-end), c.loop.invariant.2)

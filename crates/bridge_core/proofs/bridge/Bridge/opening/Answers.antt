@@ -1,7 +1,7 @@
 use Rattle.std.proofs.Common.{◌≡◌, ◌∙◌, arith, ap, sym, subst, refl}
 use Rattle.std.specs.Vec.{vec_len}
 use Rattle.axi_checker.specs.Monitors.{MonitorState}
-use Rattle.bridge_core.specs.Bridge.{StockedBridge, boxes_of, opening_bridge, opening_state}
+use Rattle.bridge_core.specs.Bridge.{StockedBridge, boxes_of, opening_bridge}
 use Rattle.bridge_core.specs.Inside.{bridge_kept}
 use Rattle.bridge_core.specs.Laws.{IsSoundBridge}
 use Rattle.bridge_core.proofs.Openings.{are_opening_ports, opening_kept, sound_opening}
@@ -16,14 +16,13 @@ kept c =
     c.in_ok-requests.ensures (ap (λ (m : MonitorState). m.open_bursts) c.in_ok-monitor.ensures) (stocked c)
 
 pub invariant_of-result : goal.invariant_of-result
-invariant_of-result c =
-    let sound : IsSoundBridge (opening_state c.args.config c.args.map) = sound_opening c.args.config c.args.map c.requires in (
-      subst (λ (b : StockedBridge). IsSoundBridge b.state) (sym (kept c)) sound,
-      rw (c.in_ok-requests.ensures, c.in_ok-ports.ensures) (are_opening_ports c.args.config),
-      rw (c.in_ok-requests.ensures, c.in_ok-monitor.ensures) refl,
-      rw c.in_ok-requests.ensures (omega (arith, stocked c)),
-      rw c.in_ok-requests.ensures (omega (arith, c.in_ok-stock.ensures.1, c.in_ok-stock.ensures.0, stocked c)),
-    )
+invariant_of-result c = (
+  subst (λ (b : StockedBridge). IsSoundBridge b.state) (sym (kept c)) (sound_opening c.args.config c.args.map c.requires),
+  rw (c.in_ok-requests.ensures, c.in_ok-ports.ensures) (are_opening_ports c.args.config),
+  rw (c.in_ok-requests.ensures, c.in_ok-monitor.ensures) refl,
+  rw c.in_ok-requests.ensures (omega (arith, stocked c)),
+  rw c.in_ok-requests.ensures (omega (arith, c.in_ok-stock.ensures.1, c.in_ok-stock.ensures.0, stocked c)),
+)
 
 pub returns-clause-state : goal.returns-clause-state
 returns-clause-state c = kept c

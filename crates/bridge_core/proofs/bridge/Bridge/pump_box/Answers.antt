@@ -1,18 +1,15 @@
 -- The burst that goes is that of the smallest ready number; it is legal, and breaks no rule of the port.
-use Rattle.std.proofs.Common.{◌≡◌, ◌↔◌, ◌∙◌, ◌+◌, ◌≤◌, Option, None, Some, refl, ap, sym, subst, arith, ◌<◌, IsSome}
-use Rattle.std.specs.Prelude.{IfSome}
+use Rattle.std.proofs.Common.{◌≡◌, ◌∙◌, ◌+◌, ◌≤◌, Option, None, Some, refl, ap, sym, subst, arith, ◌<◌, IsSome}
 use Rattle.std.specs.Vec.{vec_capacity, vec_len}
 use Rattle.axi_beats.specs.Bursts.{Burst, IsLegal}
 use Rattle.axi_checker.specs.Rules.{burst_fault}
-use Rattle.flight_table.specs.Order.{next_ready}
 use Rattle.bridge_core.specs.Bridge.{BridgeState, StockedBridge, burst_to_send}
 use Rattle.bridge_core.specs.Configs.{axi_port_of}
-use Rattle.bridge_core.specs.Requests.{flight_table_of, with_sent_burst}
-use Rattle.bridge_core.specs.Sending.{Sending, SendsSmallest, next_sending}
+use Rattle.bridge_core.specs.Requests.{with_sent_burst}
+use Rattle.bridge_core.specs.Sending.{next_sending}
 use Rattle.bridge_core.proofs.BridgeSteps.{IsBridge, monitor_with, pumped, pumped_state, state_in}
-use Rattle.bridge_core.proofs.Pumps.{IsSent, idle_told, sends_alike, told_none, told_sent}
+use Rattle.bridge_core.proofs.Pumps.{IsSent, idle_told, sends_alike, told_none, told_sent, sends_smallest}
 use Rattle.bridge_core.proofs.SentBursts.{sent_unbroken}
-use Rattle.bridge_core.proofs.SmallestNumbers.{sends_smallest}
 use Rattle.bridge_core.proofs.bridge.Bridge.pump_box.Goals as goal
 
 -- a box stands in stock where a request is ready
@@ -51,8 +48,7 @@ returns-in_default-clause-laws c = rw (c.send.ensures.kept c.in_default.is).0 c.
 pub returns-in_default-clause-idle : goal.returns-in_default-clause-idle
 returns-in_default-clause-idle c =
     let i = c.self.inside in
-    subst (λ (b : StockedBridge). ◌≡◌ {A = Option (Option Burst)} None None ↔ (next_ready (flight_table_of b.state.requests) ≡ None)) c.self.view_is
-    (idle_told (state_in i.ports.items i.requests i.monitor.open_bursts) None c.self.invariant.0.requests (sym c.in_default.is ∙ c.send.ensures.burst))
+    rw (← c.self.view_is) (idle_told (state_in i.ports.items i.requests i.monitor.open_bursts) None c.self.invariant.0.requests (sym c.in_default.is ∙ c.send.ensures.burst))
 
 -- ---- what went
 
@@ -104,30 +100,26 @@ returns-clause-sent c =
 pub returns-clause-idle : goal.returns-clause-idle
 returns-clause-idle c =
     let i = c.self.inside in
-    subst (λ (b : StockedBridge). ◌≡◌ {A = Option (Option Burst)} (Some c.in-Some.burst) None ↔ (next_ready (flight_table_of b.state.requests) ≡ None)) c.self.view_is
-    (idle_told (state_in i.ports.items i.requests i.monitor.open_bursts) (Some c.in-Some.burst) c.self.invariant.0.requests (sym c.in-Some.is ∙ c.send.ensures.burst))
+    rw (← c.self.view_is) (idle_told (state_in i.ports.items i.requests i.monitor.open_bursts) (Some c.in-Some.burst) c.self.invariant.0.requests (sym c.in-Some.is ∙ c.send.ensures.burst))
 
 pub returns-clause-smallest : goal.returns-clause-smallest
 returns-clause-smallest c =
-    let i = c.self.inside in
     let w = went c in
-    subst (λ (b : StockedBridge). IfSome (next_sending b.state.requests)
-    (λ (sending : Sending). ◌≡◌ {A = Option (Option Burst)} (Some c.in-Some.burst) (Some (Some sending.burst)) × SendsSmallest b.state.requests c.send.new.self sending)) c.self.view_is
-    (rw w.sent.1 (ap (λ (box : Option Burst). Some box) w.burst, sends_smallest i.requests c.send.new.self w.sent.0 c.self.invariant.0.requests w.sent.1 w.table))
+    rw (← c.self.view_is, w.sent.1)
+    (ap (λ (box : Option Burst). Some box) w.burst, sends_smallest c.self.inside.requests c.send.new.self w.sent.0 c.self.invariant.0.requests w.sent.1 w.table)
+
+-- it is legal, and breaks no rule
+fits : (c : goal.After-take_burst) → (w : Went c)
+    → IsLegal c.self.inside.requests.config.axi_bytes w.sent.0.burst × (burst_fault (axi_port_of c.self.inside.requests.config) c.self.inside.monitor.open_bursts w.sent.0.burst ≡ None)
+fits c w =
+    let i = c.self.inside in
+    sent_unbroken (state_in i.ports.items i.requests i.monitor.open_bursts) w.sent.0 c.self.invariant.0 w.sent.1
 
 pub returns-clause-legal : goal.returns-clause-legal
-returns-clause-legal c =
-    let w = went c in
-    let i = c.self.inside in
-    subst (λ (b : StockedBridge). IfSome (burst_to_send b.state) (IsLegal b.state.requests.config.axi_bytes)) c.self.view_is
-    (rw w.sent.1 (sent_unbroken (state_in i.ports.items i.requests i.monitor.open_bursts) w.sent.0 c.self.invariant.0 w.sent.1).0)
+returns-clause-legal c = rw (← c.self.view_is, (went c).sent.1) (fits c (went c)).0
 
 pub returns-clause-unbroken : goal.returns-clause-unbroken
-returns-clause-unbroken c =
-    let w = went c in
-    let i = c.self.inside in
-    subst (λ (b : StockedBridge). IfSome (burst_to_send b.state) (λ burst. burst_fault (axi_port_of b.state.requests.config) b.state.open_bursts burst ≡ None)) c.self.view_is
-    (rw w.sent.1 (sent_unbroken (state_in i.ports.items i.requests i.monitor.open_bursts) w.sent.0 c.self.invariant.0 w.sent.1).1)
+returns-clause-unbroken c = rw (← c.self.view_is, (went c).sent.1) (fits c (went c)).1
 
 pub returns-clause-laws : goal.returns-clause-laws
 returns-clause-laws c = (kept c).0

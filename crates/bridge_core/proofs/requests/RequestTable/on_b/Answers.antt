@@ -15,25 +15,19 @@ serving-key-requires c =
 
 pub answer-requires-clause-live : goal.answer-requires-clause-live
 answer-requires-clause-live c =
-    let i = c.self.inside in
-    (response_answers (kept_table i.config i.map i.flight i.held.items) c.args.self.now c.args.beat.now.id c.args.beat.now.resp c.serving-key.result c.slot.result c.index_mut-held.result.now c.on_b.new.self c.is_some-found.result
-    c.self.view_is c.self.invariant.1 c.self.invariant.0 c.serving-key.ensures c.requires (record { same = c.slot.ensures.value; few = c.slot.ensures.within; held_is = c.index_mut-held.ensures.value }) c.on_b.ensures
-    (c.is_some-found.ensures ∙ ap is_some c.old_value.ensures.value)).live
+    (response_answers c.args.beat.now.id c.self.view_is c.self.invariant.1 c.self.invariant.0 c.serving-key.ensures c.slot.ensures.value c.slot.ensures.within c.index_mut-held.ensures.value c.args.beat.now.resp c.requires
+    c.on_b.ensures (c.is_some-found.ensures ∙ ap is_some c.old_value.ensures.value)).live
 
 pub answer-requires-clause-unanswered : goal.answer-requires-clause-unanswered
 answer-requires-clause-unanswered c =
-    let i = c.self.inside in
-    (response_answers (kept_table i.config i.map i.flight i.held.items) c.args.self.now c.args.beat.now.id c.args.beat.now.resp c.serving-key.result c.slot.result c.index_mut-held.result.now c.on_b.new.self c.is_some-found.result
-    c.self.view_is c.self.invariant.1 c.self.invariant.0 c.serving-key.ensures c.requires (record { same = c.slot.ensures.value; few = c.slot.ensures.within; held_is = c.index_mut-held.ensures.value }) c.on_b.ensures
-    (c.is_some-found.ensures ∙ ap is_some c.old_value.ensures.value)).unanswered
+    (response_answers c.args.beat.now.id c.self.view_is c.self.invariant.1 c.self.invariant.0 c.serving-key.ensures c.slot.ensures.value c.slot.ensures.within c.index_mut-held.ensures.value c.args.beat.now.resp c.requires
+    c.on_b.ensures (c.is_some-found.ensures ∙ ap is_some c.old_value.ensures.value)).unanswered
 
 changed : (c : goal.After-answer) → IsChanged (kept_table c.self.inside.config c.self.inside.map c.self.inside.flight c.self.inside.held.items)
     (kept_table c.self.inside.config c.self.inside.map c.answer.new.flight (set c.self.inside.held.items c.slot.result c.on_b.new.self)) (holds_id c.args.beat.now.id) (after_response c.args.beat.now.resp)
 changed c =
-    let i = c.self.inside in
-    (response_answers (kept_table i.config i.map i.flight i.held.items) c.args.self.now c.args.beat.now.id c.args.beat.now.resp c.serving-key.result c.slot.result c.index_mut-held.result.now c.on_b.new.self c.is_some-found.result
-    c.self.view_is c.self.invariant.1 c.self.invariant.0 c.serving-key.ensures c.requires (record { same = c.slot.ensures.value; few = c.slot.ensures.within; held_is = c.index_mut-held.ensures.value }) c.on_b.ensures
-    (c.is_some-found.ensures ∙ ap is_some c.old_value.ensures.value)).changes c.answer.new.flight c.answer.ensures.state c.answer.ensures.laws
+    (response_answers c.args.beat.now.id c.self.view_is c.self.invariant.1 c.self.invariant.0 c.serving-key.ensures c.slot.ensures.value c.slot.ensures.within c.index_mut-held.ensures.value c.args.beat.now.resp c.requires
+    c.on_b.ensures (c.is_some-found.ensures ∙ ap is_some c.old_value.ensures.value)).changes c.answer.new.flight c.answer.ensures.state c.answer.ensures.laws
 
 pub invariant_of-self : goal.invariant_of-self
 invariant_of-self c = ((changed c).sound, (changed c).kept)

@@ -15,41 +15,30 @@ serving-key-requires c =
     holder_apart (kept_table i.config i.map i.flight i.held.items) c.args.self.now c.args.beat.now.id (AwaitsBeat i.config.axi_bytes c.args.beat.now) c.self.view_is awaits
 
 pub on_r-requires : goal.on_r-requires
-on_r-requires c =
-    let i = c.self.inside in
-    read_fits (kept_table i.config i.map i.flight i.held.items) c.args.self.now c.args.beat.now c.serving-key.result c.slot.result c.index_mut-held.result.now c.self.view_is c.self.invariant.1 c.self.invariant.0 c.serving-key.ensures
-    c.requires (record { same = c.slot.ensures.value; few = c.slot.ensures.within; held_is = c.index_mut-held.ensures.value })
+on_r-requires c = read_fits c.args.beat.now c.self.view_is c.self.invariant.1 c.self.invariant.0 c.serving-key.ensures c.slot.ensures.value c.slot.ensures.within c.index_mut-held.ensures.value c.requires
 
 pub answer-requires-clause-live : goal.answer-requires-clause-live
 answer-requires-clause-live c =
-    let i = c.self.inside in
-    ((beat_reads (kept_table i.config i.map i.flight i.held.items) c.args.self.now c.args.beat.now c.serving-key.result c.slot.result c.index_mut-held.result.now c.on_r.new.self c.is_some-found.result
-    c.self.view_is c.self.invariant.1 c.self.invariant.0 c.serving-key.ensures c.requires (record { same = c.slot.ensures.value; few = c.slot.ensures.within; held_is = c.index_mut-held.ensures.value }) c.on_r.ensures
+    ((beat_reads c.args.beat.now c.self.view_is c.self.invariant.1 c.self.invariant.0 c.serving-key.ensures c.slot.ensures.value c.slot.ensures.within c.index_mut-held.ensures.value c.requires c.on_r.ensures
     (c.is_some-found.ensures ∙ ap is_some c.old_value.ensures.value)).answers c.if-beat.true).live
 
 pub answer-requires-clause-unanswered : goal.answer-requires-clause-unanswered
 answer-requires-clause-unanswered c =
-    let i = c.self.inside in
-    ((beat_reads (kept_table i.config i.map i.flight i.held.items) c.args.self.now c.args.beat.now c.serving-key.result c.slot.result c.index_mut-held.result.now c.on_r.new.self c.is_some-found.result
-    c.self.view_is c.self.invariant.1 c.self.invariant.0 c.serving-key.ensures c.requires (record { same = c.slot.ensures.value; few = c.slot.ensures.within; held_is = c.index_mut-held.ensures.value }) c.on_r.ensures
+    ((beat_reads c.args.beat.now c.self.view_is c.self.invariant.1 c.self.invariant.0 c.serving-key.ensures c.slot.ensures.value c.slot.ensures.within c.index_mut-held.ensures.value c.requires c.on_r.ensures
     (c.is_some-found.ensures ∙ ap is_some c.old_value.ensures.value)).answers c.if-beat.true).unanswered
 
 changed : (c : goal.After-answer) → IsChanged (kept_table c.self.inside.config c.self.inside.map c.self.inside.flight c.self.inside.held.items)
     (kept_table c.self.inside.config c.self.inside.map c.answer.new.flight (set c.self.inside.held.items c.slot.result c.on_r.new.self)) (holds_id c.args.beat.now.id)
     (after_read c.self.inside.config.axi_bytes c.args.beat.now)
 changed c =
-    let i = c.self.inside in
-    ((beat_reads (kept_table i.config i.map i.flight i.held.items) c.args.self.now c.args.beat.now c.serving-key.result c.slot.result c.index_mut-held.result.now c.on_r.new.self c.is_some-found.result
-    c.self.view_is c.self.invariant.1 c.self.invariant.0 c.serving-key.ensures c.requires (record { same = c.slot.ensures.value; few = c.slot.ensures.within; held_is = c.index_mut-held.ensures.value }) c.on_r.ensures
+    ((beat_reads c.args.beat.now c.self.view_is c.self.invariant.1 c.self.invariant.0 c.serving-key.ensures c.slot.ensures.value c.slot.ensures.within c.index_mut-held.ensures.value c.requires c.on_r.ensures
     (c.is_some-found.ensures ∙ ap is_some c.old_value.ensures.value)).answers c.if-beat.true).changes c.answer.new.flight c.answer.ensures.state c.answer.ensures.laws
 
 counted : (c : goal.Else-beat) → IsChanged (kept_table c.self.inside.config c.self.inside.map c.self.inside.flight c.self.inside.held.items)
     (kept_table c.self.inside.config c.self.inside.map c.self.inside.flight (set c.self.inside.held.items c.slot.result c.on_r.new.self)) (holds_id c.args.beat.now.id)
     (after_read c.self.inside.config.axi_bytes c.args.beat.now)
 counted c =
-    let i = c.self.inside in
-    (beat_reads (kept_table i.config i.map i.flight i.held.items) c.args.self.now c.args.beat.now c.serving-key.result c.slot.result c.index_mut-held.result.now c.on_r.new.self c.is_some-found.result
-    c.self.view_is c.self.invariant.1 c.self.invariant.0 c.serving-key.ensures c.requires (record { same = c.slot.ensures.value; few = c.slot.ensures.within; held_is = c.index_mut-held.ensures.value }) c.on_r.ensures
+    (beat_reads c.args.beat.now c.self.view_is c.self.invariant.1 c.self.invariant.0 c.serving-key.ensures c.slot.ensures.value c.slot.ensures.within c.index_mut-held.ensures.value c.requires c.on_r.ensures
     (c.is_some-found.ensures ∙ ap is_some c.old_value.ensures.value)).more c.if-beat.false
 
 pub invariant_of-self : goal.invariant_of-self

@@ -1,17 +1,15 @@
 -- The request that goes next is found with what is kept of it, and its burst is filled from that.
-use Rattle.std.proofs.Common.{◌≡◌, Bool, true, Option, None, Some, sym, ◌∙◌, ap, subst}
+use Rattle.std.proofs.Common.{◌≡◌, Bool, true, Option, None, Some, sym, ◌∙◌, ap, refl, subst}
 use Rattle.std.specs.Prelude.{IfSome, option_map}
 use Rattle.std.proofs.lemmas.Option.{same_Some}
 use Rattle.axi_beats.specs.Bursts.{Burst}
 use Rattle.burst_plan.specs.Pieces.{PlannedRange}
-use Rattle.burst_plan.specs.PlannedBursts.{write_of}
 use Rattle.burst_plan.specs.declared.Piece.{Piece}
-use Rattle.flight_table.specs.LiveRequests.{LiveRequest, next_burst}
+use Rattle.flight_table.specs.LiveRequests.{next_burst}
 use Rattle.flight_table.specs.Order.{is_ready}
 use Rattle.flight_table.specs.Tables.{request_at, table_of}
-use Rattle.bridge_core.specs.Inside.{CanFill, HeldRequest, IsFirstAt, bridged, bytes_held, held_in, kept_table, shown_table}
-use Rattle.bridge_core.specs.Requests.{RequestTable, with_sent_burst}
-use Rattle.bridge_core.specs.Sending.{Sending, burst_of_piece, next_sending}
+use Rattle.bridge_core.specs.Inside.{CanFill, HeldRequest, IsFirstAt, bridged, held_in, kept_table}
+use Rattle.bridge_core.specs.Sending.{burst_of_piece, next_sending}
 use Rattle.bridge_core.proofs.BurstsToSend.{IsGoing, IsSentTable, can_fill, going, none_ready, sent_table, some_ready}
 use Rattle.bridge_core.proofs.TableSteps.{first_at, held_at}
 use Rattle.bridge_core.proofs.requests.RequestTable.send.Goals.{else-is_write, then-is_write}
@@ -76,9 +74,7 @@ pub returns-in_err-key-clause-table : goal.returns-in_err-key-clause-table
 returns-in_err-key-clause-table c = rw (none_goes c) tt
 
 pub returns-clause-burst : goal.returns-clause-burst
-returns-clause-burst c =
-    subst (λ (t : RequestTable). ◌≡◌ {A = Option (Option Burst)} (Some c.if-is_write.burst) (option_map (λ (sending : Sending). Some sending.burst) (next_sending t))) c.self.view_is
-    (rw (goes c).sending (ap (λ (burst : Option Burst). Some burst) by_branch))
+returns-clause-burst c = rw (← c.self.view_is, (goes c).sending) (ap (λ (burst : Option Burst). Some burst) by_branch)
   where
     one : HeldRequest
     one = held_in c.self.inside.held.items c.in_ok-key.key
@@ -87,24 +83,16 @@ returns-clause-burst c =
     by_branch =
         elim c.if-is_write.branch [
           | then-is_write w ↦
-              w.burst-is ∙ w.fill.ensures
-              ∙ ap (λ (h : HeldRequest). Some (write_of c.unwrap-plan.result.bus_bytes c.sent-id.result (bytes_held h) c.unwrap-plan.result.address c.next_piece-piece.result))
-              (held_at (kept_table c.self.inside.config c.self.inside.map c.self.inside.flight c.self.inside.held.items) c.in_ok-key.key c.slot-slot.result w.index.result.now c.self.invariant.1 c.slot-slot.ensures.value
-              c.slot-slot.ensures.within w.index.ensures)
-              ∙ ap (λ b. Some (burst_of_piece c.sent-id.result (bridged (goes c).request one) c.unwrap-plan.result (b, c.next_piece-piece.result))) (sym w.if-is_write.true)
-          | else-is_write w ↦
-              w.burst-is ∙ w.set_read.ensures
-              ∙ ap (λ b. Some (burst_of_piece c.sent-id.result (bridged (goes c).request one) c.unwrap-plan.result (b, c.next_piece-piece.result))) (sym w.if-is_write.false)
+              let i = c.self.inside in
+              let there = held_at (kept_table i.config i.map i.flight i.held.items) c.in_ok-key.key c.slot-slot.result w.index.result.now c.self.invariant.1 c.slot-slot.ensures.value c.slot-slot.ensures.within w.index.ensures in
+              w.burst-is ∙ w.fill.ensures ∙ rw (there, w.if-is_write.true) refl
+          | else-is_write w ↦ w.burst-is ∙ w.set_read.ensures ∙ rw w.if-is_write.false refl
         ]
 
 pub returns-clause-table : goal.returns-clause-table
 returns-clause-table c =
-    subst (λ (t : RequestTable). IfSome (next_sending t) (λ sending. shown_table (kept_table c.self.inside.config c.self.inside.map c.sent-id.new.self c.self.inside.held.items) ≡ with_sent_burst sending.request.flight.number sending.id t))
-    c.self.view_is
-    (rw (goes c).sending ((sent c).table ∙ ap (λ (r : LiveRequest). with_sent_burst r.number c.sent-id.result (shown_table (kept_table c.self.inside.config c.self.inside.map c.self.inside.flight c.self.inside.held.items))) same))
-  where
-    same : (first c).request ≡ (goes c).request
-    same = same_Some (first c).request (goes c).request (sym (first c).named ∙ (goes c).named)
+    let same : (first c).request ≡ (goes c).request = same_Some (first c).request (goes c).request (sym (first c).named ∙ (goes c).named) in
+    rw (← c.self.view_is, (goes c).sending, ← same) (sent c).table
 
 pub returns-clause-laws : goal.returns-clause-laws
 returns-clause-laws c = (sent c).sound
