@@ -233,21 +233,34 @@ fn shows(device: &Device, event: Event) -> bool {
     }
 }
 
+/// The B of an ID that an event asks for.
+fn b_of(id: u8, wanted: Option<Resp>) -> Option<BBeat> {
+    match wanted {
+        Some(resp) => Some(BBeat { id, resp }),
+        None => None,
+    }
+}
+
+/// The same of an R.
+fn r_of(id: u8, wanted: Option<(u64, Resp, bool)>) -> Option<RBeat> {
+    match wanted {
+        Some((payload, resp, last)) => Some(RBeat {
+            id,
+            payload,
+            resp,
+            last,
+        }),
+        None => None,
+    }
+}
+
 /// Whether the answer is the one that the event has to give.
 fn carries(alloc: Global, device: &mut Device, event: Event) -> bool {
     match event {
         Send(burst, wanted) => send(alloc, device, burst) == Some(wanted),
         Perform(serial, beat, wanted) => device.perform(serial, beat) == wanted,
-        B(id, wanted) => device.answer_b(id) == wanted.map(|resp| BBeat { id, resp }),
-        R(id, wanted) => {
-            device.answer_r(id)
-                == wanted.map(|(payload, resp, last)| RBeat {
-                    id,
-                    payload,
-                    resp,
-                    last,
-                })
-        }
+        B(id, wanted) => device.answer_b(id) == b_of(id, wanted),
+        R(id, wanted) => device.answer_r(id) == r_of(id, wanted),
         Take(wanted) => holds_expected(device.take_closed().as_ref(), wanted),
         event => shows(device, event),
     }
