@@ -571,7 +571,7 @@ impl Driven for BridgeBench {
                 offered(self.bridge.offer(client, &a_beat(beat))) == answer
             }
             Read(serial, _, _, _, _) | Write(serial, _, _, _, _) => {
-                self.sends(serial) && self.burst.as_ref().is_some_and(|burst| holds(burst, event))
+                self.sends(serial) && self.has_sent(event)
             }
             B(id, resp) => self.bridge.on_b(&BBeat { id, resp }).is_ok(),
             R(id, payload, resp) => self.bridge.on_r(&r_beat(id, payload, resp, false)).is_ok(),
@@ -599,6 +599,14 @@ impl BridgeBench {
         true
     }
 
+    /// Whether the burst that went last is the one that an event tells of.
+    fn has_sent(&self, event: Event) -> bool {
+        match &self.burst {
+            Some(burst) => holds(burst, event),
+            None => false,
+        }
+    }
+
     /// Whether no burst goes.
     fn is_idle(&mut self) -> bool {
         !self.bridge.can_pump() && self.bridge.pump_box().is_none()
@@ -607,10 +615,10 @@ impl BridgeBench {
     /// Whether the bridge shows what an event tells.
     fn sees(&mut self, event: Event) -> bool {
         match event {
-            Data(k, payload, strobes) => self
-                .burst
-                .as_ref()
-                .is_some_and(|burst| holds_data(burst, k, payload, strobes)),
+            Data(k, payload, strobes) => match &self.burst {
+                Some(burst) => holds_data(burst, k, payload, strobes),
+                None => false,
+            },
             Idle => self.is_idle(),
             FirstDone(client, done) => self.bridge.first_done(client) == done,
             InFlight(count) => self.bridge.in_flight() == count,

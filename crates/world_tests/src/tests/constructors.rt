@@ -120,7 +120,7 @@ fn a_run(rt: HostRuntime) -> Result<(), Fail> {
 }
 
 /// The scripts that drive a world.
-const SCRIPTS: [&[Script]; 7] = [
+const SCRIPTS: &[&[Script]] = &[
     offers::SCRIPTS,
     requests::SCRIPTS,
     order::SCRIPTS,
@@ -139,11 +139,27 @@ fn made(alloc: Global, script: &Script) -> Result<WorldBench, SetupFault> {
     }
 }
 
+/// The world of each of some scripts, driven by it or not; the first that doesn't carry its script.
+fn first_failing(
+    alloc: Global,
+    scripts: &[Script],
+    driven: bool,
+) -> Result<Option<&'static str>, SetupFault> {
+    for script in scripts {
+        let mut bench = made(alloc, script)?;
+        let events = if driven { script.events } else { &[] };
+        if carried_by(&mut bench, events) != events.len() {
+            return Ok(Some(script.name));
+        }
+    }
+    Ok(None)
+}
+
 /// Each script's world, of which nothing is asked.
 #[test]
 fn worlds_alone(rt: HostRuntime) -> Result<(), Fail> {
-    for script in SCRIPTS.iter().flat_map(|scripts| scripts.iter()) {
-        made(rt.alloc(), script)?;
+    for scripts in SCRIPTS {
+        first_failing(rt.alloc(), *scripts, false)?;
     }
     Ok(())
 }
@@ -151,10 +167,8 @@ fn worlds_alone(rt: HostRuntime) -> Result<(), Fail> {
 /// Each script's world, driven by it. It asks for no more memory than its world did.
 #[test]
 fn worlds_driven(rt: HostRuntime) -> Result<(), Fail> {
-    for script in SCRIPTS.iter().flat_map(|scripts| scripts.iter()) {
-        let mut bench = made(rt.alloc(), script)?;
-        let carried = carried_by(&mut bench, script.events);
-        assert_eq!(rt; carried, script.events.len(), "{}", script.name);
+    for scripts in SCRIPTS {
+        assert_eq!(rt; first_failing(rt.alloc(), *scripts, true)?, None);
     }
     Ok(())
 }

@@ -119,10 +119,8 @@ fn store(bytes: &mut Vec<u8>, address: u32, word: u64, mask: u8) {
     let mut lanes = mask;
     for k in 0..8u32 {
         let place = address.wrapping_add(k) as usize;
-        if lanes % 2 == 1 {
-            if let Some(byte) = bytes.get_mut(place) {
-                *byte = (rest % 256) as u8;
-            }
+        if lanes % 2 == 1 && place < bytes.len() {
+            bytes[place] = (rest % 256) as u8;
         }
         lanes /= 2;
         rest /= 256;
@@ -227,9 +225,7 @@ fn next_beat(client: u8, at: Client, spread: bool) -> ABeat {
 
 /// A client offers its next beat, with this payload where it has data and wasn't offered before.
 fn offer_next(race: &mut Race, client: u8, x: u64) -> bool {
-    let Some(at) = race.clients.get(usize::from(client)).copied() else {
-        return false;
-    };
+    let at = race.clients[usize::from(client % 2)];
     let payload = if place(at) == 1 {
         0
     } else {
@@ -257,9 +253,7 @@ fn offer_next(race: &mut Race, client: u8, x: u64) -> bool {
         },
         _ => return false,
     };
-    if let Some(kept) = race.clients.get_mut(usize::from(client)) {
-        *kept = next;
-    }
+    race.clients[usize::from(client % 2)] = next;
     true
 }
 
@@ -294,8 +288,12 @@ fn take_next(race: &mut Race, client: u8) -> bool {
             let Some(kept) = race.replayer.expected.get_mut(number as usize) else {
                 return false;
             };
-            let expected = kept.take();
-            expected.is_some_and(|e| e.client == client && is_expected(&race.bench.reply, e))
+            match kept.take() {
+                Some(expected) => {
+                    expected.client == client && is_expected(&race.bench.reply, expected)
+                }
+                None => false,
+            }
         }
         _ => false,
     }
@@ -358,10 +356,13 @@ fn takes_the_rest(race: &mut Race) -> bool {
 
 /// The first byte of the four pages that isn't the replayer's.
 fn first_other(race: &Race) -> Option<u32> {
-    (0..BYTES).find(|k| {
-        let byte = race.replayer.bytes.get(*k as usize).copied();
-        byte.is_none() || race.bench.world.byte(0x10000u32.wrapping_add(*k)) != byte
-    })
+    for k in 0..BYTES {
+        let byte = race.replayer.bytes.get(k as usize).copied();
+        if byte.is_none() || race.bench.world.byte(0x10000u32.wrapping_add(k)) != byte {
+            return Some(k);
+        }
+    }
+    None
 }
 
 /// Whether so many turns go as they must, so many replies are taken, and a drain makes so many steps.

@@ -1,5 +1,5 @@
 //! Beats of an AXI4 port by lot, near what its model takes.
-use super::axi_port::{Address, Open, PlainPort, Side, covered, crosses, is_at_last};
+use super::axi_port::{Address, Open, PlainPort, Side, covered, crosses, is_at_last, oldest};
 use super::lot::Lot;
 use axi_beats::{BBeat, RBeat, Resp, WBeat};
 
@@ -15,15 +15,11 @@ fn page(lot: &mut Lot) -> u32 {
 /// An address beat that breaks no rule but for its ID's depth.
 fn legal_address(lot: &mut Lot, plain: &PlainPort) -> Address {
     let most = if plain.bus_bytes == 4 { 3 } else { 4 };
-    let len = if lot.once_in(200) {
-        lot.byte()
-    } else {
-        lot.byte_below(4)
-    };
+    let (long, short, is_long) = (lot.byte(), lot.byte_below(4), lot.once_in(200));
     let at = Address {
         id: lot.byte_below(plain.ids),
         address: page(lot) | lot.below(4096),
-        len,
+        len: if is_long { long } else { short },
         size: lot.byte_below(most),
         burst: 1,
     };
@@ -34,65 +30,61 @@ fn legal_address(lot: &mut Lot, plain: &PlainPort) -> Address {
     }
 }
 
-/// An address beat of an ID that has a burst on that side, if there is one.
-fn same_id(lot: &mut Lot, side: &[Open], at: Address) -> Address {
-    match one_open(lot, side) {
-        Some(open) => Address {
-            id: open.at.id,
-            ..at
-        },
-        None => at,
-    }
-}
-
+/// The same with another field: a size, a kind, an end behind its page, an ID that the port hasn't, or that of a burst of this
+/// side.
 fn spoiled_address(lot: &mut Lot, plain: &PlainPort, side: Side, at: Address) -> Address {
-    match lot.below(6) {
+    let (kind, any, few) = (lot.below(6), lot.byte(), lot.byte_below(4));
+    let no_id = lot.byte_below(240).saturating_add(plain.ids);
+    let same = match one_open(lot, plain.open_of(side)) {
+        Some(open) => open.at.id,
+        None => at.id,
+    };
+    match kind {
         0 => Address {
-            size: lot.byte_below(4).saturating_add(2),
+            size: few.saturating_add(2),
             ..at
         },
-        1 => Address {
-            size: lot.byte(),
-            ..at
-        },
+        1 => Address { size: any, ..at },
         2 => Address {
-            burst: lot.one_of(&[0, 2, 3, 0xff]),
+            burst: few.wrapping_sub(2),
             ..at
         },
         3 => Address {
             address: at.address | 0xff8,
-            len: lot.byte_below(4),
+            len: few,
             ..at
         },
-        4 => Address {
-            id: lot.byte_below(240).saturating_add(plain.ids),
-            ..at
-        },
-        _ => same_id(lot, plain.open_of(side), at),
+        4 => Address { id: no_id, ..at },
+        _ => Address { id: same, ..at },
+    }
+}
+
+/// An address beat whose fields are all by lot.
+fn any_address(lot: &mut Lot) -> Address {
+    Address {
+        id: lot.byte_below(32),
+        address: lot.address(),
+        len: lot.byte(),
+        size: lot.byte_below(5),
+        burst: lot.byte_below(3),
     }
 }
 
 /// An address beat for a side: legal, with a field or two that aren't, or all by lot.
 pub(super) fn draw_address(lot: &mut Lot, plain: &PlainPort, side: Side) -> Address {
-    let legal = legal_address(lot, plain);
-    match lot.below(16) {
-        0..6 => legal,
-        15 => Address {
-            id: lot.byte_below(32),
-            address: lot.address(),
-            len: lot.byte(),
-            size: lot.byte_below(5),
-            burst: lot.byte_below(3),
-        },
-        kind => {
-            let once = spoiled_address(lot, plain, side, legal);
-            if kind < 13 {
-                once
-            } else {
-                spoiled_address(lot, plain, side, once)
-            }
-        }
+    let spoils = lot.below(16);
+    if spoils == 15 {
+        return any_address(lot);
     }
+    let legal = legal_address(lot, plain);
+    if spoils < 6 {
+        return legal;
+    }
+    let once = spoiled_address(lot, plain, side, legal);
+    if spoils < 13 {
+        return once;
+    }
+    spoiled_address(lot, plain, side, once)
 }
 
 /// One of the bursts of a side.
@@ -104,38 +96,39 @@ fn one_open(lot: &mut Lot, side: &[Open]) -> Option<Open> {
 /// A W beat that breaks no rule as the next of a burst.
 pub(super) fn legal_data(lot: &mut Lot, open: &Open, bus_bytes: u8) -> WBeat {
     let covered = covered(open.at, open.came, bus_bytes);
+    let (lanes, is_full) = (lot.byte(), lot.once_in(2));
     WBeat {
         payload: lot.word(),
-        strobes: if lot.once_in(2) {
-            covered
-        } else {
-            covered & lot.byte()
-        },
+        strobes: if is_full { covered } else { covered & lanes },
         last: is_at_last(open),
     }
 }
 
 /// A W beat: legal after another, with a field that isn't, or all by lot.
 pub(super) fn spoiled_data(lot: &mut Lot, beat: WBeat) -> WBeat {
-    match lot.below(8) {
-        0..3 => WBeat {
-            strobes: beat.strobes ^ lot.lane(),
-            ..beat
-        },
+    let kind = lot.below(8);
+    let strobes = beat.strobes ^ lot.lane();
+    match kind {
+        0..3 => WBeat { strobes, ..beat },
         3..6 => WBeat {
             last: !beat.last,
             ..beat
         },
         6 => WBeat {
-            strobes: beat.strobes ^ lot.lane(),
+            strobes,
             last: !beat.last,
             ..beat
         },
-        _ => WBeat {
-            payload: lot.word(),
-            strobes: lot.byte(),
-            last: lot.once_in(2),
-        },
+        _ => any_data(lot),
+    }
+}
+
+/// A W beat whose fields are all by lot.
+pub(super) fn any_data(lot: &mut Lot) -> WBeat {
+    WBeat {
+        payload: lot.word(),
+        strobes: lot.byte(),
+        last: lot.once_in(2),
     }
 }
 
@@ -150,14 +143,17 @@ fn any_resp(lot: &mut Lot) -> Resp {
 
 /// An ID: of a burst of this side, of any that the port has, or of any at all.
 fn answer_id(lot: &mut Lot, plain: &PlainPort, side: &[Open]) -> u8 {
-    match lot.below(8) {
-        0 => lot.byte_below(240).saturating_add(plain.ids),
-        1 => lot.byte_below(plain.ids),
-        2 => lot.byte_below(32),
-        _ => match one_open(lot, side) {
-            Some(open) => open.at.id,
-            None => lot.byte_below(plain.ids),
-        },
+    let (kind, any) = (lot.below(8), lot.byte_below(240));
+    let of_port = lot.byte_below(plain.ids);
+    let open = match one_open(lot, side) {
+        Some(open) => open.at.id,
+        None => of_port,
+    };
+    match kind {
+        0 => any.saturating_add(plain.ids),
+        1 => of_port,
+        2 => any % 32,
+        _ => open,
     }
 }
 
@@ -172,8 +168,10 @@ pub(super) fn draw_b(lot: &mut Lot, plain: &PlainPort) -> BBeat {
 /// An R beat, which may break any rule that an R can.
 pub(super) fn draw_r(lot: &mut Lot, plain: &PlainPort) -> RBeat {
     let id = answer_id(lot, plain, plain.reads.as_slice());
-    let oldest = plain.reads.iter().find(|open| open.at.id == id);
-    let last = oldest.is_some_and(is_at_last);
+    let last = match oldest(plain.reads.as_slice(), id) {
+        Some((_, open)) => is_at_last(&open),
+        None => false,
+    };
     RBeat {
         id,
         payload: lot.word(),

@@ -195,9 +195,16 @@ pub(super) fn is_at_last(open: &Open) -> bool {
     open.came == u16::from(open.at.len)
 }
 
-/// The place of the oldest burst of an ID.
-pub(super) fn oldest(side: &[Open], id: u8) -> Option<usize> {
-    side.iter().position(|open| open.at.id == id)
+/// The place of the oldest burst of an ID, and the burst.
+pub(super) fn oldest(side: &[Open], id: u8) -> Option<(usize, Open)> {
+    let mut place = 0usize;
+    for open in side {
+        if open.at.id == id {
+            return Some((place, *open));
+        }
+        place = place.saturating_add(1);
+    }
+    None
 }
 
 /// The burst at a place is outstanding no more.
@@ -209,8 +216,8 @@ fn close(side: &mut Vec<Open>, place: usize) {
 
 /// One more beat came of the burst at a place.
 fn fill(side: &mut Vec<Open>, place: usize) {
-    if let Some(open) = side.get_mut(place) {
-        open.came = open.came.saturating_add(1);
+    if place < side.len() {
+        side[place].came = side[place].came.saturating_add(1);
     }
 }
 
@@ -277,9 +284,16 @@ impl PlainPort {
         Ok(())
     }
 
-    /// The place of the oldest write that lacks data.
-    pub(super) fn to_fill(&self) -> Option<usize> {
-        self.writes.iter().position(lacks_beats)
+    /// The place of the oldest write that lacks data, and the write.
+    pub(super) fn to_fill(&self) -> Option<(usize, Open)> {
+        let mut place = 0usize;
+        for open in self.writes.as_slice() {
+            if lacks_beats(open) {
+                return Some((place, *open));
+            }
+            place = place.saturating_add(1);
+        }
+        None
     }
 
     /// A write is outstanding, of which so many data came.
@@ -309,8 +323,9 @@ impl PlainPort {
 
     /// The same of a write's data.
     pub(super) fn w(&mut self, beat: &WBeat) -> Result<(), AxiRule> {
-        let place = self.to_fill().ok_or(AxiRule::WWithoutAw)?;
-        let open = self.writes.get(place).ok_or(AxiRule::WWithoutAw)?;
+        let Some((place, open)) = self.to_fill() else {
+            return Err(AxiRule::WWithoutAw);
+        };
         self.data_fault(open.at, open.came, beat)?;
         fill(&mut self.writes, place);
         Ok(())
@@ -321,8 +336,10 @@ impl PlainPort {
         if beat.id >= self.ids {
             return Err(AxiRule::IdRange);
         }
-        let place = oldest(self.writes.as_slice(), beat.id).ok_or(AxiRule::BWithoutWrite)?;
-        if self.writes.get(place).is_none_or(lacks_beats) {
+        let Some((place, open)) = oldest(self.writes.as_slice(), beat.id) else {
+            return Err(AxiRule::BWithoutWrite);
+        };
+        if lacks_beats(&open) {
             return Err(AxiRule::BWithoutWrite);
         }
         if beat.resp == Resp::ExOkay {
@@ -337,8 +354,10 @@ impl PlainPort {
         if beat.id >= self.ids {
             return Err(AxiRule::IdRange);
         }
-        let place = oldest(self.reads.as_slice(), beat.id).ok_or(AxiRule::RWithoutRead)?;
-        let is_last = self.reads.get(place).is_some_and(is_at_last);
+        let Some((place, open)) = oldest(self.reads.as_slice(), beat.id) else {
+            return Err(AxiRule::RWithoutRead);
+        };
+        let is_last = is_at_last(&open);
         if beat.last != is_last {
             return Err(AxiRule::RLast);
         }

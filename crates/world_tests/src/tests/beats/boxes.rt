@@ -1,6 +1,6 @@
 //! The boxes that a memory is sent.
 use super::axi_draws::{draw_address, legal_data, spoiled_data};
-use super::axi_port::{Address, Open, PlainPort, Side, ar_of, aw_of};
+use super::axi_port::{Address, Open, PlainPort, Side, ar_of, aw_of, oldest};
 use super::lot::Lot;
 use super::tally::{Named, Tally};
 use axi_beats::{BBeat, BurstBox, RBeat, WBeat};
@@ -184,10 +184,13 @@ fn send_one(lot: &mut Lot, bench: &mut Bench, tally: &mut Tally) -> Option<bool>
         Ok(()) => {
             open(bench, side, at);
             tally.count(side);
+            Some(answer == Ok(serial))
         }
-        Err(rule) => tally.count(side | rule.number()),
+        Err(rule) => {
+            tally.count(side | rule.number());
+            Some(answer == Err(rule))
+        }
     }
-    Some(answer == wanted.map(|()| serial))
 }
 
 /// Performs a beat that waits, if there is one.
@@ -205,8 +208,10 @@ fn perform(lot: &mut Lot, bench: &mut Bench) -> bool {
 
 /// The model takes a B of the memory, which answers so many beats; whether it breaks no rule.
 fn take_b(bench: &mut Bench, beat: &BBeat) -> bool {
-    let oldest = bench.plain.writes.iter().find(|open| open.at.id == beat.id);
-    let beats = oldest.map_or(0, |open| u64::from(open.came));
+    let beats = match oldest(bench.plain.writes.as_slice(), beat.id) {
+        Some((_, open)) => u64::from(open.came),
+        None => 0,
+    };
     bench.counts.waiting = bench.counts.waiting.saturating_sub(beats);
     bench.counts.answers = bench.counts.answers.saturating_sub(1);
     bench.plain.b(beat).is_ok()
@@ -230,7 +235,15 @@ fn answer(bench: &mut Bench, id: u8) -> bool {
             }
         }
     }
-    b.is_none_or(|beat| take_b(bench, &beat)) && r.is_none_or(|beat| take_r(bench, &beat))
+    if let Some(beat) = b {
+        if !take_b(bench, &beat) {
+            return false;
+        }
+    }
+    match r {
+        Some(beat) => take_r(bench, &beat),
+        None => true,
+    }
 }
 
 /// What the memory shows.

@@ -1,5 +1,5 @@
 //! The beats of an AXI4 port.
-use super::axi_draws::{draw_address, draw_b, draw_r, legal_data, spoiled_data};
+use super::axi_draws::{any_data, draw_address, draw_b, draw_r, legal_data, spoiled_data};
 use super::axi_port::{PlainPort, Side, ar_of, aw_of};
 use super::lot::Lot;
 use super::tally::{Named, Tally};
@@ -63,19 +63,15 @@ type Answers = (Result<(), AxiRule>, Result<(), AxiRule>);
 
 /// A W beat near what the model takes.
 fn draw_data(lot: &mut Lot, plain: &PlainPort) -> WBeat {
-    let next = plain.to_fill().and_then(|place| plain.writes.get(place));
-    let legal = match next {
-        Some(open) => legal_data(lot, open, plain.bus_bytes),
-        None => WBeat {
-            payload: lot.word(),
-            strobes: lot.byte(),
-            last: lot.once_in(2),
-        },
+    let spoils = lot.once_in(2);
+    let Some((_, open)) = plain.to_fill() else {
+        return any_data(lot);
     };
-    if lot.once_in(2) {
-        legal
-    } else {
+    let legal = legal_data(lot, &open, plain.bus_bytes);
+    if spoils {
         spoiled_data(lot, legal)
+    } else {
+        legal
     }
 }
 

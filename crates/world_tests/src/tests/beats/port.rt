@@ -167,10 +167,10 @@ impl PlainPort {
             TlRule::Mask => has_wrong_mask(beat),
             TlRule::Corrupt => !has_data(beat) && beat.corrupt,
             TlRule::SourceBusy => busy,
-            TlRule::BurstControl => self
-                .beats
-                .first()
-                .is_some_and(|first| !is_alike(beat, first)),
+            TlRule::BurstControl => match self.beats.first() {
+                Some(first) => !is_alike(beat, first),
+                None => false,
+            },
             _ => false,
         }
     }
@@ -248,32 +248,33 @@ fn is_spelled(request: &Request, beats: &[ABeat]) -> bool {
 
 /// A first beat that breaks no rule.
 fn legal_first(lot: &mut Lot, plain: &PlainPort) -> ABeat {
-    let opcode = match plain.level {
-        Level::Ul => lot.one_of(&[0, 1, 4]),
-        Level::Uh => lot.byte_below(6),
-    };
-    let is_small = plain.level == Level::Ul || matches!(opcode, 2 | 3) || lot.once_in(2);
+    let (simple, any, small) = (lot.one_of(&[0, 1, 4]), lot.byte_below(6), lot.once_in(2));
+    let is_simple = plain.level == Level::Ul;
+    let opcode = if is_simple { simple } else { any };
+    let is_small = is_simple || matches!(opcode, 2 | 3) || small;
     let most = if is_small { 3 } else { plain.max_size };
     let size = lot.byte_below(most.saturating_add(1));
     let address = lot.address();
     let address = address.wrapping_sub(remainder(address, size));
     let full = full_mask(address, size);
+    let (lanes, corrupt) = (lot.byte(), lot.once_in(8));
     ABeat {
         opcode,
         param: lot.byte_below(largest_param(opcode).saturating_add(1)),
         size,
         source: lot.byte_below(4),
         address,
-        mask: if opcode == 1 { full & lot.byte() } else { full },
+        mask: if opcode == 1 { full & lanes } else { full },
         payload: lot.word(),
-        corrupt: opcode <= 3 && lot.once_in(8),
+        corrupt: opcode <= 3 && corrupt,
     }
 }
 
 /// A later beat that breaks no rule.
 fn legal_later(lot: &mut Lot, first: ABeat) -> ABeat {
+    let lanes = lot.byte();
     ABeat {
-        mask: if first.opcode == 1 { lot.byte() } else { 0xff },
+        mask: if first.opcode == 1 { lanes } else { 0xff },
         payload: lot.word(),
         corrupt: lot.once_in(8),
         ..first
@@ -282,17 +283,15 @@ fn legal_later(lot: &mut Lot, first: ABeat) -> ABeat {
 
 /// A beat whose fields are all by lot.
 fn any_beat(lot: &mut Lot) -> ABeat {
+    let (any, size, is_any) = (lot.byte(), lot.byte_below(14), lot.once_in(8));
+    let (lanes, is_full) = (lot.byte(), lot.once_in(2));
     ABeat {
         opcode: lot.byte_below(8),
         param: lot.byte_below(6),
-        size: if lot.once_in(8) {
-            lot.byte()
-        } else {
-            lot.byte_below(14)
-        },
+        size: if is_any { any } else { size },
         source: lot.byte_below(4),
         address: lot.address() & lot.address() & lot.address(),
-        mask: if lot.once_in(2) { lot.byte() } else { 0xff },
+        mask: if is_full { 0xff } else { lanes },
         payload: lot.word(),
         corrupt: lot.once_in(2),
     }
@@ -300,39 +299,40 @@ fn any_beat(lot: &mut Lot) -> ABeat {
 
 /// A first beat that breaks one of rules 1 to 8, or another where its port can't break that one.
 fn broken_first(lot: &mut Lot, beat: ABeat, max_size: u8) -> ABeat {
-    match lot.below(8) {
+    let (kind, lane) = (lot.below(8), lot.lane());
+    let (any, few) = (lot.byte_below(250), lot.byte_below(6).saturating_add(1));
+    let size = lot.byte_below(max_size.saturating_sub(3)).saturating_add(4);
+    let (data, no_data) = (lot.one_of(&[2, 3]), lot.one_of(&[4, 5]));
+    match kind {
         0 => ABeat {
-            opcode: lot.byte_below(250).saturating_add(6),
+            opcode: any.saturating_add(6),
             ..beat
         },
         1 => ABeat {
-            opcode: lot.one_of(&[2, 3, 5]),
+            opcode: data,
             ..beat
         },
         2 => ABeat {
-            size: lot.byte_below(4).saturating_add(max_size).saturating_add(1),
+            size: max_size.saturating_add(few),
             ..beat
         },
         3 => ABeat {
-            opcode: lot.one_of(&[2, 3]),
-            size: lot.byte_below(max_size.saturating_sub(3)).saturating_add(4),
+            opcode: data,
+            size,
             ..beat
         },
         4 => ABeat {
-            address: beat.address.wrapping_add(lot.below(7)).wrapping_add(1),
+            address: beat.address.wrapping_add(u32::from(few)),
             ..beat
         },
-        5 => ABeat {
-            param: lot.byte_below(6).saturating_add(1),
-            ..beat
-        },
+        5 => ABeat { param: few, ..beat },
         6 => ABeat {
-            mask: beat.mask ^ lot.lane(),
+            mask: beat.mask ^ lane,
             ..beat
         },
         _ => ABeat {
+            opcode: no_data,
             corrupt: true,
-            opcode: lot.one_of(&[4, 5]),
             ..beat
         },
     }
@@ -340,62 +340,61 @@ fn broken_first(lot: &mut Lot, beat: ABeat, max_size: u8) -> ABeat {
 
 /// A later beat with another field, which PutPartialData's mask may be.
 fn broken_later(lot: &mut Lot, beat: ABeat) -> ABeat {
-    match lot.below(6) {
+    let (kind, any, size, lane) = (lot.below(6), lot.byte(), lot.byte_below(13), lot.lane());
+    match kind {
         0 => ABeat {
             opcode: beat.opcode ^ 1,
             ..beat
         },
-        1 => ABeat {
-            param: lot.byte(),
-            ..beat
-        },
-        2 => ABeat {
-            size: lot.byte_below(13),
-            ..beat
-        },
+        1 => ABeat { param: any, ..beat },
+        2 => ABeat { size, ..beat },
         3 => ABeat {
-            source: lot.byte(),
+            source: any,
             ..beat
         },
         4 => ABeat {
-            address: beat.address ^ u32::from(lot.one_of(&[8, 16, 32, 64])),
+            address: beat.address ^ 8u32.wrapping_mul(u32::from(lane)),
             ..beat
         },
         _ => ABeat {
-            mask: beat.mask ^ lot.lane(),
+            mask: beat.mask ^ lane,
             ..beat
         },
     }
 }
 
-/// A beat: legal, with a field or two that aren't, or all by lot.
-fn draw(lot: &mut Lot, plain: &PlainPort) -> ABeat {
-    let first = plain.beats.first().copied();
-    let legal = match first {
-        Some(first) => legal_later(lot, first),
+/// A beat that breaks no rule.
+fn legal(lot: &mut Lot, plain: &PlainPort) -> ABeat {
+    match plain.beats.first() {
+        Some(first) => legal_later(lot, *first),
         None => legal_first(lot, plain),
-    };
-    let spoils = lot.below(16);
-    if spoils < 6 {
-        return legal;
-    }
-    if spoils == 15 {
-        return any_beat(lot);
-    }
-    let broken = spoil(lot, plain, legal);
-    if spoils < 13 {
-        broken
-    } else {
-        spoil(lot, plain, broken)
     }
 }
 
+/// The same with another field.
 fn spoil(lot: &mut Lot, plain: &PlainPort, beat: ABeat) -> ABeat {
     if plain.beats.is_empty() {
         broken_first(lot, beat, plain.max_size)
     } else {
         broken_later(lot, beat)
     }
+}
+
+/// A beat: legal, with a field or two that aren't, or all by lot.
+fn draw(lot: &mut Lot, plain: &PlainPort) -> ABeat {
+    let spoils = lot.below(16);
+    if spoils == 15 {
+        return any_beat(lot);
+    }
+    let legal = legal(lot, plain);
+    if spoils < 6 {
+        return legal;
+    }
+    let broken = spoil(lot, plain, legal);
+    if spoils < 13 {
+        return broken;
+    }
+    spoil(lot, plain, broken)
 }
 
 /// The place of an answer in the tally.

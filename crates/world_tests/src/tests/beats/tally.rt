@@ -19,13 +19,12 @@ impl Tally {
     }
 
     pub(super) fn count(&mut self, place: u8) {
-        if let Some(count) = self.counts.get_mut(usize::from(place)) {
-            *count = count.saturating_add(1);
-        }
+        let place = usize::from(place);
+        self.counts[place] = self.counts[place].saturating_add(1);
     }
 
     fn at(&self, place: u8) -> u64 {
-        self.counts.get(usize::from(place)).copied().unwrap_or(0)
+        self.counts[usize::from(place)]
     }
 
     /// The first answer that was given too seldom, and how often it was.
