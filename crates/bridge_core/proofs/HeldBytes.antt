@@ -1,6 +1,6 @@
 -- The bytes that are kept to be written, by operation, and how small an atomic's old value is.
-use Rattle.std.proofs.Common.{◌≡◌, ◌≢◌, ℕ, ◌*◌, ◌%◌, ◌^◌, ◌<◌, ◌≤◌, Bool, true, false, Option, Some, None, arith}
-use Rattle.std.specs.Prelude.{if◌then◌else◌, unwrap_or, option_map}
+use Rattle.std.proofs.Common.{◌≡◌, ◌≢◌, ℕ, ◌*◌, ◌%◌, ◌^◌, ◌<◌, ◌≤◌, true, arith}
+use Rattle.std.specs.Prelude.{unwrap_or}
 use Rattle.std.proofs.Math.Pow.{pow_mono}
 use Rattle.tl_messages.specs.Operations.{beats_of, has_data}
 use Rattle.tl_messages.specs.Requests.{WholeRequest}
@@ -8,7 +8,6 @@ use Rattle.tl_messages.specs.declared.AtomicOp.{AtomicOp}
 use Rattle.tl_messages.specs.declared.Operation.{Operation}
 use Rattle.tl_messages.specs.declared.Operation.TheVariants.{Atomic}
 use Rattle.data_unit.specs.Atomics.{modulus}
-use Rattle.data_unit.specs.Words.{operand_in}
 use Rattle.data_unit.proofs.WordLaws.{operand_in-lt}
 use Rattle.responses.specs.Gathered.{Gathering, old_value}
 use Rattle.responses.specs.declared.gather.Outline.{Outline}
@@ -19,15 +18,7 @@ modulus-some bytes = omega (arith, pow_mono {i = 0} {j = 8 * bytes} (omega arith
 
 -- the old value is a number of the operands' size
 pub old_small : (outline : Outline) (gathering : Gathering) → outline.size ≤ 3 → outline.address % 2 ^ outline.size ≡ 0 → unwrap_or (old_value outline gathering) 0 < modulus (2 ^ outline.size)
-old_small outline gathering small aligned = by_test _ _
-  where
-    by_word : (word : Option ℕ) → unwrap_or (option_map (λ w. operand_in w outline.address outline.size) word) 0 < modulus (2 ^ outline.size)
-    by_word None = modulus-some (2 ^ outline.size)
-    by_word (Some word) = operand_in-lt word outline.address outline.size small aligned
-
-    by_test : (b : Bool) (word : Option ℕ) → unwrap_or (if b then option_map (λ w. operand_in w outline.address outline.size) word else None) 0 < modulus (2 ^ outline.size)
-    by_test true word = by_word word
-    by_test false word = modulus-some (2 ^ outline.size)
+old_small outline gathering small aligned = grind (arith, modulus-some (2 ^ outline.size), λ (word : ℕ). operand_in-lt word outline.address outline.size small aligned)
 
 -- what isn't an atomic and has data writes the bytes that it gives
 pub put_bytes : (q : WholeRequest) (operation : Operation) (old : ℕ) → has_data operation ≡ true → ((op : AtomicOp) → operation ≢ Atomic op) → bytes_written q operation old ≡ q.bytes

@@ -1,5 +1,5 @@
 -- How many read transfers a live request has: those that its reply needs.
-use Rattle.std.proofs.Common.{◌≡◌, ℕ, zero, suc, ◌+◌, ◌*◌, ◌/◌, ◌%◌, ◌^◌, ◌<◌, ◌≤◌, min, max, Bool, true, false, List, [], refl, ap, sym, ◌∙◌, subst, arith}
+use Rattle.std.proofs.Common.{◌≡◌, ℕ, ◌+◌, ◌*◌, ◌/◌, ◌%◌, ◌^◌, ◌<◌, ◌≤◌, min, max, Bool, true, false, List, [], refl, ap, sym, ◌∙◌, subst, arith}
 use Rattle.std.specs.Prelude.{IfSome, None, Option, Some, if◌then◌else◌}
 use Rattle.std.proofs.lemmas.Bool.{and_parts}
 use Rattle.std.proofs.lemmas.Bool.Decides.{nat_tests}
@@ -37,8 +37,7 @@ pub record IsValidConfig (config : Config) : Type 0 where
   pub eight_bytes : 8 ≤ config.axi_bytes * config.max_len
 
 some_transfers : (len : ℕ) → is_max_len len ≡ true → 1 ≤ len
-some_transfers zero is = absurd (cc (is))
-some_transfers (suc len) is = omega arith
+some_transfers len is = grind (arith, nat_tests)
 
 pub config_parts : (config : Config) → is_valid config ≡ true → IsValidConfig config
 config_parts config valid =

@@ -114,9 +114,6 @@ reads_of_id id j b burst is = grind arith
 
 -- ---- the link
 
-same_number : (n : ℕ) → (n == n) ≡ true
-same_number n = eq-eqb n n refl
-
 -- the ID of the burst: the request holds it afterwards, and has one more outstanding
 linked-own : (id : ℕ) (live after : List BridgedRequest) (request : BridgedRequest) (open_bursts : OpenBursts) (range : PlannedRange) (burst : Bool × Piece) → IsLinked id live open_bursts
     → outstanding_of (holder id live) ≡ outstanding request.flight → came_of (holder id live) ≡ came_of_next request → IsPartWay (came_of_next request) (outstanding request.flight)
@@ -128,7 +125,7 @@ linked-own id live after request open_bursts range burst linked bursts came way 
           cc (
             writes_after open_bursts id request range burst,
             filter-append (write_of_id id) open_bursts.writes (open_writes id (burst ∷ [])),
-            writes_of_id id id true burst (same_number id),
+            writes_of_id id id true burst (eq-eqb id id refl),
             linked.writes,
             open_writes-append id (outstanding request.flight) burst,
           );
@@ -136,7 +133,7 @@ linked-own id live after request open_bursts range burst linked bursts came way 
           cc (
             reads_after open_bursts id request range burst,
             filter-append (read_of_id id) open_bursts.reads (open_reads id 0 (burst ∷ [])),
-            reads_of_id id id true burst (same_number id),
+            reads_of_id id id true burst (eq-eqb id id refl),
             linked.reads,
             open_reads-append id (came_of_next request) (outstanding request.flight) burst way,
           );
@@ -220,7 +217,7 @@ linked_sent state sending sound is id =
           rw (next.burst, ← same.1)
           (linked-own sending.id requests.live (after_sent state sending).requests.live sending.request state.open_bursts next.range (next.write, next.piece) (sound.linked sending.id) taken.bursts taken.came
           (next_served requests sending sound.requests next).next
-          (find-changed (holds sending.id) number (after_sending sending.id) requests.live sending.request by_number (same_number sending.id) taken.held)
+          (find-changed (holds sending.id) number (after_sending sending.id) requests.live sending.request by_number (eq-eqb sending.id sending.id refl) taken.held)
           (outstanding_sent sending.id sending.request (next.write, next.piece) (next_sound requests sending sound.requests next).answered next.next))
       | inr other ↦
           rw next.burst

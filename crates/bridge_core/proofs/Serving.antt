@@ -60,9 +60,6 @@ settled_both found r held is = rw is (grind arith)
 unsettled : (r : LiveRequest) (limits : TableLimits) (accepted : ℕ) → IsSoundRequest limits accepted r → r.answered < r.sent → is_settled r ≡ false
 unsettled r limits accepted sound less = lt-leb (length (planned r)) r.answered (omega (arith, less, sound.sent))
 
-settled_not : (request : BridgedRequest) → is_settled request.flight ≡ false → settled request ≡ request
-settled_not request is = rw is refl
-
 -- the step of a response
 pub step_response : (kept : KeptTable) (key : ℕ) (resp : Resp) (found : Bool) (r : LiveRequest) → is_valid kept.config ≡ true → Serving kept key (AwaitsAnswer true) r
     → found ≡ is_some (value_held (responded resp (held_in kept.helds key))) → IsStep kept (answered_flight found) (held_in kept.helds key) (responded resp (held_in kept.helds key)) (after_response resp) r
@@ -100,7 +97,7 @@ step_more kept key beat r valid serving last =
     record {
       bus = refl;
       same = rw (last, ← serving.bus)
-          (settled_not (bridged r (beat_held beat (held_in kept.helds key))) (unsettled r (table_limits_of kept.config) kept.flight.accepted serving.sound serving.known.awaits.unanswered));
+          (rw (unsettled r (table_limits_of kept.config) kept.flight.accepted serving.sound serving.known.awaits.unanswered) refl);
       served = λ served. read_served kept key beat r valid serving;
     }
 
