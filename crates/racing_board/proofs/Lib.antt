@@ -3,7 +3,6 @@ pub mod Acceptance
 pub mod AlikeBeats
 pub mod Answered
 pub mod Arranged
-pub mod Begun
 pub mod Blames
 pub mod BoardOpens
 pub mod CheckedRequests

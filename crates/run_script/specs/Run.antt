@@ -30,8 +30,8 @@ abbrev pub byte_line : List (List ℕ) → Result ℕ ℕ
 byte_line words = read_as (byte_field ∷ []) words (dec_at words 2)
 
 -- mem ADDRESS
-abbrev pub mem_line : List (List ℕ) → Result ℕ ℕ
-mem_line words = read_as (address_field ∷ []) words (hex_at words 2)
+abbrev pub mem_command : List (List ℕ) → Result ℕ ℕ
+mem_command words = read_as (address_field ∷ []) words (hex_at words 2)
 
 -- what a command's line of each form says, or its first wrong word; there are no other commands
 abbrev pub command_of : Form → List (List ℕ) → Result Command ℕ
@@ -42,7 +42,7 @@ command_of form.AnswerB words = told_as (λ id. Event (step.AnswerB id)) (byte_l
 command_of form.AnswerR words = told_as (λ id. Event (step.AnswerR id)) (byte_line words)
 command_of form.Take words = told_as (λ client. Event (step.Take client)) (byte_line words)
 command_of form.Drain words = read_as [] words Drain
-command_of form.Mem words = told_as Mem (mem_line words)
+command_of form.Mem words = told_as Mem (mem_command words)
 command_of form.Work words = read_as [] words Work
 command_of _ words = Err 1
 

@@ -2,7 +2,7 @@
 ghost use Rattle.std.specs.Prelude.{◌≡◌, []};
 ghost use Rattle.line_text.specs.Fields.{read_as};
 ghost use Rattle.script_text.specs.declared.keywords.Form.TheVariants as forms;
-ghost use Rattle.run_script.specs.Run.{byte_line, command_of, mem_line, perform_line};
+ghost use Rattle.run_script.specs.Run.{byte_line, command_of, mem_command, perform_line};
 
 use line_text::{Words, offer_line};
 use script_text::Form;
@@ -50,7 +50,7 @@ fn one_byte(words: &Words<'_>) -> Result<u8, u32>
 
 /// `mem ADDRESS`.
 fn mem(words: &Words<'_>) -> Result<u32, u32>
-    ensures { result ≡ mem_line words.now }
+    ensures { result ≡ mem_command words.now }
 {
     let address = words.address(2)?;
     words.end(2)?;
