@@ -81,25 +81,7 @@ all-reads_after P id (r ∷ rs) keeps all = by_test (read_of_id id r) (goes_on r
 -- a test that an R beat leaves as it was; what the head adds to the count is the same on both sides
 of_id-reads_after : (id other : ℕ) (reads : List OpenRead) → of_id id_of_read other (reads_after id reads) ≤ of_id id_of_read other reads
 of_id-reads_after id other [] = omega arith
-of_id-reads_after id other (r ∷ rs) = by_test (read_of_id id r) (goes_on r) (of_id-reads_after id other rs)
-  where
-    has : OpenRead → Bool
-    has read = read.ar.id == other
-
-    keeps_head : (b : Bool) (x : OpenRead) (xs ys : List OpenRead) → length (filter has xs) ≤ length (filter has ys)
-        → length (if b then x ∷ filter has xs else filter has xs) ≤ length (if b then r ∷ filter has ys else filter has ys)
-    keeps_head true x xs ys fewer = omega (arith, fewer)
-    keeps_head false x xs ys fewer = fewer
-
-    drops_head : (b : Bool) → length (filter has rs) ≤ length (if b then r ∷ filter has rs else filter has rs)
-    drops_head true = omega arith
-    drops_head false = omega arith
-
-    by_test : (here on : Bool) → length (filter has (reads_after id rs)) ≤ length (filter has rs)
-        → length (filter has (if here then (if on then one_more r ∷ rs else rs) else r ∷ reads_after id rs)) ≤ length (filter has (r ∷ rs))
-    by_test true true rest = keeps_head (r.ar.id == other) (one_more r) rs rs (omega arith)
-    by_test true false rest = drops_head (r.ar.id == other)
-    by_test false on rest = keeps_head (r.ar.id == other) r (reads_after id rs) rs rest
+of_id-reads_after id other (r ∷ rs) = grind (arith, of_id-reads_after id other rs)
 
 few-reads_after : (ids depth id : ℕ) (reads : List OpenRead) → HasFewOfEach id_of_read ids depth reads → HasFewOfEach id_of_read ids depth (reads_after id reads)
 few-reads_after ids depth id reads few =
