@@ -1,14 +1,12 @@
 -- What outstanding bursts owe, beat by beat.
-use Rattle.std.proofs.Common.{◌≡◌, ℕ, suc, ◌+◌, ◌-◌, ◌<◌, ◌≤◌, ◌==◌, Bool, true, false, List, [], ◌∷◌, ◌++◌, length, refl, ap, sym, ◌∙◌, arith, append_assoc}
+use Rattle.std.proofs.Common.{◌≡◌, ℕ, suc, ◌+◌, ◌-◌, ◌<◌, ◌≤◌, ◌==◌, Bool, false, List, [], ◌∷◌, ◌++◌, length, refl, ap, sym, ◌∙◌, arith, append_assoc}
 use Rattle.std.specs.Prelude.{Some, filter, find, if◌then◌else◌}
-use Rattle.std.proofs.lemmas.Bool.{eqb-true, leb-false, leb-true, ltb-false, ne_eqb}
 use Rattle.std.proofs.lemmas.Bool.Decides.{nat_tests}
 use Rattle.std.proofs.lemmas.List.{append-nil}
 use Rattle.bus_words.specs.Places.{change_first, without_first}
 use Rattle.axi_checker.specs.OpenBursts.{OpenRead, OpenWrite, lacks_data, read_of_id, reads_after, write_of_id}
 use Rattle.axi_checker.specs.Order.{lasts_from, reads_owe, writes_lack}
 use Rattle.axi_checker.proofs.Judging.{one_beat_more}
-use Rattle.axi_checker.proofs.ReadsAfter.{goes_on, one_more}
 
 -- the next flag, and those after it
 lasts_from-next : (came len : ℕ) → came ≤ len → lasts_from came len ≡ (came == len) ∷ lasts_from (came + 1) len

@@ -3,7 +3,7 @@ use Rattle.std.proofs.Common.{arith, ◌≡◌, ℕ, ◌+◌, Bool, true, false,
 use Rattle.std.proofs.Math.ListN.{set}
 use Rattle.std.proofs.lemmas.Bool.{lt-ltb, le-ltb}
 use Rattle.std.specs.List.{position, remove}
-use Rattle.std.specs.Prelude.{Some, find, if◌then◌else◌, nat_lt}
+use Rattle.std.specs.Prelude.{Some, find, nat_lt}
 use Rattle.bus_words.specs.Places.{change_first, without_first}
 use Rattle.bus_words.proofs.FirstPlaces.{position_is_first, find-first, change_first-first, without_first-first}
 use Rattle.axi_checker.specs.OpenBursts.{OpenRead, read_of_id, reads_after}
