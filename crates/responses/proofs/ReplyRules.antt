@@ -1,5 +1,5 @@
 -- The beats that show a reply break no rule on replies.
-use Rattle.std.proofs.Common.{◌≡◌, ℕ, zero, suc, ◌+◌, ◌==◌, Bool, true, false, not, ◌&&◌, ◌||◌, List, [], ◌∷◌, map, Option, None, true≢false, if◌then◌else◌, refl, sym}
+use Rattle.std.proofs.Common.{◌≡◌, ℕ, zero, suc, ◌+◌, ◌==◌, Bool, true, false, not, ◌&&◌, ◌||◌, List, [], ◌∷◌, map, Option, None, true≢false, if◌then◌else◌, refl, sym, arith}
 use Rattle.std.specs.List.{range_with_len, list_any}
 use Rattle.std.proofs.lemmas.Bool.{and_right, eq-eqb}
 use Rattle.std.proofs.lemmas.List.FromFn.{length-map-range_with_len}
@@ -83,8 +83,7 @@ legal_with_data q reply has =
 -- ---- without data
 
 one_denied : (b : Bool) → ((b || false) && (not b || false)) ≡ false
-one_denied true = refl
-one_denied false = refl
+one_denied b = grind arith
 
 legal_without : (q : WholeRequest) (reply : Reply) → reply_has_data q.operation ≡ false → reply_fault q (beat_without_data q reply ∷ []) ≡ None
 legal_without q reply has = rw (same_number (reply_opcode q.operation), same_number q.size, same_number q.source, has, one_denied reply.denied, opcode_without q.operation has) refl

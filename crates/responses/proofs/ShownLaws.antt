@@ -1,5 +1,5 @@
 -- The beats that are made of the gathered words are those that show the reply.
-use Rattle.std.proofs.Common.{◌≡◌, ℕ, zero, suc, ◌⊎◌, min, ◌+◌, ◌-◌, ◌*◌, ◌/◌, ◌^◌, ◌<◌, ◌≤◌, nat_le, nat_lt, Bool, true, false, not, ◌&&◌, List, [], map, length, get_or, Option, Some, None, if◌then◌else◌, refl, sym, subst, ◌∙◌, ap, arith, inl, inr, lit<}
+use Rattle.std.proofs.Common.{◌≡◌, ℕ, zero, suc, min, ◌+◌, ◌-◌, ◌*◌, ◌/◌, ◌^◌, ◌<◌, ◌≤◌, nat_le, nat_lt, Bool, true, false, not, ◌&&◌, List, [], map, length, get_or, Option, Some, None, if◌then◌else◌, refl, sym, subst, ◌∙◌, ap, arith, inl, inr, lit<}
 use Rattle.std.specs.Prelude.{unwrap_or, is_none, option_map, slice_get}
 use Rattle.std.specs.List.{range_with_len, list_any}
 use Rattle.std.specs.Option.{option_flatten}
@@ -41,17 +41,7 @@ every_lane lane below = below_eight (λ k. has_lane 255 k ≡ true) refl refl re
 -- the lanes of the range in one of its words
 lanes_in_word : (q : WholeRequest) (k lane : ℕ) → lane < 8 → k < beats_of q.size true → has_lane (word_lanes (outline_of q) k) lane ≡ in_range q (address_in_word q k lane)
 lanes_in_word q zero lane below inside =
-    let some : 0 < 2 ^ q.size = pow_pos q.size in
-    has_lane-mask_of (is_between (lane_of q.address) (min (lane_of q.address + 2 ^ q.size - 1) 7)) lane below ∙ by_end some (cases_lt (lane_of q.address + 2 ^ q.size - 1) 7)
-  where
-    by_end : 0 < 2 ^ q.size → (lane_of q.address + 2 ^ q.size - 1 < 7) ⊎ (7 ≤ lane_of q.address + 2 ^ q.size - 1)
-        → is_between (lane_of q.address) (min (lane_of q.address + 2 ^ q.size - 1) 7) lane ≡ in_range q (address_in_word q 0 lane)
-    by_end some (inl low) =
-        let least : min (lane_of q.address + 2 ^ q.size - 1) 7 ≡ lane_of q.address + 2 ^ q.size - 1 = omega arith in
-        rw least (grind (arith, nat_tests))
-    by_end some (inr high) =
-        let least : min (lane_of q.address + 2 ^ q.size - 1) 7 ≡ 7 = omega arith in
-        rw least (grind (arith, nat_tests))
+    has_lane-mask_of (is_between (lane_of q.address) (min (lane_of q.address + 2 ^ q.size - 1) 7)) lane below ∙ grind (arith, nat_tests, pow_pos q.size)
 lanes_in_word q (suc k) lane below inside =
     let fits = last_in_word q.size (suc k) inside in
     let low : q.address ≤ address_in_word q (suc k) lane = omega arith in
@@ -121,8 +111,7 @@ abbrev reply_of : WholeRequest → List (Option ℕ) → Reply
 reply_of q words = record { denied = false; bytes = bytes_of_reply q words }
 
 given_none : (held : Bool) (byte : ℕ) → (held && is_none (if held then Some byte else None)) ≡ false
-given_none true byte = refl
-given_none false byte = refl
+given_none held byte = grind arith
 
 -- a word that is given lacks no byte
 lacks_none : (q : WholeRequest) (words : List (Option ℕ)) (k word : ℕ) → slice_get words k ≡ Some (Some word) → lacks_a_byte q (reply_of q words) k ≡ false
@@ -131,8 +120,7 @@ lacks_none q words k word there =
     (λ lane below. rw (given_in_word q words k lane (Some word) below there) (given_none (in_range q (address_in_word q k lane)) (lane_byte word lane)))
 
 none_held : (held : Bool) (byte : Option ℕ) → held ≡ true → byte ≡ None → (held && is_none (if held then byte else None)) ≡ true
-none_held true byte is none = rw none refl
-none_held false byte is none = is
+none_held held byte is none = grind arith
 
 -- a word that isn't given lacks one
 lacks_some : (q : WholeRequest) (words : List (Option ℕ)) (k : ℕ) → k < beats_of q.size true → slice_get words k ≡ Some None → lacks_a_byte q (reply_of q words) k ≡ true
@@ -153,8 +141,7 @@ lacks_some q words k inside there =
     held = let fits = first_in_word q.size k inside in rw first (grind (arith, nat_tests))
 
 shown_or_zero : (held : Bool) (byte zero_byte : ℕ) → zero_byte ≡ 0 → (if held then byte else zero_byte) ≡ unwrap_or (if held then Some byte else None) 0
-shown_or_zero true byte zero_byte none = refl
-shown_or_zero false byte zero_byte none = none
+shown_or_zero held byte zero_byte none = grind arith
 
 -- the payload of a word that is given
 payload_shown : (q : WholeRequest) (words : List (Option ℕ)) (k word : ℕ) → k < beats_of q.size true
@@ -209,8 +196,4 @@ reply_made q outline gathering same has many =
     (λ (o : Outline).
     reply_has_data o.operation ≡ true → length gathering.words ≡ words_of o
     → map (word_beat_at o gathering) (range_with_len 0 (length gathering.words)) ≡ shown q (gathered o gathering))
-    same by_request has many
-  where
-    by_request : reply_has_data q.operation ≡ true → length gathering.words ≡ words_of (outline_of q)
-        → map (word_beat_at (outline_of q) gathering) (range_with_len 0 (length gathering.words)) ≡ shown q (gathered (outline_of q) gathering)
-    by_request has many = words_shown q gathering has (rw has at many)
+    same (λ has many. words_shown q gathering has (rw has at many)) has many
