@@ -1,5 +1,5 @@
 -- Whether a mask has a lane outside another, by the lanes that both have.
-use Rattle.std.proofs.Common.{◌≡◌, ℕ, zero, suc, ◌+◌, ◌<◌, ◌≤◌, ◌==◌, Bool, true, false, not, refl, sym, ◌∙◌, ap, arith, inl, inr}
+use Rattle.std.proofs.Common.{◌≡◌, ℕ, zero, suc, ◌+◌, ◌<◌, ◌≤◌, ◌==◌, Bool, false, not, refl, sym, ◌∙◌, ap, arith, inl, inr}
 use Rattle.std.specs.Prelude.{◌&&◌, bit_and}
 use Rattle.std.specs.Int.Bits.{and_lt}
 use Rattle.std.specs.List.{list_any, range_with_len}
@@ -36,14 +36,10 @@ not_kept-outside mask full inside fits small lanes =
     both lane below = has_lane-and mask full lane ∙ ap (λ b. has_lane mask lane && b) (lanes lane below)
 
     none_out : (b i : Bool) → b ≡ (b && i) → (b && not i) ≡ false
-    none_out true true same = refl
-    none_out true false same = same
-    none_out false i same = refl
+    none_out b i same = grind arith
 
     all_in : (b i : Bool) → (b && not i) ≡ false → (b && i) ≡ b
-    all_in true true none = refl
-    all_in true false none = sym none
-    all_in false i none = refl
+    all_in b i none = grind arith
 
     within : bit_and mask full ≡ mask → (lane : ℕ) → lane < 8 → outside lane ≡ false
     within kept lane below = none_out (has_lane mask lane) (inside lane) (ap (λ m. has_lane m lane) (sym kept) ∙ both lane below)

@@ -53,14 +53,11 @@ more_than_one n size true some fewer = (refl, fewer)
 more_than_one n size false some fewer = absurd (omega arith)
 
 pub front_open : (limits : TlPortLimits) (beats : List ABeat) (held : HeldMessage) → IsFrontOf limits beats (Some held) → IsOpenMessage limits held
-front_open limits [] held front = absurd (none front.held)
+front_open limits [] held front = absurd (cc (front.held))
+front_open limits (first ∷ rest) held front = subst (IsOpenMessage limits) same open_message
   where
-    none : None ≡ Some held → ⊥
-    none e = absurd (cc)
-front_open limits (first ∷ rest) held front = subst (IsOpenMessage limits) (same front.held) open_message
-  where
-    same : Some (message_of limits.client first rest) ≡ Some held → message_of limits.client first rest ≡ held
-    same e = cc
+    same : message_of limits.client first rest ≡ held
+    same = cc (front.held)
 
     open_message : IsOpenMessage limits (message_of limits.client first rest)
     open_message =

@@ -1,6 +1,7 @@
 -- Beats break no rule on replies exactly where they are a reply.
 use Rattle.std.proofs.Common.{◌≡◌, ℕ, zero, suc, ◌<◌, ◌==◌, Bool, true, false, not, List, [], ◌∷◌, length, get_or, None, refl, sym, ◌∙◌, ap, arith, inl, inr}
-use Rattle.std.proofs.lemmas.Bool.{and_cases, and_left, and_right, or_parts, or_from, cases_Bool, cases_eq, eqb-true, eq-eqb, ne_eqb, not-false}
+use Rattle.std.proofs.lemmas.Bool.Decides.{nat_tests}
+use Rattle.std.proofs.lemmas.Bool.{and_cases, and_left, and_right, or_parts, or_from, cases_Bool, eqb-true, eq-eqb, ne_eqb, not-false}
 use Rattle.std.specs.List.{All, list_any}
 use Rattle.std.specs.Prelude.{◌&&◌, ◌||◌, ◌↔◌}
 use Rattle.tl_messages.specs.Operations.{reply_opcode, reply_has_data, beats_of}
@@ -24,12 +25,7 @@ all_fail p (x ∷ xs) fails = or_from (p x) (list_any p xs) (fails 0 x (omega ar
 
 -- a beat whose corrupt flag isn't wrong
 data_corrupt : (beat : DBeat) → wrong_corrupt beat ≡ false → beat.opcode ≡ 1 → beat.denied ≡ true → beat.corrupt ≡ true
-data_corrupt beat right is denied = kept beat.denied beat.corrupt (rw (eq-eqb beat.opcode 1 is) at right) denied
-  where
-    kept : (denied corrupt : Bool) → (denied && not corrupt) ≡ false → denied ≡ true → corrupt ≡ true
-    kept true true right is = refl
-    kept true false right is = sym right
-    kept false corrupt right is = absurd (cc)
+data_corrupt beat right is denied = grind (arith, nat_tests, right)
 
 not_corrupt : (beat : DBeat) → wrong_corrupt beat ≡ false → (beat.opcode ≡ 1 → ⊥) → beat.corrupt ≡ false
 not_corrupt beat right other = rw (ne_eqb beat.opcode 1 other) at right
@@ -81,11 +77,7 @@ agree_in_denied (first ∷ rest) agree =
     some = omega arith
 
 right_corrupt : (q : WholeRequest) (beat : DBeat) → IsReplyBeat q beat → wrong_corrupt beat ≡ false
-right_corrupt q beat is = elim (cases_eq beat.opcode 1) [ inl data_reply ↦ rw (eq-eqb beat.opcode 1 data_reply) (kept beat.denied beat.corrupt (is.denied_data data_reply)) | inr other ↦ rw (ne_eqb beat.opcode 1 other) (is.sound other) ]
-  where
-    kept : (denied corrupt : Bool) → (denied ≡ true → corrupt ≡ true) → (denied && not corrupt) ≡ false
-    kept true corrupt told = ap not (told refl)
-    kept false corrupt told = refl
+right_corrupt q beat is = grind (arith, nat_tests, is.denied_data, is.sound)
 
 right_reply : (q : WholeRequest) (beats : List DBeat) → IsReplyTo q beats → reply_fault q beats ≡ None
 right_reply q beats is =
