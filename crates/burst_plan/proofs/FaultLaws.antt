@@ -22,10 +22,8 @@ first_broken-append ((true, fault) ∷ xs) ys = refl
 first_broken-append ((false, fault) ∷ xs) ys = first_broken-append xs ys
 
 three_none : (a b c : Bool) (x y z : MapFault) → first_broken ((a, x) ∷ (b, y) ∷ (c, z) ∷ []) ≡ None → (a ≡ false) × (b ≡ false) × (c ≡ false)
-three_none true b c x y z none = cc
-three_none false true c x y z none = cc
-three_none false false true x y z none = cc
 three_none false false false x y z none = (refl, refl, refl)
+three_none _ _ _ x y z none = cc
 
 none_of_three : (a b c : Bool) (x y z : MapFault) → a ≡ false → b ≡ false → c ≡ false → first_broken ((a, x) ∷ (b, y) ∷ (c, z) ∷ []) ≡ None
 none_of_three a b c x y z no_a no_b no_c = rw (no_a, no_b, no_c) refl

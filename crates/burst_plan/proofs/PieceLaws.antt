@@ -1,12 +1,12 @@
 -- The pieces of a range: how many they are, where each lies, and that they are a plan.
-use Rattle.std.proofs.Common.{◌≡◌, ℕ, zero, suc, ◌+◌, ◌-◌, ◌*◌, ◌/◌, ◌%◌, ◌^◌, ◌<◌, ◌≤◌, ◌==◌, Bool, true, false, ◌||◌, List, ◌∷◌, map, length, min, max, refl, sym, ◌∙◌, ap, arith, inl, inr, ◌⊎◌, Some}
+use Rattle.std.proofs.Common.{◌≡◌, ℕ, zero, suc, ◌+◌, ◌-◌, ◌*◌, ◌/◌, ◌%◌, ◌^◌, ◌<◌, ◌≤◌, ◌==◌, Bool, true, List, map, length, min, max, refl, sym, ◌∙◌, ap, arith, inl, inr, ◌⊎◌, Some}
 use Rattle.std.specs.List.{range_with_len, list_any, slice_get, flat_map, All}
-use Rattle.std.proofs.lemmas.List.FromFn.{length-map-range_with_len, get_or-map-range_with_len}
+use Rattle.std.proofs.lemmas.List.FromFn.{fill_by_all, length-map-range_with_len, get_or-map-range_with_len}
 use Rattle.std.proofs.lemmas.List.Elements.{All-from_get_or}
 use Rattle.std.proofs.lemmas.List.Concat.{flat_map-cons}
 use Rattle.std.proofs.lemmas.List.Folds.{flat_map-map}
 use Rattle.std.proofs.lemmas.Option.{slice_get-get_or, slice_get_within, get_or_from_slice_get}
-use Rattle.std.proofs.lemmas.Bool.{cases_lt, eqb-true, eq-eqb, and_from, le-leb, lt-ltb}
+use Rattle.std.proofs.lemmas.Bool.{cases_Bool, cases_lt, eqb-true, eq-eqb, and_from, le-leb, lt-ltb}
 use Rattle.std.proofs.lemmas.Nat.{div-mul-add, div-add-mod', pow-add, pow_pos, shl-shr}
 use Rattle.std.proofs.Math.Nat.{mul-le-mul_right, mul-mod_left}
 use Rattle.std.proofs.Math.Pow.{pow_mono}
@@ -33,16 +33,14 @@ piece_at range k = record { address = range.address + k * burst_bytes range; len
 abbrev PassesBelow : (ℕ → Bool) → ℕ → Type 0
 PassesBelow p end = (k : ℕ) × (k < end) × (p k ≡ true)
 
--- the first number of a range or a later one passes
-first_or_later : (p : ℕ → Bool) (a n : ℕ) (b : Bool) → p a ≡ b → (list_any p (range_with_len (a + 1) n) ≡ true → PassesBelow p (a + 1 + n)) → (b || list_any p (range_with_len (a + 1) n)) ≡ true
-    → PassesBelow p (a + suc n)
-first_or_later p a n true first later found = (a, omega arith, first)
-first_or_later p a n false first later found = let (k, below, passes) = later found in (k, omega arith, passes)
-
 -- some number of a range passes a test, where the test of them all says so
 any_of_range : (p : ℕ → Bool) (a n : ℕ) → list_any p (range_with_len a n) ≡ true → PassesBelow p (a + n)
 any_of_range p a zero found = absurd (cc)
-any_of_range p a (suc n) found = first_or_later p a n (p a) refl (any_of_range p (a + 1) n) found
+any_of_range p a (suc n) found =
+    elim (cases_Bool (p a)) [
+      | inl first ↦ (a, omega arith, first)
+      | inr fails ↦ let (k, below, passes) = any_of_range p (a + 1) n (rw fails at found) in (k, omega arith, passes)
+    ]
 
 -- the bytes of the bus and the most transfers of a burst, as powers of two
 pub record ArePowers (range : PlannedRange) (w j : ℕ) : Type 0 where
@@ -143,15 +141,6 @@ divides_evenly range plannable = let (w, j, powers) = powers_of range plannable 
 
 -- ---- the pieces, one by one
 
-same_map : {X : Type 0} (f g : ℕ → X) (a b n : ℕ) → ((i : ℕ) → i < n → f (a + i) ≡ g (b + i)) → map f (range_with_len a n) ≡ map g (range_with_len b n)
-same_map f g a b zero same = refl
-same_map {X} f g a b (suc n) same =
-    ap (λ (x : X). x ∷ map f (range_with_len (a + 1) n)) first
-    ∙ ap (λ (xs : List X). g b ∷ xs) (same_map f g (a + 1) (b + 1) n (λ i below. let here : a + 1 + i ≡ a + suc i = omega arith in let there : b + 1 + i ≡ b + suc i = omega arith in rw (here, there) (same (suc i) (omega arith))))
-  where
-    first : f a ≡ g b
-    first = let here : a ≡ a + 0 = omega arith in let there : b ≡ b + 0 = omega arith in ap f here ∙ same 0 (omega arith) ∙ sym (ap g there)
-
 -- the piece from a cut, by its number
 pub piece_from_cut-at : (range : PlannedRange) → DividesEvenly range → (k : ℕ) → k < burst_count range → piece_from_cut range (first_cut range + k) ≡ piece_at range k
 piece_from_cut-at range even k below =
@@ -164,7 +153,9 @@ piece_from_cut-at range even k below =
 pub pieces_are : (range : PlannedRange) → DividesEvenly range → pieces range ≡ map (piece_at range) (range_with_len 0 (burst_count range))
 pieces_are range even =
     ap (λ n. map (piece_from_cut range) (range_with_len (first_cut range) n)) even.parts.cuts
-    ∙ same_map (piece_from_cut range) (piece_at range) (first_cut range) 0 (burst_count range) (λ k below. let number : 0 + k ≡ k = omega arith in rw number (piece_from_cut-at range even k below))
+    ∙ fill_by_all (piece_at range) (map (piece_from_cut range) (range_with_len (first_cut range) (burst_count range))) (burst_count range) (piece_at range 0)
+    (length-map-range_with_len (piece_from_cut range) (first_cut range) (burst_count range))
+    (λ k below. get_or-map-range_with_len (piece_from_cut range) (first_cut range) (burst_count range) k (first_cut range + k) (piece_at range 0) below refl ∙ piece_from_cut-at range even k below)
 
 -- how many they are
 pub length-pieces : (range : PlannedRange) → DividesEvenly range → length (pieces range) ≡ burst_count range

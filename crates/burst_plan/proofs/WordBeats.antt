@@ -37,16 +37,10 @@ pub record IsCarried (bus_bytes address : ℕ) (word held : MaskedWord) : Type 0
 
 -- a lane that is given, and none beside the transfer's lanes, as the strobes and the payload have it
 strobe_in : (covered held : Bool) (byte : ℕ) → (held && covered) ≡ is_some (if covered then (if held then Some byte else None) else None)
-strobe_in true true byte = refl
-strobe_in true false byte = refl
-strobe_in false true byte = refl
-strobe_in false false byte = refl
+strobe_in covered held byte = grind arith
 
 byte_in : (covered held : Bool) (byte : ℕ) → (if held && covered then byte else 0) ≡ unwrap_or (if covered then (if held then Some byte else None) else None) 0
-byte_in true true byte = refl
-byte_in true false byte = refl
-byte_in false true byte = refl
-byte_in false false byte = refl
+byte_in covered held byte = grind arith
 
 -- what is to be written from a lane is what is carried there
 written_is : (bus_bytes : ℕ) (word held : MaskedWord) (piece : Piece) (n lane : ℕ) → IsBusWidth bus_bytes → fits_bus bus_bytes piece.size ≡ true → 1 ≤ n

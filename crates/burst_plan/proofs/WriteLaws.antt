@@ -4,7 +4,7 @@ use Rattle.std.specs.Bool.{beq}
 use Rattle.std.specs.List.{range_with_len, slice_get, enumerate_from}
 use Rattle.std.specs.Prelude.{unwrap_or}
 use Rattle.std.specs.Option.{option_flatten}
-use Rattle.std.proofs.lemmas.Bool.{and_from, and_parts, eq-eqb, leb-true, or_right}
+use Rattle.std.proofs.lemmas.Bool.{and_from, and_parts, eq-eqb, leb-true}
 use Rattle.std.proofs.lemmas.List.FromFn.{length-map-range_with_len}
 use Rattle.std.proofs.lemmas.List.Folds.{list_all-map}
 use Rattle.std.proofs.lemmas.Option.{slice_get_within, get_or_from_slice_get}
@@ -90,8 +90,7 @@ enumerate_from-map f a zero = refl
 enumerate_from-map {X} f a (suc n) = ap (λ (xs : List (ℕ × X)). (a, f a) ∷ xs) (enumerate_from-map f (a + 1) n)
 
 beq-same : (b : Bool) → beq b b ≡ true
-beq-same true = refl
-beq-same false = refl
+beq-same b = grind arith
 
 -- the strobes of a W beat are in lanes of its transfer
 strobes_within : (bus_bytes : ℕ) (given : ℕ → Option ℕ) (piece : Piece) (aw : AwBeat) (n : ℕ) → aw.address ≡ piece.address → aw.size ≡ piece.size
@@ -103,8 +102,7 @@ strobes_within bus_bytes given piece aw n same_address same_size =
     (fits (covers_lane bus_bytes piece.address piece.size n lane) (given (lane_address bus_bytes piece.address piece.size n lane))))
   where
     fits : (b : Bool) (o : Option ℕ) → (not (is_some (if b then o else None)) || b) ≡ true
-    fits true o = or_right _ true refl
-    fits false o = refl
+    fits b o = grind arith
 
 -- a write is legal where its address beat is
 pub write_is_legal : (bus_bytes id : ℕ) (bytes : List (Option ℕ)) (start : ℕ) (piece : Piece) → is_legal_address bus_bytes piece.address piece.len piece.size 1 ≡ true
