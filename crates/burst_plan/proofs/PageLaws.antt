@@ -14,10 +14,7 @@ holds_page-true page region holds =
 pub holds_page-between : (page : ℕ) (region : Region) → region.tl_page ≤ page → page < region.tl_page + region.pages → holds_page page region ≡ true
 holds_page-between page region first last = and_from _ _ (le-leb _ _ first) (lt-ltb _ _ last)
 
--- two regions share a page just where each begins before the other ends, and both have pages
-share_a_page-when : (a b : Region) → a.tl_page < b.tl_page + b.pages → b.tl_page < a.tl_page + a.pages → 0 < a.pages → 0 < b.pages → share_a_page a b ≡ true
-share_a_page-when a b a_first b_first some_a some_b = grind (arith, nat_tests)
-
+-- where two regions share a page, each begins before the other ends, and both have pages
 share_a_page-true : (a b : Region) → share_a_page a b ≡ true → (a.tl_page < b.tl_page + b.pages) × (b.tl_page < a.tl_page + a.pages) × (0 < a.pages) × (0 < b.pages)
 share_a_page-true a b share = (grind (arith, nat_tests), grind (arith, nat_tests), grind (arith, nat_tests), grind (arith, nat_tests))
 
@@ -26,7 +23,7 @@ pub share_a_page-from_page : (a b : Region) → Overlap a b → share_a_page a b
 share_a_page-from_page a b both =
     let at_a = holds_page-true both.0 a both.1 in
     let at_b = holds_page-true both.0 b both.2 in
-    share_a_page-when a b (omega arith) (omega arith) (omega arith) (omega arith)
+    grind (arith, nat_tests)
 
 -- two regions that share a page both hold one: the first page of the one that begins later
 pub page-from_share_a_page : (a b : Region) → share_a_page a b ≡ true → Overlap a b

@@ -101,8 +101,8 @@ beat_made bus_bytes word held piece n address lowest highest lanes payload width
 
 -- what a word gives are bytes
 pub word_gives_bytes : (word : MaskedWord) → GivesBytes (given_by_word word)
-word_gives_bytes word = record { at = λ x. either (has_lane word.mask (lane_of x)) (lane_byte word.word (lane_of x)) (rw (lane_byte-shr word.word (lane_of x)) (mod_below (word.word / 2 ^ (8 * lane_of x)) (2 ^ 8) (lit< tt))) }
-  where
-    either : (held : Bool) (byte : ℕ) → byte < 256 → unwrap_or (if held then Some byte else None) 0 < 256
-    either true byte small = small
-    either false byte small = lit< tt
+word_gives_bytes word =
+    record {
+      at = λ x. let small : lane_byte word.word (lane_of x) < 256 = rw (lane_byte-shr word.word (lane_of x)) (mod_below (word.word / 2 ^ (8 * lane_of x)) (2 ^ 8) (lit< tt)) in
+          elim (has_lane word.mask (lane_of x)) as (λ held. unwrap_or (if held then Some (lane_byte word.word (lane_of x)) else None) 0 < 256) [ true ↦ small | false ↦ lit< tt ];
+    }
