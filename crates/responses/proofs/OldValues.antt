@@ -15,7 +15,7 @@ use Rattle.responses.specs.Answers.{number_of}
 use Rattle.responses.specs.Gathered.{Gathering, byte_gathered, gathered, holds_number, is_atomic, old_value}
 use Rattle.tl_messages.specs.Operations.{reply_has_data}
 use Rattle.tl_messages.specs.declared.Operation.{Operation}
-use Rattle.tl_messages.specs.declared.Operation.TheVariants.{PutFull, PutPartial, Atomic, Get, Intent}
+use Rattle.tl_messages.specs.declared.Operation.TheVariants.{Atomic}
 use Rattle.std.specs.Option.{option_flatten}
 use Rattle.std.proofs.lemmas.Bool.{and_parts, eqb-true, leb-true}
 use Rattle.responses.specs.declared.gather.Outline.{Outline}
@@ -45,11 +45,8 @@ bytes_of_word outline words word small aligned there =
 
 -- the reply to an atomic has data
 pub atomic_has_data : (op : Operation) → is_atomic op ≡ true → reply_has_data op ≡ true
-atomic_has_data PutFull e = e
-atomic_has_data PutPartial e = e
 atomic_has_data (Atomic op) e = refl
-atomic_has_data Get e = absurd (true≢false (sym e))
-atomic_has_data (Intent write) e = e
+atomic_has_data _ e = absurd (true≢false (sym e))
 
 -- a number's range is small and aligned
 pub number_range : (outline : Outline) → holds_number outline ≡ true → (outline.size ≤ 3) × (outline.address % 2 ^ outline.size ≡ 0)
