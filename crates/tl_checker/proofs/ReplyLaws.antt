@@ -2,6 +2,7 @@
 use Rattle.std.proofs.Common.{◌≡◌, ℕ, zero, suc, ◌<◌, ◌==◌, Bool, true, false, not, List, [], ◌∷◌, length, get_or, None, refl, sym, ◌∙◌, ap, arith, inl, inr}
 use Rattle.std.proofs.lemmas.Bool.Decides.{nat_tests}
 use Rattle.std.proofs.lemmas.Bool.{and_cases, and_left, and_right, or_parts, or_from, cases_Bool, eqb-true, eq-eqb, ne_eqb, not-false}
+use Rattle.std.proofs.lemmas.List.Folds.{list_any_none}
 use Rattle.std.specs.List.{All, list_any}
 use Rattle.std.specs.Prelude.{◌&&◌, ◌||◌, ◌↔◌}
 use Rattle.tl_messages.specs.Operations.{reply_opcode, reply_has_data, beats_of}
@@ -16,10 +17,6 @@ none_passes : {X : Type 0} (p : X → Bool) (xs : List X) → list_any p xs ≡ 
 none_passes p [] none k d below = absurd (omega arith)
 none_passes p (x ∷ xs) none zero d below = (or_parts (p x) (list_any p xs) none).0
 none_passes p (x ∷ xs) none (suc k) d below = none_passes p xs (or_parts (p x) (list_any p xs) none).1 k d (omega arith)
-
-all_fail : {X : Type 0} (p : X → Bool) (xs : List X) → ((k : ℕ) (d : X) → k < length xs → p (get_or xs k d) ≡ false) → list_any p xs ≡ false
-all_fail p [] fails = refl
-all_fail p (x ∷ xs) fails = or_from (p x) (list_any p xs) (fails 0 x (omega arith)) (all_fail p xs (λ k d below. fails (suc k) d (omega arith)))
 
 -- ---- beats that break no rule
 
@@ -69,8 +66,8 @@ agree_in_denied : (beats : List DBeat) → ((j k : ℕ) (d : DBeat) → j < leng
 agree_in_denied [] agree = refl
 agree_in_denied (first ∷ rest) agree =
     elim (cases_Bool first.denied) [
-      | inl denied ↦ and_right (list_any (λ b. b.denied) (first ∷ rest)) (list_any (λ b. not b.denied) (first ∷ rest)) (all_fail (λ b. not b.denied) (first ∷ rest) (λ k d below. ap not (agree k 0 d below some ∙ denied)))
-      | inr granted ↦ and_left (list_any (λ b. b.denied) (first ∷ rest)) (list_any (λ b. not b.denied) (first ∷ rest)) (all_fail (λ b. b.denied) (first ∷ rest) (λ k d below. agree k 0 d below some ∙ granted))
+      | inl denied ↦ and_right (list_any (λ b. b.denied) (first ∷ rest)) (list_any (λ b. not b.denied) (first ∷ rest)) (list_any_none (λ b. not b.denied) (first ∷ rest) (λ k d below. ap not (agree k 0 d below some ∙ denied)))
+      | inr granted ↦ and_left (list_any (λ b. b.denied) (first ∷ rest)) (list_any (λ b. not b.denied) (first ∷ rest)) (list_any_none (λ b. b.denied) (first ∷ rest) (λ k d below. agree k 0 d below some ∙ granted))
     ]
   where
     some : 0 < length (first ∷ rest)
@@ -82,15 +79,15 @@ right_corrupt q beat is = grind (arith, nat_tests, is.denied_data, is.sound)
 right_reply : (q : WholeRequest) (beats : List DBeat) → IsReplyTo q beats → reply_fault q beats ≡ None
 right_reply q beats is =
     rw (
-      all_fail (λ b. not (b.opcode == reply_opcode q.operation) || not (b.param == 0)) beats
+      list_any_none (λ b. not (b.opcode == reply_opcode q.operation) || not (b.param == 0)) beats
           (λ k d below.
           or_from (not ((get_or beats k d).opcode == reply_opcode q.operation)) (not ((get_or beats k d).param == 0))
           (ap not (eq-eqb (get_or beats k d).opcode (reply_opcode q.operation) (is.each k d below).opcode)) (ap not (eq-eqb (get_or beats k d).param 0 (is.each k d below).param))),
-      all_fail (λ b. not (b.size == q.size)) beats (λ k d below. ap not (eq-eqb (get_or beats k d).size q.size (is.each k d below).size)),
-      all_fail (λ b. not (b.source == q.source)) beats (λ k d below. ap not (eq-eqb (get_or beats k d).source q.source (is.each k d below).source)),
+      list_any_none (λ b. not (b.size == q.size)) beats (λ k d below. ap not (eq-eqb (get_or beats k d).size q.size (is.each k d below).size)),
+      list_any_none (λ b. not (b.source == q.source)) beats (λ k d below. ap not (eq-eqb (get_or beats k d).source q.source (is.each k d below).source)),
       eq-eqb (length beats) (beats_of q.size (reply_has_data q.operation)) is.many,
       agree_in_denied beats is.agree,
-      all_fail wrong_corrupt beats (λ k d below. right_corrupt q (get_or beats k d) (is.each k d below)),
+      list_any_none wrong_corrupt beats (λ k d below. right_corrupt q (get_or beats k d) (is.each k d below)),
     )
     refl
 

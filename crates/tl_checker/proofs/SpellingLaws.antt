@@ -1,6 +1,7 @@
 -- What beats that spell a request have in common, and which bytes they give.
 use Rattle.std.proofs.Common.{◌≡◌, ℕ, zero, suc, ◌+◌, ◌/◌, ◌^◌, ◌<◌, ◌==◌, true, false, List, [], ◌∷◌, length, Some, refl, ◌∙◌, ap, arith, pow-suc}
-use Rattle.std.proofs.lemmas.Bool.{and_parts, eq-eqb, or_right, or_left}
+use Rattle.std.proofs.lemmas.Bool.Decides.{nat_tests}
+use Rattle.std.proofs.lemmas.Bool.{and_parts, or_right}
 use Rattle.std.specs.List.{AllByRecursion, list_any, list_all, range_with_len, slice_get}
 use Rattle.std.specs.Prelude.{IsSome}
 use Rattle.bus_words.specs.Lanes.{has_lane}
@@ -52,9 +53,7 @@ spelled_alike limits first rest q spells = all_as_first limits first rest (first
 
 lane_within : (address n i lane : ℕ) → i < n → lane_of (address + i) ≡ lane → list_any (λ x. lane_of x == lane) (range_with_len address n) ≡ true
 lane_within address zero i lane below is = absurd (omega arith)
-lane_within address (suc n) zero lane below is =
-    let start : address + 0 ≡ address = omega arith in
-    or_left (lane_of address == lane) (list_any (λ x. lane_of x == lane) (range_with_len (address + 1) n)) (eq-eqb (lane_of address) lane (rw start at is))
+lane_within address (suc n) zero lane below is = grind (arith, nat_tests, is)
 lane_within address (suc n) (suc i) lane below is =
     let next : address + suc i ≡ address + 1 + i = omega arith in
     or_right (lane_of address == lane) (list_any (λ x. lane_of x == lane) (range_with_len (address + 1) n)) (lane_within (address + 1) n i lane (omega arith) (rw next at is))
