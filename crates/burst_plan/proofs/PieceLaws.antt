@@ -1,6 +1,6 @@
 -- The pieces of a range: how many they are, where each lies, and that they are a plan.
 use Rattle.std.proofs.Common.{◌≡◌, ℕ, zero, suc, ◌+◌, ◌-◌, ◌*◌, ◌/◌, ◌%◌, ◌^◌, ◌<◌, ◌≤◌, ◌==◌, Bool, true, List, map, length, min, max, refl, sym, ◌∙◌, ap, arith, inl, inr, ◌⊎◌, Some}
-use Rattle.std.specs.List.{range_with_len, list_any, slice_get, flat_map, All}
+use Rattle.std.specs.List.{range_with_len, list_any, slice_get, flat_map}
 use Rattle.std.proofs.lemmas.List.FromFn.{fill_by_all, length-map-range_with_len, get_or-map-range_with_len}
 use Rattle.std.proofs.lemmas.List.Elements.{All-from_get_or}
 use Rattle.std.proofs.lemmas.List.Concat.{flat_map-cons}
@@ -99,6 +99,14 @@ even_powers : (a s w j bus cut burst beat : ℕ) → a % 2 ^ s ≡ 0 → bus ≡
     → IsDivided a (2 ^ s) cut burst (2 ^ s / burst) × (burst ≡ burst / beat * beat) × (1 ≤ burst / beat) × (burst / beat ≤ 256) × (0 < beat) × (beat ≤ bus)
     × (beat ≡ min (2 ^ s) bus) × (a / beat * beat ≡ a)
 even_powers a s w j bus cut burst beat aligned bus_is cut_is burst_is beat_is few =
+    let smaller : min s w ≤ min s (w + j) = omega arith in
+    let counts : 2 ^ s / 2 ^ min s (w + j) ≡ 2 ^ (s - min s (w + j)) = div-pow s (min s (w + j)) (omega arith) in
+    let beats : 2 ^ min s (w + j) / 2 ^ min s w ≡ 2 ^ (min s (w + j) - min s w) = div-pow (min s (w + j)) (min s w) smaller in
+    let least : min s w ≤ s = omega arith in
+    let whole : a ≡ a / 2 ^ s * 2 ^ (s - min s w) * 2 ^ min s w + 0 =
+    omega (arith, div-add-mod' a (2 ^ s), ap (λ z. a / 2 ^ s * z) (pow-split s (min s w) least)) in
+    let rest : a / 2 ^ min s w * 2 ^ min s w ≡ a =
+    let quotient : a / 2 ^ min s w ≡ a / 2 ^ s * 2 ^ (s - min s w) = ap (λ z. z / 2 ^ min s w) whole ∙ div-mul-add (a / 2 ^ s * 2 ^ (s - min s w)) (2 ^ min s w) 0 (pow_pos (min s w)) in rw quotient (omega (arith, whole)) in
     rw (bus_is, cut_is, burst_is, beat_is, counts, beats) (
       divided a s (w + j) aligned,
       pow-split (min s (w + j)) (min s w) smaller,
@@ -109,24 +117,6 @@ even_powers a s w j bus cut burst beat aligned bus_is cut_is burst_is beat_is fe
       sym (min-pow s w),
       rest,
     )
-  where
-    smaller : min s w ≤ min s (w + j)
-    smaller = omega arith
-
-    counts : 2 ^ s / 2 ^ min s (w + j) ≡ 2 ^ (s - min s (w + j))
-    counts = div-pow s (min s (w + j)) (omega arith)
-
-    beats : 2 ^ min s (w + j) / 2 ^ min s w ≡ 2 ^ (min s (w + j) - min s w)
-    beats = div-pow (min s (w + j)) (min s w) smaller
-
-    least : min s w ≤ s
-    least = omega arith
-
-    whole : a ≡ a / 2 ^ s * 2 ^ (s - min s w) * 2 ^ min s w + 0
-    whole = omega (arith, div-add-mod' a (2 ^ s), ap (λ z. a / 2 ^ s * z) (pow-split s (min s w) least))
-
-    rest : a / 2 ^ min s w * 2 ^ min s w ≡ a
-    rest = let quotient : a / 2 ^ min s w ≡ a / 2 ^ s * 2 ^ (s - min s w) = ap (λ z. z / 2 ^ min s w) whole ∙ div-mul-add (a / 2 ^ s * 2 ^ (s - min s w)) (2 ^ min s w) 0 (pow_pos (min s w)) in rw quotient (omega (arith, whole))
 
 divides_evenly_with : (range : PlannedRange) (w j : ℕ) → IsPlannable range → ArePowers range w j → DividesEvenly range
 divides_evenly_with range w j plannable powers =
@@ -255,18 +245,16 @@ flat_map_evenly f a b i (suc n) each =
     ∙ rw (here, rest, next, whole) (range_with_len-append-range_with_len (a + i * b) b (n * b))
 
 pub is_plan : (range : PlannedRange) → IsPlannable range → IsPlan range (pieces range)
-is_plan range plannable = let even = divides_evenly range plannable in record { covers = covers even; whole = whole even }
-  where
-    covers : DividesEvenly range → flat_map piece_addresses (pieces range) ≡ range_with_len range.address (2 ^ range.size)
-    covers even =
-        ap (flat_map piece_addresses) (pieces_are range even) ∙ flat_map-map piece_addresses (piece_at range) (range_with_len 0 (burst_count range))
-        ∙ flat_map_evenly (λ k. piece_addresses (piece_at range k)) range.address (burst_bytes range) 0 (burst_count range)
-        (λ k below. ap (λ n. range_with_len (range.address + k * burst_bytes range) n) (piece_bytes-at range even k))
-        ∙ (let start : range.address + 0 * burst_bytes range ≡ range.address = omega arith in rw start (ap (λ n. range_with_len range.address n) (sym even.parts.whole)))
-
-    whole : DividesEvenly range → All (IsPartOf range) (pieces range)
-    whole even =
-        All-from_get_or (IsPartOf range) (pieces range) (piece_at range 0)
-        (λ k within.
-        let below : k < burst_count range = omega (arith, length-pieces range even) in
-        rw (get_or_from_slice_get (pieces range) k (piece_at range k) (piece_at range 0) (slice_get-pieces range even k below)) (is_part range plannable even k below))
+is_plan range plannable =
+    let even = divides_evenly range plannable in
+    let start : range.address + 0 * burst_bytes range ≡ range.address = omega arith in
+    record {
+      covers = ap (flat_map piece_addresses) (pieces_are range even) ∙ flat_map-map piece_addresses (piece_at range) (range_with_len 0 (burst_count range))
+          ∙ flat_map_evenly (λ k. piece_addresses (piece_at range k)) range.address (burst_bytes range) 0 (burst_count range)
+          (λ k below. ap (λ n. range_with_len (range.address + k * burst_bytes range) n) (piece_bytes-at range even k))
+          ∙ rw start (ap (λ n. range_with_len range.address n) (sym even.parts.whole));
+      whole = All-from_get_or (IsPartOf range) (pieces range) (piece_at range 0)
+          (λ k within.
+          let below : k < burst_count range = omega (arith, length-pieces range even) in
+          rw (get_or_from_slice_get (pieces range) k (piece_at range k) (piece_at range 0) (slice_get-pieces range even k below)) (is_part range plannable even k below));
+    }

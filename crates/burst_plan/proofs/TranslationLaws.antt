@@ -51,13 +51,10 @@ translated-LeadsTo regions operation address in_range =
 
 -- an address that leads to the same byte of a page is a multiple of the same powers of two, up to a page's bytes
 pub same_byte-mod : (address place size : ℕ) → size ≤ 12 → place % 4096 ≡ address % 4096 → place % 2 ^ size ≡ address % 2 ^ size
-same_byte-mod address place size small same = sym (cut place) ∙ ap (λ z. z % 2 ^ size) same ∙ cut address
-  where
-    whole : 12 - size + size ≡ 12
-    whole = omega arith
-
-    cut : (x : ℕ) → x % 4096 % 2 ^ size ≡ x % 2 ^ size
-    cut x = rw whole at (mod-mod-pow x (12 - size) size)
+same_byte-mod address place size small same =
+    let whole : 12 - size + size ≡ 12 = omega arith in
+    let cut : (x : ℕ) → x % 4096 % 2 ^ size ≡ x % 2 ^ size = λ x. rw whole at (mod-mod-pow x (12 - size) size) in
+    sym (cut place) ∙ ap (λ z. z % 2 ^ size) same ∙ cut address
 
 -- an operation leads to an address with the alignment of its own, up to that of a page
 pub LeadsTo-alignment : (regions : List Region) (operation : Operation) (address place size : ℕ) → LeadsTo regions operation address place → size ≤ 12

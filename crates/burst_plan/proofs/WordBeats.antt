@@ -74,15 +74,13 @@ payload_is : (bus_bytes : ℕ) (word held : MaskedWord) (piece : Piece) (n lanes
     → ((lane : ℕ) → lane < 8 → has_lane lanes lane ≡ covers_lane bus_bytes piece.address piece.size n lane)
     → merged 0 held.word (bit_and held.mask lanes) ≡ payload_of (byte_to_write bus_bytes (given_by_word word) piece n)
 payload_is bus_bytes word held piece n lanes width fits one carried between =
+    let empty : (lane : ℕ) → lane_byte 0 lane ≡ 0 = λ lane. lane_byte-past 0 0 lane (lit< tt) (omega arith) in
     word_of_lanes-same (λ lane. if has_lane (bit_and held.mask lanes) lane then lane_byte held.word lane else lane_byte 0 lane) (λ lane. unwrap_or (byte_to_write bus_bytes (given_by_word word) piece n lane) 0)
     (λ lane below.
     ap (λ b. if b then lane_byte held.word lane else lane_byte 0 lane) (has_lane-and held.mask lanes lane ∙ ap (λ b. has_lane held.mask lane && b) (between lane below))
     ∙ ap (λ z. if has_lane held.mask lane && covers_lane bus_bytes piece.address piece.size n lane then lane_byte held.word lane else z) (empty lane)
     ∙ byte_in (covers_lane bus_bytes piece.address piece.size n lane) (has_lane held.mask lane) (lane_byte held.word lane)
     ∙ ap (λ (o : Option ℕ). unwrap_or o 0) (sym (written_is bus_bytes word held piece n lane width fits one carried)))
-  where
-    empty : (lane : ℕ) → lane_byte 0 lane ≡ 0
-    empty lane = lane_byte-past 0 0 lane (lit< tt) (omega arith)
 
 -- the beat that is made of what the bus carries
 pub beat_made : (bus_bytes : ℕ) (word held : MaskedWord) (piece : Piece) (n address lowest highest lanes payload : ℕ) → IsBusWidth bus_bytes → fits_bus bus_bytes piece.size ≡ true → 1 ≤ n
@@ -90,14 +88,11 @@ pub beat_made : (bus_bytes : ℕ) (word held : MaskedWord) (piece : Piece) (n ad
     → IsCarried bus_bytes address word held → lanes ≡ mask_of (is_between lowest highest) → payload ≡ merged 0 held.word (bit_and held.mask lanes)
     → (payload ≡ (w_beat bus_bytes (given_by_word word) piece n).payload) × (bit_and held.mask lanes ≡ (w_beat bus_bytes (given_by_word word) piece n).strobes)
 beat_made bus_bytes word held piece n address lowest highest lanes payload width fits one address_is lowest_is highest_is carried lanes_is payload_at =
+    let small : lanes < 256 = rw lanes_is (mask_of-lt (is_between lowest highest)) in
+    let between : (lane : ℕ) → lane < 8 → has_lane lanes lane ≡ covers_lane bus_bytes piece.address piece.size n lane = λ lane below.
+    rw (lanes_is, lowest_is, highest_is) (has_lane-mask_of (is_between (lowest_lane bus_bytes piece.address piece.size n) (highest_lane bus_bytes piece.address piece.size n)) lane below) in
     let carried_there : IsCarried bus_bytes (transfer_address piece.address piece.size n) word held = rw address_is at carried in
     (payload_at ∙ payload_is bus_bytes word held piece n lanes width fits one carried_there between, strobes_are bus_bytes word held piece n lanes width fits one carried_there small between)
-  where
-    small : lanes < 256
-    small = rw lanes_is (mask_of-lt (is_between lowest highest))
-
-    between : (lane : ℕ) → lane < 8 → has_lane lanes lane ≡ covers_lane bus_bytes piece.address piece.size n lane
-    between lane below = rw (lanes_is, lowest_is, highest_is) (has_lane-mask_of (is_between (lowest_lane bus_bytes piece.address piece.size n) (highest_lane bus_bytes piece.address piece.size n)) lane below)
 
 -- what a word gives are bytes
 pub word_gives_bytes : (word : MaskedWord) → GivesBytes (given_by_word word)

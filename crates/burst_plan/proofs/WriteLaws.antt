@@ -69,18 +69,16 @@ none-zero (Some byte) none = absurd (cc)
 pub w_beat_puts : (bus_bytes : ℕ) (given : ℕ → Option ℕ) (piece : Piece) (n : ℕ) → IsBusWidth bus_bytes → fits_bus bus_bytes piece.size ≡ true → GivesBytes given → 1 ≤ n
     → PutsBytes bus_bytes given piece n (w_beat bus_bytes given piece n)
 w_beat_puts bus_bytes given piece n width fits small one =
+    let strobe : (lane : ℕ) → lane < 8 → has_lane (mask_of (λ lane. is_some (byte_to_write bus_bytes given piece n lane))) lane ≡ is_some (byte_to_write bus_bytes given piece n lane) = λ lane below.
+    has_lane-mask_of (λ lane. is_some (byte_to_write bus_bytes given piece n lane)) lane below in
+    let lane_holds : (lane : ℕ) → lane < 8 → lane_byte (payload_of (byte_to_write bus_bytes given piece n)) lane ≡ unwrap_or (byte_to_write bus_bytes given piece n lane) 0 = λ lane below.
+    lane_byte-payload_of (byte_to_write bus_bytes given piece n) lane (record { at = λ k within. byte_to_write-lt bus_bytes given piece n k small }) below in
     record {
       strobes = λ x has. strobe (x % bus_bytes) (lane-lt bus_bytes x width) ∙ ap (λ (o : Option ℕ). is_some o) (byte_to_write-mod bus_bytes given piece n x width fits one has);
       payload = λ x byte has there. lane_holds (x % bus_bytes) (lane-lt bus_bytes x width) ∙ ap (λ (o : Option ℕ). unwrap_or o 0) (byte_to_write-mod bus_bytes given piece n x width fits one has ∙ there);
       outside = λ lane below free. strobe lane below ∙ rw free refl;
       zero = λ lane below none. lane_holds lane below ∙ none-zero (byte_to_write bus_bytes given piece n lane) (sym (strobe lane below) ∙ none);
     }
-  where
-    strobe : (lane : ℕ) → lane < 8 → has_lane (mask_of (λ lane. is_some (byte_to_write bus_bytes given piece n lane))) lane ≡ is_some (byte_to_write bus_bytes given piece n lane)
-    strobe lane below = has_lane-mask_of (λ lane. is_some (byte_to_write bus_bytes given piece n lane)) lane below
-
-    lane_holds : (lane : ℕ) → lane < 8 → lane_byte (payload_of (byte_to_write bus_bytes given piece n)) lane ≡ unwrap_or (byte_to_write bus_bytes given piece n lane) 0
-    lane_holds lane below = lane_byte-payload_of (byte_to_write bus_bytes given piece n) lane (record { at = λ k within. byte_to_write-lt bus_bytes given piece n k small }) below
 
 -- ---- a whole burst
 
@@ -96,25 +94,21 @@ beq-same b = grind arith
 strobes_within : (bus_bytes : ℕ) (given : ℕ → Option ℕ) (piece : Piece) (aw : AwBeat) (n : ℕ) → aw.address ≡ piece.address → aw.size ≡ piece.size
     → strobes_fit bus_bytes aw n (w_beat bus_bytes given piece n).strobes ≡ true
 strobes_within bus_bytes given piece aw n same_address same_size =
+    let fits : (b : Bool) (o : Option ℕ) → (not (is_some (if b then o else None)) || b) ≡ true = λ b o. grind arith in
     list_all-from (λ lane. not (has_lane (w_beat bus_bytes given piece n).strobes lane) || covers_lane bus_bytes aw.address aw.size n lane) 0 8
     (λ lane low high.
     rw (same_address, same_size, has_lane-mask_of (λ lane. is_some (byte_to_write bus_bytes given piece n lane)) lane (omega arith))
     (fits (covers_lane bus_bytes piece.address piece.size n lane) (given (lane_address bus_bytes piece.address piece.size n lane))))
-  where
-    fits : (b : Bool) (o : Option ℕ) → (not (is_some (if b then o else None)) || b) ≡ true
-    fits b o = grind arith
 
 -- a write is legal where its address beat is
 pub write_is_legal : (bus_bytes id : ℕ) (bytes : List (Option ℕ)) (start : ℕ) (piece : Piece) → is_legal_address bus_bytes piece.address piece.len piece.size 1 ≡ true
     → IsLegal bus_bytes (write_of bus_bytes id bytes start piece)
 write_is_legal bus_bytes id bytes start piece legal =
+    let aw : AwBeat = record { id = id; address = piece.address; len = piece.len; size = piece.size; burst = 1 } in
     and_from _ _ (and_from _ _ legal (eq-eqb _ _ (length-map-range_with_len (w_beat bus_bytes (given_at bytes start) piece) 1 (piece.len + 1))))
     (rw (enumerate_from-map (w_beat bus_bytes (given_at bytes start) piece) 1 (piece.len + 1), list_all-map (λ (transfer : ℕ × WBeat). is_legal_data bus_bytes aw transfer.0 transfer.1) (λ k. (k, w_beat bus_bytes (given_at bytes start) piece k)) (range_with_len 1 (piece.len + 1)))
     (list_all-from (λ k. is_legal_data bus_bytes aw k (w_beat bus_bytes (given_at bytes start) piece k)) 1 (piece.len + 1)
     (λ k low high. and_from _ _ (strobes_within bus_bytes (given_at bytes start) piece aw k refl refl) (beq-same (k == piece.len + 1)))))
-  where
-    aw : AwBeat
-    aw = record { id = id; address = piece.address; len = piece.len; size = piece.size; burst = 1 }
 
 -- ---- the bursts of a plan
 
