@@ -3,7 +3,7 @@ use Rattle.std.proofs.Common.{◌≡◌, ℕ, zero, suc, ◌<◌, ◌==◌, Bool
 use Rattle.std.proofs.lemmas.Bool.Decides.{nat_tests}
 use Rattle.std.proofs.lemmas.Bool.{and_cases, and_left, and_right, or_parts, or_from, cases_Bool, eqb-true, eq-eqb, ne_eqb, not-false}
 use Rattle.std.proofs.lemmas.List.Folds.{list_any_none}
-use Rattle.std.specs.List.{All, list_any}
+use Rattle.std.specs.List.{list_any}
 use Rattle.std.specs.Prelude.{◌&&◌, ◌||◌, ◌↔◌}
 use Rattle.tl_messages.specs.Operations.{reply_opcode, reply_has_data, beats_of}
 use Rattle.tl_messages.specs.Requests.{WholeRequest}
@@ -28,36 +28,30 @@ not_corrupt : (beat : DBeat) → wrong_corrupt beat ≡ false → (beat.opcode �
 not_corrupt beat right other = rw (ne_eqb beat.opcode 1 other) at right
 
 reply_right : (q : WholeRequest) (beats : List DBeat) → reply_fault q beats ≡ None → IsReplyTo q beats
-reply_right q beats none = record { each = each; many = many; agree = agree }
-  where
-    kept : NoneBroken (reply_rules q beats)
-    kept = none_broken (reply_rules q beats) none
-
-    each : All (IsReplyBeat q) beats
-    each k d below =
-        let beat = get_or beats k d in
-        let fields = or_parts (not (beat.opcode == reply_opcode q.operation)) (not (beat.param == 0)) (none_passes (λ b. not (b.opcode == reply_opcode q.operation) || not (b.param == 0)) beats kept.0 k d below) in
-        let wrong = none_passes wrong_corrupt beats kept.1.1.1.1.1.0 k d below in
-        record {
-          opcode = eqb-true beat.opcode (reply_opcode q.operation) (not-false (beat.opcode == reply_opcode q.operation) fields.0);
-          param = eqb-true beat.param 0 (not-false (beat.param == 0) fields.1);
-          size = eqb-true beat.size q.size (not-false (beat.size == q.size) (none_passes (λ b. not (b.size == q.size)) beats kept.1.0 k d below));
-          source = eqb-true beat.source q.source (not-false (beat.source == q.source) (none_passes (λ b. not (b.source == q.source)) beats kept.1.1.0 k d below));
-          denied_data = data_corrupt beat wrong;
-          sound = not_corrupt beat wrong;
-        }
-
-    many : length beats ≡ beats_of q.size (reply_has_data q.operation)
-    many = eqb-true (length beats) (beats_of q.size (reply_has_data q.operation)) (not-false (length beats == beats_of q.size (reply_has_data q.operation)) kept.1.1.1.0)
-
-    agree : (j k : ℕ) (d : DBeat) → j < length beats → k < length beats → (get_or beats j d).denied ≡ (get_or beats k d).denied
-    agree j k d first second =
-        elim (and_cases (list_any (λ b. b.denied) beats) (list_any (λ b. not b.denied) beats) kept.1.1.1.1.0) [
-          | inl never ↦ none_passes (λ b. b.denied) beats never j d first ∙ sym (none_passes (λ b. b.denied) beats never k d second)
-          | inr always ↦
-              not-false (get_or beats j d).denied (none_passes (λ b. not b.denied) beats always j d first)
-              ∙ sym (not-false (get_or beats k d).denied (none_passes (λ b. not b.denied) beats always k d second))
-        ]
+reply_right q beats none =
+    let kept : NoneBroken (reply_rules q beats) = none_broken (reply_rules q beats) none in
+    record {
+      each = λ k d below.
+          let beat = get_or beats k d in
+          let fields = or_parts (not (beat.opcode == reply_opcode q.operation)) (not (beat.param == 0)) (none_passes (λ b. not (b.opcode == reply_opcode q.operation) || not (b.param == 0)) beats kept.0 k d below) in
+          let wrong = none_passes wrong_corrupt beats kept.1.1.1.1.1.0 k d below in
+          record {
+            opcode = eqb-true beat.opcode (reply_opcode q.operation) (not-false (beat.opcode == reply_opcode q.operation) fields.0);
+            param = eqb-true beat.param 0 (not-false (beat.param == 0) fields.1);
+            size = eqb-true beat.size q.size (not-false (beat.size == q.size) (none_passes (λ b. not (b.size == q.size)) beats kept.1.0 k d below));
+            source = eqb-true beat.source q.source (not-false (beat.source == q.source) (none_passes (λ b. not (b.source == q.source)) beats kept.1.1.0 k d below));
+            denied_data = data_corrupt beat wrong;
+            sound = not_corrupt beat wrong;
+          };
+      many = eqb-true (length beats) (beats_of q.size (reply_has_data q.operation)) (not-false (length beats == beats_of q.size (reply_has_data q.operation)) kept.1.1.1.0);
+      agree = λ j k d first second.
+          elim (and_cases (list_any (λ b. b.denied) beats) (list_any (λ b. not b.denied) beats) kept.1.1.1.1.0) [
+            | inl never ↦ none_passes (λ b. b.denied) beats never j d first ∙ sym (none_passes (λ b. b.denied) beats never k d second)
+            | inr always ↦
+                not-false (get_or beats j d).denied (none_passes (λ b. not b.denied) beats always j d first)
+                ∙ sym (not-false (get_or beats k d).denied (none_passes (λ b. not b.denied) beats always k d second))
+          ];
+    }
 
 -- ---- beats that are a reply
 
@@ -65,13 +59,11 @@ agree_in_denied : (beats : List DBeat) → ((j k : ℕ) (d : DBeat) → j < leng
     → (list_any (λ b. b.denied) beats && list_any (λ b. not b.denied) beats) ≡ false
 agree_in_denied [] agree = refl
 agree_in_denied (first ∷ rest) agree =
+    let some : 0 < length (first ∷ rest) = omega arith in
     elim (cases_Bool first.denied) [
       | inl denied ↦ and_right (list_any (λ b. b.denied) (first ∷ rest)) (list_any (λ b. not b.denied) (first ∷ rest)) (list_any_none (λ b. not b.denied) (first ∷ rest) (λ k d below. ap not (agree k 0 d below some ∙ denied)))
       | inr granted ↦ and_left (list_any (λ b. b.denied) (first ∷ rest)) (list_any (λ b. not b.denied) (first ∷ rest)) (list_any_none (λ b. b.denied) (first ∷ rest) (λ k d below. agree k 0 d below some ∙ granted))
     ]
-  where
-    some : 0 < length (first ∷ rest)
-    some = omega arith
 
 right_corrupt : (q : WholeRequest) (beat : DBeat) → IsReplyBeat q beat → wrong_corrupt beat ≡ false
 right_corrupt q beat is = grind (arith, nat_tests, is.denied_data, is.sound)

@@ -42,25 +42,20 @@ lane_kept : (here inside : Bool) → (here && not inside) ≡ false → here ≡
 lane_kept here inside kept is = grind arith
 
 right_mask : (operation : Operation) (beat : ABeat) → beat.opcode ≡ opcode_of operation → wrong_mask beat ≡ false → IsRightMask operation beat.address beat.size (masked_word beat)
-right_mask operation beat named right = elim (cases_Bool (beat.opcode == 1)) [ inl partial ↦ some_lanes partial (rw partial at right) | inr other ↦ all_lanes (rw other at right) ]
-  where
-    outside : ℕ → Bool
-    outside lane = has_lane beat.mask lane && not (in_lanes beat.address beat.size lane)
-
-    some_lanes : (beat.opcode == 1) ≡ true → list_any outside (range_with_len 0 8) ≡ false → IsRightMask operation beat.address beat.size (masked_word beat)
-    some_lanes partial none =
-        record {
-          within = λ lane below here. lane_kept (has_lane beat.mask lane) (in_lanes beat.address beat.size lane) (each_fails outside 0 8 none lane (omega arith) below) here;
-          full = λ other. absurd (other (is_partial operation (sym named ∙ eqb-true beat.opcode 1 partial)));
-        }
-
-    all_lanes : not (beat.mask == full_mask beat.address beat.size) ≡ false → IsRightMask operation beat.address beat.size (masked_word beat)
-    all_lanes same =
-        let is : beat.mask ≡ full_mask beat.address beat.size = eqb-true beat.mask (full_mask beat.address beat.size) (not-false (beat.mask == full_mask beat.address beat.size) same) in
-        record {
-          within = λ lane below here. sym (has_lane-full_mask beat.address beat.size lane below) ∙ ap (λ mask. has_lane mask lane) (sym is) ∙ here;
-          full = λ other. is;
-        }
+right_mask operation beat named right =
+    let outside : ℕ → Bool = λ lane. has_lane beat.mask lane && not (in_lanes beat.address beat.size lane) in
+    let some_lanes : (beat.opcode == 1) ≡ true → list_any outside (range_with_len 0 8) ≡ false → IsRightMask operation beat.address beat.size (masked_word beat) = λ partial none.
+    record {
+      within = λ lane below here. lane_kept (has_lane beat.mask lane) (in_lanes beat.address beat.size lane) (each_fails outside 0 8 none lane (omega arith) below) here;
+      full = λ other. absurd (other (is_partial operation (sym named ∙ eqb-true beat.opcode 1 partial)));
+    } in
+    let all_lanes : not (beat.mask == full_mask beat.address beat.size) ≡ false → IsRightMask operation beat.address beat.size (masked_word beat) = λ same.
+    let is : beat.mask ≡ full_mask beat.address beat.size = eqb-true beat.mask (full_mask beat.address beat.size) (not-false (beat.mask == full_mask beat.address beat.size) same) in
+    record {
+      within = λ lane below here. sym (has_lane-full_mask beat.address beat.size lane below) ∙ ap (λ mask. has_lane mask lane) (sym is) ∙ here;
+      full = λ other. is;
+    } in
+    elim (cases_Bool (beat.opcode == 1)) [ inl partial ↦ some_lanes partial (rw partial at right) | inr other ↦ all_lanes (rw other at right) ]
 
 later_mask : (held : HeldMessage) (beat : ABeat) → is_right_later held beat ≡ true → IsRightMask held.operation held.address held.size (masked_word beat)
 later_mask held beat right =
@@ -89,26 +84,21 @@ small_on_ul Uh beat within same = absurd (cc)
 
 pub spelled_sound : (limits : TlPortLimits) (message : HeldMessage) → HasSpelling limits message → IsSound limits message
 spelled_sound limits message ([], spelling) = absurd spelling.spells
-spelled_sound limits message (first ∷ rest, spelling) = subst (IsSound limits) same sound
-  where
-    same : message_of limits.client first rest ≡ message
-    same = cc (spelling.held)
-
-    right : IsRightFirst limits first
-    right = (first_none limits first false spelling.spells.0).0
-
-    sound : IsSound limits (message_of limits.client first rest)
-    sound =
-        let named = right_named limits first right in
-        record {
-          client = refl;
-          size = right.size;
-          aligned = right.aligned;
-          atomic_size = small_atomic limits first right;
-          one_beat = small_on_ul limits.level first right.level;
-          beats = rw (named.same_opcode, length-map rest masked_word) spelling.spells.2;
-          masks = (later_mask (begun limits.client first) first (right_again limits first right), later_masks (begun limits.client first) rest spelling.spells.1);
-        }
+spelled_sound limits message (first ∷ rest, spelling) =
+    let same : message_of limits.client first rest ≡ message = cc (spelling.held) in
+    let right : IsRightFirst limits first = (first_none limits first false spelling.spells.0).0 in
+    let sound : IsSound limits (message_of limits.client first rest) =
+    let named = right_named limits first right in
+    record {
+      client = refl;
+      size = right.size;
+      aligned = right.aligned;
+      atomic_size = small_atomic limits first right;
+      one_beat = small_on_ul limits.level first right.level;
+      beats = rw (named.same_opcode, length-map rest masked_word) spelling.spells.2;
+      masks = (later_mask (begun limits.client first) first (right_again limits first right), later_masks (begun limits.client first) rest spelling.spells.1);
+    } in
+    subst (IsSound limits) same sound
 
 -- of what stands whole on a port, if a request does
 pub whole_sound : (limits : TlPortLimits) (whole : Option HeldMessage) → IfSome whole (HasSpelling limits) → IfSome whole (IsSound limits)

@@ -74,19 +74,13 @@ place_within (suc (suc (suc size))) i count is below = omega (arith, pow-suc 2 (
 -- every byte of a request that carries data is given, but for those that PutPartialData leaves out
 pub all_given : (limits : TlPortLimits) (message : HeldMessage) (i : ℕ) → IsSound limits message → has_data message.operation ≡ true → (message.operation ≡ PutPartial → ⊥) → i < 2 ^ message.size
     → IsSome (byte_given message.address message.beats i)
-all_given limits message i sound carries whole below = rw (found.1, has) refl
-  where
-    count : length message.beats ≡ beats_of message.size true
-    count = rw carries at sound.beats
-
-    found : (beat : MaskedWord) × (slice_get message.beats (i / 8) ≡ Some beat) × IsRightMask message.operation message.address message.size beat
-    found = entry_at (IsRightMask message.operation message.address message.size) message.beats (i / 8) (place_within message.size i (length message.beats) count below) sound.masks
-
-    lane : ℕ
-    lane = lane_of (message.address + i)
-
-    has : has_lane found.0.mask lane ≡ true
-    has =
-        ap (λ mask. has_lane mask lane) (found.2.full whole)
-        ∙ has_lane-full_mask message.address message.size lane (omega arith)
-        ∙ lane_within message.address (2 ^ message.size) i lane below refl
+all_given limits message i sound carries whole below =
+    let count : length message.beats ≡ beats_of message.size true = rw carries at sound.beats in
+    let found : (beat : MaskedWord) × (slice_get message.beats (i / 8) ≡ Some beat) × IsRightMask message.operation message.address message.size beat =
+    entry_at (IsRightMask message.operation message.address message.size) message.beats (i / 8) (place_within message.size i (length message.beats) count below) sound.masks in
+    let lane : ℕ = lane_of (message.address + i) in
+    let has : has_lane found.0.mask lane ≡ true =
+    ap (λ mask. has_lane mask lane) (found.2.full whole)
+    ∙ has_lane-full_mask message.address message.size lane (omega arith)
+    ∙ lane_within message.address (2 ^ message.size) i lane below refl in
+    rw (found.1, has) refl

@@ -112,6 +112,9 @@ taken_first limits beat busy =
 taken_later : (limits : TlPortLimits) (first : ABeat) (rest : List ABeat) (beat : ABeat) (busy : Bool) → IsFront limits (first ∷ rest)
     → IsTakenAs limits first (rest ++ beat ∷ []) (first_fault limits (Some (message_of limits.client first rest)) beat busy) true (with_beat (message_of limits.client first rest) beat)
 taken_later limits first rest beat busy front =
+    let part : IsPart limits first rest = front_part limits first rest front in
+    let message : HeldMessage = message_of limits.client first rest in
+    let right : ABeat → Bool = is_right_later (begun limits.client first) in
     record {
       taken = λ none. (
         refl,
@@ -126,15 +129,6 @@ taken_later limits first rest beat busy front =
       enough = omega (arith, part.fewer, length-append rest (beat ∷ []));
       held = message-append limits.client first rest beat;
     }
-  where
-    part : IsPart limits first rest
-    part = front_part limits first rest front
-
-    message : HeldMessage
-    message = message_of limits.client first rest
-
-    right : ABeat → Bool
-    right = is_right_later (begun limits.client first)
 
 -- the answer to a beat after a front reads as it must
 pub reads : (limits : TlPortLimits) (beats : List ABeat) (beat : ABeat) (busy : Bool) → IsFront limits beats
