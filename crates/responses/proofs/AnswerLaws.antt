@@ -187,22 +187,17 @@ stays : (bus_bytes : ℕ) (outline : Outline) (start : ℕ) (seen : ℕ → Opti
     → HasSeen seen (start + i) (lane_in outline i) (word_at (after_reads bus_bytes outline reads g).words (own_word outline i))
 stays bus_bytes outline start seen i [] g byte tell inside has = has
 stays bus_bytes outline start seen i ((place, r) ∷ reads) g byte tell inside has =
+    let tells : TellsOf bus_bytes outline start seen place r = All-head (λ read. TellsOf bus_bytes outline start seen read.0 read.1) (place, r) reads tell in
+    let changed : word_of_read bus_bytes outline place ≡ own_word outline i → HasSeen seen (start + i) (lane_in outline i) (word_after bus_bytes outline place r (word_at g.words (own_word outline i))) = λ same.
+    elim (own_or_kept bus_bytes place i outline byte.width byte.aligned byte.below (inside_range bus_bytes place outline byte.has tells.inside) same) [
+      | inl own ↦
+          after_own bus_bytes outline start seen i place r (word_at g.words (own_word outline i)) byte tells same own
+          (spoiled_too seen (start + i) (lane_in outline i) (word_at g.words (own_word outline i)) has)
+      | inr keeps ↦ after_other bus_bytes outline start seen i place r (word_at g.words (own_word outline i)) byte tells same keeps has
+    ] in
     stays bus_bytes outline start seen i reads (after_r bus_bytes outline r place g) byte (All-tail (λ read. TellsOf bus_bytes outline start seen read.0 read.1) (place, r) reads tell)
     (rw (words_many bus_bytes outline place r g.words) inside)
     (word_kept bus_bytes outline i place r g.words (HasSeen seen (start + i) (lane_in outline i)) inside changed has)
-  where
-    tells : TellsOf bus_bytes outline start seen place r
-    tells = All-head (λ read. TellsOf bus_bytes outline start seen read.0 read.1) (place, r) reads tell
-
-    changed : word_of_read bus_bytes outline place ≡ own_word outline i
-        → HasSeen seen (start + i) (lane_in outline i) (word_after bus_bytes outline place r (word_at g.words (own_word outline i)))
-    changed same =
-        elim (own_or_kept bus_bytes place i outline byte.width byte.aligned byte.below (inside_range bus_bytes place outline byte.has tells.inside) same) [
-          | inl own ↦
-              after_own bus_bytes outline start seen i place r (word_at g.words (own_word outline i)) byte tells same own
-              (spoiled_too seen (start + i) (lane_in outline i) (word_at g.words (own_word outline i)) has)
-          | inr keeps ↦ after_other bus_bytes outline start seen i place r (word_at g.words (own_word outline i)) byte tells same keeps has
-        ]
 
 -- when its read has come, the byte is what the memory shows
 comes : (bus_bytes : ℕ) (outline : Outline) (start : ℕ) (seen : ℕ → Option ℕ) (i : ℕ) (reads : List (ℕ × RBeat)) (g : Gathering) → OneByte bus_bytes outline start seen i
@@ -211,6 +206,18 @@ comes : (bus_bytes : ℕ) (outline : Outline) (start : ℕ) (seen : ℕ → Opti
     → HasSeen seen (start + i) (lane_in outline i) (word_at (after_reads bus_bytes outline reads g).words (own_word outline i))
 comes bus_bytes outline start seen i [] g byte tell inside came spoiled = absurd (true≢false (sym came))
 comes bus_bytes outline start seen i ((place, r) ∷ reads) g byte tell inside came spoiled =
+    let tells : TellsOf bus_bytes outline start seen place r = All-head (λ read. TellsOf bus_bytes outline start seen read.0 read.1) (place, r) reads tell in
+    let others : All (λ read. TellsOf bus_bytes outline start seen read.0 read.1) reads =
+    All-tail (λ read. TellsOf bus_bytes outline start seen read.0 read.1) (place, r) reads tell in
+    let many : own_word outline i < length (after_r bus_bytes outline r place g).words = rw (words_many bus_bytes outline place r g.words) inside in
+    let own_reads : own_place bus_bytes outline i ≡ place → word_of_read bus_bytes outline place ≡ own_word outline i = λ own.
+    subst (λ p. word_of_read bus_bytes outline p ≡ own_word outline i) own (let p = placed bus_bytes i outline byte.width byte.aligned byte.below in p.word) in
+    let now : own_place bus_bytes outline i ≡ place → HasSeen seen (start + i) (lane_in outline i) (word_at (words_after bus_bytes outline place r g.words) (own_word outline i)) = λ is.
+    subst (HasSeen seen (start + i) (lane_in outline i))
+    (sym
+    (rw (own_reads is, or_none g.words (own_word outline i))
+    (set_there g.words (own_word outline i) (word_after bus_bytes outline place r (word_at g.words (own_word outline i))) inside)))
+    (after_own bus_bytes outline start seen i place r (word_at g.words (own_word outline i)) byte tells (own_reads is) is spoiled) in
     elim (eqb_tells place (own_place bus_bytes outline i)) [
       | inl (test, own) ↦ stays bus_bytes outline start seen i reads (after_r bus_bytes outline r place g) byte others many (now (sym own))
       | inr (test, other) ↦
@@ -218,27 +225,6 @@ comes bus_bytes outline start seen i ((place, r) ∷ reads) g byte tell inside c
           (word_kept bus_bytes outline i place r g.words (IsSpoiled seen (start + i)) inside
           (λ same. after_any bus_bytes outline start seen i place r (word_at g.words (own_word outline i)) byte tells same spoiled) spoiled)
     ]
-  where
-    tells : TellsOf bus_bytes outline start seen place r
-    tells = All-head (λ read. TellsOf bus_bytes outline start seen read.0 read.1) (place, r) reads tell
-
-    others : All (λ read. TellsOf bus_bytes outline start seen read.0 read.1) reads
-    others = All-tail (λ read. TellsOf bus_bytes outline start seen read.0 read.1) (place, r) reads tell
-
-    many : own_word outline i < length (after_r bus_bytes outline r place g).words
-    many = rw (words_many bus_bytes outline place r g.words) inside
-
-    own_reads : own_place bus_bytes outline i ≡ place → word_of_read bus_bytes outline place ≡ own_word outline i
-    own_reads own =
-        subst (λ p. word_of_read bus_bytes outline p ≡ own_word outline i) own (let p = placed bus_bytes i outline byte.width byte.aligned byte.below in p.word)
-
-    now : own_place bus_bytes outline i ≡ place → HasSeen seen (start + i) (lane_in outline i) (word_at (words_after bus_bytes outline place r g.words) (own_word outline i))
-    now is =
-        subst (HasSeen seen (start + i) (lane_in outline i))
-        (sym
-        (rw (own_reads is, or_none g.words (own_word outline i))
-        (set_there g.words (own_word outline i) (word_after bus_bytes outline place r (word_at g.words (own_word outline i))) inside)))
-        (after_own bus_bytes outline start seen i place r (word_at g.words (own_word outline i)) byte tells (own_reads is) is spoiled)
 
 -- ---- what denies
 

@@ -33,41 +33,26 @@ wide_transfer : (size : ℕ) → 3 ≤ size → (min (2 ^ size) 4 ≡ 4) × (min
 wide_transfer size big = let (whole, many) = eighths size big in (omega arith, omega arith)
 
 pub placed : (bus_bytes i : ℕ) (outline : Outline) → IsBusWidth bus_bytes → outline.address % 2 ^ outline.size ≡ 0 → i < 2 ^ outline.size → IsPlaced bus_bytes outline i
-placed bus_bytes i outline width aligned below =
-    elim width [
-      | inl four ↦ subst (λ b. IsPlaced b outline i) (sym four) (elim (cases_lt outline.size 3) [ inl small ↦ four_narrow small | inr big ↦ four_wide big ])
-      | inr eight ↦ subst (λ b. IsPlaced b outline i) (sym eight) (elim (cases_lt outline.size 3) [ inl small ↦ eight_narrow small | inr big ↦ eight_wide big ])
-    ]
-  where
-    four_narrow : outline.size < 3 → IsPlaced 4 outline i
-    four_narrow small =
-        let (first, other, within, half) = in_narrow outline.address outline.size i small aligned below in
-        record {
-          inside = rw first (omega arith);
-          word = rw (lt-leb 3 outline.size small) (omega arith);
-          half = λ e. rw (lt-leb 3 outline.size small) (omega arith);
-        }
-
-    four_wide : 3 ≤ outline.size → IsPlaced 4 outline i
-    four_wide big =
-        let (start, whole, many) = whole_words outline.address outline.size big aligned in
-        let (bytes, other) = wide_transfer outline.size big in
-        record {
-          inside = rw bytes (omega arith);
-          word = rw (bytes, le-leb 3 outline.size big) (omega arith);
-          half = λ e. rw (bytes, le-leb 3 outline.size big) (omega arith);
-        }
-
-    eight_narrow : outline.size < 3 → IsPlaced 8 outline i
-    eight_narrow small =
-        let (other, first, within, half) = in_narrow outline.address outline.size i small aligned below in
-        record { inside = rw first (omega arith); word = rw first (omega arith); half = λ e. absurd (omega arith) }
-
-    eight_wide : 3 ≤ outline.size → IsPlaced 8 outline i
-    eight_wide big =
-        let (start, whole, many) = whole_words outline.address outline.size big aligned in
-        let (other, bytes) = wide_transfer outline.size big in
-        record { inside = rw bytes (omega arith); word = rw bytes (omega arith); half = λ e. absurd (omega arith) }
+placed bus_bytes i outline (inl four) aligned below =
+    subst (λ b. IsPlaced b outline i) (sym four) (elim (cases_lt outline.size 3) [
+      | inl small ↦
+          let (first, other, within, half) = in_narrow outline.address outline.size i small aligned below in
+          record { inside = rw first (omega arith); word = rw (lt-leb 3 outline.size small) (omega arith); half = λ e. rw (lt-leb 3 outline.size small) (omega arith) }
+      | inr big ↦
+          let (start, whole, many) = whole_words outline.address outline.size big aligned in
+          let (bytes, other) = wide_transfer outline.size big in
+          record { inside = rw bytes (omega arith); word = rw (bytes, le-leb 3 outline.size big) (omega arith); half = λ e. rw (bytes, le-leb 3 outline.size big) (omega arith) }
+    ])
+placed bus_bytes i outline (inr eight) aligned below =
+    subst (λ b. IsPlaced b outline i) (sym eight) (elim (cases_lt outline.size 3) [
+      | inl small ↦
+          let (other, first, within, half) = in_narrow outline.address outline.size i small aligned below in
+          record { inside = rw first (omega arith); word = rw first (omega arith); half = λ e. absurd (omega arith) }
+      | inr big ↦
+          let (start, whole, many) = whole_words outline.address outline.size big aligned in
+          let (other, bytes) = wide_transfer outline.size big in
+          record { inside = rw bytes (omega arith); word = rw bytes (omega arith); half = λ e. absurd (omega arith) }
+    ])
 
 -- no other transfer brings the byte's half of its word
 pub same_place : (bus_bytes place i : ℕ) (outline : Outline) → IsBusWidth bus_bytes → outline.address % 2 ^ outline.size ≡ 0 → i < 2 ^ outline.size

@@ -67,16 +67,11 @@ outside_zero q reply j lane has below out =
 byte_shown : (q : WholeRequest) (reply : Reply) (i byte : ℕ) → HasBytes q reply → slice_get reply.bytes i ≡ Some (Some byte) → (beat_of_word q reply ((lane_of q.address + i) / 8)).corrupt ≡ false
     → lane_byte (beat_of_word q reply ((lane_of q.address + i) / 8)).payload (lane_of (q.address + i)) ≡ byte
 byte_shown q reply i byte has given good =
+    let place : address_in_word q ((lane_of q.address + i) / 8) (lane_of (q.address + i)) ≡ q.address + i = omega arith in
+    let back : q.address + i - q.address ≡ i = omega arith in
+    let found : given_at reply.bytes q.address (address_in_word q ((lane_of q.address + i) / 8) (lane_of (q.address + i))) ≡ Some byte =
+    rw (place, le-leb q.address (q.address + i) (omega arith), back, given) refl in
     lane_shown q reply ((lane_of q.address + i) / 8) (lane_of (q.address + i)) has (omega arith) good ∙ ap (λ (o : Option ℕ). unwrap_or o 0) found
-  where
-    place : address_in_word q ((lane_of q.address + i) / 8) (lane_of (q.address + i)) ≡ q.address + i
-    place = omega arith
-
-    back : q.address + i - q.address ≡ i
-    back = omega arith
-
-    found : given_at reply.bytes q.address (address_in_word q ((lane_of q.address + i) / 8) (lane_of (q.address + i))) ≡ Some byte
-    found = rw (place, le-leb q.address (q.address + i) (omega arith), back, given) refl
 
 -- ---- all beats
 

@@ -43,20 +43,16 @@ lanes_in_word : (q : WholeRequest) (k lane : ℕ) → lane < 8 → k < beats_of 
 lanes_in_word q zero lane below inside =
     has_lane-mask_of (is_between (lane_of q.address) (min (lane_of q.address + 2 ^ q.size - 1) 7)) lane below ∙ grind (arith, nat_tests, pow_pos q.size)
 lanes_in_word q (suc k) lane below inside =
+    let none : suc k ≡ 0 → ⊥ = λ e. omega arith in
+    let last_in_word : (size k : ℕ) → k < beats_of size true → 0 < k → 8 * k + 8 ≤ 2 ^ size = λ size k below some.
+    elim (cases_lt size 3) [
+      | inl small ↦ absurd (omega (arith, narrow 0 size small))
+      | inr big ↦ omega (arith, eighths size big)
+    ] in
     let fits = last_in_word q.size (suc k) inside in
     let low : q.address ≤ address_in_word q (suc k) lane = omega arith in
     let high : address_in_word q (suc k) lane < q.address + 2 ^ q.size = omega arith in
     rw (ne_eqb (suc k) 0 none) (every_lane lane below ∙ sym (grind (arith, nat_tests)))
-  where
-    none : suc k ≡ 0 → ⊥
-    none e = omega arith
-
-    last_in_word : (size k : ℕ) → k < beats_of size true → 0 < k → 8 * k + 8 ≤ 2 ^ size
-    last_in_word size k below some =
-        elim (cases_lt size 3) [
-          | inl small ↦ absurd (omega (arith, narrow 0 size small))
-          | inr big ↦ omega (arith, eighths size big)
-        ]
 
 -- ---- the bytes of a word
 
@@ -125,20 +121,12 @@ none_held held byte is none = grind arith
 -- a word that isn't given lacks one
 lacks_some : (q : WholeRequest) (words : List (Option ℕ)) (k : ℕ) → k < beats_of q.size true → slice_get words k ≡ Some None → lacks_a_byte q (reply_of q words) k ≡ true
 lacks_some q words k inside there =
+    let from_zero : 0 + lane_of q.address ≡ lane_of q.address = omega arith in
+    let below : lane_of q.address < 8 = omega arith in
+    let first : address_in_word q k (lane_of q.address) ≡ q.address + 8 * k = omega arith in
+    let held : in_range q (address_in_word q k (lane_of q.address)) ≡ true = let fits = first_in_word q.size k inside in rw first (grind (arith, nat_tests)) in
     any-range (λ lane. in_range q (address_in_word q k lane) && is_none (given_at (bytes_of_reply q words) q.address (address_in_word q k lane))) 0 8 (lane_of q.address) below
     (rw (from_zero, given_in_word q words k (lane_of q.address) None below there) (none_held (in_range q (address_in_word q k (lane_of q.address))) None held refl))
-  where
-    from_zero : 0 + lane_of q.address ≡ lane_of q.address
-    from_zero = omega arith
-
-    below : lane_of q.address < 8
-    below = omega arith
-
-    first : address_in_word q k (lane_of q.address) ≡ q.address + 8 * k
-    first = omega arith
-
-    held : in_range q (address_in_word q k (lane_of q.address)) ≡ true
-    held = let fits = first_in_word q.size k inside in rw first (grind (arith, nat_tests))
 
 shown_or_zero : (held : Bool) (byte zero_byte : ℕ) → zero_byte ≡ 0 → (if held then byte else zero_byte) ≡ unwrap_or (if held then Some byte else None) 0
 shown_or_zero held byte zero_byte none = grind arith
