@@ -69,19 +69,15 @@ reads_step port open_bursts (OnW w) id none within = sym (append-nil (reads_owe 
 reads_step port open_bursts (OnB b) id none within = sym (append-nil (reads_owe id open_bursts.reads))
 reads_step port open_bursts (OnAr ar) id none within = reads_owe-append id open_bursts.reads (record { ar = ar; came = 0 })
 reads_step port open_bursts (OnR r) id none within =
+    let finds : FindsRead open_bursts r = finds_read port open_bursts r none in
+    let mine : r.id ≡ id → r.last ∷ reads_owe id (reads_after r.id open_bursts.reads) ≡ reads_owe id open_bursts.reads = λ same.
+    let sound = all-find (IsSoundRead port.bus_bytes) (read_of_id r.id) open_bursts.reads finds.read within.sound_reads finds.found in
+    let owed = ap (λ (flag : Bool). flag ∷ reads_owe r.id (reads_after r.id open_bursts.reads)) finds.last ∙ reads_owe-reads_after r.id open_bursts.reads finds.read finds.found sound.came in
+    subst (λ k. r.last ∷ reads_owe k (reads_after r.id open_bursts.reads) ≡ reads_owe k open_bursts.reads) same owed in
     elim (cases_eq r.id id) [
       | inl same ↦ rw (eq-eqb r.id id same, append-nil) (mine same)
       | inr other ↦ rw (ne_eqb r.id id other, append-nil) (reads_owe-other id r.id open_bursts.reads other)
     ]
-  where
-    finds : FindsRead open_bursts r
-    finds = finds_read port open_bursts r none
-
-    mine : r.id ≡ id → r.last ∷ reads_owe id (reads_after r.id open_bursts.reads) ≡ reads_owe id open_bursts.reads
-    mine same =
-        let sound = all-find (IsSoundRead port.bus_bytes) (read_of_id r.id) open_bursts.reads finds.read within.sound_reads finds.found in
-        let owed = ap (λ (flag : Bool). flag ∷ reads_owe r.id (reads_after r.id open_bursts.reads)) finds.last ∙ reads_owe-reads_after r.id open_bursts.reads finds.read finds.found sound.came in
-        subst (λ k. r.last ∷ reads_owe k (reads_after r.id open_bursts.reads) ≡ reads_owe k open_bursts.reads) same owed
 
 pub data_step : (port : AxiPortLimits) (open_bursts : OpenBursts) (beat : AxiBeat) → axi_fault port open_bursts beat ≡ None
     → data_given beat ++ writes_lack (open_after open_bursts beat).writes ≡ writes_lack open_bursts.writes ++ data_announced beat
