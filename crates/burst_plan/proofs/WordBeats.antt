@@ -1,7 +1,7 @@
 -- The W beats that the code makes of words of eight bytes.
-use Rattle.std.proofs.Common.{◌≡◌, ℕ, ◌+◌, ◌*◌, ◌/◌, ◌%◌, ◌^◌, ◌<◌, ◌≤◌, ◌==◌, nat_le, Bool, true, false, ◌&&◌, Option, Some, None, is_some, if◌then◌else◌, refl, sym, ◌∙◌, ap, arith, lit<, bit_and}
+use Rattle.std.proofs.Common.{◌≡◌, ℕ, ◌+◌, ◌*◌, ◌/◌, ◌%◌, ◌^◌, ◌<◌, ◌≤◌, ◌==◌, nat_le, Bool, true, false, ◌&&◌, Option, Some, None, is_some, if◌then◌else◌, refl, sym, ◌∙◌, ap, arith, lit<, bit_and, inl, inr}
 use Rattle.std.specs.Prelude.{unwrap_or}
-use Rattle.std.proofs.lemmas.Bool.{and_parts, leb-true}
+use Rattle.std.proofs.lemmas.Bool.{and_parts, cases_Bool, leb-true}
 use Rattle.std.proofs.lemmas.Nat.{shr-shr, and_le_r, mod_below}
 use Rattle.bus_words.specs.Lanes.{has_lane, lane_byte, mask_of, payload_of, is_between}
 use Rattle.bus_words.proofs.LaneLaws.{word_of_lanes-same}
@@ -11,7 +11,7 @@ use Rattle.tl_messages.specs.Requests.{given_in}
 use Rattle.tl_messages.specs.declared.MaskedWord.{MaskedWord}
 use Rattle.data_unit.specs.Words.{merged}
 use Rattle.data_unit.proofs.ByteLaws.{lane_byte-down, lane_byte-past, lane_byte-shr}
-use Rattle.axi_beats.specs.Transfers.{IsBusWidth, fits_bus, covers_lane, lane_address, lowest_lane, highest_lane, transfer_address}
+use Rattle.axi_beats.specs.Transfers.{IsBusWidth, fits_bus, covers_lane, lowest_lane, highest_lane, transfer_address}
 use Rattle.axi_beats.proofs.TransferLaws.{highest_lane_lt_bus_bytes}
 use Rattle.burst_plan.specs.PlannedBursts.{byte_to_write, given_by_word, w_beat}
 use Rattle.burst_plan.specs.declared.Piece.{Piece}
@@ -46,16 +46,15 @@ byte_in covered held byte = grind arith
 written_is : (bus_bytes : ℕ) (word held : MaskedWord) (piece : Piece) (n lane : ℕ) → IsBusWidth bus_bytes → fits_bus bus_bytes piece.size ≡ true → 1 ≤ n
     → IsCarried bus_bytes (transfer_address piece.address piece.size n) word held
     → byte_to_write bus_bytes (given_by_word word) piece n lane ≡ (if covers_lane bus_bytes piece.address piece.size n lane then given_in lane held else None)
-written_is bus_bytes word held piece n lane width fits one carried = by_cover (covers_lane bus_bytes piece.address piece.size n lane) refl
-  where
-    by_cover : (b : Bool) → covers_lane bus_bytes piece.address piece.size n lane ≡ b
-        → (if b then given_by_word word (lane_address bus_bytes piece.address piece.size n lane) else None) ≡ (if b then given_in lane held else None)
-    by_cover true covered =
-        let both = and_parts (nat_le (lowest_lane bus_bytes piece.address piece.size n) lane) (nat_le lane (highest_lane bus_bytes piece.address piece.size n)) covered in
-        let top = leb-true _ _ both.1 in
-        let below = highest_lane_lt_bus_bytes bus_bytes piece.address piece.size n width fits one in
-        sym (carried.at lane (omega arith))
-    by_cover false covered = refl
+written_is bus_bytes word held piece n lane width fits one carried =
+    elim (cases_Bool (covers_lane bus_bytes piece.address piece.size n lane)) [
+      | inl covered ↦
+          let both = and_parts (nat_le (lowest_lane bus_bytes piece.address piece.size n) lane) (nat_le lane (highest_lane bus_bytes piece.address piece.size n)) covered in
+          let top = leb-true _ _ both.1 in
+          let below = highest_lane_lt_bus_bytes bus_bytes piece.address piece.size n width fits one in
+          rw covered (sym (carried.at lane (omega arith)))
+      | inr free ↦ rw free refl
+    ]
 
 strobes_are : (bus_bytes : ℕ) (word held : MaskedWord) (piece : Piece) (n lanes : ℕ) → IsBusWidth bus_bytes → fits_bus bus_bytes piece.size ≡ true → 1 ≤ n
     → IsCarried bus_bytes (transfer_address piece.address piece.size n) word held → lanes < 256

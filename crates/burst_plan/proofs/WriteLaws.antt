@@ -1,6 +1,5 @@
 -- The bursts of a range's pieces are legal, and the W beats of a write put each given byte at its address and no other.
-use Rattle.std.proofs.Common.{◌≡◌, ℕ, zero, suc, ◌+◌, ◌-◌, ◌%◌, ◌<◌, ◌≤◌, ◌==◌, nat_le, Bool, true, false, ◌||◌, not, List, ◌∷◌, map, Option, Some, None, is_some, if◌then◌else◌, refl, sym, ◌∙◌, ap, arith, lit<, inl, inr}
-use Rattle.std.specs.Bool.{beq}
+use Rattle.std.proofs.Common.{◌≡◌, ℕ, zero, suc, ◌+◌, ◌-◌, ◌%◌, ◌<◌, ◌≤◌, nat_le, Bool, true, false, ◌||◌, not, List, ◌∷◌, map, Option, Some, None, is_some, if◌then◌else◌, refl, sym, ◌∙◌, ap, arith, lit<, inl, inr}
 use Rattle.std.specs.List.{range_with_len, slice_get, enumerate_from}
 use Rattle.std.specs.Prelude.{unwrap_or}
 use Rattle.std.specs.Option.{option_flatten}
@@ -87,9 +86,6 @@ enumerate_from-map : {X : Type 0} (f : ℕ → X) (a n : ℕ) → enumerate_from
 enumerate_from-map f a zero = refl
 enumerate_from-map {X} f a (suc n) = ap (λ (xs : List (ℕ × X)). (a, f a) ∷ xs) (enumerate_from-map f (a + 1) n)
 
-beq-same : (b : Bool) → beq b b ≡ true
-beq-same b = grind arith
-
 -- the strobes of a W beat are in lanes of its transfer
 strobes_within : (bus_bytes : ℕ) (given : ℕ → Option ℕ) (piece : Piece) (aw : AwBeat) (n : ℕ) → aw.address ≡ piece.address → aw.size ≡ piece.size
     → strobes_fit bus_bytes aw n (w_beat bus_bytes given piece n).strobes ≡ true
@@ -108,7 +104,7 @@ write_is_legal bus_bytes id bytes start piece legal =
     and_from _ _ (and_from _ _ legal (eq-eqb _ _ (length-map-range_with_len (w_beat bus_bytes (given_at bytes start) piece) 1 (piece.len + 1))))
     (rw (enumerate_from-map (w_beat bus_bytes (given_at bytes start) piece) 1 (piece.len + 1), list_all-map (λ (transfer : ℕ × WBeat). is_legal_data bus_bytes aw transfer.0 transfer.1) (λ k. (k, w_beat bus_bytes (given_at bytes start) piece k)) (range_with_len 1 (piece.len + 1)))
     (list_all-from (λ k. is_legal_data bus_bytes aw k (w_beat bus_bytes (given_at bytes start) piece k)) 1 (piece.len + 1)
-    (λ k low high. and_from _ _ (strobes_within bus_bytes (given_at bytes start) piece aw k refl refl) (beq-same (k == piece.len + 1)))))
+    (λ k low high. and_from _ _ (strobes_within bus_bytes (given_at bytes start) piece aw k refl refl) (grind arith))))
 
 -- ---- the bursts of a plan
 
