@@ -43,19 +43,21 @@ lane_kept here inside kept is = grind arith
 
 right_mask : (operation : Operation) (beat : ABeat) → beat.opcode ≡ opcode_of operation → wrong_mask beat ≡ false → IsRightMask operation beat.address beat.size (masked_word beat)
 right_mask operation beat named right =
-    let outside : ℕ → Bool = λ lane. has_lane beat.mask lane && not (in_lanes beat.address beat.size lane) in
-    let some_lanes : (beat.opcode == 1) ≡ true → list_any outside (range_with_len 0 8) ≡ false → IsRightMask operation beat.address beat.size (masked_word beat) = λ partial none.
-    record {
-      within = λ lane below here. lane_kept (has_lane beat.mask lane) (in_lanes beat.address beat.size lane) (each_fails outside 0 8 none lane (omega arith) below) here;
-      full = λ other. absurd (other (is_partial operation (sym named ∙ eqb-true beat.opcode 1 partial)));
-    } in
-    let all_lanes : not (beat.mask == full_mask beat.address beat.size) ≡ false → IsRightMask operation beat.address beat.size (masked_word beat) = λ same.
-    let is : beat.mask ≡ full_mask beat.address beat.size = eqb-true beat.mask (full_mask beat.address beat.size) (not-false (beat.mask == full_mask beat.address beat.size) same) in
-    record {
-      within = λ lane below here. sym (has_lane-full_mask beat.address beat.size lane below) ∙ ap (λ mask. has_lane mask lane) (sym is) ∙ here;
-      full = λ other. is;
-    } in
-    elim (cases_Bool (beat.opcode == 1)) [ inl partial ↦ some_lanes partial (rw partial at right) | inr other ↦ all_lanes (rw other at right) ]
+    elim (cases_Bool (beat.opcode == 1)) [
+      | inl partial ↦
+          let outside : ℕ → Bool = λ lane. has_lane beat.mask lane && not (in_lanes beat.address beat.size lane) in
+          let none : list_any outside (range_with_len 0 8) ≡ false = rw partial at right in
+          record {
+            within = λ lane below here. lane_kept (has_lane beat.mask lane) (in_lanes beat.address beat.size lane) (each_fails outside 0 8 none lane (omega arith) below) here;
+            full = λ other. absurd (other (is_partial operation (sym named ∙ eqb-true beat.opcode 1 partial)));
+          }
+      | inr other ↦
+          let is : beat.mask ≡ full_mask beat.address beat.size = eqb-true beat.mask (full_mask beat.address beat.size) (not-false (beat.mask == full_mask beat.address beat.size) (rw other at right)) in
+          record {
+            within = λ lane below here. sym (has_lane-full_mask beat.address beat.size lane below) ∙ ap (λ mask. has_lane mask lane) (sym is) ∙ here;
+            full = λ other. is;
+          }
+    ]
 
 later_mask : (held : HeldMessage) (beat : ABeat) → is_right_later held beat ≡ true → IsRightMask held.operation held.address held.size (masked_word beat)
 later_mask held beat right =
