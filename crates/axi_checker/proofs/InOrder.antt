@@ -69,13 +69,12 @@ reads_step port open_bursts (OnW w) id none within = sym (append-nil (reads_owe 
 reads_step port open_bursts (OnB b) id none within = sym (append-nil (reads_owe id open_bursts.reads))
 reads_step port open_bursts (OnAr ar) id none within = reads_owe-append id open_bursts.reads (record { ar = ar; came = 0 })
 reads_step port open_bursts (OnR r) id none within =
-    let finds : FindsRead open_bursts r = finds_read port open_bursts r none in
-    let mine : r.id ≡ id → r.last ∷ reads_owe id (reads_after r.id open_bursts.reads) ≡ reads_owe id open_bursts.reads = λ same.
-    let sound = all-find (IsSoundRead port.bus_bytes) (read_of_id r.id) open_bursts.reads finds.read within.sound_reads finds.found in
-    let owed = ap (λ (flag : Bool). flag ∷ reads_owe r.id (reads_after r.id open_bursts.reads)) finds.last ∙ reads_owe-reads_after r.id open_bursts.reads finds.read finds.found sound.came in
-    subst (λ k. r.last ∷ reads_owe k (reads_after r.id open_bursts.reads) ≡ reads_owe k open_bursts.reads) same owed in
+    let finds = finds_read port open_bursts r none in
     elim (cases_eq r.id id) [
-      | inl same ↦ rw (eq-eqb r.id id same, append-nil) (mine same)
+      | inl same ↦
+          let sound = all-find (IsSoundRead port.bus_bytes) (read_of_id r.id) open_bursts.reads finds.read within.sound_reads finds.found in
+          let owed = ap (λ (flag : Bool). flag ∷ reads_owe r.id (reads_after r.id open_bursts.reads)) finds.last ∙ reads_owe-reads_after r.id open_bursts.reads finds.read finds.found sound.came in
+          rw (eq-eqb r.id id same, append-nil) (subst (λ k. r.last ∷ reads_owe k (reads_after r.id open_bursts.reads) ≡ reads_owe k open_bursts.reads) same owed)
       | inr other ↦ rw (ne_eqb r.id id other, append-nil) (reads_owe-other id r.id open_bursts.reads other)
     ]
 
