@@ -188,16 +188,16 @@ stays : (bus_bytes : ℕ) (outline : Outline) (start : ℕ) (seen : ℕ → Opti
 stays bus_bytes outline start seen i [] g byte tell inside has = has
 stays bus_bytes outline start seen i ((place, r) ∷ reads) g byte tell inside has =
     let tells : TellsOf bus_bytes outline start seen place r = All-head (λ read. TellsOf bus_bytes outline start seen read.0 read.1) (place, r) reads tell in
-    let changed : word_of_read bus_bytes outline place ≡ own_word outline i → HasSeen seen (start + i) (lane_in outline i) (word_after bus_bytes outline place r (word_at g.words (own_word outline i))) = λ same.
-    elim (own_or_kept bus_bytes place i outline byte.width byte.aligned byte.below (inside_range bus_bytes place outline byte.has tells.inside) same) [
-      | inl own ↦
-          after_own bus_bytes outline start seen i place r (word_at g.words (own_word outline i)) byte tells same own
-          (spoiled_too seen (start + i) (lane_in outline i) (word_at g.words (own_word outline i)) has)
-      | inr keeps ↦ after_other bus_bytes outline start seen i place r (word_at g.words (own_word outline i)) byte tells same keeps has
-    ] in
+    let word = word_at g.words (own_word outline i) in
     stays bus_bytes outline start seen i reads (after_r bus_bytes outline r place g) byte (All-tail (λ read. TellsOf bus_bytes outline start seen read.0 read.1) (place, r) reads tell)
     (rw (words_many bus_bytes outline place r g.words) inside)
-    (word_kept bus_bytes outline i place r g.words (HasSeen seen (start + i) (lane_in outline i)) inside changed has)
+    (word_kept bus_bytes outline i place r g.words (HasSeen seen (start + i) (lane_in outline i)) inside
+    (λ same.
+    elim (own_or_kept bus_bytes place i outline byte.width byte.aligned byte.below (inside_range bus_bytes place outline byte.has tells.inside) same) [
+      | inl own ↦ after_own bus_bytes outline start seen i place r word byte tells same own (spoiled_too seen (start + i) (lane_in outline i) word has)
+      | inr keeps ↦ after_other bus_bytes outline start seen i place r word byte tells same keeps has
+    ])
+    has)
 
 -- when its read has come, the byte is what the memory shows
 comes : (bus_bytes : ℕ) (outline : Outline) (start : ℕ) (seen : ℕ → Option ℕ) (i : ℕ) (reads : List (ℕ × RBeat)) (g : Gathering) → OneByte bus_bytes outline start seen i
