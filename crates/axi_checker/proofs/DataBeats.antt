@@ -13,9 +13,7 @@ use Rattle.axi_checker.proofs.Judging.{one_beat_more}
 
 drop-slice_get : (ws : List WBeat) (k : ℕ) (w : WBeat) → slice_get ws k ≡ Some w → drop k ws ≡ w ∷ drop (k + 1) ws
 drop-slice_get [] k w at = absurd (cc)
-drop-slice_get (x ∷ xs) zero w at =
-    let same : x ≡ w = cc in
-    rw same refl
+drop-slice_get (x ∷ xs) zero w at = cc
 drop-slice_get (x ∷ xs) (suc k) w at =
     let next : suc k + 1 ≡ suc (k + 1) = omega arith in
     rw next (drop-slice_get xs k w at)

@@ -1,5 +1,5 @@
 -- Worked values of the definitions.
-use Rattle.std.proofs.Common.{◌≡◌, ℕ, Bool, true, false, [], ◌∷◌, refl}
+use Rattle.std.proofs.Common.{◌≡◌, ℕ, Bool, true, false, [], ◌∷◌, map, refl}
 use Rattle.std.specs.Prelude.{None, Some}
 use Rattle.axi_beats.specs.Bursts.{WriteBurst}
 use Rattle.axi_beats.specs.declared.AwBeat.{AwBeat}
@@ -27,23 +27,17 @@ b id = OnB (record { id = id; resp = Okay })
 abbrev r : ℕ → Resp → Bool → AxiBeat
 r id resp last = OnR (record { id = id; payload = 0; resp = resp; last = last })
 
-burst_over_a_page : axi_fault port nothing_open (OnAw (aw 0x10ff8 1 3)) ≡ Some Cross4K
-burst_over_a_page = refl
+-- a burst over a page, and one at its end
+at_a_pages_end : map (λ len. axi_fault port nothing_open (OnAw (aw 0x10ff8 len 3))) (1 ∷ 0 ∷ []) ≡ Some Cross4K ∷ None ∷ []
+at_a_pages_end = refl
 
-burst_at_a_pages_end : axi_fault port nothing_open (OnAw (aw 0x10ff8 0 3)) ≡ None
-burst_at_a_pages_end = refl
-
-strobe_past_an_unaligned_start : first_axi_fault port nothing_open (OnAw (aw 0x10003 1 2) ∷ w 0x10 false ∷ []) ≡ Some Strobe
-strobe_past_an_unaligned_start = refl
-
-data_of_an_unaligned_start : first_axi_fault port nothing_open (OnAw (aw 0x10003 1 2) ∷ w 0x08 false ∷ w 0xf0 true ∷ []) ≡ None
-data_of_an_unaligned_start = refl
-
-response_before_the_last_data : first_axi_fault port nothing_open (OnAw (aw 0x10000 1 3) ∷ w 0xff false ∷ b 0 ∷ []) ≡ Some BWithoutWrite
-response_before_the_last_data = refl
-
-last_data_not_marked : first_axi_fault port nothing_open (OnAw (aw 0x10000 1 3) ∷ w 0xff false ∷ w 0xff false ∷ []) ≡ Some WLast
-last_data_not_marked = refl
+-- data of an unaligned start, with a strobe before it and without; a response before the last data; and last data that isn't marked
+writes :
+    map (first_axi_fault port nothing_open)
+    ((OnAw (aw 0x10003 1 2) ∷ w 0x10 false ∷ []) ∷ (OnAw (aw 0x10003 1 2) ∷ w 0x08 false ∷ w 0xf0 true ∷ []) ∷ (OnAw (aw 0x10000 1 3) ∷ w 0xff false ∷ b 0 ∷ [])
+    ∷ (OnAw (aw 0x10000 1 3) ∷ w 0xff false ∷ w 0xff false ∷ []) ∷ [])
+    ≡ Some Strobe ∷ None ∷ Some BWithoutWrite ∷ Some WLast ∷ []
+writes = refl
 
 burst_of_one_data_for_two : burst_fault port nothing_open (WriteBurst (aw 0x10000 1 3) (record { payload = 0; strobes = 0xff; last = false } ∷ [])) ≡ Some WLast
 burst_of_one_data_for_two = refl
@@ -52,39 +46,27 @@ burst_of_two_datas_for_one : burst_fault port nothing_open (WriteBurst (aw 0x100
     ≡ Some WWithoutAw
 burst_of_two_datas_for_one = refl
 
-response_of_an_id_that_is_not_there : axi_fault port nothing_open (b 16) ≡ Some IdRange
-response_of_an_id_that_is_not_there = refl
-
-response_to_nothing : axi_fault port nothing_open (b 0) ≡ Some BWithoutWrite
-response_to_nothing = refl
-
-data_of_no_read : axi_fault port nothing_open (r 0 Okay true) ≡ Some RWithoutRead
-data_of_no_read = refl
+-- a response of an ID that isn't there, one to nothing, and data of no read
+answers_to_nothing : map (axi_fault port nothing_open) (b 16 ∷ b 0 ∷ r 0 Okay true ∷ []) ≡ Some IdRange ∷ Some BWithoutWrite ∷ Some RWithoutRead ∷ []
+answers_to_nothing = refl
 
 -- a read of two transfers
 abbrev reading : OpenBursts
 reading = open_after_all nothing_open (OnAr (record { id = 0; address = 0x10000; len = 1; size = 3; burst = 1 }) ∷ [])
 
-last_too_early : axi_fault port reading (r 0 Okay true) ∷ axi_fault port reading (r 0 ExOkayResp true) ∷ [] ≡ Some RLast ∷ Some RLast ∷ []
-last_too_early = refl
+-- a `last` that comes too early, and an exclusive response
+wrong_first_data : map (axi_fault port reading) (r 0 Okay true ∷ r 0 ExOkayResp true ∷ r 0 ExOkayResp false ∷ []) ≡ Some RLast ∷ Some RLast ∷ Some ExOkay ∷ []
+wrong_first_data = refl
 
-exclusive_response : axi_fault port reading (r 0 ExOkayResp false) ≡ Some ExOkay
-exclusive_response = refl
-
-last_too_late : first_axi_fault port reading (r 0 Okay false ∷ r 0 Okay false ∷ []) ≡ Some RLast
-last_too_late = refl
-
-read_of_two : first_axi_fault port reading (r 0 Okay false ∷ r 0 Okay true ∷ []) ≡ None
+-- a `last` that comes too late, the two transfers, and one more
+read_of_two :
+    map (first_axi_fault port reading) ((r 0 Okay false ∷ r 0 Okay false ∷ []) ∷ (r 0 Okay false ∷ r 0 Okay true ∷ []) ∷ (r 0 Okay false ∷ r 0 Okay true ∷ r 0 Okay true ∷ []) ∷ [])
+    ≡ Some RLast ∷ None ∷ Some RWithoutRead ∷ []
 read_of_two = refl
 
-one_data_more : first_axi_fault port reading (r 0 Okay false ∷ r 0 Okay true ∷ r 0 Okay true ∷ []) ≡ Some RWithoutRead
-one_data_more = refl
-
-eight_bytes_on_a_bus_of_four : axi_fault narrow_port nothing_open (OnAw (aw 0x10008 0 3)) ≡ Some Size
-eight_bytes_on_a_bus_of_four = refl
-
-data_on_a_bus_of_four : first_axi_fault narrow_port nothing_open (OnAw (aw 0x10008 1 2) ∷ w 0x0f false ∷ w 0x0f true ∷ []) ≡ None
-data_on_a_bus_of_four = refl
-
-strobe_past_a_bus_of_four : first_axi_fault narrow_port nothing_open (OnAw (aw 0x10008 1 2) ∷ w 0x0f false ∷ w 0xf0 true ∷ []) ≡ Some Strobe
-strobe_past_a_bus_of_four = refl
+-- eight bytes on a bus of four, data that it carries, and a strobe past it
+on_a_bus_of_four :
+    map (first_axi_fault narrow_port nothing_open)
+    ((OnAw (aw 0x10008 0 3) ∷ []) ∷ (OnAw (aw 0x10008 1 2) ∷ w 0x0f false ∷ w 0x0f true ∷ []) ∷ (OnAw (aw 0x10008 1 2) ∷ w 0x0f false ∷ w 0xf0 true ∷ []) ∷ [])
+    ≡ Some Size ∷ None ∷ Some Strobe ∷ []
+on_a_bus_of_four = refl

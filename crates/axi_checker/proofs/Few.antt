@@ -1,7 +1,8 @@
 -- Lists with few entries of each ID: how long they are at most, and what keeps them so.
-use Rattle.std.proofs.Common.{◌≡◌, ℕ, zero, suc, ◌+◌, ◌*◌, ◌<◌, ◌≤◌, ◌==◌, Bool, List, [], ◌∷◌, ◌++◌, length, nat_lt, refl, ap, arith, inl, inr}
+use Rattle.std.proofs.Common.{◌≡◌, ℕ, zero, suc, ◌+◌, ◌*◌, ◌<◌, ◌≤◌, ◌==◌, Bool, List, [], ◌∷◌, ◌++◌, length, nat_lt, refl, ap, arith}
 use Rattle.std.specs.List.{AllByRecursion, filter}
-use Rattle.std.proofs.lemmas.Bool.{cases_order, cases_eq, lt-ltb, le-ltb, eq-eqb, ne_eqb}
+use Rattle.std.proofs.lemmas.Bool.{lt-ltb, le-ltb}
+use Rattle.std.proofs.lemmas.Bool.Decides.{nat_tests}
 use Rattle.std.proofs.lemmas.List.{length-append}
 use Rattle.std.proofs.lemmas.List.Elements.{filter-append}
 use Rattle.bus_words.proofs.PlaceChanges.{all-append, all-change_first, all-without_first, length-filter-change_first, length-filter-without_first}
@@ -17,15 +18,7 @@ below id_of n xs = length (filter (λ x. nat_lt (id_of x) n) xs)
 
 below-suc : {X : Type 0} (id_of : X → ℕ) (n : ℕ) (xs : List X) → below id_of (suc n) xs ≡ below id_of n xs + of_id id_of n xs
 below-suc id_of n [] = refl
-below-suc id_of n (x ∷ xs) = by_order (below-suc id_of n xs)
-  where
-    by_order : below id_of (suc n) xs ≡ below id_of n xs + of_id id_of n xs → below id_of (suc n) (x ∷ xs) ≡ below id_of n (x ∷ xs) + of_id id_of n (x ∷ xs)
-    by_order rest =
-        elim (cases_order (id_of x) n) [
-          | inl same ↦ rw (lt-ltb (id_of x) (suc n) (omega arith), le-ltb (id_of x) n (omega arith), eq-eqb (id_of x) n same) (omega (arith, rest))
-          | inr (inl less) ↦ rw (lt-ltb (id_of x) (suc n) (omega arith), lt-ltb (id_of x) n less, ne_eqb (id_of x) n (λ same. omega arith)) (omega (arith, rest))
-          | inr (inr more) ↦ rw (le-ltb (id_of x) (suc n) (omega arith), le-ltb (id_of x) n (omega arith), ne_eqb (id_of x) n (λ same. omega arith)) (omega (arith, rest))
-        ]
+below-suc id_of n (x ∷ xs) = grind (arith, nat_tests, below-suc id_of n xs)
 
 below-zero : {X : Type 0} (id_of : X → ℕ) (xs : List X) → below id_of 0 xs ≡ 0
 below-zero id_of [] = refl
@@ -47,15 +40,9 @@ length-few id_of ids depth xs few = rw (← below-all id_of ids xs few.known) (b
 pub few-append : {X : Type 0} (id_of : X → ℕ) (ids depth : ℕ) (xs : List X) (x : X) → HasFewOfEach id_of ids depth xs → id_of x < ids → of_id id_of (id_of x) xs < depth
     → HasFewOfEach id_of ids depth (xs ++ x ∷ [])
 few-append id_of ids depth xs x few known fewer =
+    let at_most : (id : ℕ) → of_id id_of id (xs ++ x ∷ []) ≤ depth = λ id.
+    rw (filter-append (λ y. id_of y == id) xs (x ∷ []), length-append (filter (λ y. id_of y == id) xs) (filter (λ y. id_of y == id) (x ∷ []))) (grind (arith, nat_tests, few.few id)) in
     record { known = all-append (λ y. id_of y < ids) xs x few.known known; few = at_most }
-  where
-    at_most : (id : ℕ) → of_id id_of id (xs ++ x ∷ []) ≤ depth
-    at_most id =
-        rw (filter-append (λ y. id_of y == id) xs (x ∷ []), length-append (filter (λ y. id_of y == id) xs) (filter (λ y. id_of y == id) (x ∷ [])))
-        (elim (cases_eq (id_of x) id) [
-          | inl same ↦ rw (eq-eqb (id_of x) id same) (omega (arith, rw same at fewer))
-          | inr other ↦ rw (ne_eqb (id_of x) id other) (omega (arith, few.few id))
-        ])
 
 -- so there is room for it
 pub room_for_one : {X : Type 0} (id_of : X → ℕ) (ids depth : ℕ) (xs : List X) (x : X) → HasFewOfEach id_of ids depth xs → id_of x < ids → of_id id_of (id_of x) xs < depth

@@ -3,17 +3,13 @@ use Rattle.std.proofs.Common.{◌≡◌, ◌==◌, ◌<◌, ℕ, zero, suc, Bool
 use Rattle.std.specs.Prelude.{IfSome, filter}
 use Rattle.std.specs.List.{position}
 use Rattle.bus_words.proofs.FirstPlaces.{position_is_first}
-use Rattle.bus_words.proofs.MappedPlaces.{length-filter-map, length_map, position_map}
+use Rattle.bus_words.proofs.MappedPlaces.{length-filter-map, position_map}
 
 pub same_place : {X : Type 0} (id_of : X → ℕ) (entries : List X) (ids : List ℕ) (id : ℕ) → ids ≡ map id_of entries → position (λ other. other == id) ids ≡ position (λ x. id_of x == id) entries
 same_place id_of entries ids id are = ap (position (λ other. other == id)) are ∙ position_map id_of (λ other. other == id) entries
 
 pub same_count : {X : Type 0} (id_of : X → ℕ) (entries : List X) (ids : List ℕ) (id : ℕ) → ids ≡ map id_of entries → length (filter (λ other. other == id) ids) ≡ length (filter (λ x. id_of x == id) entries)
 same_count id_of entries ids id are = ap (λ (l : List ℕ). length (filter (λ other. other == id) l)) are ∙ length-filter-map id_of (λ other. other == id) entries
-
--- there are as many
-pub same_length : {X : Type 0} (id_of : X → ℕ) (entries : List X) (ids : List ℕ) → ids ≡ map id_of entries → length ids ≡ length entries
-same_length id_of entries ids are = ap length are ∙ length_map id_of entries
 
 -- a place that was found is within
 pub found_within : {X : Type 0} (test : X → Bool) (entries : List X) (place : Option ℕ) → place ≡ position test entries → IfSome place (λ k. k < length entries)

@@ -1,16 +1,12 @@
 -- A history that breaks no rule is in order.
-use Rattle.std.proofs.Common.{◌≡◌, ℕ, ◌+◌, ◌==◌, Bool, true, false, not, List, [], ◌∷◌, ◌++◌, length, refl, ap, sym, ◌∙◌, arith, append_assoc, inl, inr, nat_le, subst}
+use Rattle.std.proofs.Common.{◌≡◌, ℕ, ◌+◌, ◌==◌, Bool, true, false, List, [], ◌∷◌, ◌++◌, length, refl, ap, sym, ◌∙◌, arith, append_assoc, inl, inr, subst}
 use Rattle.std.specs.Prelude.{None, Option, Some, filter, flat_map, if◌then◌else◌, is_some}
-use Rattle.std.specs.Bool.{beq}
-use Rattle.std.proofs.lemmas.Bool.{cases_eq, eq-eqb, ne_eqb, not-false, not-true}
+use Rattle.std.proofs.lemmas.Bool.{cases_eq, eq-eqb, ne_eqb, not-true}
+use Rattle.std.proofs.lemmas.Bool.Decides.{nat_tests}
 use Rattle.std.proofs.lemmas.List.{append-nil, length-append}
 use Rattle.std.proofs.lemmas.List.Elements.{filter-append}
-use Rattle.bus_words.specs.Places.{without_first}
 use Rattle.bus_words.specs.Tables.{first_broken}
 use Rattle.bus_words.proofs.PlaceChanges.{all-find, length-filter-change_first}
-use Rattle.bus_words.proofs.TableLaws.{unbroken}
-use Rattle.axi_beats.specs.Bursts.{strobes_fit}
-use Rattle.axi_beats.specs.Responses.{is_exokay}
 use Rattle.axi_beats.specs.declared.WBeat.{WBeat}
 use Rattle.axi_beats.specs.declared.BBeat.{BBeat}
 use Rattle.axi_beats.specs.declared.RBeat.{RBeat}
@@ -18,8 +14,6 @@ use Rattle.axi_checker.specs.Monitors.{IsSoundRead, IsWithinLimits}
 use Rattle.axi_checker.specs.OpenBursts.{AxiBeat, OnAr, OnAw, OnB, OnR, OnW, OpenBursts, OpenRead, OpenWrite, lacks_data, nothing_open, oldest_read, oldest_write, open_after, read_of_id, reads_after, write_of_id, write_to_fill}
 use Rattle.axi_checker.specs.Order.{IsInOrder, closes_write, data_announced, data_given, opens_write, read_given, reads_asked, reads_owe, writes_lack}
 use Rattle.axi_checker.specs.Rules.{AxiPortLimits, awaits_response, axi_fault, data_rules, first_axi_fault, open_after_all, right_last}
-use Rattle.axi_checker.specs.declared.AxiRule.{AxiRule}
-use Rattle.axi_checker.specs.declared.AxiRule.TheVariants.{IdRange, Strobe, WLast, BWithoutWrite, RWithoutRead, RLast, ExOkay}
 use Rattle.axi_checker.proofs.Judging.{first_axi_fault-none, one_beat_more}
 use Rattle.axi_checker.proofs.Lasts.{reads_owe-append, reads_owe-other, reads_owe-reads_after, writes_lack-append, writes_lack-change_first, writes_lack-without_first, writes_left, writes_left-other}
 use Rattle.axi_checker.proofs.LegalBursts.{head_unbroken}
@@ -41,30 +35,17 @@ pub record FindsRead (open_bursts : OpenBursts) (r : RBeat) : Type 0 where
   pub found : oldest_read r.id open_bursts ≡ Some read
   pub last : r.last ≡ (read.came == read.ar.len)
 
-same_flags : (a b : Bool) → beq a b ≡ true → a ≡ b
-same_flags true true same = refl
-same_flags true false same = absurd (cc)
-same_flags false true same = absurd (cc)
-same_flags false false same = refl
-
 pub finds_write : (port : AxiPortLimits) (open_bursts : OpenBursts) (w : WBeat) → axi_fault port open_bursts (OnW w) ≡ None → FindsWrite open_bursts w
 finds_write port open_bursts w none = by_found (write_to_fill open_bursts) refl none
   where
     by_found : (found : Option OpenWrite) → write_to_fill open_bursts ≡ found → first_broken (data_rules port found w) ≡ None → FindsWrite open_bursts w
     by_found None is fine = absurd (cc (fine))
-    by_found (Some write) is fine =
-        let last_on : List (Bool × AxiRule) = (not (beq w.last (write.came == write.aw.len)), WLast) ∷ [] in
-        let strobes = unbroken (not (strobes_fit port.bus_bytes write.aw (write.came + 1) w.strobes)) Strobe last_on fine in
-        let last = unbroken (not (beq w.last (write.came == write.aw.len))) WLast [] strobes.1 in
-        record { write = write; found = is; last = same_flags w.last (write.came == write.aw.len) (not-false _ last.0) }
+    by_found (Some write) is fine = record { write = write; found = is; last = grind (arith, fine) }
 
 pub finds_response : (port : AxiPortLimits) (open_bursts : OpenBursts) (b : BBeat) → axi_fault port open_bursts (OnB b) ≡ None → FindsResponse open_bursts b
 finds_response port open_bursts b none =
-    let exokay_on : List (Bool × AxiRule) = (is_exokay b.resp, ExOkay) ∷ [] in
-    let write_on : List (Bool × AxiRule) = (not (awaits_response (oldest_write b.id open_bursts)), BWithoutWrite) ∷ exokay_on in
-    let known = unbroken (nat_le port.ids b.id) IdRange write_on none in
-    let awaits = unbroken (not (awaits_response (oldest_write b.id open_bursts))) BWithoutWrite exokay_on known.1 in
-    by_found (oldest_write b.id open_bursts) refl (not-false _ awaits.0)
+    let awaits : awaits_response (oldest_write b.id open_bursts) ≡ true = grind (arith, none) in
+    by_found (oldest_write b.id open_bursts) refl awaits
   where
     by_found : (found : Option OpenWrite) → oldest_write b.id open_bursts ≡ found → awaits_response found ≡ true → FindsResponse open_bursts b
     by_found None is awaits = absurd (cc (awaits))
@@ -72,17 +53,13 @@ finds_response port open_bursts b none =
 
 pub finds_read : (port : AxiPortLimits) (open_bursts : OpenBursts) (r : RBeat) → axi_fault port open_bursts (OnR r) ≡ None → FindsRead open_bursts r
 finds_read port open_bursts r none =
-    let exokay_on : List (Bool × AxiRule) = (is_exokay r.resp, ExOkay) ∷ [] in
-    let last_on : List (Bool × AxiRule) = (not (right_last (oldest_read r.id open_bursts) r.last), RLast) ∷ exokay_on in
-    let read_on : List (Bool × AxiRule) = (not (is_some (oldest_read r.id open_bursts)), RWithoutRead) ∷ last_on in
-    let known = unbroken (nat_le port.ids r.id) IdRange read_on none in
-    let there = unbroken (not (is_some (oldest_read r.id open_bursts))) RWithoutRead last_on known.1 in
-    let last = unbroken (not (right_last (oldest_read r.id open_bursts) r.last)) RLast exokay_on there.1 in
-    by_found (oldest_read r.id open_bursts) refl (not-false _ there.0) (not-false _ last.0)
+    let there : is_some (oldest_read r.id open_bursts) ≡ true = grind (arith, none) in
+    let last : right_last (oldest_read r.id open_bursts) r.last ≡ true = grind (arith, none) in
+    by_found (oldest_read r.id open_bursts) refl there last
   where
     by_found : (found : Option OpenRead) → oldest_read r.id open_bursts ≡ found → is_some found ≡ true → right_last found r.last ≡ true → FindsRead open_bursts r
     by_found None is there last = absurd (cc (there))
-    by_found (Some read) is there last = record { read = read; found = is; last = same_flags r.last (read.came == read.ar.len) last }
+    by_found (Some read) is there last = record { read = read; found = is; last = grind (arith, last) }
 
 -- one accepted beat: what it brings and what is owed after it is what was owed before it and what it asks for
 pub reads_step : (port : AxiPortLimits) (open_bursts : OpenBursts) (beat : AxiBeat) (id : ℕ) → axi_fault port open_bursts beat ≡ None → IsWithinLimits port open_bursts
@@ -92,19 +69,14 @@ reads_step port open_bursts (OnW w) id none within = sym (append-nil (reads_owe 
 reads_step port open_bursts (OnB b) id none within = sym (append-nil (reads_owe id open_bursts.reads))
 reads_step port open_bursts (OnAr ar) id none within = reads_owe-append id open_bursts.reads (record { ar = ar; came = 0 })
 reads_step port open_bursts (OnR r) id none within =
+    let finds = finds_read port open_bursts r none in
     elim (cases_eq r.id id) [
-      | inl same ↦ rw (eq-eqb r.id id same, append-nil) (mine same)
+      | inl same ↦
+          let sound = all-find (IsSoundRead port.bus_bytes) (read_of_id r.id) open_bursts.reads finds.read within.sound_reads finds.found in
+          let owed = ap (λ (flag : Bool). flag ∷ reads_owe r.id (reads_after r.id open_bursts.reads)) finds.last ∙ reads_owe-reads_after r.id open_bursts.reads finds.read finds.found sound.came in
+          rw (eq-eqb r.id id same, append-nil) (subst (λ k. r.last ∷ reads_owe k (reads_after r.id open_bursts.reads) ≡ reads_owe k open_bursts.reads) same owed)
       | inr other ↦ rw (ne_eqb r.id id other, append-nil) (reads_owe-other id r.id open_bursts.reads other)
     ]
-  where
-    finds : FindsRead open_bursts r
-    finds = finds_read port open_bursts r none
-
-    mine : r.id ≡ id → r.last ∷ reads_owe id (reads_after r.id open_bursts.reads) ≡ reads_owe id open_bursts.reads
-    mine same =
-        let sound = all-find (IsSoundRead port.bus_bytes) (read_of_id r.id) open_bursts.reads finds.read within.sound_reads finds.found in
-        let owed = ap (λ (flag : Bool). flag ∷ reads_owe r.id (reads_after r.id open_bursts.reads)) finds.last ∙ reads_owe-reads_after r.id open_bursts.reads finds.read finds.found sound.came in
-        subst (λ k. r.last ∷ reads_owe k (reads_after r.id open_bursts.reads) ≡ reads_owe k open_bursts.reads) same owed
 
 pub data_step : (port : AxiPortLimits) (open_bursts : OpenBursts) (beat : AxiBeat) → axi_fault port open_bursts beat ≡ None
     → data_given beat ++ writes_lack (open_after open_bursts beat).writes ≡ writes_lack open_bursts.writes ++ data_announced beat
@@ -128,20 +100,12 @@ unfolding one_if
 responses_step port open_bursts (OnAw aw) id none =
     let write : OpenWrite = record { aw = aw; came = 0 } in
     rw (filter-append (write_of_id id) open_bursts.writes (write ∷ []), length-append (filter (write_of_id id) open_bursts.writes) (filter (write_of_id id) (write ∷ [])))
-    (elim (aw.id == id) as (λ b. 0 + (length (filter (write_of_id id) open_bursts.writes) + length (if b then write ∷ [] else [])) ≡ length (filter (write_of_id id) open_bursts.writes) + (if b then 1 else 0))
-    [ true ↦ omega arith | false ↦ omega arith ])
+    (grind arith)
 responses_step port open_bursts (OnW w) id none =
     omega (arith, length-filter-change_first (write_of_id id) lacks_data one_beat_more open_bursts.writes (λ write. refl))
 responses_step port open_bursts (OnB b) id none =
     let finds = finds_response port open_bursts b none in
-    elim (cases_eq b.id id) [
-      | inl same ↦ rw (eq-eqb b.id id same) (omega (arith, fewer same (writes_left b.id open_bursts.writes finds.write finds.found)))
-      | inr other ↦ rw (ne_eqb b.id id other) (omega (arith, writes_left-other id b.id open_bursts.writes other))
-    ]
-  where
-    fewer : b.id ≡ id → 1 + length (filter (write_of_id b.id) (without_first (write_of_id b.id) open_bursts.writes)) ≡ length (filter (write_of_id b.id) open_bursts.writes)
-        → 1 + length (filter (write_of_id id) (without_first (write_of_id b.id) open_bursts.writes)) ≡ length (filter (write_of_id id) open_bursts.writes)
-    fewer same left = subst (λ k. 1 + length (filter (write_of_id k) (without_first (write_of_id b.id) open_bursts.writes)) ≡ length (filter (write_of_id k) open_bursts.writes)) same left
+    grind (arith, nat_tests, writes_left b.id open_bursts.writes finds.write finds.found, writes_left-other id b.id open_bursts.writes)
 responses_step port open_bursts (OnAr ar) id none = omega arith
 responses_step port open_bursts (OnR r) id none = omega arith
 
@@ -182,7 +146,7 @@ data_in_order port open_bursts (beat ∷ beats) none =
 
 count_cons : (p : AxiBeat → Bool) (beat : AxiBeat) (beats : List AxiBeat) → length (filter p (beat ∷ beats)) ≡ one_if (p beat) + length (filter p beats)
 unfolding one_if
-count_cons p beat beats = elim (p beat) as (λ b. length (if b then beat ∷ filter p beats else filter p beats) ≡ (if b then 1 else 0) + length (filter p beats)) [ true ↦ omega arith | false ↦ omega arith ]
+count_cons p beat beats = grind arith
 
 responses_in_order : (port : AxiPortLimits) (open_bursts : OpenBursts) (beats : List AxiBeat) (id : ℕ) → first_axi_fault port open_bursts beats ≡ None
     → length (filter (closes_write id) beats) + length (filter (write_of_id id) (open_after_all open_bursts beats).writes) ≡ length (filter (write_of_id id) open_bursts.writes) + length (filter (opens_write id) beats)

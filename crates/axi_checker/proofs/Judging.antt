@@ -77,9 +77,7 @@ first_axi_fault-write port open_bursts aw ws ready fine =
 -- what a box holds that has the address of a write
 held_write : (held : Option Burst) (aw : AwBeat) → aw_of held ≡ Some aw → held ≡ Some (WriteBurst aw (w_beats_of held))
 held_write None aw is = absurd (cc)
-held_write (Some (WriteBurst aw2 ws)) aw is =
-    let same : aw2 ≡ aw = cc in
-    rw same refl
+held_write (Some (WriteBurst aw2 ws)) aw is = cc
 held_write (Some (ReadBurst ar)) aw is = absurd (cc)
 
 -- what a box's write is judged to be, by what its data break
@@ -101,9 +99,7 @@ pub held_beside : (port : AxiPortLimits) (open_bursts : OpenBursts) (held : Opti
     → (length (filter (write_of_id aw.id) open_bursts.writes) ≡ outstanding → IfSome held (λ burst. answer ≡ burst_fault port open_bursts burst))
     → IfSome held (λ burst. outstanding_beside open_bursts burst ≡ outstanding → answer ≡ burst_fault port open_bursts burst)
 held_beside port open_bursts None aw outstanding answer is judged = tt
-held_beside port open_bursts (Some (WriteBurst aw2 ws)) aw outstanding answer is judged =
-    let same : aw2 ≡ aw = cc in
-    λ few. judged (rw same at few)
+held_beside port open_bursts (Some (WriteBurst aw2 ws)) aw outstanding answer is judged = λ few. judged (cc (few, is))
 held_beside port open_bursts (Some (ReadBurst ar)) aw outstanding answer is judged = absurd (cc)
 
 -- the rules on the address of a write whose ID has so many outstanding

@@ -1,10 +1,11 @@
 -- A burst that breaks no rule is legal, and is open with all its data once it was sent.
-use Rattle.std.proofs.Common.{◌≡◌, ℕ, ◌+◌, ◌<◌, ◌≤◌, ◌==◌, Bool, true, false, not, List, [], ◌∷◌, length, map, refl, ap, sym, ◌∙◌, arith, inl, inr}
+use Rattle.std.proofs.Common.{◌≡◌, ℕ, ◌+◌, ◌<◌, ◌≤◌, ◌==◌, Bool, true, false, not, List, [], ◌∷◌, length, map, refl, ap, sym, ◌∙◌, arith}
 use Rattle.std.specs.Prelude.{None, Option, Some, IfSome, if◌then◌else◌}
 use Rattle.std.specs.Bool.{beq}
 use Rattle.std.specs.List.{enumerate_from, list_all}
 use Rattle.std.specs.Option.{option_or}
-use Rattle.std.proofs.lemmas.Bool.{and_from, cases_eq, eq-eqb, ne_eqb, leb-false, leb-true, lt-ltb, not-false}
+use Rattle.std.proofs.lemmas.Bool.Decides.{nat_tests}
+use Rattle.std.proofs.lemmas.Bool.{and_from, eq-eqb, leb-false, leb-true, lt-ltb, not-false}
 use Rattle.bus_words.specs.Tables.{first_broken}
 use Rattle.bus_words.proofs.TableLaws.{unbroken}
 use Rattle.axi_beats.specs.Bursts.{Burst, ReadBurst, WriteBurst, IsLegal, is_legal_data, strobes_fit}
@@ -32,15 +33,12 @@ both_none (Some rule) b none = absurd (cc)
 right_next : (port : AxiPortLimits) (write : OpenWrite) (w : WBeat) (ws : List WBeat) → first_data_fault port write (w ∷ ws) ≡ None → IsRightNext port write w ws
 right_next port write w ws none = by_test (lacks_data write) refl (both_none (first_broken (data_rules port (if_lacking write) w)) (first_data_fault port (one_beat_more write) ws) none)
   where
-    last_on : List (Bool × AxiRule)
-    last_on = (not (beq w.last (write.came == write.aw.len)), WLast) ∷ []
-
     by_test : (b : Bool) → lacks_data write ≡ b → (first_broken (data_rules port (if b then Some write else None) w) ≡ None) × (first_data_fault port (one_beat_more write) ws ≡ None)
         → IsRightNext port write w ws
     by_test true is nones =
-        let strobes = unbroken (not (strobes_fit port.bus_bytes write.aw (write.came + 1) w.strobes)) Strobe last_on nones.0 in
-        let last = unbroken (not (beq w.last (write.came == write.aw.len))) WLast [] strobes.1 in
-        record { lacks = is; strobes = not-false _ strobes.0; last = not-false _ last.0; rest = nones.1 }
+        let strobes = unbroken (not (strobes_fit port.bus_bytes write.aw (write.came + 1) w.strobes)) Strobe ((not (beq w.last (write.came == write.aw.len)), WLast) ∷ []) nones.0 in
+        let last : beq w.last (write.came == write.aw.len) ≡ true = grind (arith, strobes.1) in
+        record { lacks = is; strobes = not-false _ strobes.0; last = last; rest = nones.1 }
     by_test false is nones = absurd (cc (nones.0))
 
 -- they aren't more than the transfers
@@ -52,11 +50,7 @@ data_fits port write (w ∷ ws) few none =
     omega (arith, data_fits port (one_beat_more write) ws more next.rest)
 
 pub last_place : (came len : ℕ) → (came + 1 == len + 1) ≡ (came == len)
-last_place came len =
-    elim (cases_eq came len) [
-      | inl same ↦ eq-eqb (came + 1) (len + 1) (omega arith) ∙ sym (eq-eqb came len same)
-      | inr other ↦ ne_eqb (came + 1) (len + 1) (λ same. other (omega arith)) ∙ sym (ne_eqb came len other)
-    ]
+last_place came len = grind (arith, nat_tests)
 
 -- each is right at its place
 data_legal : (port : AxiPortLimits) (write : OpenWrite) (ws : List WBeat) → first_data_fault port write ws ≡ None

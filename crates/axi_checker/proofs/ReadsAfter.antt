@@ -1,9 +1,9 @@
 -- The reads after an R beat: the oldest of its ID has one more, or is closed.
-use Rattle.std.proofs.Common.{◌≡◌, ℕ, ◌+◌, Bool, true, false, List, [], ◌∷◌, refl, ap, sym, ◌∙◌, ◌<◌, ◌≤◌, get_or}
+use Rattle.std.proofs.Common.{arith, ◌≡◌, ℕ, ◌+◌, Bool, true, false, List, [], ◌∷◌, refl, ap, sym, ◌∙◌, ◌<◌, ◌≤◌, get_or}
 use Rattle.std.proofs.Math.ListN.{set}
 use Rattle.std.proofs.lemmas.Bool.{lt-ltb, le-ltb}
 use Rattle.std.specs.List.{position, remove}
-use Rattle.std.specs.Prelude.{Some, find, if◌then◌else◌, nat_lt}
+use Rattle.std.specs.Prelude.{Some, find, nat_lt}
 use Rattle.bus_words.specs.Places.{change_first, without_first}
 use Rattle.bus_words.proofs.FirstPlaces.{position_is_first, find-first, change_first-first, without_first-first}
 use Rattle.axi_checker.specs.OpenBursts.{OpenRead, read_of_id, reads_after}
@@ -16,34 +16,15 @@ goes_on read = nat_lt read.came read.ar.len
 abbrev pub one_more : OpenRead → OpenRead
 one_more read = record read { came = read.came + 1 }
 
-some_is : {X : Type 0} {a b : X} → Some a ≡ Some b → a ≡ b
-some_is same = cc
-
 pub reads_after-goes_on : (id : ℕ) (reads : List OpenRead) (read : OpenRead) → find (read_of_id id) reads ≡ Some read → goes_on read ≡ true
     → reads_after id reads ≡ change_first (read_of_id id) one_more reads
 reads_after-goes_on id [] read found goes = refl
-reads_after-goes_on id (r ∷ rs) read found goes = by_test (read_of_id id r) found (λ later. reads_after-goes_on id rs read later goes)
-  where
-    by_test : (b : Bool) → (if b then Some r else find (read_of_id id) rs) ≡ Some read
-        → (find (read_of_id id) rs ≡ Some read → reads_after id rs ≡ change_first (read_of_id id) one_more rs)
-        → (if b then (if goes_on r then one_more r ∷ rs else rs) else r ∷ reads_after id rs) ≡ (if b then one_more r ∷ rs else r ∷ change_first (read_of_id id) one_more rs)
-    by_test true found rest =
-        let goes_here : goes_on r ≡ true = ap goes_on (some_is found) ∙ goes in
-        rw goes_here refl
-    by_test false found rest = ap (λ (xs : List OpenRead). r ∷ xs) (rest found)
+reads_after-goes_on id (r ∷ rs) read found goes = grind (arith, reads_after-goes_on id rs read)
 
 pub reads_after-closes : (id : ℕ) (reads : List OpenRead) (read : OpenRead) → find (read_of_id id) reads ≡ Some read → goes_on read ≡ false
     → reads_after id reads ≡ without_first (read_of_id id) reads
 reads_after-closes id [] read found stops = refl
-reads_after-closes id (r ∷ rs) read found stops = by_test (read_of_id id r) found (λ later. reads_after-closes id rs read later stops)
-  where
-    by_test : (b : Bool) → (if b then Some r else find (read_of_id id) rs) ≡ Some read
-        → (find (read_of_id id) rs ≡ Some read → reads_after id rs ≡ without_first (read_of_id id) rs)
-        → (if b then (if goes_on r then one_more r ∷ rs else rs) else r ∷ reads_after id rs) ≡ (if b then rs else r ∷ without_first (read_of_id id) rs)
-    by_test true found rest =
-        let stops_here : goes_on r ≡ false = ap goes_on (some_is found) ∙ stops in
-        rw stops_here refl
-    by_test false found rest = ap (λ (xs : List OpenRead). r ∷ xs) (rest found)
+reads_after-closes id (r ∷ rs) read found stops = grind (arith, reads_after-closes id rs read)
 
 -- the same at the place of the ID's oldest read
 pub reads_after-set : (id k : ℕ) (reads : List OpenRead) (read : OpenRead) → position (read_of_id id) reads ≡ Some k → read ≡ get_or reads k read → read.came < read.ar.len

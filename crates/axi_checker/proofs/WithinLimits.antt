@@ -1,19 +1,17 @@
 -- An accepted beat leaves the outstanding bursts within a port's limits.
 use Rattle.std.proofs.Common.{◌≡◌, ℕ, ◌+◌, ◌*◌, ◌<◌, ◌≤◌, ◌==◌, Bool, true, false, List, [], ◌∷◌, length, refl, arith}
-use Rattle.std.specs.Prelude.{None, if◌then◌else◌, filter, nat_le, not}
+use Rattle.std.specs.Prelude.{None, if◌then◌else◌}
 use Rattle.std.specs.List.{AllByRecursion}
-use Rattle.std.proofs.lemmas.Bool.{leb-false, leb-true, ltb-true, not-false}
+use Rattle.std.proofs.lemmas.Bool.{leb-true, ltb-true}
+use Rattle.std.proofs.lemmas.Bool.Decides.{nat_tests}
 use Rattle.bus_words.specs.Tables.{first_broken}
 use Rattle.bus_words.proofs.PlaceChanges.{all-append, all-change_first, all-without_first}
-use Rattle.bus_words.proofs.TableLaws.{unbroken}
 use Rattle.axi_beats.specs.Transfers.{fits_bus, in_one_page}
 use Rattle.axi_beats.specs.declared.AwBeat.{AwBeat}
 use Rattle.axi_beats.specs.declared.ArBeat.{ArBeat}
 use Rattle.axi_checker.specs.Monitors.{HasFewOfEach, IsSoundRead, IsSoundWrite, IsWithinLimits, id_of_read, id_of_write}
 use Rattle.axi_checker.specs.OpenBursts.{AxiBeat, OnAr, OnAw, OnB, OnR, OnW, OpenBursts, OpenRead, OpenWrite, lacks_data, open_after, read_of_id, reads_after, write_of_id}
 use Rattle.axi_checker.specs.Rules.{AxiPortLimits, address_rules, axi_fault}
-use Rattle.axi_checker.specs.declared.AxiRule.{AxiRule}
-use Rattle.axi_checker.specs.declared.AxiRule.TheVariants.{Size, BurstKind, Cross4K, IdRange, Depth}
 use Rattle.axi_checker.proofs.Few.{few-append, few-change_first, few-without_first, of_id, room_for_one}
 use Rattle.axi_checker.proofs.ReadsAfter.{goes_on, one_more}
 
@@ -28,21 +26,12 @@ pub record IsAllowed (port : AxiPortLimits) (id address len size burst_type open
 pub address_allowed : (port : AxiPortLimits) (id address len size burst_type open_of_id : ℕ) → first_broken (address_rules port id address len size burst_type open_of_id) ≡ None
     → IsAllowed port id address len size burst_type open_of_id
 address_allowed port id address len size burst_type open_of_id none =
-    let depth_on : List (Bool × AxiRule) = (nat_le port.depth open_of_id, Depth) ∷ [] in
-    let ids_on : List (Bool × AxiRule) = (nat_le port.ids id, IdRange) ∷ depth_on in
-    let page_on : List (Bool × AxiRule) = (not (in_one_page address len size), Cross4K) ∷ ids_on in
-    let incr_on : List (Bool × AxiRule) = (not (burst_type == 1), BurstKind) ∷ page_on in
-    let fits = unbroken (not (fits_bus port.bus_bytes size)) Size incr_on none in
-    let incr = unbroken (not (burst_type == 1)) BurstKind page_on fits.1 in
-    let page = unbroken (not (in_one_page address len size)) Cross4K ids_on incr.1 in
-    let known = unbroken (nat_le port.ids id) IdRange depth_on page.1 in
-    let few = unbroken (nat_le port.depth open_of_id) Depth [] known.1 in
     record {
-      fits = not-false (fits_bus port.bus_bytes size) fits.0;
-      incr = not-false (burst_type == 1) incr.0;
-      page = not-false (in_one_page address len size) page.0;
-      known = leb-false port.ids id known.0;
-      few = leb-false port.depth open_of_id few.0;
+      fits = grind (arith, none);
+      incr = grind (arith, none);
+      page = grind (arith, none);
+      known = grind (arith, nat_tests, none);
+      few = grind (arith, nat_tests, none);
     }
 
 pub aw_allowed : (port : AxiPortLimits) (open_bursts : OpenBursts) (aw : AwBeat) → axi_fault port open_bursts (OnAw aw) ≡ None
@@ -81,25 +70,7 @@ all-reads_after P id (r ∷ rs) keeps all = by_test (read_of_id id r) (goes_on r
 -- a test that an R beat leaves as it was; what the head adds to the count is the same on both sides
 of_id-reads_after : (id other : ℕ) (reads : List OpenRead) → of_id id_of_read other (reads_after id reads) ≤ of_id id_of_read other reads
 of_id-reads_after id other [] = omega arith
-of_id-reads_after id other (r ∷ rs) = by_test (read_of_id id r) (goes_on r) (of_id-reads_after id other rs)
-  where
-    has : OpenRead → Bool
-    has read = read.ar.id == other
-
-    keeps_head : (b : Bool) (x : OpenRead) (xs ys : List OpenRead) → length (filter has xs) ≤ length (filter has ys)
-        → length (if b then x ∷ filter has xs else filter has xs) ≤ length (if b then r ∷ filter has ys else filter has ys)
-    keeps_head true x xs ys fewer = omega (arith, fewer)
-    keeps_head false x xs ys fewer = fewer
-
-    drops_head : (b : Bool) → length (filter has rs) ≤ length (if b then r ∷ filter has rs else filter has rs)
-    drops_head true = omega arith
-    drops_head false = omega arith
-
-    by_test : (here on : Bool) → length (filter has (reads_after id rs)) ≤ length (filter has rs)
-        → length (filter has (if here then (if on then one_more r ∷ rs else rs) else r ∷ reads_after id rs)) ≤ length (filter has (r ∷ rs))
-    by_test true true rest = keeps_head (r.ar.id == other) (one_more r) rs rs (omega arith)
-    by_test true false rest = drops_head (r.ar.id == other)
-    by_test false on rest = keeps_head (r.ar.id == other) r (reads_after id rs) rs rest
+of_id-reads_after id other (r ∷ rs) = grind (arith, of_id-reads_after id other rs)
 
 few-reads_after : (ids depth id : ℕ) (reads : List OpenRead) → HasFewOfEach id_of_read ids depth reads → HasFewOfEach id_of_read ids depth (reads_after id reads)
 few-reads_after ids depth id reads few =

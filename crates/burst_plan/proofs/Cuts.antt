@@ -17,14 +17,12 @@ pub record IsDivided (a n step bytes count : ℕ) : Type 0 where
 -- n bytes at a multiple of n lie between two neighbouring multiples of n * c
 pub held_between : (n c q : ℕ) → 0 < n → 0 < c → (q * n / (n * c) * (n * c) ≤ q * n) × (q * n + n ≤ q * n / (n * c) * (n * c) + n * c)
 held_between n c q some many =
+    let add_nothing : q * n + 0 ≡ q * n = omega arith in
     let row : q * n / n ≡ q = (rw add_nothing at (div-mul-add q n 0 some)) in
     let quotient : q * n / (n * c) ≡ q / c = sym (div-div-eq-div-mul (q * n) n c) ∙ ap (λ z. z / c) row in
     let split : q * n ≡ (q / c * c + q % c) * n = ap (λ z. z * n) (sym (div-add-mod' q c)) in
     let fits : (q % c + 1) * n ≤ c * n = mul-le-mul_right n (omega (arith, mod_below q c many)) in
     rw quotient (omega arith, omega arith)
-  where
-    add_nothing : q * n + 0 ≡ q * n
-    add_nothing = omega arith
 
 -- a range that lies between two cuts is one part
 divided_once : (n c q : ℕ) → 0 < n → 0 < c → IsDivided (q * n) n (n * c) n 1
@@ -45,6 +43,7 @@ divided_once n c q some many =
 -- a range of several steps is cut at each
 divided_evenly : (step c q : ℕ) → 0 < step → 0 < c → IsDivided (q * (step * c)) (step * c) step step c
 divided_evenly step c q some many =
+    let steps_before : (c - 1) * step + step ≡ c * step = let parts : c ≡ c - 1 + 1 = omega arith in sym (ap (λ z. z * step) parts ∙ omega arith) in
     let first : q * (step * c) ≡ q * c * step + 0 = omega arith in
     let first_cut : q * (step * c) / step ≡ q * c = ap (λ z. z / step) first ∙ div-mul-add (q * c) step 0 some in
     let least : 1 * step ≤ c * step = mul-le-mul_right step (omega arith) in
@@ -58,26 +57,19 @@ divided_evenly step c q some many =
       begins = λ i below. rw first_cut (omega arith);
       ends = λ i below. let within : (i + 1) * step ≤ c * step = mul-le-mul_right step (omega arith) in rw first_cut (omega arith);
     }
-  where
-    steps_before : (c - 1) * step + step ≡ c * step
-    steps_before = let parts : c ≡ c - 1 + 1 = omega arith in sym (ap (λ z. z * step) parts ∙ omega arith)
 
 -- 2^s bytes at a multiple of their number, and cuts at the multiples of 2^e
 pub divided : (a s e : ℕ) → a % 2 ^ s ≡ 0 → IsDivided a (2 ^ s) (2 ^ e) (2 ^ min s e) (2 ^ (s - min s e))
-divided a s e aligned = rw rows (elim (cases_lt e s) [ inl below ↦ several below | inr above ↦ one above ])
-  where
-    rows : a ≡ a / 2 ^ s * 2 ^ s
-    rows = omega (arith, div-add-mod' a (2 ^ s))
-
-    several : e < s → IsDivided (a / 2 ^ s * 2 ^ s) (2 ^ s) (2 ^ e) (2 ^ min s e) (2 ^ (s - min s e))
-    several below =
-        let least : min s e ≡ e = omega arith in
-        let parts : 2 ^ s ≡ 2 ^ e * 2 ^ (s - e) = ap (λ z. 2 ^ z) (let whole : s ≡ e + (s - e) = omega arith in whole) ∙ pow-add 2 e (s - e) in
-        rw (least, parts) (divided_evenly (2 ^ e) (2 ^ (s - e)) (a / (2 ^ e * 2 ^ (s - e))) (pow_pos e) (pow_pos (s - e)))
-
-    one : s ≤ e → IsDivided (a / 2 ^ s * 2 ^ s) (2 ^ s) (2 ^ e) (2 ^ min s e) (2 ^ (s - min s e))
-    one above =
-        let least : min s e ≡ s = omega arith in
-        let none : s - s ≡ 0 = omega arith in
-        let parts : 2 ^ e ≡ 2 ^ s * 2 ^ (e - s) = ap (λ z. 2 ^ z) (let whole : e ≡ s + (e - s) = omega arith in whole) ∙ pow-add 2 s (e - s) in
-        rw (least, none, parts) (divided_once (2 ^ s) (2 ^ (e - s)) (a / 2 ^ s) (pow_pos s) (pow_pos (e - s)))
+divided a s e aligned =
+    let rows : a ≡ a / 2 ^ s * 2 ^ s = omega (arith, div-add-mod' a (2 ^ s)) in
+    rw rows (elim (cases_lt e s) [
+      | inl below ↦
+          let least : min s e ≡ e = omega arith in
+          let parts : 2 ^ s ≡ 2 ^ e * 2 ^ (s - e) = ap (λ z. 2 ^ z) (let whole : s ≡ e + (s - e) = omega arith in whole) ∙ pow-add 2 e (s - e) in
+          rw (least, parts) (divided_evenly (2 ^ e) (2 ^ (s - e)) (a / (2 ^ e * 2 ^ (s - e))) (pow_pos e) (pow_pos (s - e)))
+      | inr above ↦
+          let least : min s e ≡ s = omega arith in
+          let none : s - s ≡ 0 = omega arith in
+          let parts : 2 ^ e ≡ 2 ^ s * 2 ^ (e - s) = ap (λ z. 2 ^ z) (let whole : e ≡ s + (e - s) = omega arith in whole) ∙ pow-add 2 s (e - s) in
+          rw (least, none, parts) (divided_once (2 ^ s) (2 ^ (e - s)) (a / 2 ^ s) (pow_pos s) (pow_pos (e - s)))
+    ])

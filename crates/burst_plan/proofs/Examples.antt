@@ -21,56 +21,36 @@ region tl_page pages axi_page = record { tl_page = tl_page; pages = pages; axi_p
 abbrev two_ways : List Region
 two_ways = region 0 4 0x10 ∷ record (region 8 1 0x10) { atomic = false } ∷ []
 
-shares_a_page_with_an_earlier : region_fault (region 0 4 0x10 ∷ region 3 1 0x20 ∷ []) ≡ Some (RegionOverlap 1)
-shares_a_page_with_an_earlier = refl
+-- a page shared with an earlier region, no pages, a region past the last page on either side, and sums past 32 bits
+each_fault :
+    map region_fault
+    ((region 0 4 0x10 ∷ region 3 1 0x20 ∷ []) ∷ (region 0 0 0x10 ∷ []) ∷ (region 0xfffff 2 0x10 ∷ []) ∷ (region 0 2 0xfffff ∷ []) ∷ (region 0xffffffff 0xffffffff 0xffffffff ∷ []) ∷ [])
+    ≡ Some (RegionOverlap 1) ∷ Some (RegionEmpty 0) ∷ Some (RegionRange 0) ∷ Some (RegionRange 0) ∷ Some (RegionRange 0) ∷ []
+each_fault = refl
 
-has_no_pages : region_fault (region 0 0 0x10 ∷ []) ≡ Some (RegionEmpty 0)
-has_no_pages = refl
+-- an empty region before one out of range, that before an overlap, and the first of two regions at fault
+earlier_faults_first :
+    map region_fault ((region 0x100001 0 0 ∷ []) ∷ (region 0 4 0x10 ∷ region 3 1 0x100000 ∷ []) ∷ (region 0 4 0x10 ∷ region 3 1 0x20 ∷ region 9 0 0x20 ∷ []) ∷ [])
+    ≡ Some (RegionEmpty 0) ∷ Some (RegionRange 1) ∷ Some (RegionOverlap 1) ∷ []
+earlier_faults_first = refl
 
-past_the_last_tl_page : region_fault (region 0xfffff 2 0x10 ∷ []) ≡ Some (RegionRange 0)
-past_the_last_tl_page = refl
+-- up to the last pages, and one AXI page twice
+these_are_maps : map region_fault ((region 0xfffff 1 0xfffff ∷ []) ∷ two_ways ∷ []) ≡ None ∷ None ∷ []
+these_are_maps = refl
 
-past_the_last_axi_page : region_fault (region 0 2 0xfffff ∷ []) ≡ Some (RegionRange 0)
-past_the_last_axi_page = refl
+-- pages beside those of a region, a region without pages, and a page within
+shared_pages :
+    share_a_page (region 0 4 0x10) (region 4 1 0x20) ∷ share_a_page (region 4 1 0x20) (region 0 4 0x10) ∷ share_a_page (region 0 4 0) (region 2 0 0)
+    ∷ share_a_page (region 0 4 0x10) (region 3 1 0x20) ∷ share_a_page (region 3 1 0x20) (region 0 4 0x10) ∷ []
+    ≡ false ∷ false ∷ false ∷ true ∷ true ∷ []
+shared_pages = refl
 
-sums_past_32_bits : region_fault (region 0xffffffff 0xffffffff 0xffffffff ∷ []) ≡ Some (RegionRange 0)
-sums_past_32_bits = refl
-
-up_to_the_last_pages : region_fault (region 0xfffff 1 0xfffff ∷ []) ≡ None
-up_to_the_last_pages = refl
-
-one_axi_page_twice : region_fault two_ways ≡ None
-one_axi_page_twice = refl
-
-empty_before_out_of_range : region_fault (region 0x100001 0 0 ∷ []) ≡ Some (RegionEmpty 0)
-empty_before_out_of_range = refl
-
-out_of_range_before_overlap : region_fault (region 0 4 0x10 ∷ region 3 1 0x100000 ∷ []) ≡ Some (RegionRange 1)
-out_of_range_before_overlap = refl
-
-first_region_at_fault : region_fault (region 0 4 0x10 ∷ region 3 1 0x20 ∷ region 9 0 0x20 ∷ []) ≡ Some (RegionOverlap 1)
-first_region_at_fault = refl
-
-a_page_between_is_not_shared : share_a_page (region 0 4 0x10) (region 4 1 0x20) ∷ share_a_page (region 4 1 0x20) (region 0 4 0x10) ∷ share_a_page (region 0 4 0) (region 2 0 0) ∷ [] ≡ false ∷ false ∷ false ∷ []
-a_page_between_is_not_shared = refl
-
-a_page_within_is_shared : share_a_page (region 0 4 0x10) (region 3 1 0x20) ∷ share_a_page (region 3 1 0x20) (region 0 4 0x10) ∷ [] ≡ true ∷ true ∷ []
-a_page_within_is_shared = refl
-
-get_by_the_second_way : translated two_ways Get 0x8008 ≡ Some 0x10008
-get_by_the_second_way = refl
-
-no_atomic_by_the_second_way : translated two_ways (Atomic Add) 0x8008 ≡ None
-no_atomic_by_the_second_way = refl
-
-last_byte_of_the_first_region : translated two_ways PutPartial 0x3fff ≡ Some 0x13fff
-last_byte_of_the_first_region = refl
-
-in_no_region : translated two_ways Get 0x5000 ≡ None
-in_no_region = refl
-
-last_byte_of_all : translated (region 0xfffff 1 0xfffff ∷ []) (Intent true) 0xffffffff ≡ Some 0xffffffff
-last_byte_of_all = refl
+-- by the second way, which permits no atomic; the last byte of the first region; an address in no region; and the last byte of all
+places :
+    translated two_ways Get 0x8008 ∷ translated two_ways (Atomic Add) 0x8008 ∷ translated two_ways PutPartial 0x3fff ∷ translated two_ways Get 0x5000
+    ∷ translated (region 0xfffff 1 0xfffff ∷ []) (Intent true) 0xffffffff ∷ []
+    ≡ Some 0x10008 ∷ None ∷ Some 0x13fff ∷ None ∷ Some 0xffffffff ∷ []
+places = refl
 
 put_of_a_request : translated_address two_ways (record { client = 0; source = 0; operation = PutFull; size = 0; address = 0x100b; bytes = Some 0xaa ∷ []; corrupt = false }) ≡ Some 0x1100b
 put_of_a_request = refl
@@ -84,32 +64,24 @@ range bus_bytes max_len address size = record { bus_bytes = bus_bytes; max_len =
 abbrev bursts_at : ℕ → ℕ → List ℕ → List Piece
 bursts_at len size addresses = map (λ address. record { address = address; len = len; size = size }) addresses
 
-a_page_in_two : pieces (range 8 256 0x11000 12) ≡ bursts_at 255 3 (0x11000 ∷ 0x11800 ∷ [])
-a_page_in_two = refl
-
 a_page_in_bursts_of_sixteen : length (pieces (range 8 16 0x11000 12)) ≡ 32
 a_page_in_bursts_of_sixteen = refl
 
 the_last_of_them : slice_get (pieces (range 8 16 0x11000 12)) 31 ≡ Some (record { address = 0x11f80; len = 15; size = 3 })
 the_last_of_them = refl
 
-every_transfer_a_burst : pieces (range 8 1 0x10040 6) ≡ bursts_at 0 3 (0x10040 ∷ 0x10048 ∷ 0x10050 ∷ 0x10058 ∷ 0x10060 ∷ 0x10068 ∷ 0x10070 ∷ 0x10078 ∷ [])
-every_transfer_a_burst = refl
+-- a page in two, every transfer a burst, and a narrow transfer
+on_a_bus_of_eight :
+    map pieces (range 8 256 0x11000 12 ∷ range 8 1 0x10040 6 ∷ range 8 16 0x10014 2 ∷ [])
+    ≡ bursts_at 255 3 (0x11000 ∷ 0x11800 ∷ []) ∷ bursts_at 0 3 (0x10040 ∷ 0x10048 ∷ 0x10050 ∷ 0x10058 ∷ 0x10060 ∷ 0x10068 ∷ 0x10070 ∷ 0x10078 ∷ [])
+    ∷ bursts_at 0 2 (0x10014 ∷ []) ∷ []
+on_a_bus_of_eight = refl
 
-a_narrow_transfer : pieces (range 8 16 0x10014 2) ≡ bursts_at 0 2 (0x10014 ∷ [])
-a_narrow_transfer = refl
-
-eight_bytes_on_a_bus_of_four : pieces (range 4 4 0x10008 3) ≡ bursts_at 1 2 (0x10008 ∷ [])
-eight_bytes_on_a_bus_of_four = refl
-
-a_byte_on_a_bus_of_four : pieces (range 4 16 0x1000d 0) ≡ bursts_at 0 0 (0x1000d ∷ [])
-a_byte_on_a_bus_of_four = refl
-
-a_page_on_a_bus_of_four : pieces (range 4 256 0x11000 12) ≡ bursts_at 255 2 (0x11000 ∷ 0x11400 ∷ 0x11800 ∷ 0x11c00 ∷ [])
-a_page_on_a_bus_of_four = refl
-
-eight_words_on_a_bus_of_four : pieces (range 4 16 0x10000 5) ≡ bursts_at 7 2 (0x10000 ∷ [])
-eight_words_on_a_bus_of_four = refl
+-- eight bytes, one, a page, and eight words
+on_a_bus_of_four :
+    map pieces (range 4 4 0x10008 3 ∷ range 4 16 0x1000d 0 ∷ range 4 256 0x11000 12 ∷ range 4 16 0x10000 5 ∷ [])
+    ≡ bursts_at 1 2 (0x10008 ∷ []) ∷ bursts_at 0 0 (0x1000d ∷ []) ∷ bursts_at 255 2 (0x11000 ∷ 0x11400 ∷ 0x11800 ∷ 0x11c00 ∷ []) ∷ bursts_at 7 2 (0x10000 ∷ []) ∷ []
+on_a_bus_of_four = refl
 
 -- no plan has bursts of single transfers where a burst may be longer, or transfers of one byte where they may be wider
 too_fine : IsPartOf (range 8 16 0x10000 6) (record { address = 0x10000; len = 0; size = 3 }) → ⊥

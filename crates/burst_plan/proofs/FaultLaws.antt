@@ -22,13 +22,8 @@ first_broken-append ((true, fault) ∷ xs) ys = refl
 first_broken-append ((false, fault) ∷ xs) ys = first_broken-append xs ys
 
 three_none : (a b c : Bool) (x y z : MapFault) → first_broken ((a, x) ∷ (b, y) ∷ (c, z) ∷ []) ≡ None → (a ≡ false) × (b ≡ false) × (c ≡ false)
-three_none true b c x y z none = cc
-three_none false true c x y z none = cc
-three_none false false true x y z none = cc
 three_none false false false x y z none = (refl, refl, refl)
-
-none_of_three : (a b c : Bool) (x y z : MapFault) → a ≡ false → b ≡ false → c ≡ false → first_broken ((a, x) ∷ (b, y) ∷ (c, z) ∷ []) ≡ None
-none_of_three a b c x y z no_a no_b no_c = rw (no_a, no_b, no_c) refl
+three_none _ _ _ x y z none = cc
 
 fault_of_three : (a b c : Bool) (x y z fault : MapFault) → first_broken ((a, x) ∷ (b, y) ∷ (c, z) ∷ []) ≡ Some fault
     → ((a ≡ true) × (x ≡ fault)) ⊎ (((a ≡ false) × (b ≡ true) × (y ≡ fault)) ⊎ ((a ≡ false) × (b ≡ false) × (c ≡ true) × (z ≡ fault)))
@@ -45,9 +40,6 @@ each_some (Some x) P each = each x refl
 none_of_either : (a b : Option MapFault) → option_or a b ≡ None → (a ≡ None) × (b ≡ None)
 none_of_either None b e = (refl, e)
 none_of_either (Some x) b e = cc
-
-either_none : (a b : Option MapFault) → a ≡ None → b ≡ None → option_or a b ≡ None
-either_none a b no_a no_b = rw (no_a, no_b) refl
 
 some_of_either : (a b : Option MapFault) (x : MapFault) → option_or a b ≡ Some x → (a ≡ Some x) ⊎ ((a ≡ None) × (b ≡ Some x))
 some_of_either None b x e = inr (refl, e)
@@ -83,10 +75,12 @@ none-from_IsNext : (earlier : List Region) (i : ℕ) (region : Region) → IsNex
 none-from_IsNext earlier i region next =
     let some : 0 < region.pages = next.in_range.some in
     let not_none : (region.pages ≡ 0) → ⊥ = λ e. omega (arith, e) in
-    none_of_three (region.pages == 0) (past_the_last region) (list_any (share_a_page region) earlier) (RegionEmpty i) (RegionRange i) (RegionOverlap i)
-    (ne_eqb _ _ not_none)
-    (or_from _ _ (le-ltb _ _ next.in_range.tl) (le-ltb _ _ next.in_range.axi))
-    (list_any_none (share_a_page region) earlier (λ k d below. share_a_page-false region (get_or earlier k d) (next.apart k d below)))
+    rw (
+      ne_eqb _ _ not_none,
+      or_from _ _ (le-ltb _ _ next.in_range.tl) (le-ltb _ _ next.in_range.axi),
+      list_any_none (share_a_page region) earlier (λ k d below. share_a_page-false region (get_or earlier k d) (next.apart k d below)),
+    )
+    refl
 
 no_regions : IsPageMap []
 no_regions = record { in_range = All-nil IsInRange; apart = λ i j d before below. absurd (omega (arith, below)) }
@@ -122,7 +116,7 @@ none-from_IsPageMap : (earlier : List Region) (i : ℕ) (regions : List Region) 
 none-from_IsPageMap earlier i [] map = refl
 none-from_IsPageMap earlier i (region ∷ regions) map =
     first_broken-append (region_rules earlier i region) (rules_of_regions (earlier ++ region ∷ []) (i + 1) regions)
-    ∙ either_none _ _ (none-from_IsNext earlier i region (IsNext-from_IsPageMap earlier region regions map))
+    ∙ rw (none-from_IsNext earlier i region (IsNext-from_IsPageMap earlier region regions map))
     (none-from_IsPageMap (earlier ++ region ∷ []) (i + 1) regions (subst IsPageMap (sym (append_assoc earlier (region ∷ []) regions)) map))
 
 -- a list of regions has no fault just where each region has pages and is in range, and none shares a page with an earlier one

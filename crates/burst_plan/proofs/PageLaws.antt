@@ -1,5 +1,6 @@
 -- Which pages two regions share, and which region of a page map holds a page.
 use Rattle.std.proofs.Common.{◌≡◌, ℕ, ◌+◌, ◌<◌, ◌≤◌, true, false, inl, inr, arith}
+use Rattle.std.proofs.lemmas.Bool.Decides.{nat_tests}
 use Rattle.std.proofs.lemmas.Bool.{and_parts, and_from, ltb-true, leb-true, lt-ltb, le-leb, cases_lt, both_ways, false_from_ne_true}
 use Rattle.burst_plan.specs.PageMap.{holds_page, share_a_page, AreApart, Overlap}
 use Rattle.burst_plan.specs.declared.Region.{Region}
@@ -13,24 +14,16 @@ holds_page-true page region holds =
 pub holds_page-between : (page : ℕ) (region : Region) → region.tl_page ≤ page → page < region.tl_page + region.pages → holds_page page region ≡ true
 holds_page-between page region first last = and_from _ _ (le-leb _ _ first) (lt-ltb _ _ last)
 
--- two regions share a page just where each begins before the other ends, and both have pages
-share_a_page-when : (a b : Region) → a.tl_page < b.tl_page + b.pages → b.tl_page < a.tl_page + a.pages → 0 < a.pages → 0 < b.pages → share_a_page a b ≡ true
-share_a_page-when a b a_first b_first some_a some_b =
-    and_from _ _ (and_from _ _ (and_from _ _ (lt-ltb _ _ a_first) (lt-ltb _ _ b_first)) (lt-ltb _ _ some_a)) (lt-ltb _ _ some_b)
-
+-- where two regions share a page, each begins before the other ends, and both have pages
 share_a_page-true : (a b : Region) → share_a_page a b ≡ true → (a.tl_page < b.tl_page + b.pages) × (b.tl_page < a.tl_page + a.pages) × (0 < a.pages) × (0 < b.pages)
-share_a_page-true a b share =
-    let all = and_parts _ _ share in
-    let three = and_parts _ _ all.0 in
-    let two = and_parts _ _ three.0 in
-    (ltb-true _ _ two.0, ltb-true _ _ two.1, ltb-true _ _ three.1, ltb-true _ _ all.1)
+share_a_page-true a b share = (grind (arith, nat_tests), grind (arith, nat_tests), grind (arith, nat_tests), grind (arith, nat_tests))
 
 -- two regions that hold one page share a page
 pub share_a_page-from_page : (a b : Region) → Overlap a b → share_a_page a b ≡ true
 share_a_page-from_page a b both =
     let at_a = holds_page-true both.0 a both.1 in
     let at_b = holds_page-true both.0 b both.2 in
-    share_a_page-when a b (omega arith) (omega arith) (omega arith) (omega arith)
+    grind (arith, nat_tests)
 
 -- two regions that share a page both hold one: the first page of the one that begins later
 pub page-from_share_a_page : (a b : Region) → share_a_page a b ≡ true → Overlap a b

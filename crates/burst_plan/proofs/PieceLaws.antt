@@ -1,12 +1,12 @@
 -- The pieces of a range: how many they are, where each lies, and that they are a plan.
-use Rattle.std.proofs.Common.{◌≡◌, ℕ, zero, suc, ◌+◌, ◌-◌, ◌*◌, ◌/◌, ◌%◌, ◌^◌, ◌<◌, ◌≤◌, ◌==◌, Bool, true, false, ◌||◌, List, ◌∷◌, map, length, min, max, refl, sym, ◌∙◌, ap, arith, inl, inr, ◌⊎◌, Some}
-use Rattle.std.specs.List.{range_with_len, list_any, slice_get, flat_map, All}
-use Rattle.std.proofs.lemmas.List.FromFn.{length-map-range_with_len, get_or-map-range_with_len}
+use Rattle.std.proofs.Common.{◌≡◌, ℕ, zero, suc, ◌+◌, ◌-◌, ◌*◌, ◌/◌, ◌%◌, ◌^◌, ◌<◌, ◌≤◌, ◌==◌, Bool, true, List, map, length, min, max, refl, sym, ◌∙◌, ap, arith, inl, inr, ◌⊎◌, Some}
+use Rattle.std.specs.List.{range_with_len, list_any, slice_get, flat_map}
+use Rattle.std.proofs.lemmas.List.FromFn.{fill_by_all, length-map-range_with_len, get_or-map-range_with_len}
 use Rattle.std.proofs.lemmas.List.Elements.{All-from_get_or}
 use Rattle.std.proofs.lemmas.List.Concat.{flat_map-cons}
 use Rattle.std.proofs.lemmas.List.Folds.{flat_map-map}
 use Rattle.std.proofs.lemmas.Option.{slice_get-get_or, slice_get_within, get_or_from_slice_get}
-use Rattle.std.proofs.lemmas.Bool.{cases_lt, eqb-true, eq-eqb, and_from, le-leb, lt-ltb}
+use Rattle.std.proofs.lemmas.Bool.{cases_Bool, cases_lt, eqb-true, eq-eqb, and_from, le-leb, lt-ltb}
 use Rattle.std.proofs.lemmas.Nat.{div-mul-add, div-add-mod', pow-add, pow_pos, shl-shr}
 use Rattle.std.proofs.Math.Nat.{mul-le-mul_right, mul-mod_left}
 use Rattle.std.proofs.Math.Pow.{pow_mono}
@@ -33,16 +33,14 @@ piece_at range k = record { address = range.address + k * burst_bytes range; len
 abbrev PassesBelow : (ℕ → Bool) → ℕ → Type 0
 PassesBelow p end = (k : ℕ) × (k < end) × (p k ≡ true)
 
--- the first number of a range or a later one passes
-first_or_later : (p : ℕ → Bool) (a n : ℕ) (b : Bool) → p a ≡ b → (list_any p (range_with_len (a + 1) n) ≡ true → PassesBelow p (a + 1 + n)) → (b || list_any p (range_with_len (a + 1) n)) ≡ true
-    → PassesBelow p (a + suc n)
-first_or_later p a n true first later found = (a, omega arith, first)
-first_or_later p a n false first later found = let (k, below, passes) = later found in (k, omega arith, passes)
-
 -- some number of a range passes a test, where the test of them all says so
 any_of_range : (p : ℕ → Bool) (a n : ℕ) → list_any p (range_with_len a n) ≡ true → PassesBelow p (a + n)
 any_of_range p a zero found = absurd (cc)
-any_of_range p a (suc n) found = first_or_later p a n (p a) refl (any_of_range p (a + 1) n) found
+any_of_range p a (suc n) found =
+    elim (cases_Bool (p a)) [
+      | inl first ↦ (a, omega arith, first)
+      | inr fails ↦ let (k, below, passes) = any_of_range p (a + 1) n (rw fails at found) in (k, omega arith, passes)
+    ]
 
 -- the bytes of the bus and the most transfers of a burst, as powers of two
 pub record ArePowers (range : PlannedRange) (w j : ℕ) : Type 0 where
@@ -101,6 +99,14 @@ even_powers : (a s w j bus cut burst beat : ℕ) → a % 2 ^ s ≡ 0 → bus ≡
     → IsDivided a (2 ^ s) cut burst (2 ^ s / burst) × (burst ≡ burst / beat * beat) × (1 ≤ burst / beat) × (burst / beat ≤ 256) × (0 < beat) × (beat ≤ bus)
     × (beat ≡ min (2 ^ s) bus) × (a / beat * beat ≡ a)
 even_powers a s w j bus cut burst beat aligned bus_is cut_is burst_is beat_is few =
+    let smaller : min s w ≤ min s (w + j) = omega arith in
+    let counts : 2 ^ s / 2 ^ min s (w + j) ≡ 2 ^ (s - min s (w + j)) = div-pow s (min s (w + j)) (omega arith) in
+    let beats : 2 ^ min s (w + j) / 2 ^ min s w ≡ 2 ^ (min s (w + j) - min s w) = div-pow (min s (w + j)) (min s w) smaller in
+    let least : min s w ≤ s = omega arith in
+    let whole : a ≡ a / 2 ^ s * 2 ^ (s - min s w) * 2 ^ min s w + 0 =
+    omega (arith, div-add-mod' a (2 ^ s), ap (λ z. a / 2 ^ s * z) (pow-split s (min s w) least)) in
+    let rest : a / 2 ^ min s w * 2 ^ min s w ≡ a =
+    let quotient : a / 2 ^ min s w ≡ a / 2 ^ s * 2 ^ (s - min s w) = ap (λ z. z / 2 ^ min s w) whole ∙ div-mul-add (a / 2 ^ s * 2 ^ (s - min s w)) (2 ^ min s w) 0 (pow_pos (min s w)) in rw quotient (omega (arith, whole)) in
     rw (bus_is, cut_is, burst_is, beat_is, counts, beats) (
       divided a s (w + j) aligned,
       pow-split (min s (w + j)) (min s w) smaller,
@@ -111,24 +117,6 @@ even_powers a s w j bus cut burst beat aligned bus_is cut_is burst_is beat_is fe
       sym (min-pow s w),
       rest,
     )
-  where
-    smaller : min s w ≤ min s (w + j)
-    smaller = omega arith
-
-    counts : 2 ^ s / 2 ^ min s (w + j) ≡ 2 ^ (s - min s (w + j))
-    counts = div-pow s (min s (w + j)) (omega arith)
-
-    beats : 2 ^ min s (w + j) / 2 ^ min s w ≡ 2 ^ (min s (w + j) - min s w)
-    beats = div-pow (min s (w + j)) (min s w) smaller
-
-    least : min s w ≤ s
-    least = omega arith
-
-    whole : a ≡ a / 2 ^ s * 2 ^ (s - min s w) * 2 ^ min s w + 0
-    whole = omega (arith, div-add-mod' a (2 ^ s), ap (λ z. a / 2 ^ s * z) (pow-split s (min s w) least))
-
-    rest : a / 2 ^ min s w * 2 ^ min s w ≡ a
-    rest = let quotient : a / 2 ^ min s w ≡ a / 2 ^ s * 2 ^ (s - min s w) = ap (λ z. z / 2 ^ min s w) whole ∙ div-mul-add (a / 2 ^ s * 2 ^ (s - min s w)) (2 ^ min s w) 0 (pow_pos (min s w)) in rw quotient (omega (arith, whole))
 
 divides_evenly_with : (range : PlannedRange) (w j : ℕ) → IsPlannable range → ArePowers range w j → DividesEvenly range
 divides_evenly_with range w j plannable powers =
@@ -143,15 +131,6 @@ divides_evenly range plannable = let (w, j, powers) = powers_of range plannable 
 
 -- ---- the pieces, one by one
 
-same_map : {X : Type 0} (f g : ℕ → X) (a b n : ℕ) → ((i : ℕ) → i < n → f (a + i) ≡ g (b + i)) → map f (range_with_len a n) ≡ map g (range_with_len b n)
-same_map f g a b zero same = refl
-same_map {X} f g a b (suc n) same =
-    ap (λ (x : X). x ∷ map f (range_with_len (a + 1) n)) first
-    ∙ ap (λ (xs : List X). g b ∷ xs) (same_map f g (a + 1) (b + 1) n (λ i below. let here : a + 1 + i ≡ a + suc i = omega arith in let there : b + 1 + i ≡ b + suc i = omega arith in rw (here, there) (same (suc i) (omega arith))))
-  where
-    first : f a ≡ g b
-    first = let here : a ≡ a + 0 = omega arith in let there : b ≡ b + 0 = omega arith in ap f here ∙ same 0 (omega arith) ∙ sym (ap g there)
-
 -- the piece from a cut, by its number
 pub piece_from_cut-at : (range : PlannedRange) → DividesEvenly range → (k : ℕ) → k < burst_count range → piece_from_cut range (first_cut range + k) ≡ piece_at range k
 piece_from_cut-at range even k below =
@@ -164,7 +143,9 @@ piece_from_cut-at range even k below =
 pub pieces_are : (range : PlannedRange) → DividesEvenly range → pieces range ≡ map (piece_at range) (range_with_len 0 (burst_count range))
 pieces_are range even =
     ap (λ n. map (piece_from_cut range) (range_with_len (first_cut range) n)) even.parts.cuts
-    ∙ same_map (piece_from_cut range) (piece_at range) (first_cut range) 0 (burst_count range) (λ k below. let number : 0 + k ≡ k = omega arith in rw number (piece_from_cut-at range even k below))
+    ∙ fill_by_all (piece_at range) (map (piece_from_cut range) (range_with_len (first_cut range) (burst_count range))) (burst_count range) (piece_at range 0)
+    (length-map-range_with_len (piece_from_cut range) (first_cut range) (burst_count range))
+    (λ k below. get_or-map-range_with_len (piece_from_cut range) (first_cut range) (burst_count range) k (first_cut range + k) (piece_at range 0) below refl ∙ piece_from_cut-at range even k below)
 
 -- how many they are
 pub length-pieces : (range : PlannedRange) → DividesEvenly range → length (pieces range) ≡ burst_count range
@@ -264,18 +245,16 @@ flat_map_evenly f a b i (suc n) each =
     ∙ rw (here, rest, next, whole) (range_with_len-append-range_with_len (a + i * b) b (n * b))
 
 pub is_plan : (range : PlannedRange) → IsPlannable range → IsPlan range (pieces range)
-is_plan range plannable = let even = divides_evenly range plannable in record { covers = covers even; whole = whole even }
-  where
-    covers : DividesEvenly range → flat_map piece_addresses (pieces range) ≡ range_with_len range.address (2 ^ range.size)
-    covers even =
-        ap (flat_map piece_addresses) (pieces_are range even) ∙ flat_map-map piece_addresses (piece_at range) (range_with_len 0 (burst_count range))
-        ∙ flat_map_evenly (λ k. piece_addresses (piece_at range k)) range.address (burst_bytes range) 0 (burst_count range)
-        (λ k below. ap (λ n. range_with_len (range.address + k * burst_bytes range) n) (piece_bytes-at range even k))
-        ∙ (let start : range.address + 0 * burst_bytes range ≡ range.address = omega arith in rw start (ap (λ n. range_with_len range.address n) (sym even.parts.whole)))
-
-    whole : DividesEvenly range → All (IsPartOf range) (pieces range)
-    whole even =
-        All-from_get_or (IsPartOf range) (pieces range) (piece_at range 0)
-        (λ k within.
-        let below : k < burst_count range = omega (arith, length-pieces range even) in
-        rw (get_or_from_slice_get (pieces range) k (piece_at range k) (piece_at range 0) (slice_get-pieces range even k below)) (is_part range plannable even k below))
+is_plan range plannable =
+    let even = divides_evenly range plannable in
+    let start : range.address + 0 * burst_bytes range ≡ range.address = omega arith in
+    record {
+      covers = ap (flat_map piece_addresses) (pieces_are range even) ∙ flat_map-map piece_addresses (piece_at range) (range_with_len 0 (burst_count range))
+          ∙ flat_map_evenly (λ k. piece_addresses (piece_at range k)) range.address (burst_bytes range) 0 (burst_count range)
+          (λ k below. ap (λ n. range_with_len (range.address + k * burst_bytes range) n) (piece_bytes-at range even k))
+          ∙ rw start (ap (λ n. range_with_len range.address n) (sym even.parts.whole));
+      whole = All-from_get_or (IsPartOf range) (pieces range) (piece_at range 0)
+          (λ k within.
+          let below : k < burst_count range = omega (arith, length-pieces range even) in
+          rw (get_or_from_slice_get (pieces range) k (piece_at range k) (piece_at range 0) (slice_get-pieces range even k below)) (is_part range plannable even k below));
+    }

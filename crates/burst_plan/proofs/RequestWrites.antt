@@ -1,9 +1,9 @@
 -- The W beats of a request's write are those of the words that its beats bring.
-use Rattle.std.proofs.Common.{◌≡◌, ℕ, ◌+◌, ◌-◌, ◌*◌, ◌/◌, ◌%◌, ◌^◌, ◌<◌, ◌≤◌, nat_le, Bool, true, false, map, length, Option, Some, None, is_some, if◌then◌else◌, refl, sym, ◌∙◌, ap, arith}
+use Rattle.std.proofs.Common.{◌≡◌, ℕ, ◌+◌, ◌-◌, ◌*◌, ◌/◌, ◌%◌, ◌^◌, ◌<◌, ◌≤◌, nat_le, true, map, length, Option, Some, None, is_some, if◌then◌else◌, refl, sym, ◌∙◌, ap, arith, inl, inr}
 use Rattle.std.specs.Prelude.{unwrap_or, option_map}
 use Rattle.std.specs.List.{slice_get}
 use Rattle.std.proofs.Math.Nat.{div-div-eq-div-mul}
-use Rattle.std.proofs.lemmas.Bool.{and_from, and_parts, le-leb, leb-true}
+use Rattle.std.proofs.lemmas.Bool.{and_from, and_parts, cases_Bool, le-leb, leb-true}
 use Rattle.std.proofs.lemmas.List.FromFn.{length-map-range_with_len, get_or-map-range_with_len}
 use Rattle.std.proofs.lemmas.Nat.{div-mul-add}
 use Rattle.std.proofs.lemmas.Option.{slice_get-get_or, slice_get-map}
@@ -32,27 +32,20 @@ use Rattle.burst_plan.proofs.TransferPlaces.{holds_each_byte_once, transfer_star
 -- a W beat is known from the bytes that are given in its transfer
 pub w_beat-same : (bus_bytes : ℕ) (f g : ℕ → Option ℕ) (piece : Piece) (n : ℕ) → 1 ≤ n → ((x : ℕ) → transfer_has piece.address piece.size n x ≡ true → f x ≡ g x)
     → w_beat bus_bytes f piece n ≡ w_beat bus_bytes g piece n
-w_beat-same bus_bytes f g piece n one same = rw (payloads, strobes) refl
-  where
-    lanes : (lane : ℕ) (b : Bool) → covers_lane bus_bytes piece.address piece.size n lane ≡ b
-        → (if b then f (lane_address bus_bytes piece.address piece.size n lane) else None) ≡ (if b then g (lane_address bus_bytes piece.address piece.size n lane) else None)
-    lanes lane true covered =
-        let within = lane_address_within bus_bytes piece.address piece.size n lane one covered in
-        same (lane_address bus_bytes piece.address piece.size n lane) (and_from _ _ (le-leb _ _ within.0) (le-leb _ _ within.1))
-    lanes lane false free = refl
-
-    lane_same : (lane : ℕ) → byte_to_write bus_bytes f piece n lane ≡ byte_to_write bus_bytes g piece n lane
-    lane_same lane = lanes lane (covers_lane bus_bytes piece.address piece.size n lane) refl
-
-    payloads : (w_beat bus_bytes f piece n).payload ≡ (w_beat bus_bytes g piece n).payload
-    payloads =
-        word_of_lanes-same (λ lane. unwrap_or (byte_to_write bus_bytes f piece n lane) 0) (λ lane. unwrap_or (byte_to_write bus_bytes g piece n lane) 0)
-        (λ lane below. ap (λ (o : Option ℕ). unwrap_or o 0) (lane_same lane))
-
-    strobes : (w_beat bus_bytes f piece n).strobes ≡ (w_beat bus_bytes g piece n).strobes
-    strobes =
-        mask_of-same (λ lane. is_some (byte_to_write bus_bytes f piece n lane)) (λ lane. is_some (byte_to_write bus_bytes g piece n lane))
-        (λ lane below. ap (λ (o : Option ℕ). is_some o) (lane_same lane))
+w_beat-same bus_bytes f g piece n one same =
+    let lane_same : (lane : ℕ) → byte_to_write bus_bytes f piece n lane ≡ byte_to_write bus_bytes g piece n lane = λ lane.
+    elim (cases_Bool (covers_lane bus_bytes piece.address piece.size n lane)) [
+      | inl covered ↦
+          let within = lane_address_within bus_bytes piece.address piece.size n lane one covered in
+          rw covered (same (lane_address bus_bytes piece.address piece.size n lane) (and_from _ _ (le-leb _ _ within.0) (le-leb _ _ within.1)))
+      | inr free ↦ rw free refl
+    ] in
+    let payloads : (w_beat bus_bytes f piece n).payload ≡ (w_beat bus_bytes g piece n).payload =
+    word_of_lanes-same (λ lane. unwrap_or (byte_to_write bus_bytes f piece n lane) 0) (λ lane. unwrap_or (byte_to_write bus_bytes g piece n lane) 0)
+    (λ lane below. ap (λ (o : Option ℕ). unwrap_or o 0) (lane_same lane)) in
+    let strobes : (w_beat bus_bytes f piece n).strobes ≡ (w_beat bus_bytes g piece n).strobes =
+    mask_of-same (λ lane. is_some (byte_to_write bus_bytes f piece n lane)) (λ lane. is_some (byte_to_write bus_bytes g piece n lane)) (λ lane below. ap (λ (o : Option ℕ). is_some o) (lane_same lane)) in
+    rw (payloads, strobes) refl
 
 -- the byte at an address that a message gives, where its bytes begin at another address of the same lane
 pub given_at-bytes_given : (held : HeldMessage) (start x : ℕ) (word : MaskedWord) → has_data held.operation ≡ true → held.address % 8 ≡ start % 8 → start ≤ x → x < start + 2 ^ held.size

@@ -1,24 +1,16 @@
 -- Where a page map leads to.
-use Rattle.std.proofs.Common.{◌≡◌, ℕ, ◌+◌, ◌-◌, ◌*◌, ◌/◌, ◌%◌, ◌^◌, ◌<◌, ◌≤◌, Bool, true, Some, None, List, [], ◌∷◌, ap, ◌∙◌, sym, subst, inl, inr, arith, All, IfSome, find, if◌then◌else◌}
+use Rattle.std.proofs.Common.{◌≡◌, ℕ, ◌+◌, ◌-◌, ◌*◌, ◌/◌, ◌%◌, ◌^◌, ◌<◌, ◌≤◌, true, Some, None, List, ap, ◌∙◌, sym, subst, arith, All, IfSome, find, if◌then◌else◌}
 use Rattle.std.specs.List.{position_or_len}
 use Rattle.std.proofs.Math.Pow.{mod-mod-pow}
-use Rattle.std.proofs.lemmas.Bool.{cases_Bool, cond-true, cond-false}
 use Rattle.std.proofs.lemmas.List.Folds.{find_at}
-use Rattle.std.proofs.lemmas.Nat.{div-mul-add, mod-mul-add, mod_below, mod-pow-add, pow_pos}
-use Rattle.std.proofs.lemmas.Option.{same_Some, slice_get_within, get_or_from_slice_get, option_and_then_some, cond_some}
+use Rattle.std.proofs.lemmas.Nat.{div-mul-add, mod-mul-add, mod_below}
+use Rattle.std.proofs.lemmas.Option.{slice_get_within, get_or_from_slice_get, option_and_then_some, cond_some}
+use Rattle.bus_words.proofs.PlaceChanges.{find-passes}
 use Rattle.tl_messages.specs.declared.Operation.{Operation}
 use Rattle.burst_plan.specs.PageMap.{holds_page, permits, address_in, translated, IsInRange, LeadsThrough, LeadsTo}
 use Rattle.burst_plan.specs.declared.Region.{Region}
 use Rattle.burst_plan.proofs.PageLaws.{holds_page-true}
 use Rattle.burst_plan.proofs.FaultLaws.{each_some}
-
-found_passes : (p : Region → Bool) (regions : List Region) (region : Region) → find p regions ≡ Some region → p region ≡ true
-found_passes p [] region e = cc
-found_passes p (first ∷ regions) region e =
-    elim (cases_Bool (p first)) [
-      | inl passes ↦ subst (λ (x : Region). p x ≡ true) (same_Some _ _ (sym (cond-true (p first) (Some first) (find p regions) passes) ∙ e)) passes
-      | inr fails ↦ found_passes p regions region (sym (cond-false (p first) (Some first) (find p regions) fails) ∙ e)
-    ]
 
 -- the numbers of an address in a region that is in range
 place_exists : (axi tl pages page rest : ℕ) → rest < 4096 → tl ≤ page → page < tl + pages → axi + pages ≤ 1048576 → (axi + (page - tl)) * 4096 + rest < 2 ^ 32
@@ -35,7 +27,7 @@ LeadsThrough-address_in operation address region holds permitted =
 LeadsTo-address_in : (regions : List Region) (operation : Operation) (address : ℕ) (region : Region) → All IsInRange regions
     → find (holds_page (address / 4096)) regions ≡ Some region → permits region operation ≡ true → LeadsTo regions operation address (address_in region address)
 LeadsTo-address_in regions operation address region in_range found permitted =
-    let holds = found_passes (holds_page (address / 4096)) regions region found in
+    let holds = find-passes (holds_page (address / 4096)) regions region found in
     let at = sym (find_at (holds_page (address / 4096)) regions) ∙ found in
     let k = position_or_len (holds_page (address / 4096)) regions in
     let below = slice_get_within regions k region at in
@@ -57,25 +49,14 @@ translated-LeadsTo regions operation address in_range =
     (λ region found one. let parts = cond_some (permits region operation) (address_in region address) place one in
     subst (LeadsTo regions operation address) parts.1 (LeadsTo-address_in regions operation address region in_range found parts.0)))
 
-rest_of_rest : (n size : ℕ) → size ≤ 12 → n % 4096 % 2 ^ size ≡ n % 2 ^ size
-rest_of_rest n size fits =
-    let some : 0 < 2 ^ size = pow_pos size in
-    let sum : (12 - size) + size ≡ 12 = omega arith in
-    subst (λ bits. n % 2 ^ bits % 2 ^ size ≡ n % 2 ^ size) sum
-    (ap (λ m. m % 2 ^ size) (mod-pow-add n (12 - size) size) ∙ mod-mul-add (n / 2 ^ size % 2 ^ (12 - size)) (2 ^ size) (n % 2 ^ size) (mod_below n (2 ^ size) some))
+-- an address that leads to the same byte of a page is a multiple of the same powers of two, up to a page's bytes
+pub same_byte-mod : (address place size : ℕ) → size ≤ 12 → place % 4096 ≡ address % 4096 → place % 2 ^ size ≡ address % 2 ^ size
+same_byte-mod address place size small same =
+    let whole : 12 - size + size ≡ 12 = omega arith in
+    let cut : (x : ℕ) → x % 4096 % 2 ^ size ≡ x % 2 ^ size = λ x. rw whole at (mod-mod-pow x (12 - size) size) in
+    sym (cut place) ∙ ap (λ z. z % 2 ^ size) same ∙ cut address
 
 -- an operation leads to an address with the alignment of its own, up to that of a page
 pub LeadsTo-alignment : (regions : List Region) (operation : Operation) (address place size : ℕ) → LeadsTo regions operation address place → size ≤ 12
     → place % 2 ^ size ≡ address % 2 ^ size
-LeadsTo-alignment regions operation address place size leads fits =
-    sym (rest_of_rest place size fits) ∙ ap (λ m. m % 2 ^ size) leads.same_byte ∙ rest_of_rest address size fits
-
--- an address that leads to the same byte of a page is a multiple of the same powers of two, up to a page's bytes
-pub same_byte-mod : (address place size : ℕ) → size ≤ 12 → place % 4096 ≡ address % 4096 → place % 2 ^ size ≡ address % 2 ^ size
-same_byte-mod address place size small same = sym (cut place) ∙ ap (λ z. z % 2 ^ size) same ∙ cut address
-  where
-    whole : 12 - size + size ≡ 12
-    whole = omega arith
-
-    cut : (x : ℕ) → x % 4096 % 2 ^ size ≡ x % 2 ^ size
-    cut x = rw whole at (mod-mod-pow x (12 - size) size)
+LeadsTo-alignment regions operation address place size leads fits = same_byte-mod address place size fits leads.same_byte

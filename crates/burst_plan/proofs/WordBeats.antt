@@ -1,7 +1,7 @@
 -- The W beats that the code makes of words of eight bytes.
-use Rattle.std.proofs.Common.{◌≡◌, ℕ, ◌+◌, ◌*◌, ◌/◌, ◌%◌, ◌^◌, ◌<◌, ◌≤◌, ◌==◌, nat_le, Bool, true, false, ◌&&◌, Option, Some, None, is_some, if◌then◌else◌, refl, sym, ◌∙◌, ap, arith, lit<, bit_and}
+use Rattle.std.proofs.Common.{◌≡◌, ℕ, ◌+◌, ◌*◌, ◌/◌, ◌%◌, ◌^◌, ◌<◌, ◌≤◌, ◌==◌, nat_le, Bool, true, false, ◌&&◌, Option, Some, None, is_some, if◌then◌else◌, refl, sym, ◌∙◌, ap, arith, lit<, bit_and, inl, inr}
 use Rattle.std.specs.Prelude.{unwrap_or}
-use Rattle.std.proofs.lemmas.Bool.{and_parts, leb-true}
+use Rattle.std.proofs.lemmas.Bool.{and_parts, cases_Bool, leb-true}
 use Rattle.std.proofs.lemmas.Nat.{shr-shr, and_le_r, mod_below}
 use Rattle.bus_words.specs.Lanes.{has_lane, lane_byte, mask_of, payload_of, is_between}
 use Rattle.bus_words.proofs.LaneLaws.{word_of_lanes-same}
@@ -11,7 +11,7 @@ use Rattle.tl_messages.specs.Requests.{given_in}
 use Rattle.tl_messages.specs.declared.MaskedWord.{MaskedWord}
 use Rattle.data_unit.specs.Words.{merged}
 use Rattle.data_unit.proofs.ByteLaws.{lane_byte-down, lane_byte-past, lane_byte-shr}
-use Rattle.axi_beats.specs.Transfers.{IsBusWidth, fits_bus, covers_lane, lane_address, lowest_lane, highest_lane, transfer_address}
+use Rattle.axi_beats.specs.Transfers.{IsBusWidth, fits_bus, covers_lane, lowest_lane, highest_lane, transfer_address}
 use Rattle.axi_beats.proofs.TransferLaws.{highest_lane_lt_bus_bytes}
 use Rattle.burst_plan.specs.PlannedBursts.{byte_to_write, given_by_word, w_beat}
 use Rattle.burst_plan.specs.declared.Piece.{Piece}
@@ -37,31 +37,24 @@ pub record IsCarried (bus_bytes address : ℕ) (word held : MaskedWord) : Type 0
 
 -- a lane that is given, and none beside the transfer's lanes, as the strobes and the payload have it
 strobe_in : (covered held : Bool) (byte : ℕ) → (held && covered) ≡ is_some (if covered then (if held then Some byte else None) else None)
-strobe_in true true byte = refl
-strobe_in true false byte = refl
-strobe_in false true byte = refl
-strobe_in false false byte = refl
+strobe_in covered held byte = grind arith
 
 byte_in : (covered held : Bool) (byte : ℕ) → (if held && covered then byte else 0) ≡ unwrap_or (if covered then (if held then Some byte else None) else None) 0
-byte_in true true byte = refl
-byte_in true false byte = refl
-byte_in false true byte = refl
-byte_in false false byte = refl
+byte_in covered held byte = grind arith
 
 -- what is to be written from a lane is what is carried there
 written_is : (bus_bytes : ℕ) (word held : MaskedWord) (piece : Piece) (n lane : ℕ) → IsBusWidth bus_bytes → fits_bus bus_bytes piece.size ≡ true → 1 ≤ n
     → IsCarried bus_bytes (transfer_address piece.address piece.size n) word held
     → byte_to_write bus_bytes (given_by_word word) piece n lane ≡ (if covers_lane bus_bytes piece.address piece.size n lane then given_in lane held else None)
-written_is bus_bytes word held piece n lane width fits one carried = by_cover (covers_lane bus_bytes piece.address piece.size n lane) refl
-  where
-    by_cover : (b : Bool) → covers_lane bus_bytes piece.address piece.size n lane ≡ b
-        → (if b then given_by_word word (lane_address bus_bytes piece.address piece.size n lane) else None) ≡ (if b then given_in lane held else None)
-    by_cover true covered =
-        let both = and_parts (nat_le (lowest_lane bus_bytes piece.address piece.size n) lane) (nat_le lane (highest_lane bus_bytes piece.address piece.size n)) covered in
-        let top = leb-true _ _ both.1 in
-        let below = highest_lane_lt_bus_bytes bus_bytes piece.address piece.size n width fits one in
-        sym (carried.at lane (omega arith))
-    by_cover false covered = refl
+written_is bus_bytes word held piece n lane width fits one carried =
+    elim (cases_Bool (covers_lane bus_bytes piece.address piece.size n lane)) [
+      | inl covered ↦
+          let both = and_parts (nat_le (lowest_lane bus_bytes piece.address piece.size n) lane) (nat_le lane (highest_lane bus_bytes piece.address piece.size n)) covered in
+          let top = leb-true _ _ both.1 in
+          let below = highest_lane_lt_bus_bytes bus_bytes piece.address piece.size n width fits one in
+          rw covered (sym (carried.at lane (omega arith)))
+      | inr free ↦ rw free refl
+    ]
 
 strobes_are : (bus_bytes : ℕ) (word held : MaskedWord) (piece : Piece) (n lanes : ℕ) → IsBusWidth bus_bytes → fits_bus bus_bytes piece.size ≡ true → 1 ≤ n
     → IsCarried bus_bytes (transfer_address piece.address piece.size n) word held → lanes < 256
@@ -80,15 +73,13 @@ payload_is : (bus_bytes : ℕ) (word held : MaskedWord) (piece : Piece) (n lanes
     → ((lane : ℕ) → lane < 8 → has_lane lanes lane ≡ covers_lane bus_bytes piece.address piece.size n lane)
     → merged 0 held.word (bit_and held.mask lanes) ≡ payload_of (byte_to_write bus_bytes (given_by_word word) piece n)
 payload_is bus_bytes word held piece n lanes width fits one carried between =
+    let empty : (lane : ℕ) → lane_byte 0 lane ≡ 0 = λ lane. lane_byte-past 0 0 lane (lit< tt) (omega arith) in
     word_of_lanes-same (λ lane. if has_lane (bit_and held.mask lanes) lane then lane_byte held.word lane else lane_byte 0 lane) (λ lane. unwrap_or (byte_to_write bus_bytes (given_by_word word) piece n lane) 0)
     (λ lane below.
     ap (λ b. if b then lane_byte held.word lane else lane_byte 0 lane) (has_lane-and held.mask lanes lane ∙ ap (λ b. has_lane held.mask lane && b) (between lane below))
     ∙ ap (λ z. if has_lane held.mask lane && covers_lane bus_bytes piece.address piece.size n lane then lane_byte held.word lane else z) (empty lane)
     ∙ byte_in (covers_lane bus_bytes piece.address piece.size n lane) (has_lane held.mask lane) (lane_byte held.word lane)
     ∙ ap (λ (o : Option ℕ). unwrap_or o 0) (sym (written_is bus_bytes word held piece n lane width fits one carried)))
-  where
-    empty : (lane : ℕ) → lane_byte 0 lane ≡ 0
-    empty lane = lane_byte-past 0 0 lane (lit< tt) (omega arith)
 
 -- the beat that is made of what the bus carries
 pub beat_made : (bus_bytes : ℕ) (word held : MaskedWord) (piece : Piece) (n address lowest highest lanes payload : ℕ) → IsBusWidth bus_bytes → fits_bus bus_bytes piece.size ≡ true → 1 ≤ n
@@ -96,19 +87,16 @@ pub beat_made : (bus_bytes : ℕ) (word held : MaskedWord) (piece : Piece) (n ad
     → IsCarried bus_bytes address word held → lanes ≡ mask_of (is_between lowest highest) → payload ≡ merged 0 held.word (bit_and held.mask lanes)
     → (payload ≡ (w_beat bus_bytes (given_by_word word) piece n).payload) × (bit_and held.mask lanes ≡ (w_beat bus_bytes (given_by_word word) piece n).strobes)
 beat_made bus_bytes word held piece n address lowest highest lanes payload width fits one address_is lowest_is highest_is carried lanes_is payload_at =
+    let small : lanes < 256 = rw lanes_is (mask_of-lt (is_between lowest highest)) in
+    let between : (lane : ℕ) → lane < 8 → has_lane lanes lane ≡ covers_lane bus_bytes piece.address piece.size n lane = λ lane below.
+    rw (lanes_is, lowest_is, highest_is) (has_lane-mask_of (is_between (lowest_lane bus_bytes piece.address piece.size n) (highest_lane bus_bytes piece.address piece.size n)) lane below) in
     let carried_there : IsCarried bus_bytes (transfer_address piece.address piece.size n) word held = rw address_is at carried in
     (payload_at ∙ payload_is bus_bytes word held piece n lanes width fits one carried_there between, strobes_are bus_bytes word held piece n lanes width fits one carried_there small between)
-  where
-    small : lanes < 256
-    small = rw lanes_is (mask_of-lt (is_between lowest highest))
-
-    between : (lane : ℕ) → lane < 8 → has_lane lanes lane ≡ covers_lane bus_bytes piece.address piece.size n lane
-    between lane below = rw (lanes_is, lowest_is, highest_is) (has_lane-mask_of (is_between (lowest_lane bus_bytes piece.address piece.size n) (highest_lane bus_bytes piece.address piece.size n)) lane below)
 
 -- what a word gives are bytes
 pub word_gives_bytes : (word : MaskedWord) → GivesBytes (given_by_word word)
-word_gives_bytes word = record { at = λ x. either (has_lane word.mask (lane_of x)) (lane_byte word.word (lane_of x)) (rw (lane_byte-shr word.word (lane_of x)) (mod_below (word.word / 2 ^ (8 * lane_of x)) (2 ^ 8) (lit< tt))) }
-  where
-    either : (held : Bool) (byte : ℕ) → byte < 256 → unwrap_or (if held then Some byte else None) 0 < 256
-    either true byte small = small
-    either false byte small = lit< tt
+word_gives_bytes word =
+    record {
+      at = λ x. let small : lane_byte word.word (lane_of x) < 256 = rw (lane_byte-shr word.word (lane_of x)) (mod_below (word.word / 2 ^ (8 * lane_of x)) (2 ^ 8) (lit< tt)) in
+          elim (has_lane word.mask (lane_of x)) as (λ held. unwrap_or (if held then Some (lane_byte word.word (lane_of x)) else None) 0 < 256) [ true ↦ small | false ↦ lit< tt ];
+    }

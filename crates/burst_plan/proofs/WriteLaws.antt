@@ -1,10 +1,9 @@
 -- The bursts of a range's pieces are legal, and the W beats of a write put each given byte at its address and no other.
-use Rattle.std.proofs.Common.{◌≡◌, ℕ, zero, suc, ◌+◌, ◌-◌, ◌%◌, ◌<◌, ◌≤◌, ◌==◌, nat_le, Bool, true, false, ◌||◌, not, List, ◌∷◌, map, Option, Some, None, is_some, if◌then◌else◌, refl, sym, ◌∙◌, ap, arith, lit<, inl, inr}
-use Rattle.std.specs.Bool.{beq}
+use Rattle.std.proofs.Common.{◌≡◌, ℕ, zero, suc, ◌+◌, ◌-◌, ◌%◌, ◌<◌, ◌≤◌, nat_le, Bool, true, false, ◌||◌, not, List, ◌∷◌, map, Option, Some, None, is_some, if◌then◌else◌, refl, sym, ◌∙◌, ap, arith, lit<, inl, inr}
 use Rattle.std.specs.List.{range_with_len, slice_get, enumerate_from}
 use Rattle.std.specs.Prelude.{unwrap_or}
 use Rattle.std.specs.Option.{option_flatten}
-use Rattle.std.proofs.lemmas.Bool.{and_from, and_parts, eq-eqb, leb-true, or_right}
+use Rattle.std.proofs.lemmas.Bool.{and_from, and_parts, eq-eqb, leb-true}
 use Rattle.std.proofs.lemmas.List.FromFn.{length-map-range_with_len}
 use Rattle.std.proofs.lemmas.List.Folds.{list_all-map}
 use Rattle.std.proofs.lemmas.Option.{slice_get_within, get_or_from_slice_get}
@@ -69,18 +68,16 @@ none-zero (Some byte) none = absurd (cc)
 pub w_beat_puts : (bus_bytes : ℕ) (given : ℕ → Option ℕ) (piece : Piece) (n : ℕ) → IsBusWidth bus_bytes → fits_bus bus_bytes piece.size ≡ true → GivesBytes given → 1 ≤ n
     → PutsBytes bus_bytes given piece n (w_beat bus_bytes given piece n)
 w_beat_puts bus_bytes given piece n width fits small one =
+    let strobe : (lane : ℕ) → lane < 8 → has_lane (mask_of (λ lane. is_some (byte_to_write bus_bytes given piece n lane))) lane ≡ is_some (byte_to_write bus_bytes given piece n lane) = λ lane below.
+    has_lane-mask_of (λ lane. is_some (byte_to_write bus_bytes given piece n lane)) lane below in
+    let lane_holds : (lane : ℕ) → lane < 8 → lane_byte (payload_of (byte_to_write bus_bytes given piece n)) lane ≡ unwrap_or (byte_to_write bus_bytes given piece n lane) 0 = λ lane below.
+    lane_byte-payload_of (byte_to_write bus_bytes given piece n) lane (record { at = λ k within. byte_to_write-lt bus_bytes given piece n k small }) below in
     record {
       strobes = λ x has. strobe (x % bus_bytes) (lane-lt bus_bytes x width) ∙ ap (λ (o : Option ℕ). is_some o) (byte_to_write-mod bus_bytes given piece n x width fits one has);
       payload = λ x byte has there. lane_holds (x % bus_bytes) (lane-lt bus_bytes x width) ∙ ap (λ (o : Option ℕ). unwrap_or o 0) (byte_to_write-mod bus_bytes given piece n x width fits one has ∙ there);
       outside = λ lane below free. strobe lane below ∙ rw free refl;
       zero = λ lane below none. lane_holds lane below ∙ none-zero (byte_to_write bus_bytes given piece n lane) (sym (strobe lane below) ∙ none);
     }
-  where
-    strobe : (lane : ℕ) → lane < 8 → has_lane (mask_of (λ lane. is_some (byte_to_write bus_bytes given piece n lane))) lane ≡ is_some (byte_to_write bus_bytes given piece n lane)
-    strobe lane below = has_lane-mask_of (λ lane. is_some (byte_to_write bus_bytes given piece n lane)) lane below
-
-    lane_holds : (lane : ℕ) → lane < 8 → lane_byte (payload_of (byte_to_write bus_bytes given piece n)) lane ≡ unwrap_or (byte_to_write bus_bytes given piece n lane) 0
-    lane_holds lane below = lane_byte-payload_of (byte_to_write bus_bytes given piece n) lane (record { at = λ k within. byte_to_write-lt bus_bytes given piece n k small }) below
 
 -- ---- a whole burst
 
@@ -89,34 +86,25 @@ enumerate_from-map : {X : Type 0} (f : ℕ → X) (a n : ℕ) → enumerate_from
 enumerate_from-map f a zero = refl
 enumerate_from-map {X} f a (suc n) = ap (λ (xs : List (ℕ × X)). (a, f a) ∷ xs) (enumerate_from-map f (a + 1) n)
 
-beq-same : (b : Bool) → beq b b ≡ true
-beq-same true = refl
-beq-same false = refl
-
 -- the strobes of a W beat are in lanes of its transfer
 strobes_within : (bus_bytes : ℕ) (given : ℕ → Option ℕ) (piece : Piece) (aw : AwBeat) (n : ℕ) → aw.address ≡ piece.address → aw.size ≡ piece.size
     → strobes_fit bus_bytes aw n (w_beat bus_bytes given piece n).strobes ≡ true
 strobes_within bus_bytes given piece aw n same_address same_size =
+    let fits : (b : Bool) (o : Option ℕ) → (not (is_some (if b then o else None)) || b) ≡ true = λ b o. grind arith in
     list_all-from (λ lane. not (has_lane (w_beat bus_bytes given piece n).strobes lane) || covers_lane bus_bytes aw.address aw.size n lane) 0 8
     (λ lane low high.
     rw (same_address, same_size, has_lane-mask_of (λ lane. is_some (byte_to_write bus_bytes given piece n lane)) lane (omega arith))
     (fits (covers_lane bus_bytes piece.address piece.size n lane) (given (lane_address bus_bytes piece.address piece.size n lane))))
-  where
-    fits : (b : Bool) (o : Option ℕ) → (not (is_some (if b then o else None)) || b) ≡ true
-    fits true o = or_right _ true refl
-    fits false o = refl
 
 -- a write is legal where its address beat is
 pub write_is_legal : (bus_bytes id : ℕ) (bytes : List (Option ℕ)) (start : ℕ) (piece : Piece) → is_legal_address bus_bytes piece.address piece.len piece.size 1 ≡ true
     → IsLegal bus_bytes (write_of bus_bytes id bytes start piece)
 write_is_legal bus_bytes id bytes start piece legal =
+    let aw : AwBeat = record { id = id; address = piece.address; len = piece.len; size = piece.size; burst = 1 } in
     and_from _ _ (and_from _ _ legal (eq-eqb _ _ (length-map-range_with_len (w_beat bus_bytes (given_at bytes start) piece) 1 (piece.len + 1))))
     (rw (enumerate_from-map (w_beat bus_bytes (given_at bytes start) piece) 1 (piece.len + 1), list_all-map (λ (transfer : ℕ × WBeat). is_legal_data bus_bytes aw transfer.0 transfer.1) (λ k. (k, w_beat bus_bytes (given_at bytes start) piece k)) (range_with_len 1 (piece.len + 1)))
     (list_all-from (λ k. is_legal_data bus_bytes aw k (w_beat bus_bytes (given_at bytes start) piece k)) 1 (piece.len + 1)
-    (λ k low high. and_from _ _ (strobes_within bus_bytes (given_at bytes start) piece aw k refl refl) (beq-same (k == piece.len + 1)))))
-  where
-    aw : AwBeat
-    aw = record { id = id; address = piece.address; len = piece.len; size = piece.size; burst = 1 }
+    (λ k low high. and_from _ _ (strobes_within bus_bytes (given_at bytes start) piece aw k refl refl) (grind arith))))
 
 -- ---- the bursts of a plan
 

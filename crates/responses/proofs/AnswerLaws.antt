@@ -3,10 +3,10 @@ use Rattle.std.proofs.Common.{◌≡◌, ℕ, zero, suc, ◌+◌, ◌-◌, ◌*�
 use Rattle.std.specs.Prelude.{option_map, replicate, slice_get, slice_set, slice_index_or, All}
 use Rattle.std.specs.List.{range_with_len, list_any}
 use Rattle.std.specs.Option.{option_flatten}
-use Rattle.std.proofs.lemmas.Bool.{eqb-true}
 use Rattle.std.proofs.lemmas.Bool.Decides.{eqb_tells}
 use Rattle.std.proofs.lemmas.List.{length-replicate, length-set}
 use Rattle.std.proofs.lemmas.List.Elements.{All-head, All-tail}
+use Rattle.std.proofs.lemmas.List.FromFn.{fill_by_all, get_or-map-range_with_len, length-map-range_with_len}
 use Rattle.std.proofs.lemmas.Option.{none-some}
 use Rattle.bus_words.specs.Lanes.{lane_byte, word_address}
 use Rattle.tl_messages.specs.Lanes.{lane_of}
@@ -37,10 +37,7 @@ or_none (word ∷ words) zero = refl
 or_none (word ∷ words) (suc j) = or_none words j
 
 set_there : (words : List (Option ℕ)) (j : ℕ) (word : Option ℕ) → j < length words → word_at (slice_set words j word) j ≡ word
-set_there [] j word below = absurd (none below)
-  where
-    none : j < 0 → ⊥
-    none e = omega arith
+set_there [] j word below = absurd (omega (arith, below))
 set_there (first ∷ words) zero word below = refl
 set_there (first ∷ words) (suc j) word below = set_there words j word (omega arith)
 
@@ -116,49 +113,46 @@ failed_word bus_bytes outline start seen i place r byte tells inside same bad =
 inside_range : (bus_bytes place : ℕ) (outline : Outline) → reply_has_data outline.operation ≡ true → place < reads_of bus_bytes outline → place < max 1 (2 ^ outline.size / bus_bytes)
 inside_range bus_bytes place outline has inside = rw has at inside
 
--- the byte's word after one of its reads
+-- what holds of the byte's word after one of its reads: of none, where that tells that the byte isn't shown, and of what the payload makes of it
+by_read : (bus_bytes : ℕ) (outline : Outline) (start : ℕ) (seen : ℕ → Option ℕ) (i place : ℕ) (r : RBeat) (word : Option ℕ) → OneByte bus_bytes outline start seen i
+    → TellsOf bus_bytes outline start seen place r → word_of_read bus_bytes outline place ≡ own_word outline i → IsSpoiled seen (start + i) word → (P : Option ℕ → Type 0)
+    → (seen (start + i) ≡ None → P None) → ((w : ℕ) → is_slverr r.resp ≡ false → word ≡ Some w → P (Some (with_payload bus_bytes outline place r.payload w)))
+    → P (word_after bus_bytes outline place r word)
+by_read bus_bytes outline start seen i place r word byte tells same spoiled P gone given = by_resp (is_slverr r.resp) refl word refl
+  where
+    by_resp : (b : Bool) → is_slverr r.resp ≡ b → (o : Option ℕ) → word ≡ o → P (if b then None else option_map (with_payload bus_bytes outline place r.payload) o)
+    by_resp true bad o is = gone (failed_word bus_bytes outline start seen i place r byte tells (inside_range bus_bytes place outline byte.has tells.inside) same bad)
+    by_resp false good None is = gone (spoiled is)
+    by_resp false good (Some w) is = given w good is
+
 after_any : (bus_bytes : ℕ) (outline : Outline) (start : ℕ) (seen : ℕ → Option ℕ) (i place : ℕ) (r : RBeat) (word : Option ℕ) → OneByte bus_bytes outline start seen i
     → TellsOf bus_bytes outline start seen place r → word_of_read bus_bytes outline place ≡ own_word outline i → IsSpoiled seen (start + i) word
     → IsSpoiled seen (start + i) (word_after bus_bytes outline place r word)
-after_any bus_bytes outline start seen i place r word byte tells same spoiled = by_resp (is_slverr r.resp) refl word spoiled
-  where
-    by_resp : (b : Bool) → is_slverr r.resp ≡ b → (o : Option ℕ) → IsSpoiled seen (start + i) o
-        → IsSpoiled seen (start + i) (if b then None else option_map (with_payload bus_bytes outline place r.payload) o)
-    by_resp true bad o kept e = failed_word bus_bytes outline start seen i place r byte tells (inside_range bus_bytes place outline byte.has tells.inside) same bad
-    by_resp false good None kept e = kept e
-    by_resp false good (Some w) kept e = absurd (none-some _ (sym e))
+after_any bus_bytes outline start seen i place r word byte tells same spoiled =
+    by_read bus_bytes outline start seen i place r word byte tells same spoiled (IsSpoiled seen (start + i)) (λ none e. none) (λ w good is e. absurd (none-some _ (sym e)))
 
 -- after the byte's own read
 after_own : (bus_bytes : ℕ) (outline : Outline) (start : ℕ) (seen : ℕ → Option ℕ) (i place : ℕ) (r : RBeat) (word : Option ℕ) → OneByte bus_bytes outline start seen i
     → TellsOf bus_bytes outline start seen place r → word_of_read bus_bytes outline place ≡ own_word outline i → own_place bus_bytes outline i ≡ place
     → IsSpoiled seen (start + i) word → HasSeen seen (start + i) (lane_in outline i) (word_after bus_bytes outline place r word)
-after_own bus_bytes outline start seen i place r word byte tells same own spoiled = by_resp (is_slverr r.resp) refl word spoiled
-  where
-    lanes : lane_of (start + i) ≡ lane_of (outline.address + i)
-    lanes = let e = byte.lane in omega arith
-
-    by_resp : (b : Bool) → is_slverr r.resp ≡ b → (o : Option ℕ) → IsSpoiled seen (start + i) o
-        → HasSeen seen (start + i) (lane_in outline i) (if b then None else option_map (with_payload bus_bytes outline place r.payload) o)
-    by_resp true bad o kept = sym (failed_word bus_bytes outline start seen i place r byte tells (inside_range bus_bytes place outline byte.has tells.inside) same bad)
-    by_resp false good None kept = sym (kept refl)
-    by_resp false good (Some w) kept =
-        ap (λ n. Some n)
-        (subst (λ p. lane_byte (with_payload bus_bytes outline p r.payload w) (lane_in outline i) ≡ lane_byte r.payload ((start + i) % bus_bytes)) own
-        (own_lane bus_bytes i (start + i) r.payload w outline byte.width byte.aligned byte.below lanes))
-        ∙ sym (tells.bytes good (start + i) (subst (λ p. IsReadAt bus_bytes outline start p (start + i)) own (read_at bus_bytes outline start i byte.below)))
+after_own bus_bytes outline start seen i place r word byte tells same own spoiled =
+    let lane = byte.lane in
+    let lanes : lane_of (start + i) ≡ lane_of (outline.address + i) = omega arith in
+    by_read bus_bytes outline start seen i place r word byte tells same spoiled (HasSeen seen (start + i) (lane_in outline i)) (λ none. sym none)
+    (λ w good is.
+    ap (λ n. Some n)
+    (subst (λ p. lane_byte (with_payload bus_bytes outline p r.payload w) (lane_in outline i) ≡ lane_byte r.payload ((start + i) % bus_bytes)) own
+    (own_lane bus_bytes i (start + i) r.payload w outline byte.width byte.aligned byte.below lanes))
+    ∙ sym (tells.bytes good (start + i) (subst (λ p. IsReadAt bus_bytes outline start p (start + i)) own (read_at bus_bytes outline start i byte.below))))
 
 -- after another read of its word
 after_other : (bus_bytes : ℕ) (outline : Outline) (start : ℕ) (seen : ℕ → Option ℕ) (i place : ℕ) (r : RBeat) (word : Option ℕ) → OneByte bus_bytes outline start seen i
     → TellsOf bus_bytes outline start seen place r → word_of_read bus_bytes outline place ≡ own_word outline i
     → ((payload word : ℕ) → lane_byte (with_payload bus_bytes outline place payload word) (lane_in outline i) ≡ lane_byte word (lane_in outline i))
     → HasSeen seen (start + i) (lane_in outline i) word → HasSeen seen (start + i) (lane_in outline i) (word_after bus_bytes outline place r word)
-after_other bus_bytes outline start seen i place r word byte tells same keeps has = by_resp (is_slverr r.resp) refl word has
-  where
-    by_resp : (b : Bool) → is_slverr r.resp ≡ b → (o : Option ℕ) → HasSeen seen (start + i) (lane_in outline i) o
-        → HasSeen seen (start + i) (lane_in outline i) (if b then None else option_map (with_payload bus_bytes outline place r.payload) o)
-    by_resp true bad o kept = sym (failed_word bus_bytes outline start seen i place r byte tells (inside_range bus_bytes place outline byte.has tells.inside) same bad)
-    by_resp false good None kept = kept
-    by_resp false good (Some w) kept = ap (λ n. Some n) (keeps r.payload w) ∙ kept
+after_other bus_bytes outline start seen i place r word byte tells same keeps has =
+    by_read bus_bytes outline start seen i place r word byte tells same (spoiled_too seen (start + i) (lane_in outline i) word has) (HasSeen seen (start + i) (lane_in outline i))
+    (λ none. sym none) (λ w good is. ap (λ n. Some n) (keeps r.payload w) ∙ (rw is at has))
 
 -- ---- all words, as the reads come
 
@@ -193,22 +187,17 @@ stays : (bus_bytes : ℕ) (outline : Outline) (start : ℕ) (seen : ℕ → Opti
     → HasSeen seen (start + i) (lane_in outline i) (word_at (after_reads bus_bytes outline reads g).words (own_word outline i))
 stays bus_bytes outline start seen i [] g byte tell inside has = has
 stays bus_bytes outline start seen i ((place, r) ∷ reads) g byte tell inside has =
+    let tells : TellsOf bus_bytes outline start seen place r = All-head (λ read. TellsOf bus_bytes outline start seen read.0 read.1) (place, r) reads tell in
+    let word = word_at g.words (own_word outline i) in
     stays bus_bytes outline start seen i reads (after_r bus_bytes outline r place g) byte (All-tail (λ read. TellsOf bus_bytes outline start seen read.0 read.1) (place, r) reads tell)
     (rw (words_many bus_bytes outline place r g.words) inside)
-    (word_kept bus_bytes outline i place r g.words (HasSeen seen (start + i) (lane_in outline i)) inside changed has)
-  where
-    tells : TellsOf bus_bytes outline start seen place r
-    tells = All-head (λ read. TellsOf bus_bytes outline start seen read.0 read.1) (place, r) reads tell
-
-    changed : word_of_read bus_bytes outline place ≡ own_word outline i
-        → HasSeen seen (start + i) (lane_in outline i) (word_after bus_bytes outline place r (word_at g.words (own_word outline i)))
-    changed same =
-        elim (own_or_kept bus_bytes place i outline byte.width byte.aligned byte.below (inside_range bus_bytes place outline byte.has tells.inside) same) [
-          | inl own ↦
-              after_own bus_bytes outline start seen i place r (word_at g.words (own_word outline i)) byte tells same own
-              (spoiled_too seen (start + i) (lane_in outline i) (word_at g.words (own_word outline i)) has)
-          | inr keeps ↦ after_other bus_bytes outline start seen i place r (word_at g.words (own_word outline i)) byte tells same keeps has
-        ]
+    (word_kept bus_bytes outline i place r g.words (HasSeen seen (start + i) (lane_in outline i)) inside
+    (λ same.
+    elim (own_or_kept bus_bytes place i outline byte.width byte.aligned byte.below (inside_range bus_bytes place outline byte.has tells.inside) same) [
+      | inl own ↦ after_own bus_bytes outline start seen i place r word byte tells same own (spoiled_too seen (start + i) (lane_in outline i) word has)
+      | inr keeps ↦ after_other bus_bytes outline start seen i place r word byte tells same keeps has
+    ])
+    has)
 
 -- when its read has come, the byte is what the memory shows
 comes : (bus_bytes : ℕ) (outline : Outline) (start : ℕ) (seen : ℕ → Option ℕ) (i : ℕ) (reads : List (ℕ × RBeat)) (g : Gathering) → OneByte bus_bytes outline start seen i
@@ -217,66 +206,36 @@ comes : (bus_bytes : ℕ) (outline : Outline) (start : ℕ) (seen : ℕ → Opti
     → HasSeen seen (start + i) (lane_in outline i) (word_at (after_reads bus_bytes outline reads g).words (own_word outline i))
 comes bus_bytes outline start seen i [] g byte tell inside came spoiled = absurd (true≢false (sym came))
 comes bus_bytes outline start seen i ((place, r) ∷ reads) g byte tell inside came spoiled =
-    by_place (place == own_place bus_bytes outline i) refl came
-    (λ e.
-    comes bus_bytes outline start seen i reads (after_r bus_bytes outline r place g) byte others many e
-    (word_kept bus_bytes outline i place r g.words (IsSpoiled seen (start + i)) inside
-    (λ same. after_any bus_bytes outline start seen i place r (word_at g.words (own_word outline i)) byte tells same spoiled) spoiled))
-  where
-    tells : TellsOf bus_bytes outline start seen place r
-    tells = All-head (λ read. TellsOf bus_bytes outline start seen read.0 read.1) (place, r) reads tell
-
-    others : All (λ read. TellsOf bus_bytes outline start seen read.0 read.1) reads
-    others = All-tail (λ read. TellsOf bus_bytes outline start seen read.0 read.1) (place, r) reads tell
-
-    many : own_word outline i < length (after_r bus_bytes outline r place g).words
-    many = rw (words_many bus_bytes outline place r g.words) inside
-
-    own_reads : own_place bus_bytes outline i ≡ place → word_of_read bus_bytes outline place ≡ own_word outline i
-    own_reads own =
-        subst (λ p. word_of_read bus_bytes outline p ≡ own_word outline i) own (let p = placed bus_bytes i outline byte.width byte.aligned byte.below in p.word)
-
-    by_place : (b : Bool) → (place == own_place bus_bytes outline i) ≡ b → (b || list_any (λ read. read.0 == own_place bus_bytes outline i) reads) ≡ true
-        → (list_any (λ read. read.0 == own_place bus_bytes outline i) reads ≡ true
-        → HasSeen seen (start + i) (lane_in outline i) (word_at (after_reads bus_bytes outline reads (after_r bus_bytes outline r place g)).words (own_word outline i)))
-        → HasSeen seen (start + i) (lane_in outline i) (word_at (after_reads bus_bytes outline reads (after_r bus_bytes outline r place g)).words (own_word outline i))
-    by_place true own e later =
-        let is : own_place bus_bytes outline i ≡ place = sym (eqb-true place (own_place bus_bytes outline i) own) in
-        stays bus_bytes outline start seen i reads (after_r bus_bytes outline r place g) byte others many (now is)
-      where
-        now : own_place bus_bytes outline i ≡ place
-            → HasSeen seen (start + i) (lane_in outline i) (word_at (words_after bus_bytes outline place r g.words) (own_word outline i))
-        now is =
-            subst (HasSeen seen (start + i) (lane_in outline i))
-            (sym
-            (rw (own_reads is, or_none g.words (own_word outline i))
-            (set_there g.words (own_word outline i) (word_after bus_bytes outline place r (word_at g.words (own_word outline i))) inside)))
-            (after_own bus_bytes outline start seen i place r (word_at g.words (own_word outline i)) byte tells (own_reads is) is spoiled)
-    by_place false other e later = later e
+    let tells : TellsOf bus_bytes outline start seen place r = All-head (λ read. TellsOf bus_bytes outline start seen read.0 read.1) (place, r) reads tell in
+    let others : All (λ read. TellsOf bus_bytes outline start seen read.0 read.1) reads =
+    All-tail (λ read. TellsOf bus_bytes outline start seen read.0 read.1) (place, r) reads tell in
+    let many : own_word outline i < length (after_r bus_bytes outline r place g).words = rw (words_many bus_bytes outline place r g.words) inside in
+    let own_reads : own_place bus_bytes outline i ≡ place → word_of_read bus_bytes outline place ≡ own_word outline i = λ own.
+    subst (λ p. word_of_read bus_bytes outline p ≡ own_word outline i) own (let p = placed bus_bytes i outline byte.width byte.aligned byte.below in p.word) in
+    let now : own_place bus_bytes outline i ≡ place → HasSeen seen (start + i) (lane_in outline i) (word_at (words_after bus_bytes outline place r g.words) (own_word outline i)) = λ is.
+    subst (HasSeen seen (start + i) (lane_in outline i))
+    (sym
+    (rw (own_reads is, or_none g.words (own_word outline i))
+    (set_there g.words (own_word outline i) (word_after bus_bytes outline place r (word_at g.words (own_word outline i))) inside)))
+    (after_own bus_bytes outline start seen i place r (word_at g.words (own_word outline i)) byte tells (own_reads is) is spoiled) in
+    elim (eqb_tells place (own_place bus_bytes outline i)) [
+      | inl (test, own) ↦ stays bus_bytes outline start seen i reads (after_r bus_bytes outline r place g) byte others many (now (sym own))
+      | inr (test, other) ↦
+          comes bus_bytes outline start seen i reads (after_r bus_bytes outline r place g) byte others many (rw test at came)
+          (word_kept bus_bytes outline i place r g.words (IsSpoiled seen (start + i)) inside
+          (λ same. after_any bus_bytes outline start seen i place r (word_at g.words (own_word outline i)) byte tells same spoiled) spoiled)
+    ]
 
 -- ---- what denies
 
-or_assoc : (a b c : Bool) → ((a || b) || c) ≡ (a || (b || c))
-or_assoc true b c = refl
-or_assoc false b c = refl
-
 denied_by_reads : (bus_bytes : ℕ) (outline : Outline) (reads : List (ℕ × RBeat)) (g : Gathering)
     → (after_reads bus_bytes outline reads g).denied ≡ (g.denied || list_any (λ read. is_decerr read.1.resp) reads)
-denied_by_reads bus_bytes outline [] g = or_false g.denied
-  where
-    or_false : (b : Bool) → b ≡ (b || false)
-    or_false true = refl
-    or_false false = refl
-denied_by_reads bus_bytes outline ((place, r) ∷ reads) g =
-    denied_by_reads bus_bytes outline reads (after_r bus_bytes outline r place g) ∙ or_assoc g.denied (is_decerr r.resp) (list_any (λ read. is_decerr read.1.resp) reads)
+denied_by_reads bus_bytes outline [] g = grind arith
+denied_by_reads bus_bytes outline ((place, r) ∷ reads) g = grind (arith, denied_by_reads bus_bytes outline reads (after_r bus_bytes outline r place g))
 
 denied_by_writes : (writes : List Resp) (g : Gathering) → (after_writes writes g).denied ≡ (g.denied || list_any (λ resp. not (is_okay resp)) writes)
-denied_by_writes [] g = or_false g.denied
-  where
-    or_false : (b : Bool) → b ≡ (b || false)
-    or_false true = refl
-    or_false false = refl
-denied_by_writes (resp ∷ writes) g = denied_by_writes writes (after_b resp g) ∙ or_assoc g.denied (not (is_okay resp)) (list_any (λ resp. not (is_okay resp)) writes)
+denied_by_writes [] g = grind arith
+denied_by_writes (resp ∷ writes) g = grind (arith, denied_by_writes writes (after_b resp g))
 
 words_of_writes : (writes : List Resp) (g : Gathering) → (after_writes writes g).words ≡ g.words
 words_of_writes [] g = refl
@@ -290,30 +249,9 @@ denied_by_answers bus_bytes outline answers =
 
 -- ---- the whole reply
 
-same_bytes : (f g : ℕ → Option ℕ) (a b n : ℕ) → ((k : ℕ) → k < n → f (a + k) ≡ g (b + k)) → map f (range_with_len a n) ≡ map g (range_with_len b n)
-same_bytes f g a b zero same = refl
-same_bytes f g a b (suc n) same =
-    let first : f a ≡ g b = rw (a_first, b_first) at (same 0 (omega arith)) in
-    rw (first, same_bytes f g (a + 1) (b + 1) n next) refl
-  where
-    a_first : a + 0 ≡ a
-    a_first = omega arith
-
-    b_first : b + 0 ≡ b
-    b_first = omega arith
-
-    next : (k : ℕ) → k < n → f (a + 1 + k) ≡ g (b + 1 + k)
-    next k below =
-        let f_at : a + suc k ≡ a + 1 + k = omega arith in
-        let g_at : b + suc k ≡ b + 1 + k = omega arith in
-        rw (f_at, g_at) at (same (suc k) (omega arith))
-
 -- before any read each word is given
 none_spoiled : (seen : ℕ → Option ℕ) (x j n : ℕ) → j < n → IsSpoiled seen x (word_at (replicate n (Some 0)) j)
-none_spoiled seen x j zero below e = absurd (none below)
-  where
-    none : j < 0 → ⊥
-    none e = omega arith
+none_spoiled seen x j zero below e = absurd (omega (arith, below))
 none_spoiled seen x zero (suc n) below e = absurd (none-some 0 (sym e))
 none_spoiled seen x (suc j) (suc n) below e = none_spoiled seen x j n (omega arith) e
 
@@ -330,7 +268,7 @@ gathered_seen bus_bytes outline start seen answers width are = by_data (reply_ha
     granted : g.denied ≡ false
     granted = denied_by_answers bus_bytes outline answers ∙ are.granted
 
-    each : reply_has_data outline.operation ≡ true → (i : ℕ) → i < 2 ^ outline.size → byte_gathered outline g.words (0 + i) ≡ seen (start + i)
+    each : reply_has_data outline.operation ≡ true → (i : ℕ) → i < 2 ^ outline.size → byte_gathered outline g.words i ≡ seen (start + i)
     each has i below =
         let byte : OneByte bus_bytes outline start seen i = record { width = width; has = has; aligned = are.aligned; lane = are.lane; below = below } in
         let p : IsPlaced bus_bytes outline i = placed bus_bytes i outline width are.aligned below in
@@ -340,14 +278,19 @@ gathered_seen bus_bytes outline start seen answers width are = by_data (reply_ha
         let read : HasSeen seen (start + i) (lane_in outline i) (word_at (after_reads bus_bytes outline answers.reads (gathering_of outline false)).words (own_word outline i)) =
         comes bus_bytes outline start seen i answers.reads (gathering_of outline false) byte are.tell many (are.came (own_place bus_bytes outline i) inside)
         (none_spoiled seen (start + i) (own_word outline i) (words_of outline) word_inside) in
-        let from : 0 + i ≡ i = omega arith in
-        rw from (rw (words_of_writes answers.writes (after_reads bus_bytes outline answers.reads (gathering_of outline false))) read)
+        rw (words_of_writes answers.writes (after_reads bus_bytes outline answers.reads (gathering_of outline false))) read
+
+    listed : reply_has_data outline.operation ≡ true → map (byte_gathered outline g.words) (range_with_len 0 (2 ^ outline.size)) ≡ bytes_seen seen start (2 ^ outline.size)
+    listed has =
+        sym
+        (fill_by_all (byte_gathered outline g.words) (bytes_seen seen start (2 ^ outline.size)) (2 ^ outline.size) None (length-map-range_with_len seen start (2 ^ outline.size))
+        (λ k below. get_or-map-range_with_len seen start (2 ^ outline.size) k (start + k) None below refl ∙ sym (each has k below)))
 
     by_data : (b : Bool) → reply_has_data outline.operation ≡ b
         → ◌≡◌ {A = Reply} (record { denied = g.denied; bytes = if b && not g.denied then map (byte_gathered outline g.words) (range_with_len 0 (2 ^ outline.size)) else [] })
         (record { denied = false; bytes = if b then bytes_seen seen start (2 ^ outline.size) else [] })
     by_data true has =
-        rw granted (ap {A = List (Option ℕ)} {B = Reply} (λ bytes. record { denied = false; bytes = bytes }) (same_bytes (byte_gathered outline g.words) seen 0 start (2 ^ outline.size) (each has)))
+        rw granted (ap {A = List (Option ℕ)} {B = Reply} (λ bytes. record { denied = false; bytes = bytes }) (listed has))
     by_data false has = rw granted refl
 
 -- the same, of what was gathered
@@ -361,13 +304,7 @@ state_seen state start seen answers width are =
 
 -- a denied request gives no bytes
 pub no_bytes : (outline : Outline) (g : Gathering) → g.denied ≡ true → ◌≡◌ {A = Reply} (gathered outline g) (record { denied = true; bytes = [] })
-no_bytes outline g denied = by_data (reply_has_data outline.operation)
-  where
-    by_data : (b : Bool)
-        → ◌≡◌ {A = Reply} (record { denied = g.denied; bytes = if b && not g.denied then map (byte_gathered outline g.words) (range_with_len 0 (2 ^ outline.size)) else [] })
-        (record { denied = true; bytes = [] })
-    by_data true = rw denied refl
-    by_data false = rw denied refl
+no_bytes outline g denied = elim (reply_has_data outline.operation) as (λ b. ◌≡◌ {A = Reply} (record { denied = g.denied; bytes = if b && not g.denied then map (byte_gathered outline g.words) (range_with_len 0 (2 ^ outline.size)) else [] }) (record { denied = true; bytes = [] })) [ true ↦ rw denied refl | false ↦ rw denied refl ]
 
 -- the beats of what was gathered show what the memory answered
 pub shows_answers : (state : GatherState) (q : WholeRequest) (beats : List DBeat) → IsBusWidth state.bus_bytes → outline_of q ≡ state.outline

@@ -15,7 +15,7 @@ use Rattle.responses.specs.Answers.{number_of}
 use Rattle.responses.specs.Gathered.{Gathering, byte_gathered, gathered, holds_number, is_atomic, old_value}
 use Rattle.tl_messages.specs.Operations.{reply_has_data}
 use Rattle.tl_messages.specs.declared.Operation.{Operation}
-use Rattle.tl_messages.specs.declared.Operation.TheVariants.{PutFull, PutPartial, Atomic, Get, Intent}
+use Rattle.tl_messages.specs.declared.Operation.TheVariants.{Atomic}
 use Rattle.std.specs.Option.{option_flatten}
 use Rattle.std.proofs.lemmas.Bool.{and_parts, eqb-true, leb-true}
 use Rattle.responses.specs.declared.gather.Outline.{Outline}
@@ -24,32 +24,24 @@ use Rattle.responses.specs.declared.gather.Outline.{Outline}
 pub bytes_of_word : (outline : Outline) (words : List (Option ℕ)) (word : ℕ) → outline.size ≤ 3 → outline.address % 2 ^ outline.size ≡ 0 → slice_get words 0 ≡ Some (Some word)
     → map Some (bytes_of (2 ^ outline.size) (operand_in word outline.address outline.size)) ≡ map (byte_gathered outline words) (range_with_len 0 (2 ^ outline.size))
 bytes_of_word outline words word small aligned there =
+    let byte : ℕ → ℕ = λ i. lane_byte word (lane_of (outline.address + i)) in
+    let length_is : length (map Some (map byte (range_with_len 0 (2 ^ outline.size)))) ≡ 2 ^ outline.size =
+    length-map (map byte (range_with_len 0 (2 ^ outline.size))) Some ∙ length-map-range_with_len byte 0 (2 ^ outline.size) in
+    let each : (k : ℕ) → k < 2 ^ outline.size → get_or (map Some (map byte (range_with_len 0 (2 ^ outline.size)))) k None ≡ byte_gathered outline words k = λ k below.
+    let listed : slice_get (map byte (range_with_len 0 (2 ^ outline.size))) k ≡ Some (byte k) =
+    slice_get-get_or (map byte (range_with_len 0 (2 ^ outline.size))) k 0 (rw (length-map-range_with_len byte 0 (2 ^ outline.size)) below)
+    ∙ ap (λ (n : ℕ). Some n) (get_or-map-range_with_len byte 0 (2 ^ outline.size) k k 0 below (omega arith)) in
+    let found : slice_get (map Some (map byte (range_with_len 0 (2 ^ outline.size)))) k ≡ Some (Some (byte k)) =
+    slice_get-map Some (map byte (range_with_len 0 (2 ^ outline.size))) k ∙ ap (λ (o : Option ℕ). option_map Some o) listed in
+    let first : (lane_of outline.address + k) / 8 ≡ 0 = omega (arith, aligned_within outline.address outline.size small aligned) in
+    get_or_from_slice_get (map Some (map byte (range_with_len 0 (2 ^ outline.size)))) k (Some (byte k)) None found ∙ sym (rw (first, there) refl) in
     ap (map Some) (bytes_of-operand_in word outline.address outline.size small)
     ∙ fill_by_all (byte_gathered outline words) (map Some (map byte (range_with_len 0 (2 ^ outline.size)))) (2 ^ outline.size) None length_is each
-  where
-    byte : ℕ → ℕ
-    byte i = lane_byte word (lane_of (outline.address + i))
-
-    length_is : length (map Some (map byte (range_with_len 0 (2 ^ outline.size)))) ≡ 2 ^ outline.size
-    length_is = length-map (map byte (range_with_len 0 (2 ^ outline.size))) Some ∙ length-map-range_with_len byte 0 (2 ^ outline.size)
-
-    each : (k : ℕ) → k < 2 ^ outline.size → get_or (map Some (map byte (range_with_len 0 (2 ^ outline.size)))) k None ≡ byte_gathered outline words k
-    each k below =
-        let listed : slice_get (map byte (range_with_len 0 (2 ^ outline.size))) k ≡ Some (byte k) =
-        slice_get-get_or (map byte (range_with_len 0 (2 ^ outline.size))) k 0 (rw (length-map-range_with_len byte 0 (2 ^ outline.size)) below)
-        ∙ ap (λ (n : ℕ). Some n) (get_or-map-range_with_len byte 0 (2 ^ outline.size) k k 0 below (omega arith)) in
-        let found : slice_get (map Some (map byte (range_with_len 0 (2 ^ outline.size)))) k ≡ Some (Some (byte k)) =
-        slice_get-map Some (map byte (range_with_len 0 (2 ^ outline.size))) k ∙ ap (λ (o : Option ℕ). option_map Some o) listed in
-        let first : (lane_of outline.address + k) / 8 ≡ 0 = omega (arith, aligned_within outline.address outline.size small aligned) in
-        get_or_from_slice_get (map Some (map byte (range_with_len 0 (2 ^ outline.size)))) k (Some (byte k)) None found ∙ sym (rw (first, there) refl)
 
 -- the reply to an atomic has data
 pub atomic_has_data : (op : Operation) → is_atomic op ≡ true → reply_has_data op ≡ true
-atomic_has_data PutFull e = e
-atomic_has_data PutPartial e = e
 atomic_has_data (Atomic op) e = refl
-atomic_has_data Get e = absurd (true≢false (sym e))
-atomic_has_data (Intent write) e = e
+atomic_has_data _ e = absurd (true≢false (sym e))
 
 -- a number's range is small and aligned
 pub number_range : (outline : Outline) → holds_number outline ≡ true → (outline.size ≤ 3) × (outline.address % 2 ^ outline.size ≡ 0)

@@ -1,10 +1,9 @@
 -- The words that reads belong to.
-use Rattle.std.proofs.Common.{◌≡◌, ℕ, zero, suc, ◌+◌, ◌-◌, ◌*◌, ◌/◌, ◌%◌, ◌^◌, ◌<◌, ◌≤◌, max, Bool, true, false, if◌then◌else◌, arith, inl, inr}
+use Rattle.std.proofs.Common.{◌≡◌, ℕ, zero, suc, ◌+◌, ◌-◌, ◌*◌, ◌/◌, ◌%◌, ◌^◌, ◌<◌, ◌≤◌, max, true, arith, inl, inr}
 use Rattle.std.proofs.Math.Pow.{pow_mono, mod-mod-pow}
 use Rattle.std.proofs.lemmas.Bool.{cases_lt, le-leb, lt-leb}
 use Rattle.std.proofs.lemmas.Nat.{pow-add}
 use Rattle.tl_messages.specs.Lanes.{lane_of}
-use Rattle.tl_messages.specs.Operations.{reply_has_data, beats_of}
 use Rattle.tl_messages.proofs.BeatCounts.{beats_of-le}
 use Rattle.axi_beats.specs.Transfers.{IsBusWidth}
 use Rattle.responses.specs.Gathered.{reads_of, word_of_read, words_of}
@@ -34,11 +33,7 @@ narrow address (suc (suc (suc size))) small = absurd (omega arith)
 
 -- a reply has at most 512 words
 pub words_of-le : (outline : Outline) → outline.size ≤ 12 → words_of outline ≤ 512
-words_of-le outline small = by_data (reply_has_data outline.operation)
-  where
-    by_data : (b : Bool) → (if b then beats_of outline.size true else 0) ≤ 512
-    by_data true = beats_of-le outline.size true small
-    by_data false = omega arith
+words_of-le outline small = grind (arith, beats_of-le outline.size true small)
 
 at_place : (bus_bytes place : ℕ) (outline : Outline) → IsBusWidth bus_bytes → place < max 1 (2 ^ outline.size / bus_bytes)
     → word_of_read bus_bytes outline place < max 1 (2 ^ outline.size / 8)
@@ -53,11 +48,4 @@ at_place bus_bytes place outline (inl four) below =
 -- a read's word is one of the reply's
 pub word_of_read-lt : (bus_bytes place : ℕ) (outline : Outline) → IsBusWidth bus_bytes → place < reads_of bus_bytes outline
     → word_of_read bus_bytes outline place < words_of outline
-word_of_read-lt bus_bytes place outline width below = by_data (reply_has_data outline.operation) below
-  where
-    by_data : (b : Bool) → place < (if b then max 1 (2 ^ outline.size / bus_bytes) else 0) → word_of_read bus_bytes outline place < (if b then beats_of outline.size true else 0)
-    by_data true inside = at_place bus_bytes place outline width inside
-    by_data false inside = absurd (none inside)
-      where
-        none : place < 0 → ⊥
-        none e = omega arith
+word_of_read-lt bus_bytes place outline width below = grind (arith, at_place bus_bytes place outline width)

@@ -1,5 +1,5 @@
 -- Where byte i of a range stands among its reads: in which transfer, which word, and which lane.
-use Rattle.std.proofs.Common.{◌≡◌, ℕ, zero, suc, ◌+◌, ◌-◌, ◌*◌, ◌/◌, ◌%◌, ◌^◌, ◌<◌, ◌≤◌, ◌==◌, ◌⊎◌, ◌≢◌, min, max, refl, sym, subst, ◌∙◌, ap, arith, inl, inr}
+use Rattle.std.proofs.Common.{◌≡◌, ℕ, zero, suc, ◌+◌, ◌-◌, ◌*◌, ◌/◌, ◌%◌, ◌^◌, ◌<◌, ◌≤◌, ◌==◌, ◌⊎◌, ◌≢◌, min, max, sym, subst, ◌∙◌, ap, arith, inl, inr}
 use Rattle.std.proofs.Math.Nat.{zero-div}
 use Rattle.std.proofs.Math.Pow.{pow_pos}
 use Rattle.std.proofs.lemmas.Bool.{cases_lt, le-leb, lt-leb}
@@ -33,41 +33,26 @@ wide_transfer : (size : ℕ) → 3 ≤ size → (min (2 ^ size) 4 ≡ 4) × (min
 wide_transfer size big = let (whole, many) = eighths size big in (omega arith, omega arith)
 
 pub placed : (bus_bytes i : ℕ) (outline : Outline) → IsBusWidth bus_bytes → outline.address % 2 ^ outline.size ≡ 0 → i < 2 ^ outline.size → IsPlaced bus_bytes outline i
-placed bus_bytes i outline width aligned below =
-    elim width [
-      | inl four ↦ subst (λ b. IsPlaced b outline i) (sym four) (elim (cases_lt outline.size 3) [ inl small ↦ four_narrow small | inr big ↦ four_wide big ])
-      | inr eight ↦ subst (λ b. IsPlaced b outline i) (sym eight) (elim (cases_lt outline.size 3) [ inl small ↦ eight_narrow small | inr big ↦ eight_wide big ])
-    ]
-  where
-    four_narrow : outline.size < 3 → IsPlaced 4 outline i
-    four_narrow small =
-        let (first, other, within, half) = in_narrow outline.address outline.size i small aligned below in
-        record {
-          inside = rw first (omega arith);
-          word = rw (lt-leb 3 outline.size small) (omega arith);
-          half = λ e. rw (lt-leb 3 outline.size small) (omega arith);
-        }
-
-    four_wide : 3 ≤ outline.size → IsPlaced 4 outline i
-    four_wide big =
-        let (start, whole, many) = whole_words outline.address outline.size big aligned in
-        let (bytes, other) = wide_transfer outline.size big in
-        record {
-          inside = rw bytes (omega arith);
-          word = rw (bytes, le-leb 3 outline.size big) (omega arith);
-          half = λ e. rw (bytes, le-leb 3 outline.size big) (omega arith);
-        }
-
-    eight_narrow : outline.size < 3 → IsPlaced 8 outline i
-    eight_narrow small =
-        let (other, first, within, half) = in_narrow outline.address outline.size i small aligned below in
-        record { inside = rw first (omega arith); word = rw first (omega arith); half = λ e. absurd (omega arith) }
-
-    eight_wide : 3 ≤ outline.size → IsPlaced 8 outline i
-    eight_wide big =
-        let (start, whole, many) = whole_words outline.address outline.size big aligned in
-        let (other, bytes) = wide_transfer outline.size big in
-        record { inside = rw bytes (omega arith); word = rw bytes (omega arith); half = λ e. absurd (omega arith) }
+placed bus_bytes i outline (inl four) aligned below =
+    subst (λ b. IsPlaced b outline i) (sym four) (elim (cases_lt outline.size 3) [
+      | inl small ↦
+          let (first, other, within, half) = in_narrow outline.address outline.size i small aligned below in
+          record { inside = rw first (omega arith); word = rw (lt-leb 3 outline.size small) (omega arith); half = λ e. rw (lt-leb 3 outline.size small) (omega arith) }
+      | inr big ↦
+          let (start, whole, many) = whole_words outline.address outline.size big aligned in
+          let (bytes, other) = wide_transfer outline.size big in
+          record { inside = rw bytes (omega arith); word = rw (bytes, le-leb 3 outline.size big) (omega arith); half = λ e. rw (bytes, le-leb 3 outline.size big) (omega arith) }
+    ])
+placed bus_bytes i outline (inr eight) aligned below =
+    subst (λ b. IsPlaced b outline i) (sym eight) (elim (cases_lt outline.size 3) [
+      | inl small ↦
+          let (other, first, within, half) = in_narrow outline.address outline.size i small aligned below in
+          record { inside = rw first (omega arith); word = rw first (omega arith); half = λ e. absurd (omega arith) }
+      | inr big ↦
+          let (start, whole, many) = whole_words outline.address outline.size big aligned in
+          let (other, bytes) = wide_transfer outline.size big in
+          record { inside = rw bytes (omega arith); word = rw bytes (omega arith); half = λ e. absurd (omega arith) }
+    ])
 
 -- no other transfer brings the byte's half of its word
 pub same_place : (bus_bytes place i : ℕ) (outline : Outline) → IsBusWidth bus_bytes → outline.address % 2 ^ outline.size ≡ 0 → i < 2 ^ outline.size
@@ -121,23 +106,16 @@ first_byte bus_bytes place outline (inr eight) inside =
 
 -- ---- the lanes of a word after a read
 
-low_half : (lower upper lane : ℕ) → lane < 4 → lane_byte (of_halves lower upper) lane ≡ lane_byte lower lane
-low_half lower upper zero below = omega arith
-low_half lower upper (suc zero) below = omega arith
-low_half lower upper (suc (suc zero)) below = omega arith
-low_half lower upper (suc (suc (suc zero))) below = omega arith
-low_half lower upper (suc (suc (suc (suc lane)))) below = absurd (omega arith)
-
-high_half : (lower upper lane : ℕ) → lane < 4 → lane_byte (of_halves lower upper) (4 + lane) ≡ lane_byte upper lane
-high_half lower upper zero below = omega arith
-high_half lower upper (suc zero) below = omega arith
-high_half lower upper (suc (suc zero)) below = omega arith
-high_half lower upper (suc (suc (suc zero))) below = omega arith
-high_half lower upper (suc (suc (suc (suc lane)))) below = absurd (omega arith)
+halves : (lower upper lane : ℕ) → lane < 4 → (lane_byte (of_halves lower upper) lane ≡ lane_byte lower lane) × (lane_byte (of_halves lower upper) (4 + lane) ≡ lane_byte upper lane)
+halves lower upper zero below = (omega arith, omega arith)
+halves lower upper (suc zero) below = (omega arith, omega arith)
+halves lower upper (suc (suc zero)) below = (omega arith, omega arith)
+halves lower upper (suc (suc (suc zero))) below = (omega arith, omega arith)
+halves lower upper (suc (suc (suc (suc lane)))) below = absurd (omega arith)
 
 -- the upper half of a word, by the lane
 high_half_at : (lower upper lane : ℕ) → 4 ≤ lane → lane < 8 → lane_byte (of_halves lower upper) lane ≡ lane_byte upper (lane - 4)
-high_half_at lower upper lane high below = let parts : 4 + (lane - 4) ≡ lane = omega arith in rw parts at (high_half lower upper (lane - 4) (omega arith))
+high_half_at lower upper lane high below = let parts : 4 + (lane - 4) ≡ lane = omega arith in rw parts at (halves lower upper (lane - 4) (omega arith)).1
 
 -- a lane in the half that is replaced has the payload's byte
 replaced : (half payload word lane : ℕ) → lane < 8 → half ≡ lane / 4 → lane_byte (with_half (half == 0) payload word) lane ≡ lane_byte payload (lane % 4)
@@ -146,7 +124,7 @@ replaced half payload word lane below is =
       | inl low ↦
           let zero_is : half ≡ 0 = omega arith in
           let lane_is : lane % 4 ≡ lane = omega arith in
-          rw (zero_is, lane_is) (low_half payload (word / 2 ^ 32) lane low)
+          rw (zero_is, lane_is) (halves payload (word / 2 ^ 32) lane low).0
       | inr high ↦
           let one_is : half ≡ 1 = omega arith in
           let lane_is : lane % 4 ≡ lane - 4 = omega arith in
@@ -159,24 +137,14 @@ kept half payload word lane below two isnt =
     elim (cases_lt lane 4) [
       | inl low ↦
           let zero_is : lane / 4 ≡ 0 = omega arith in
-          let one_is : half ≡ 1 = one half two (λ e. isnt (e ∙ sym zero_is)) in
-          rw one_is (low_half word payload lane low)
+          let one_is : half ≡ 1 = grind (arith, isnt, zero_is) in
+          rw one_is (halves word payload lane low).0
       | inr high ↦
           let one_is : lane / 4 ≡ 1 = omega arith in
-          let zero_is : half ≡ 0 = none half two (λ e. isnt (e ∙ sym one_is)) in
+          let zero_is : half ≡ 0 = grind (arith, isnt, one_is) in
           let lane_is : 4 + (lane - 4) ≡ lane = omega arith in
           rw zero_is (high_half_at payload (word / 2 ^ 32) lane high below ∙ lane_byte-down word 4 (lane - 4) ∙ ap (lane_byte word) lane_is)
     ]
-  where
-    one : (h : ℕ) → h < 2 → h ≢ 0 → h ≡ 1
-    one zero b n = absurd (n refl)
-    one (suc zero) b n = refl
-    one (suc (suc h)) b n = absurd (omega arith)
-
-    none : (h : ℕ) → h < 2 → h ≢ 1 → h ≡ 0
-    none zero b n = refl
-    none (suc zero) b n = absurd (n refl)
-    none (suc (suc h)) b n = absurd (omega arith)
 
 -- the byte's transfer puts it in its lane of the word, from its lane of the bus
 pub own_lane : (bus_bytes i x payload word : ℕ) (outline : Outline) → IsBusWidth bus_bytes → outline.address % 2 ^ outline.size ≡ 0 → i < 2 ^ outline.size

@@ -1,9 +1,9 @@
 -- The beats that show a reply hold each byte that is given in its lane, and zero elsewhere.
-use Rattle.std.proofs.Common.{◌≡◌, ℕ, zero, suc, ◌+◌, ◌-◌, ◌*◌, ◌/◌, ◌^◌, ◌<◌, ◌≤◌, nat_le, Bool, true, false, not, ◌&&◌, ◌||◌, List, [], ◌∷◌, map, length, Option, Some, None, true≢false, if◌then◌else◌, refl, sym, subst, ◌∙◌, ap, arith, lit<}
+use Rattle.std.proofs.Common.{◌≡◌, ℕ, zero, suc, ◌+◌, ◌-◌, ◌*◌, ◌/◌, ◌^◌, ◌<◌, ◌≤◌, nat_le, Bool, true, false, not, ◌&&◌, ◌||◌, List, [], ◌∷◌, map, length, Option, Some, None, true≢false, if◌then◌else◌, refl, sym, subst, ◌∙◌, ap, arith, lit<, inl, inr}
 use Rattle.std.specs.Prelude.{unwrap_or, option_map, slice_get}
 use Rattle.std.specs.List.{range_with_len}
 use Rattle.std.specs.Option.{option_flatten}
-use Rattle.std.proofs.lemmas.Bool.{le-leb}
+use Rattle.std.proofs.lemmas.Bool.{cases_Bool, le-leb}
 use Rattle.std.proofs.lemmas.Bool.Decides.{nat_tests}
 use Rattle.std.proofs.lemmas.List.FromFn.{length-map-range_with_len, get_or-map-range_with_len}
 use Rattle.std.proofs.lemmas.Option.{slice_get_within, slice_get_past, none-some, slice_get-map, get_or_from_slice_get, same_Some}
@@ -29,65 +29,49 @@ pub record HasBytes (q : WholeRequest) (reply : Reply) : Type 0 where
 
 -- ---- one beat of those with data
 
+-- the beat of a word, by whether it is corrupt
+abbrev beat_by : WholeRequest → Reply → ℕ → Bool → DBeat
+beat_by q reply j b = if b then record (beat_without_data q reply) { corrupt = true } else record (beat_without_data q reply) { payload = payload_of (λ lane. given_at reply.bytes q.address (address_in_word q j lane)) }
+
+corrupt_by : (q : WholeRequest) (reply : Reply) (j : ℕ) (b : Bool) → (beat_by q reply j b).corrupt ≡ b
+corrupt_by q reply j true = refl
+corrupt_by q reply j false = refl
+
 corrupt_is : (q : WholeRequest) (reply : Reply) (j : ℕ) → (beat_of_word q reply j).corrupt ≡ (reply.denied || lacks_a_byte q reply j)
-corrupt_is q reply j = either (reply.denied || lacks_a_byte q reply j)
-  where
-    either : (b : Bool) → (if b then record (beat_without_data q reply) { corrupt = true } else record (beat_without_data q reply) { payload = payload_of (λ lane. given_at reply.bytes q.address (address_in_word q j lane)) }).corrupt ≡ b
-    either true = refl
-    either false = refl
+corrupt_is q reply j = corrupt_by q reply j (reply.denied || lacks_a_byte q reply j)
 
 lane_shown : (q : WholeRequest) (reply : Reply) (j lane : ℕ) → HasBytes q reply → lane < 8 → (beat_of_word q reply j).corrupt ≡ false
     → lane_byte (beat_of_word q reply j).payload lane ≡ unwrap_or (given_at reply.bytes q.address (address_in_word q j lane)) 0
-lane_shown q reply j lane has below good = either (reply.denied || lacks_a_byte q reply j) (sym (corrupt_is q reply j) ∙ good)
-  where
-    either : (b : Bool) → b ≡ false
-        → lane_byte (if b then record (beat_without_data q reply) { corrupt = true } else record (beat_without_data q reply) { payload = payload_of (λ lane. given_at reply.bytes q.address (address_in_word q j lane)) }).payload lane
-        ≡ unwrap_or (given_at reply.bytes q.address (address_in_word q j lane)) 0
-    either true e = absurd (true≢false e)
-    either false e = lane_byte-payload_of (λ k. given_at reply.bytes q.address (address_in_word q j k)) lane (record { at = λ k within. has.small (address_in_word q j k) }) below
+lane_shown q reply j lane has below good =
+    let granted : (reply.denied || lacks_a_byte q reply j) ≡ false = sym (corrupt_is q reply j) ∙ good in
+    ap (λ b. lane_byte (beat_by q reply j b).payload lane) granted
+    ∙ lane_byte-payload_of (λ k. given_at reply.bytes q.address (address_in_word q j k)) lane (record { at = λ k within. has.small (address_in_word q j k) }) below
 
 empty_where_corrupt : (q : WholeRequest) (reply : Reply) (j : ℕ) → (beat_of_word q reply j).corrupt ≡ true → (beat_of_word q reply j).payload ≡ 0
-empty_where_corrupt q reply j bad = either (reply.denied || lacks_a_byte q reply j) (sym (corrupt_is q reply j) ∙ bad)
-  where
-    either : (b : Bool) → b ≡ true
-        → (if b then record (beat_without_data q reply) { corrupt = true } else record (beat_without_data q reply) { payload = payload_of (λ lane. given_at reply.bytes q.address (address_in_word q j lane)) }).payload ≡ 0
-    either true e = refl
-    either false e = absurd (true≢false (sym e))
+empty_where_corrupt q reply j bad = ap (λ b. (beat_by q reply j b).payload) (sym (corrupt_is q reply j) ∙ bad)
 
 lane_of_zero : (lane : ℕ) → lane_byte 0 lane ≡ 0
 lane_of_zero lane = lane_byte-past 0 0 lane (lit< tt) (omega arith)
 
 -- no byte is given outside the range
 none_outside : (q : WholeRequest) (reply : Reply) (x : ℕ) → HasBytes q reply → in_range q x ≡ false → given_at reply.bytes q.address x ≡ None
-none_outside q reply x has out = by_start (nat_le q.address x) refl
-  where
-    by_start : (b : Bool) → nat_le q.address x ≡ b → (if b then option_flatten (slice_get reply.bytes (x - q.address)) else None) ≡ None
-    by_start false low = refl
-    by_start true low =
-        let few = has.few in
-        let past : length reply.bytes ≤ x - q.address = grind (arith, nat_tests) in
-        rw (slice_get_past reply.bytes (x - q.address) past) refl
+none_outside q reply x has out = grind (arith, nat_tests, has.few, slice_get_past reply.bytes (x - q.address))
 
 outside_zero : (q : WholeRequest) (reply : Reply) (j lane : ℕ) → HasBytes q reply → lane < 8 → in_range q (address_in_word q j lane) ≡ false → lane_byte (beat_of_word q reply j).payload lane ≡ 0
-outside_zero q reply j lane has below out = by_corrupt (beat_of_word q reply j).corrupt refl
-  where
-    by_corrupt : (b : Bool) → (beat_of_word q reply j).corrupt ≡ b → lane_byte (beat_of_word q reply j).payload lane ≡ 0
-    by_corrupt true bad = ap (λ n. lane_byte n lane) (empty_where_corrupt q reply j bad) ∙ lane_of_zero lane
-    by_corrupt false good = lane_shown q reply j lane has below good ∙ ap (λ (o : Option ℕ). unwrap_or o 0) (none_outside q reply (address_in_word q j lane) has out)
+outside_zero q reply j lane has below out =
+    elim (cases_Bool (beat_of_word q reply j).corrupt) [
+      | inl bad ↦ ap (λ n. lane_byte n lane) (empty_where_corrupt q reply j bad) ∙ lane_of_zero lane
+      | inr good ↦ lane_shown q reply j lane has below good ∙ ap (λ (o : Option ℕ). unwrap_or o 0) (none_outside q reply (address_in_word q j lane) has out)
+    ]
 
 byte_shown : (q : WholeRequest) (reply : Reply) (i byte : ℕ) → HasBytes q reply → slice_get reply.bytes i ≡ Some (Some byte) → (beat_of_word q reply ((lane_of q.address + i) / 8)).corrupt ≡ false
     → lane_byte (beat_of_word q reply ((lane_of q.address + i) / 8)).payload (lane_of (q.address + i)) ≡ byte
 byte_shown q reply i byte has given good =
+    let place : address_in_word q ((lane_of q.address + i) / 8) (lane_of (q.address + i)) ≡ q.address + i = omega arith in
+    let back : q.address + i - q.address ≡ i = omega arith in
+    let found : given_at reply.bytes q.address (address_in_word q ((lane_of q.address + i) / 8) (lane_of (q.address + i))) ≡ Some byte =
+    rw (place, le-leb q.address (q.address + i) (omega arith), back, given) refl in
     lane_shown q reply ((lane_of q.address + i) / 8) (lane_of (q.address + i)) has (omega arith) good ∙ ap (λ (o : Option ℕ). unwrap_or o 0) found
-  where
-    place : address_in_word q ((lane_of q.address + i) / 8) (lane_of (q.address + i)) ≡ q.address + i
-    place = omega arith
-
-    back : q.address + i - q.address ≡ i
-    back = omega arith
-
-    found : given_at reply.bytes q.address (address_in_word q ((lane_of q.address + i) / 8) (lane_of (q.address + i))) ≡ Some byte
-    found = rw (place, le-leb q.address (q.address + i) (omega arith), back, given) refl
 
 -- ---- all beats
 
@@ -146,11 +130,7 @@ gathered_small q words n x = by_start (nat_le q.address x)
 
 -- no bytes at all
 none_given : (start x : ℕ) → unwrap_or (given_at [] start x) 0 < 256
-none_given start x = by_start (nat_le start x)
-  where
-    by_start : (b : Bool) → unwrap_or (if b then option_flatten (slice_get {X = Option ℕ} [] (x - start)) else None) 0 < 256
-    by_start true = lit< tt
-    by_start false = lit< tt
+none_given start x = grind (arith, slice_get_past {X = Option ℕ} [] (x - start))
 
 has_bytes-gathered : (q : WholeRequest) (gathering : Gathering) → HasBytes q (gathered (outline_of q) gathering)
 has_bytes-gathered q gathering = by_data (reply_has_data q.operation) (not gathering.denied) refl

@@ -1,5 +1,5 @@
 -- The beats that show a reply break no rule on replies.
-use Rattle.std.proofs.Common.{◌≡◌, ℕ, zero, suc, ◌+◌, ◌==◌, Bool, true, false, not, ◌&&◌, ◌||◌, List, [], ◌∷◌, map, Option, None, true≢false, if◌then◌else◌, refl, sym}
+use Rattle.std.proofs.Common.{◌≡◌, ℕ, zero, suc, ◌+◌, ◌==◌, Bool, true, false, not, ◌&&◌, ◌||◌, List, [], ◌∷◌, map, Option, None, true≢false, if◌then◌else◌, refl, sym, arith}
 use Rattle.std.specs.List.{range_with_len, list_any}
 use Rattle.std.proofs.lemmas.Bool.{and_right, eq-eqb}
 use Rattle.std.proofs.lemmas.List.FromFn.{length-map-range_with_len}
@@ -7,7 +7,7 @@ use Rattle.tl_messages.specs.Operations.{reply_has_data, reply_opcode, beats_of}
 use Rattle.tl_messages.specs.Requests.{WholeRequest}
 use Rattle.tl_messages.specs.declared.DBeat.{DBeat}
 use Rattle.tl_messages.specs.declared.Operation.{Operation}
-use Rattle.tl_messages.specs.declared.Operation.TheVariants.{PutFull, PutPartial, Atomic, Get, Intent}
+use Rattle.tl_messages.specs.declared.Operation.TheVariants.{Atomic, Get}
 use Rattle.tl_checker.specs.Replies.{reply_fault, wrong_corrupt}
 use Rattle.responses.specs.Shown.{Reply, beat_of_word, beat_without_data, lacks_a_byte, shown}
 
@@ -15,18 +15,14 @@ same_number : (n : ℕ) → (n == n) ≡ true
 same_number n = eq-eqb n n refl
 
 opcode_with_data : (op : Operation) → reply_has_data op ≡ true → reply_opcode op ≡ 1
-opcode_with_data PutFull e = absurd (true≢false (sym e))
-opcode_with_data PutPartial e = absurd (true≢false (sym e))
 opcode_with_data (Atomic op) e = refl
 opcode_with_data Get e = refl
-opcode_with_data (Intent write) e = absurd (true≢false (sym e))
+opcode_with_data _ e = absurd (true≢false (sym e))
 
 opcode_without : (op : Operation) → reply_has_data op ≡ false → (reply_opcode op == 1) ≡ false
-opcode_without PutFull e = refl
-opcode_without PutPartial e = refl
 opcode_without (Atomic op) e = absurd (true≢false e)
 opcode_without Get e = absurd (true≢false e)
-opcode_without (Intent write) e = refl
+opcode_without _ e = refl
 
 -- what no beat passes, none of a list of them passes
 none_of : (p : DBeat → Bool) (f : ℕ → DBeat) (a n : ℕ) → ((j : ℕ) → p (f j) ≡ false) → list_any p (map f (range_with_len a n)) ≡ false
@@ -83,8 +79,7 @@ legal_with_data q reply has =
 -- ---- without data
 
 one_denied : (b : Bool) → ((b || false) && (not b || false)) ≡ false
-one_denied true = refl
-one_denied false = refl
+one_denied b = grind arith
 
 legal_without : (q : WholeRequest) (reply : Reply) → reply_has_data q.operation ≡ false → reply_fault q (beat_without_data q reply ∷ []) ≡ None
 legal_without q reply has = rw (same_number (reply_opcode q.operation), same_number q.size, same_number q.source, has, one_denied reply.denied, opcode_without q.operation has) refl

@@ -1,5 +1,5 @@
 -- The beats that are made of the gathered words are those that show the reply.
-use Rattle.std.proofs.Common.{◌≡◌, ℕ, zero, suc, ◌⊎◌, min, ◌+◌, ◌-◌, ◌*◌, ◌/◌, ◌^◌, ◌<◌, ◌≤◌, nat_le, nat_lt, Bool, true, false, not, ◌&&◌, List, [], map, length, get_or, Option, Some, None, if◌then◌else◌, refl, sym, subst, ◌∙◌, ap, arith, inl, inr, lit<}
+use Rattle.std.proofs.Common.{◌≡◌, ℕ, zero, suc, min, ◌+◌, ◌-◌, ◌*◌, ◌/◌, ◌^◌, ◌<◌, ◌≤◌, nat_le, nat_lt, Bool, true, false, not, ◌&&◌, List, [], map, length, get_or, Option, Some, None, if◌then◌else◌, refl, sym, subst, ◌∙◌, ap, arith, inl, inr, lit<}
 use Rattle.std.specs.Prelude.{unwrap_or, is_none, option_map, slice_get}
 use Rattle.std.specs.List.{range_with_len, list_any}
 use Rattle.std.specs.Option.{option_flatten}
@@ -41,32 +41,18 @@ every_lane lane below = below_eight (λ k. has_lane 255 k ≡ true) refl refl re
 -- the lanes of the range in one of its words
 lanes_in_word : (q : WholeRequest) (k lane : ℕ) → lane < 8 → k < beats_of q.size true → has_lane (word_lanes (outline_of q) k) lane ≡ in_range q (address_in_word q k lane)
 lanes_in_word q zero lane below inside =
-    let some : 0 < 2 ^ q.size = pow_pos q.size in
-    has_lane-mask_of (is_between (lane_of q.address) (min (lane_of q.address + 2 ^ q.size - 1) 7)) lane below ∙ by_end some (cases_lt (lane_of q.address + 2 ^ q.size - 1) 7)
-  where
-    by_end : 0 < 2 ^ q.size → (lane_of q.address + 2 ^ q.size - 1 < 7) ⊎ (7 ≤ lane_of q.address + 2 ^ q.size - 1)
-        → is_between (lane_of q.address) (min (lane_of q.address + 2 ^ q.size - 1) 7) lane ≡ in_range q (address_in_word q 0 lane)
-    by_end some (inl low) =
-        let least : min (lane_of q.address + 2 ^ q.size - 1) 7 ≡ lane_of q.address + 2 ^ q.size - 1 = omega arith in
-        rw least (grind (arith, nat_tests))
-    by_end some (inr high) =
-        let least : min (lane_of q.address + 2 ^ q.size - 1) 7 ≡ 7 = omega arith in
-        rw least (grind (arith, nat_tests))
+    has_lane-mask_of (is_between (lane_of q.address) (min (lane_of q.address + 2 ^ q.size - 1) 7)) lane below ∙ grind (arith, nat_tests, pow_pos q.size)
 lanes_in_word q (suc k) lane below inside =
+    let none : suc k ≡ 0 → ⊥ = λ e. omega arith in
+    let last_in_word : (size k : ℕ) → k < beats_of size true → 0 < k → 8 * k + 8 ≤ 2 ^ size = λ size k below some.
+    elim (cases_lt size 3) [
+      | inl small ↦ absurd (omega (arith, narrow 0 size small))
+      | inr big ↦ omega (arith, eighths size big)
+    ] in
     let fits = last_in_word q.size (suc k) inside in
     let low : q.address ≤ address_in_word q (suc k) lane = omega arith in
     let high : address_in_word q (suc k) lane < q.address + 2 ^ q.size = omega arith in
     rw (ne_eqb (suc k) 0 none) (every_lane lane below ∙ sym (grind (arith, nat_tests)))
-  where
-    none : suc k ≡ 0 → ⊥
-    none e = omega arith
-
-    last_in_word : (size k : ℕ) → k < beats_of size true → 0 < k → 8 * k + 8 ≤ 2 ^ size
-    last_in_word size k below some =
-        elim (cases_lt size 3) [
-          | inl small ↦ absurd (omega (arith, narrow 0 size small))
-          | inr big ↦ omega (arith, eighths size big)
-        ]
 
 -- ---- the bytes of a word
 
@@ -121,8 +107,7 @@ abbrev reply_of : WholeRequest → List (Option ℕ) → Reply
 reply_of q words = record { denied = false; bytes = bytes_of_reply q words }
 
 given_none : (held : Bool) (byte : ℕ) → (held && is_none (if held then Some byte else None)) ≡ false
-given_none true byte = refl
-given_none false byte = refl
+given_none held byte = grind arith
 
 -- a word that is given lacks no byte
 lacks_none : (q : WholeRequest) (words : List (Option ℕ)) (k word : ℕ) → slice_get words k ≡ Some (Some word) → lacks_a_byte q (reply_of q words) k ≡ false
@@ -131,30 +116,20 @@ lacks_none q words k word there =
     (λ lane below. rw (given_in_word q words k lane (Some word) below there) (given_none (in_range q (address_in_word q k lane)) (lane_byte word lane)))
 
 none_held : (held : Bool) (byte : Option ℕ) → held ≡ true → byte ≡ None → (held && is_none (if held then byte else None)) ≡ true
-none_held true byte is none = rw none refl
-none_held false byte is none = is
+none_held held byte is none = grind arith
 
 -- a word that isn't given lacks one
 lacks_some : (q : WholeRequest) (words : List (Option ℕ)) (k : ℕ) → k < beats_of q.size true → slice_get words k ≡ Some None → lacks_a_byte q (reply_of q words) k ≡ true
 lacks_some q words k inside there =
+    let from_zero : 0 + lane_of q.address ≡ lane_of q.address = omega arith in
+    let below : lane_of q.address < 8 = omega arith in
+    let first : address_in_word q k (lane_of q.address) ≡ q.address + 8 * k = omega arith in
+    let held : in_range q (address_in_word q k (lane_of q.address)) ≡ true = let fits = first_in_word q.size k inside in rw first (grind (arith, nat_tests)) in
     any-range (λ lane. in_range q (address_in_word q k lane) && is_none (given_at (bytes_of_reply q words) q.address (address_in_word q k lane))) 0 8 (lane_of q.address) below
     (rw (from_zero, given_in_word q words k (lane_of q.address) None below there) (none_held (in_range q (address_in_word q k (lane_of q.address))) None held refl))
-  where
-    from_zero : 0 + lane_of q.address ≡ lane_of q.address
-    from_zero = omega arith
-
-    below : lane_of q.address < 8
-    below = omega arith
-
-    first : address_in_word q k (lane_of q.address) ≡ q.address + 8 * k
-    first = omega arith
-
-    held : in_range q (address_in_word q k (lane_of q.address)) ≡ true
-    held = let fits = first_in_word q.size k inside in rw first (grind (arith, nat_tests))
 
 shown_or_zero : (held : Bool) (byte zero_byte : ℕ) → zero_byte ≡ 0 → (if held then byte else zero_byte) ≡ unwrap_or (if held then Some byte else None) 0
-shown_or_zero true byte zero_byte none = refl
-shown_or_zero false byte zero_byte none = none
+shown_or_zero held byte zero_byte none = grind arith
 
 -- the payload of a word that is given
 payload_shown : (q : WholeRequest) (words : List (Option ℕ)) (k word : ℕ) → k < beats_of q.size true
@@ -209,8 +184,4 @@ reply_made q outline gathering same has many =
     (λ (o : Outline).
     reply_has_data o.operation ≡ true → length gathering.words ≡ words_of o
     → map (word_beat_at o gathering) (range_with_len 0 (length gathering.words)) ≡ shown q (gathered o gathering))
-    same by_request has many
-  where
-    by_request : reply_has_data q.operation ≡ true → length gathering.words ≡ words_of (outline_of q)
-        → map (word_beat_at (outline_of q) gathering) (range_with_len 0 (length gathering.words)) ≡ shown q (gathered (outline_of q) gathering)
-    by_request has many = words_shown q gathering has (rw has at many)
+    same (λ has many. words_shown q gathering has (rw has at many)) has many

@@ -1,6 +1,7 @@
 -- What it says of a beat that it breaks no rule.
 use Rattle.std.proofs.Common.{◌≡◌, ℕ, zero, suc, ◌%◌, ◌^◌, ◌≤◌, ◌==◌, nat_lt, Bool, true, false, not, List, [], ◌∷◌, Some, None, refl, arith}
 use Rattle.std.specs.Prelude.{◌&&◌, ◌||◌, IsSome}
+use Rattle.std.proofs.lemmas.Bool.Decides.{nat_tests}
 use Rattle.std.proofs.lemmas.Bool.{and_parts, and_from, eqb-true, eq-eqb, ltb-false, not-true, not-false, not_from_false}
 use Rattle.bus_words.specs.Tables.{first_broken}
 use Rattle.tl_messages.specs.Operations.{named_operation, operation_of, opcode_of, param_of}
@@ -61,26 +62,20 @@ pub record IsNamed (opcode param : ℕ) : Type 0 where
 
 is_named : (opcode param : ℕ) → opcode ≤ 5 → param ≤ largest_param opcode → IsNamed opcode param
 is_named zero zero few small = record { some = refl; same_opcode = refl; same_param = refl }
-is_named zero (suc param) few small = absurd (omega arith)
 is_named (suc zero) zero few small = record { some = refl; same_opcode = refl; same_param = refl }
-is_named (suc zero) (suc param) few small = absurd (omega arith)
 is_named (suc (suc zero)) zero few small = record { some = refl; same_opcode = refl; same_param = refl }
 is_named (suc (suc zero)) (suc zero) few small = record { some = refl; same_opcode = refl; same_param = refl }
 is_named (suc (suc zero)) (suc (suc zero)) few small = record { some = refl; same_opcode = refl; same_param = refl }
 is_named (suc (suc zero)) (suc (suc (suc zero))) few small = record { some = refl; same_opcode = refl; same_param = refl }
 is_named (suc (suc zero)) (suc (suc (suc (suc zero)))) few small = record { some = refl; same_opcode = refl; same_param = refl }
-is_named (suc (suc zero)) (suc (suc (suc (suc (suc param))))) few small = absurd (omega arith)
 is_named (suc (suc (suc zero))) zero few small = record { some = refl; same_opcode = refl; same_param = refl }
 is_named (suc (suc (suc zero))) (suc zero) few small = record { some = refl; same_opcode = refl; same_param = refl }
 is_named (suc (suc (suc zero))) (suc (suc zero)) few small = record { some = refl; same_opcode = refl; same_param = refl }
 is_named (suc (suc (suc zero))) (suc (suc (suc zero))) few small = record { some = refl; same_opcode = refl; same_param = refl }
-is_named (suc (suc (suc zero))) (suc (suc (suc (suc param)))) few small = absurd (omega arith)
 is_named (suc (suc (suc (suc zero)))) zero few small = record { some = refl; same_opcode = refl; same_param = refl }
-is_named (suc (suc (suc (suc zero)))) (suc param) few small = absurd (omega arith)
 is_named (suc (suc (suc (suc (suc zero))))) zero few small = record { some = refl; same_opcode = refl; same_param = refl }
 is_named (suc (suc (suc (suc (suc zero))))) (suc zero) few small = record { some = refl; same_opcode = refl; same_param = refl }
-is_named (suc (suc (suc (suc (suc zero))))) (suc (suc param)) few small = absurd (omega arith)
-is_named (suc (suc (suc (suc (suc (suc opcode)))))) param few small = absurd (omega arith)
+is_named _ _ few small = absurd (omega (arith, few, small))
 
 pub right_named : (limits : TlPortLimits) (beat : ABeat) → IsRightFirst limits beat → IsNamed beat.opcode beat.param
 right_named limits beat right = is_named beat.opcode beat.param right.opcode right.param
@@ -111,18 +106,13 @@ pub record HasControlOf (held : HeldMessage) (beat : ABeat) : Type 0 where
 
 pub control_of : (held : HeldMessage) (beat : ABeat) → same_control held beat ≡ true → HasControlOf held beat
 control_of held beat same =
-    let parts = five_parts (beat.opcode == opcode_of held.operation) (beat.param == param_of held.operation) (beat.size == held.size) (beat.source == held.source) (beat.address == held.address) same in
     record {
-      opcode = eqb-true beat.opcode (opcode_of held.operation) parts.0;
-      param = eqb-true beat.param (param_of held.operation) parts.1;
-      size = eqb-true beat.size held.size parts.2;
-      source = eqb-true beat.source held.source parts.3;
-      address = eqb-true beat.address held.address parts.4;
+      opcode = grind (arith, nat_tests, same);
+      param = grind (arith, nat_tests, same);
+      size = grind (arith, nat_tests, same);
+      source = grind (arith, nat_tests, same);
+      address = grind (arith, nat_tests, same);
     }
-  where
-    five_parts : (a b c d e : Bool) → (a && b && c && d && e) ≡ true → (a ≡ true) × (b ≡ true) × (c ≡ true) × (d ≡ true) × (e ≡ true)
-    five_parts true true true true true all = (refl, refl, refl, refl, refl)
-    five_parts _ _ _ _ _ all = cc
 
 -- a right later beat, in its parts
 pub later_parts : (held : HeldMessage) (beat : ABeat) → is_right_later held beat ≡ true → HasControlOf held beat × (wrong_mask beat ≡ false)

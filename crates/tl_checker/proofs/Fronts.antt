@@ -10,7 +10,6 @@ use Rattle.tl_messages.specs.Operations.{opcode_has_data, beats_of}
 use Rattle.tl_messages.specs.Requests.{WholeRequest, begun, message_of, request_of, is_whole, masked_word}
 use Rattle.tl_messages.specs.declared.ABeat.{ABeat}
 use Rattle.tl_checker.specs.Requests.{TlPortLimits, first_fault, Spells, IsFront}
-use Rattle.tl_checker.specs.declared.Level.{Level}
 use Rattle.tl_checker.specs.declared.Level.TheVariants.{Ul, Uh}
 use Rattle.tl_checker.proofs.BeatRules.{first_none, right_named, is_right_later, right_again}
 
@@ -23,12 +22,8 @@ pub record HasBegun (limits : TlPortLimits) (first : ABeat) (rest : List ABeat) 
 abbrev pub beats_wanted : ABeat → ℕ
 beats_wanted first = beats_of first.size (opcode_has_data first.opcode)
 
-beats_of-pos : (size : ℕ) (has_data : Bool) → 0 < beats_of size has_data
-beats_of-pos size true = omega arith
-beats_of-pos size false = omega arith
-
 pub beats_wanted-pos : (first : ABeat) → 0 < beats_wanted first
-beats_wanted-pos first = beats_of-pos first.size (opcode_has_data first.opcode)
+beats_wanted-pos first = elim (opcode_has_data first.opcode) as (λ b. 0 < beats_of first.size b) [ true ↦ omega arith | false ↦ omega arith ]
 
 -- ---- spellings
 
@@ -82,14 +77,9 @@ get_of_one = record { opcode = 4; param = 0; size = 0; source = 0; address = 0; 
 
 get_is_right : (limits : TlPortLimits) → first_fault limits None get_of_one false ≡ None
 unfolding get_of_one
-get_is_right limits = at_level limits.level
-  where
-    fits : nat_lt limits.max_size 0 ≡ false
-    fits = le-ltb limits.max_size 0 (omega arith)
-
-    at_level : (level : Level) → first_fault (record { client = limits.client; level = level; max_size = limits.max_size }) None get_of_one false ≡ None
-    at_level Ul = rw fits refl
-    at_level Uh = rw fits refl
+get_is_right limits =
+    let fits : nat_lt limits.max_size 0 ≡ false = le-ltb limits.max_size 0 (omega arith) in
+    elim limits.level as (λ level. first_fault (record limits { level = level }) None get_of_one false ≡ None) [ Ul ↦ rw fits refl | Uh ↦ rw fits refl ]
 
 -- no beats are a front
 pub none_front : (limits : TlPortLimits) → IsFront limits []

@@ -53,27 +53,21 @@ more_than_one n size true some fewer = (refl, fewer)
 more_than_one n size false some fewer = absurd (omega arith)
 
 pub front_open : (limits : TlPortLimits) (beats : List ABeat) (held : HeldMessage) → IsFrontOf limits beats (Some held) → IsOpenMessage limits held
-front_open limits [] held front = absurd (none front.held)
-  where
-    none : None ≡ Some held → ⊥
-    none e = absurd (cc)
-front_open limits (first ∷ rest) held front = subst (IsOpenMessage limits) (same front.held) open_message
-  where
-    same : Some (message_of limits.client first rest) ≡ Some held → message_of limits.client first rest ≡ held
-    same e = cc
-
-    open_message : IsOpenMessage limits (message_of limits.client first rest)
-    open_message =
-        let part = front_part limits first rest front.begins in
-        let right = (first_none limits first false part.begins.right).0 in
-        let named = right_named limits first right in
-        let some : 0 < length (first ∷ rest) = omega arith in
-        let more = more_than_one (length (first ∷ rest)) first.size (opcode_has_data first.opcode) some part.fewer in
-        record {
-          carries = rw named.same_opcode more.0;
-          room = rw (length-map rest masked_word) more.1;
-          size = right.size;
-        }
+front_open limits [] held front = absurd (cc (front.held))
+front_open limits (first ∷ rest) held front =
+    let same : message_of limits.client first rest ≡ held = cc (front.held) in
+    let open_message : IsOpenMessage limits (message_of limits.client first rest) =
+    let part = front_part limits first rest front.begins in
+    let right = (first_none limits first false part.begins.right).0 in
+    let named = right_named limits first right in
+    let some : 0 < length (first ∷ rest) = omega arith in
+    let more = more_than_one (length (first ∷ rest)) first.size (opcode_has_data first.opcode) some part.fewer in
+    record {
+      carries = rw named.same_opcode more.0;
+      room = rw (length-map rest masked_word) more.1;
+      size = right.size;
+    } in
+    subst (IsOpenMessage limits) same open_message
 
 -- ---- a beat
 

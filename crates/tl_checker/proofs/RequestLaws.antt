@@ -1,6 +1,7 @@
 -- What holds of every request that beats spell on a port.
-use Rattle.std.proofs.Common.{◌≡◌, ℕ, ◌≤◌, ◌==◌, nat_lt, Bool, true, false, not, List, [], ◌∷◌, Option, map, Some, None, refl, sym, ◌∙◌, ap, subst, arith, inl, inr}
-use Rattle.std.proofs.lemmas.Bool.{and_parts, cases_Bool, eqb-true, not-false, leb-true, ltb-false}
+use Rattle.std.proofs.Common.{◌≡◌, ℕ, ◌≤◌, ◌==◌, Bool, true, false, not, List, [], ◌∷◌, Option, map, Some, None, refl, sym, ◌∙◌, ap, subst, arith, inl, inr}
+use Rattle.std.proofs.lemmas.Bool.Decides.{nat_tests}
+use Rattle.std.proofs.lemmas.Bool.{and_parts, cases_Bool, eqb-true, not-false, leb-true}
 use Rattle.std.proofs.lemmas.List.{length-map}
 use Rattle.std.specs.List.{AllByRecursion, list_any, list_all, range_with_len}
 use Rattle.std.specs.Prelude.{IfSome, IsSome, ◌&&◌, ◌||◌}
@@ -10,9 +11,9 @@ use Rattle.tl_messages.specs.Operations.{opcode_of, operation_of, atomic_opcode}
 use Rattle.tl_messages.specs.Requests.{HeldMessage, begun, masked_word, message_of}
 use Rattle.tl_messages.specs.declared.ABeat.{ABeat}
 use Rattle.tl_messages.specs.declared.AtomicOp.{AtomicOp}
-use Rattle.tl_messages.specs.declared.AtomicOp.TheVariants.{Min, Max, MinU, MaxU, Add, Xor, Or, And, Swap}
+use Rattle.tl_messages.specs.declared.AtomicOp.TheVariants.{Min}
 use Rattle.tl_messages.specs.declared.Operation.{Operation}
-use Rattle.tl_messages.specs.declared.Operation.TheVariants.{PutFull, PutPartial, Atomic, Get, Intent}
+use Rattle.tl_messages.specs.declared.Operation.TheVariants.{PutPartial, Atomic}
 use Rattle.data_unit.specs.Words.{full_mask}
 use Rattle.data_unit.proofs.FullMask.{has_lane-full_mask}
 use Rattle.tl_checker.specs.Inside.{whole_at}
@@ -28,46 +29,35 @@ use Rattle.tl_checker.proofs.MaskSubsets.{each_fails}
 
 -- ---- masks
 
+atomic_opcodes : (op : AtomicOp) → (atomic_opcode op == 2 || atomic_opcode op == 3) ≡ true
+atomic_opcodes Min = refl
+atomic_opcodes _ = refl
+
 is_partial : (operation : Operation) → opcode_of operation ≡ 1 → operation ≡ PutPartial
-is_partial PutFull same = absurd (omega (arith, same))
 is_partial PutPartial same = refl
-is_partial (Atomic Min) same = absurd (omega (arith, same))
-is_partial (Atomic Max) same = absurd (omega (arith, same))
-is_partial (Atomic MinU) same = absurd (omega (arith, same))
-is_partial (Atomic MaxU) same = absurd (omega (arith, same))
-is_partial (Atomic Add) same = absurd (omega (arith, same))
-is_partial (Atomic Xor) same = absurd (omega (arith, same))
-is_partial (Atomic Or) same = absurd (omega (arith, same))
-is_partial (Atomic And) same = absurd (omega (arith, same))
-is_partial (Atomic Swap) same = absurd (omega (arith, same))
-is_partial Get same = absurd (omega (arith, same))
-is_partial (Intent write) same = absurd (omega (arith, same))
+is_partial (Atomic op) same = absurd (cc (rw same at (atomic_opcodes op)))
+is_partial _ same = absurd (omega (arith, same))
 
 lane_kept : (here inside : Bool) → (here && not inside) ≡ false → here ≡ true → inside ≡ true
-lane_kept true true kept is = refl
-lane_kept true false kept is = sym kept
-lane_kept false inside kept is = absurd (cc)
+lane_kept here inside kept is = grind arith
 
 right_mask : (operation : Operation) (beat : ABeat) → beat.opcode ≡ opcode_of operation → wrong_mask beat ≡ false → IsRightMask operation beat.address beat.size (masked_word beat)
-right_mask operation beat named right = elim (cases_Bool (beat.opcode == 1)) [ inl partial ↦ some_lanes partial (rw partial at right) | inr other ↦ all_lanes (rw other at right) ]
-  where
-    outside : ℕ → Bool
-    outside lane = has_lane beat.mask lane && not (in_lanes beat.address beat.size lane)
-
-    some_lanes : (beat.opcode == 1) ≡ true → list_any outside (range_with_len 0 8) ≡ false → IsRightMask operation beat.address beat.size (masked_word beat)
-    some_lanes partial none =
-        record {
-          within = λ lane below here. lane_kept (has_lane beat.mask lane) (in_lanes beat.address beat.size lane) (each_fails outside 0 8 none lane (omega arith) below) here;
-          full = λ other. absurd (other (is_partial operation (sym named ∙ eqb-true beat.opcode 1 partial)));
-        }
-
-    all_lanes : not (beat.mask == full_mask beat.address beat.size) ≡ false → IsRightMask operation beat.address beat.size (masked_word beat)
-    all_lanes same =
-        let is : beat.mask ≡ full_mask beat.address beat.size = eqb-true beat.mask (full_mask beat.address beat.size) (not-false (beat.mask == full_mask beat.address beat.size) same) in
-        record {
-          within = λ lane below here. sym (has_lane-full_mask beat.address beat.size lane below) ∙ ap (λ mask. has_lane mask lane) (sym is) ∙ here;
-          full = λ other. is;
-        }
+right_mask operation beat named right =
+    elim (cases_Bool (beat.opcode == 1)) [
+      | inl partial ↦
+          let outside : ℕ → Bool = λ lane. has_lane beat.mask lane && not (in_lanes beat.address beat.size lane) in
+          let none : list_any outside (range_with_len 0 8) ≡ false = rw partial at right in
+          record {
+            within = λ lane below here. lane_kept (has_lane beat.mask lane) (in_lanes beat.address beat.size lane) (each_fails outside 0 8 none lane (omega arith) below) here;
+            full = λ other. absurd (other (is_partial operation (sym named ∙ eqb-true beat.opcode 1 partial)));
+          }
+      | inr other ↦
+          let is : beat.mask ≡ full_mask beat.address beat.size = eqb-true beat.mask (full_mask beat.address beat.size) (not-false (beat.mask == full_mask beat.address beat.size) (rw other at right)) in
+          record {
+            within = λ lane below here. sym (has_lane-full_mask beat.address beat.size lane below) ∙ ap (λ mask. has_lane mask lane) (sym is) ∙ here;
+            full = λ other. is;
+          }
+    ]
 
 later_mask : (held : HeldMessage) (beat : ABeat) → is_right_later held beat ≡ true → IsRightMask held.operation held.address held.size (masked_word beat)
 later_mask held beat right =
@@ -84,56 +74,33 @@ later_masks held (beat ∷ beats) right =
 
 -- ---- requests
 
-atomic_opcodes : (op : AtomicOp) → (atomic_opcode op == 2 || atomic_opcode op == 3) ≡ true
-atomic_opcodes Min = refl
-atomic_opcodes Max = refl
-atomic_opcodes MinU = refl
-atomic_opcodes MaxU = refl
-atomic_opcodes Add = refl
-atomic_opcodes Xor = refl
-atomic_opcodes Or = refl
-atomic_opcodes And = refl
-atomic_opcodes Swap = refl
-
 small_atomic : (limits : TlPortLimits) (beat : ABeat) → IsRightFirst limits beat → (op : AtomicOp) → operation_of beat.opcode beat.param ≡ Atomic op → beat.size ≤ 3
 small_atomic limits beat right op is =
     let opcode : beat.opcode ≡ atomic_opcode op = sym (right_named limits beat right).same_opcode ∙ ap opcode_of is in
     let atomic : (beat.opcode == 2 || beat.opcode == 3) ≡ true = rw opcode (atomic_opcodes op) in
-    leb-true beat.size 3 (kept (beat.opcode == 2 || beat.opcode == 3) (is_atomic_size beat.size) right.atomic_size atomic)
-  where
-    kept : (atomic small : Bool) → (atomic && not small) ≡ false → atomic ≡ true → small ≡ true
-    kept atomic small fits is = lane_kept atomic small fits is
+    leb-true beat.size 3 (lane_kept (beat.opcode == 2 || beat.opcode == 3) (is_atomic_size beat.size) right.atomic_size atomic)
 
 small_on_ul : (level : Level) (beat : ABeat) → beyond_level level beat ≡ false → level ≡ Ul → beat.size ≤ 3
-small_on_ul Ul beat within same = ltb-false 3 beat.size (last (beat.opcode == 2) (beat.opcode == 3) (beat.opcode == 5) (nat_lt 3 beat.size) within)
-  where
-    last : (a b c d : Bool) → (a || b || c || d) ≡ false → d ≡ false
-    last false false false false none = refl
-    last _ _ _ _ none = cc
+small_on_ul Ul beat within same = grind (arith, nat_tests, within)
 small_on_ul Uh beat within same = absurd (cc)
 
 pub spelled_sound : (limits : TlPortLimits) (message : HeldMessage) → HasSpelling limits message → IsSound limits message
 spelled_sound limits message ([], spelling) = absurd spelling.spells
-spelled_sound limits message (first ∷ rest, spelling) = subst (IsSound limits) (same spelling.held) sound
-  where
-    same : Some (message_of limits.client first rest) ≡ Some message → message_of limits.client first rest ≡ message
-    same e = cc
-
-    right : IsRightFirst limits first
-    right = (first_none limits first false spelling.spells.0).0
-
-    sound : IsSound limits (message_of limits.client first rest)
-    sound =
-        let named = right_named limits first right in
-        record {
-          client = refl;
-          size = right.size;
-          aligned = right.aligned;
-          atomic_size = small_atomic limits first right;
-          one_beat = small_on_ul limits.level first right.level;
-          beats = rw (named.same_opcode, length-map rest masked_word) spelling.spells.2;
-          masks = (later_mask (begun limits.client first) first (right_again limits first right), later_masks (begun limits.client first) rest spelling.spells.1);
-        }
+spelled_sound limits message (first ∷ rest, spelling) =
+    let same : message_of limits.client first rest ≡ message = cc (spelling.held) in
+    let right : IsRightFirst limits first = (first_none limits first false spelling.spells.0).0 in
+    let sound : IsSound limits (message_of limits.client first rest) =
+    let named = right_named limits first right in
+    record {
+      client = refl;
+      size = right.size;
+      aligned = right.aligned;
+      atomic_size = small_atomic limits first right;
+      one_beat = small_on_ul limits.level first right.level;
+      beats = rw (named.same_opcode, length-map rest masked_word) spelling.spells.2;
+      masks = (later_mask (begun limits.client first) first (right_again limits first right), later_masks (begun limits.client first) rest spelling.spells.1);
+    } in
+    subst (IsSound limits) same sound
 
 -- of what stands whole on a port, if a request does
 pub whole_sound : (limits : TlPortLimits) (whole : Option HeldMessage) → IfSome whole (HasSpelling limits) → IfSome whole (IsSound limits)

@@ -1,6 +1,7 @@
 -- What beats that spell a request have in common, and which bytes they give.
 use Rattle.std.proofs.Common.{◌≡◌, ℕ, zero, suc, ◌+◌, ◌/◌, ◌^◌, ◌<◌, ◌==◌, true, false, List, [], ◌∷◌, length, Some, refl, ◌∙◌, ap, arith, pow-suc}
-use Rattle.std.proofs.lemmas.Bool.{and_parts, eq-eqb, or_right, or_left}
+use Rattle.std.proofs.lemmas.Bool.Decides.{nat_tests}
+use Rattle.std.proofs.lemmas.Bool.{and_parts, or_right}
 use Rattle.std.specs.List.{AllByRecursion, list_any, list_all, range_with_len, slice_get}
 use Rattle.std.specs.Prelude.{IsSome}
 use Rattle.bus_words.specs.Lanes.{has_lane}
@@ -52,9 +53,7 @@ spelled_alike limits first rest q spells = all_as_first limits first rest (first
 
 lane_within : (address n i lane : ℕ) → i < n → lane_of (address + i) ≡ lane → list_any (λ x. lane_of x == lane) (range_with_len address n) ≡ true
 lane_within address zero i lane below is = absurd (omega arith)
-lane_within address (suc n) zero lane below is =
-    let start : address + 0 ≡ address = omega arith in
-    or_left (lane_of address == lane) (list_any (λ x. lane_of x == lane) (range_with_len (address + 1) n)) (eq-eqb (lane_of address) lane (rw start at is))
+lane_within address (suc n) zero lane below is = grind (arith, nat_tests, is)
 lane_within address (suc n) (suc i) lane below is =
     let next : address + suc i ≡ address + 1 + i = omega arith in
     or_right (lane_of address == lane) (list_any (λ x. lane_of x == lane) (range_with_len (address + 1) n)) (lane_within (address + 1) n i lane (omega arith) (rw next at is))
@@ -75,19 +74,13 @@ place_within (suc (suc (suc size))) i count is below = omega (arith, pow-suc 2 (
 -- every byte of a request that carries data is given, but for those that PutPartialData leaves out
 pub all_given : (limits : TlPortLimits) (message : HeldMessage) (i : ℕ) → IsSound limits message → has_data message.operation ≡ true → (message.operation ≡ PutPartial → ⊥) → i < 2 ^ message.size
     → IsSome (byte_given message.address message.beats i)
-all_given limits message i sound carries whole below = rw (found.1, has) refl
-  where
-    count : length message.beats ≡ beats_of message.size true
-    count = rw carries at sound.beats
-
-    found : (beat : MaskedWord) × (slice_get message.beats (i / 8) ≡ Some beat) × IsRightMask message.operation message.address message.size beat
-    found = entry_at (IsRightMask message.operation message.address message.size) message.beats (i / 8) (place_within message.size i (length message.beats) count below) sound.masks
-
-    lane : ℕ
-    lane = lane_of (message.address + i)
-
-    has : has_lane found.0.mask lane ≡ true
-    has =
-        ap (λ mask. has_lane mask lane) (found.2.full whole)
-        ∙ has_lane-full_mask message.address message.size lane (omega arith)
-        ∙ lane_within message.address (2 ^ message.size) i lane below refl
+all_given limits message i sound carries whole below =
+    let count : length message.beats ≡ beats_of message.size true = rw carries at sound.beats in
+    let found : (beat : MaskedWord) × (slice_get message.beats (i / 8) ≡ Some beat) × IsRightMask message.operation message.address message.size beat =
+    entry_at (IsRightMask message.operation message.address message.size) message.beats (i / 8) (place_within message.size i (length message.beats) count below) sound.masks in
+    let lane : ℕ = lane_of (message.address + i) in
+    let has : has_lane found.0.mask lane ≡ true =
+    ap (λ mask. has_lane mask lane) (found.2.full whole)
+    ∙ has_lane-full_mask message.address message.size lane (omega arith)
+    ∙ lane_within message.address (2 ^ message.size) i lane below refl in
+    rw (found.1, has) refl

@@ -78,11 +78,9 @@ spelling_exact limits (first ∷ rest) q = (
   (λ spells.
       (begun_taken limits first rest (spells_begun limits first rest q spells), spells.2, ap (option_map request_of) (front_is_held limits (first ∷ rest)) ∙ ap Some (sym spells.3))),
   (λ (taken, many, is).
-      (taken.0, (taken_begun limits first rest taken).later, many, same (sym is ∙ ap (option_map request_of) (front_is_held limits (first ∷ rest))))),
+      let same : q ≡ request_of (message_of limits.client first rest) = cc (sym is ∙ ap (option_map request_of) (front_is_held limits (first ∷ rest))) in
+      (taken.0, (taken_begun limits first rest taken).later, many, same)),
 )
-  where
-    same : Some q ≡ Some (request_of (message_of limits.client first rest)) → q ≡ request_of (message_of limits.client first rest)
-    same e = cc
 
 -- ---- parts of a spelling
 

@@ -1,11 +1,11 @@
 -- The answers to one beat after another, against whole lists of beats.
 use Rattle.std.proofs.Common.{◌≡◌, ℕ, ◌≤◌, nat_le, Bool, true, false, not, List, [], ◌∷◌, ◌++◌, length, Option, Some, None, Result, Ok, Err, if◌then◌else◌, refl, sym, ◌∙◌, ap, arith}
-use Rattle.std.proofs.Math.Bool.{or-false}
+use Rattle.std.proofs.Math.Bool.{or_assoc, or-false}
 use Rattle.std.proofs.lemmas.Bool.{and_parts, and_from, not-true, le-leb, lt-leb, leb-true, leb-false}
 use Rattle.std.proofs.lemmas.List.{length-append, map-append}
 use Rattle.std.proofs.lemmas.List.Folds.{list_all-append, list_any-append}
 use Rattle.std.specs.List.{list_all, list_any}
-use Rattle.std.specs.Prelude.{◌&&◌, ◌||◌, option_map}
+use Rattle.std.specs.Prelude.{◌&&◌, option_map}
 use Rattle.tl_messages.specs.Requests.{HeldMessage, WholeRequest, begun, with_beat, message_of, held_of, request_of, is_whole, masked_word}
 use Rattle.tl_messages.specs.declared.ABeat.{ABeat}
 use Rattle.tl_checker.specs.Ports.{joined, progress_of, judged_by, judged, is_free, ReadsAs}
@@ -21,11 +21,7 @@ use Rattle.tl_checker.proofs.Fronts.{HasBegun, IsPart, beats_wanted, beats_wante
 -- a message with one more beat is that of the longer list
 message-append : (client : ℕ) (first : ABeat) (rest : List ABeat) (beat : ABeat) → with_beat (message_of client first rest) beat ≡ message_of client first (rest ++ beat ∷ [])
 message-append client first rest beat =
-    rw (map-append masked_word rest (beat ∷ []), list_any-append (λ b. b.corrupt) rest (beat ∷ []), or-false beat.corrupt, regroup first.corrupt (list_any (λ b. b.corrupt) rest) beat.corrupt) refl
-  where
-    regroup : (a b c : Bool) → (a || b || c) ≡ (a || (b || c))
-    regroup true b c = refl
-    regroup false b c = refl
+    rw (map-append masked_word rest (beat ∷ []), list_any-append (λ b. b.corrupt) rest (beat ∷ []), or-false beat.corrupt, or_assoc first.corrupt (list_any (λ b. b.corrupt) rest) beat.corrupt) refl
 
 one_beat : (client : ℕ) (beat : ABeat) → begun client beat ≡ message_of client beat []
 one_beat client beat = rw (or-false beat.corrupt) refl
@@ -58,12 +54,10 @@ answered_parts None progress told same = (refl, cc)
 answered_parts (Some rule) progress told same = absurd (cc)
 
 by_more : (whole : Bool) → (if whole then Whole else More) ≡ More → whole ≡ false
-by_more true same = absurd (cc)
-by_more false same = refl
+by_more whole same = grind arith
 
 by_whole : (whole : Bool) → (if whole then Whole else More) ≡ Whole → whole ≡ true
-by_whole true same = refl
-by_whole false same = absurd (cc)
+by_whole whole same = grind arith
 
 reads_by : (limits : TlPortLimits) (first : ABeat) (rest : List ABeat) (fault : Option TlRule) (free : Bool) (message : HeldMessage) → IsTakenAs limits first rest fault free message
     → ReadsAs limits (first ∷ rest) free (judged_by fault (progress_of message)) (whole_by (judged_by fault (progress_of message)) message)
@@ -96,11 +90,8 @@ reads_by limits first rest fault free message by = record { more = (to_front, fr
         let parts = answered_parts fault (progress_of message) Whole is in
         let taken = by.taken parts.0 in
         let all = leb-true (beats_wanted first) (length (first ∷ rest)) (sym (whole taken.1) ∙ by_whole (is_whole message) parts.1) in
-        let same : q ≡ request_of message = some_same (sym told ∙ stands is) in
+        let same : q ≡ request_of message = cc (told, stands is) in
         (taken.0, (taken.1.right, taken.1.later, omega (arith, all, by.enough), same ∙ ap request_of by.held))
-      where
-        some_same : Some q ≡ Some (request_of message) → q ≡ request_of message
-        some_same e = cc
 
     from_spelling : (q : WholeRequest) → (free ≡ true) × Spells limits (first ∷ rest) q → (answer ≡ Ok Whole) × (option_map request_of (whole_by answer message) ≡ Some q)
     from_spelling q (is_free, spells) =
@@ -121,6 +112,9 @@ taken_first limits beat busy =
 taken_later : (limits : TlPortLimits) (first : ABeat) (rest : List ABeat) (beat : ABeat) (busy : Bool) → IsFront limits (first ∷ rest)
     → IsTakenAs limits first (rest ++ beat ∷ []) (first_fault limits (Some (message_of limits.client first rest)) beat busy) true (with_beat (message_of limits.client first rest) beat)
 taken_later limits first rest beat busy front =
+    let part : IsPart limits first rest = front_part limits first rest front in
+    let message : HeldMessage = message_of limits.client first rest in
+    let right : ABeat → Bool = is_right_later (begun limits.client first) in
     record {
       taken = λ none. (
         refl,
@@ -135,15 +129,6 @@ taken_later limits first rest beat busy front =
       enough = omega (arith, part.fewer, length-append rest (beat ∷ []));
       held = message-append limits.client first rest beat;
     }
-  where
-    part : IsPart limits first rest
-    part = front_part limits first rest front
-
-    message : HeldMessage
-    message = message_of limits.client first rest
-
-    right : ABeat → Bool
-    right = is_right_later (begun limits.client first)
 
 -- the answer to a beat after a front reads as it must
 pub reads : (limits : TlPortLimits) (beats : List ABeat) (beat : ABeat) (busy : Bool) → IsFront limits beats

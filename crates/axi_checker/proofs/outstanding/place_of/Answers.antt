@@ -6,8 +6,7 @@ use Rattle.memchr.specs.Find.{IsFirstByte, is_byte}
 use Rattle.axi_checker.proofs.outstanding.place_of.Goals as goal
 
 fails : (b : Bool) → (b ≡ true → ⊥) → b ≡ false
-fails true never = absurd (never refl)
-fails false never = refl
+fails b never = grind (arith, never)
 
 found : (id : ℕ) (ids : List ℕ) (r : Option ℕ) → IsFirstByte (is_byte id) ids r → r ≡ position (λ other. other == id) ids
 found id ids None nowhere =
