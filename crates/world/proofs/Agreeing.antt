@@ -3,7 +3,7 @@
 use Rattle.std.proofs.Common.{◌≡◌, ℕ, suc, ◌+◌, ◌*◌, ◌^◌, ◌<◌, ◌≤◌, Bool, true, false, List, [], ◌∷◌, length, Option, Some, None, refl, ap, sym, ◌∙◌, arith}
 use Rattle.std.specs.Prelude.{find, if◌then◌else◌, nat_le, sum_by, Result, Ok, Err}
 use Rattle.std.specs.List.{AllByRecursion}
-use Rattle.std.proofs.lemmas.Bool.{leb-false}
+use Rattle.std.proofs.lemmas.Bool.{cond_both, leb-false}
 use Rattle.std.proofs.lemmas.List.{length-append}
 use Rattle.std.proofs.lemmas.List.Sums.{sum_by-append, sum_by-cons}
 use Rattle.bus_words.proofs.PlaceChanges.{all-find, length-change_first, length-without_found}
@@ -203,41 +203,24 @@ agree_joined state memory fronts message agree below bridge_laws =
       };
     }
 
-agree_completed : (state : BridgeState) (memory : FreeMemory) (client : ℕ) (message : HeldMessage) → Agree state memory → IsSoundBridge (completed state client message).0 → Agree (completed state client message).0 memory
-agree_completed state memory client message agree bridge_laws = by_tests (has_room (flight_table_of state.requests) client) (nat_le (2 ^ 48) state.requests.accepted) refl bridge_laws
-  where
-    outcome : Bool → Bool → BridgeState × Offered
-    outcome room full =
-        if room
-        then
-        (if full
-        then (state, offer.Exhausted)
-        else (record (with_front client None state) { requests = with_request message state.requests }, offer.Accepted state.requests.accepted))
-        else (state, offer.NotReady)
+-- what is kept by an offer, whatever it makes of the bridge
+abbrev pub IsKeptBy : BridgeState → FreeMemory → BridgeState × Offered → Type 0
+IsKeptBy state memory result = IsSoundBridge result.0 → Agree result.0 memory × (result.0.requests.config ≡ state.requests.config)
 
-    result : Bool → Bool → BridgeState
-    result room full = (outcome room full).0
+agree_after : (state : BridgeState) (memory : FreeMemory) (client : ℕ) (beat : ABeat) (verdict : Result Progress TlRule) → Agree state memory → IsKeptBy state memory (offered_after verdict state client beat)
+agree_after state memory client beat (Err rule) agree = λ laws. (agree, refl)
+agree_after state memory client beat (Ok More) agree = λ laws. (agree_fronts state memory _ agree laws, refl)
+agree_after state memory client beat (Ok Whole) agree =
+    cond_both (has_room (flight_table_of state.requests) client) _ _ (IsKeptBy state memory)
+    (λ room.
+    cond_both (nat_le (2 ^ 48) state.requests.accepted) _ _ (IsKeptBy state memory) (λ full laws. (agree, refl))
+    (λ some laws. (agree_joined state memory _ (message_with state client beat) agree (leb-false (2 ^ 48) state.requests.accepted some) laws, refl)))
+    (λ full laws. (agree, refl))
 
-    by_tests : (room full : Bool) → nat_le (2 ^ 48) state.requests.accepted ≡ full → IsSoundBridge (result room full) → Agree (result room full) memory
-    by_tests true true is laws = agree
-    by_tests true false is laws = agree_joined state memory (with_front client None state).fronts message agree (leb-false (2 ^ 48) state.requests.accepted is) laws
-    by_tests false full is laws = agree
-
-agree_after : (state : BridgeState) (memory : FreeMemory) (client : ℕ) (beat : ABeat) (verdict : Result Progress TlRule) → Agree state memory → IsSoundBridge (offered_after verdict state client beat).0
-    → Agree (offered_after verdict state client beat).0 memory
-agree_after state memory client beat (Err rule) agree laws = agree
-agree_after state memory client beat (Ok More) agree laws = agree_fronts state memory (with_front client (Some (message_with state client beat)) state).fronts agree laws
-agree_after state memory client beat (Ok Whole) agree laws = agree_completed state memory client (message_with state client beat) agree laws
-
-pub agree_offered : (state : BridgeState) (memory : FreeMemory) (client : ℕ) (beat : ABeat) → Agree state memory → IsSoundBridge (offered state client beat).0 → Agree (offered state client beat).0 memory
-agree_offered state memory client beat agree bridge_laws = by_test (nat_le state.requests.config.clients client) bridge_laws
-  where
-    outcome : Bool → BridgeState × Offered
-    outcome absent = if absent then (state, offer.NoClient) else offered_after (verdict_on state client beat) state client beat
-
-    by_test : (absent : Bool) → IsSoundBridge (outcome absent).0 → Agree (outcome absent).0 memory
-    by_test true laws = agree
-    by_test false laws = agree_after state memory client beat (verdict_on state client beat) agree laws
+pub agree_offered : (state : BridgeState) (memory : FreeMemory) (client : ℕ) (beat : ABeat) → Agree state memory → IsKeptBy state memory (offered state client beat)
+agree_offered state memory client beat agree =
+    cond_both (nat_le state.requests.config.clients client) _ _ (IsKeptBy state memory) (λ absent laws. (agree, refl))
+    (λ known. agree_after state memory client beat (verdict_on state client beat) agree)
 
 -- ---- serials don't run out
 
@@ -260,33 +243,3 @@ serials_left state memory agree =
     sum_few (λ (r : BridgedRequest). all_sent r.flight) 2048 table.live
     (sent_few table.config table.regions (table_limits_of table.config) table.accepted table.live agree.bridge_laws.requests.config agree.bridge_laws.requests.served (sound_requests table agree.bridge_laws.requests)) in
     omega (arith, agree.serials.accepted, agree.serials.live, agree.serials.sent, few)
-
--- the limits stay
-pub config_offered : (state : BridgeState) (client : ℕ) (beat : ABeat) → (offered state client beat).0.requests.config ≡ state.requests.config
-config_offered state client beat = by_test (nat_le state.requests.config.clients client)
-  where
-    outcome : Bool → Bool → HeldMessage → BridgeState × Offered
-    outcome room full message =
-        if room
-        then
-        (if full
-        then (state, offer.Exhausted)
-        else (record (with_front client None state) { requests = with_request message state.requests }, offer.Accepted state.requests.accepted))
-        else (state, offer.NotReady)
-
-    by_place : (room full : Bool) (message : HeldMessage) → (outcome room full message).0.requests.config ≡ state.requests.config
-    by_place true true message = refl
-    by_place true false message = refl
-    by_place false full message = refl
-
-    by_verdict : (verdict : Result Progress TlRule) → (offered_after verdict state client beat).0.requests.config ≡ state.requests.config
-    by_verdict (Err rule) = refl
-    by_verdict (Ok More) = refl
-    by_verdict (Ok Whole) = by_place (has_room (flight_table_of state.requests) client) (nat_le (2 ^ 48) state.requests.accepted) (message_with state client beat)
-
-    after : Bool → BridgeState × Offered
-    after absent = if absent then (state, offer.NoClient) else offered_after (verdict_on state client beat) state client beat
-
-    by_test : (absent : Bool) → (after absent).0.requests.config ≡ state.requests.config
-    by_test true = refl
-    by_test false = by_verdict (verdict_on state client beat)

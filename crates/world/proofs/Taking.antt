@@ -14,7 +14,7 @@ use Rattle.subordinate.specs.declared.BeatState.{BeatState}
 use Rattle.subordinate.specs.declared.BeatState.TheVariants.{Captured, Waiting, Written}
 use Rattle.world.specs.Inside.{ArePaired}
 use Rattle.world.specs.Laws.{Agree}
-use Rattle.world.proofs.Agreeing.{agree_offered, agree_performed, agree_taken, config_offered}
+use Rattle.world.proofs.Agreeing.{agree_offered, agree_performed, agree_taken}
 
 -- the bridge alone changes, and has as many boxes in stock as before
 bridge_changed : (bridge new : StockedBridge) (device : DeviceState) → ArePaired bridge device → new.stock ≡ bridge.stock → new.state.requests.config ≡ bridge.state.requests.config → Agree new.state device.memory
@@ -27,8 +27,8 @@ pub paired_offered : (bridge new : StockedBridge) (device : DeviceState) (client
 paired_offered bridge new device client beat paired is laws =
     let state : new.state ≡ (offered bridge.state client beat).0 = ap (λ (b : StockedBridge). b.state) is in
     let agree = agree_offered bridge.state device.memory client beat paired.agree (subst IsSoundBridge state laws) in
-    bridge_changed bridge new device paired (ap (λ (b : StockedBridge). b.stock) is) (ap (λ (s : BridgeState). s.requests.config) state ∙ config_offered bridge.state client beat)
-    (subst (λ (s : BridgeState). Agree s device.memory) (sym state) agree)
+    bridge_changed bridge new device paired (ap (λ (b : StockedBridge). b.stock) is) (ap (λ (s : BridgeState). s.requests.config) state ∙ agree.1)
+    (subst (λ (s : BridgeState). Agree s device.memory) (sym state) agree.0)
 
 taken_found : (state : BridgeState) (client : ℕ) (request : BridgedRequest) → reply_taken state client ≡ Some request → find (is_done_for client) state.requests.live ≡ Some request
 taken_found state client request is = by_test (nat_le state.requests.config.clients client) is
