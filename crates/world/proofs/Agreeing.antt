@@ -6,6 +6,7 @@ use Rattle.std.specs.List.{AllByRecursion}
 use Rattle.std.proofs.lemmas.Bool.{cond_both, leb-false}
 use Rattle.std.proofs.lemmas.List.{length-append}
 use Rattle.std.proofs.lemmas.List.Sums.{sum_by-append, sum_by-cons}
+use Rattle.bus_words.specs.Places.{change_first}
 use Rattle.bus_words.proofs.PlaceChanges.{all-find, length-change_first, length-without_found}
 use Rattle.axi_beats.specs.declared.BBeat.{BBeat}
 use Rattle.axi_beats.specs.declared.RBeat.{RBeat}
@@ -36,13 +37,19 @@ use Rattle.bridge_core.specs.Sending.{Sending, next_sending}
 use Rattle.bridge_core.proofs.NextSending.{next_found}
 use Rattle.bridge_core.proofs.SentLinks.{found_by_number}
 use Rattle.bridge_core.proofs.SendingLinks.{sound_requests}
-use Rattle.subordinate.specs.FreeMemory.{FreeMemory, Pending, after_b_of, after_r_of, is_read_of, with_burst, with_performed}
+use Rattle.subordinate.specs.FreeMemory.{FreeMemory, Pending, after_b_of, after_r_of, is_read_of, open_bursts_of, with_burst, with_performed}
 use Rattle.subordinate.specs.Laws.{IsSoundMemory}
-use Rattle.world.specs.Laws.{Agree, bursts_sent}
+use Rattle.world.specs.Laws.{Agree, HasSerials, bursts_sent}
 use Rattle.world.proofs.Serials.{most_sent}
 use Rattle.subordinate.proofs.Monitors.{HasBeatsToCome, outstanding_after_b, outstanding_after_r, outstanding_performed, outstanding_sent}
 use Rattle.world.proofs.Sums.{sum_between, sum_more, sum_without}
 use Rattle.world.proofs.Settled.{settled_has}
+
+-- as many requests live, and have sent what went to the memory
+serials_kept : (state new : BridgeState) (memory after : FreeMemory) → HasSerials state memory → new.requests.accepted ≡ state.requests.accepted → length new.requests.live ≡ length state.requests.live
+    → after.sent + bursts_sent state ≤ memory.sent + bursts_sent new → HasSerials new after
+serials_kept state new memory after serials accepted live sent =
+    record { accepted = omega (arith, serials.accepted, accepted); live = omega (arith, serials.live, accepted, live); sent = rw (accepted, live) (omega (arith, serials.sent, sent)) }
 
 -- ---- a burst is sent
 
@@ -50,8 +57,7 @@ sent_counted : (state : BridgeState) (sending : Sending) → IsSoundBridge state
 sent_counted state sending sound is =
     let next = next_found state.requests sending is in
     let there = found_by_number _ state.requests.live sending.request sound.requests.flights.rising next.found in
-    let one_more = sum_between (λ (r : BridgedRequest). all_sent r.flight) (is_numbered sending.request.flight.number) (after_sending sending.id) state.requests.live sending.request there in
-    omega (arith, one_more)
+    omega (arith, sum_between (λ (r : BridgedRequest). all_sent r.flight) (is_numbered sending.request.flight.number) (after_sending sending.id) state.requests.live sending.request there)
 
 pub agree_sent : (state : BridgeState) (memory : FreeMemory) (sending : Sending) → Agree state memory → next_sending state.requests ≡ Some sending
     → IsSoundBridge (after_sent state sending) → IsSoundMemory (with_burst memory sending.burst) → Agree (after_sent state sending) (with_burst memory sending.burst)
@@ -63,11 +69,7 @@ agree_sent state memory sending agree is bridge_laws memory_laws =
       memory_laws = memory_laws;
       bus = agree.bus;
       outstanding = ap (λ (outstanding : OpenBursts). open_with_burst outstanding sending.burst) agree.outstanding ∙ outstanding_sent memory sending.burst;
-      serials = record {
-        accepted = agree.serials.accepted;
-        live = omega (arith, agree.serials.live, same);
-        sent = rw same (omega (arith, agree.serials.sent, counted));
-      };
+      serials = serials_kept state _ memory _ agree.serials refl same (omega (arith, counted));
     }
 
 -- ---- a beat is performed
@@ -107,43 +109,37 @@ read_sent bus_bytes r request most = by_last r.last
 abbrev IsSoundOne : BridgeState → BridgedRequest → Type 0
 IsSoundOne state request = IsSoundRequest (table_limits_of state.requests.config) state.requests.accepted request.flight
 
-pub agree_after_b : (state : BridgeState) (memory : FreeMemory) (b : BBeat) → Agree state memory → IsSoundBridge (after_b_beat state b) → IsSoundMemory (after_b_of memory b.id)
-    → Agree (after_b_beat state b) (after_b_of memory b.id)
-agree_after_b state memory b agree bridge_laws memory_laws =
-    let same = length-change_first (holds b.id) (after_response b.resp) state.requests.live in
-    let counted =
-    sum_more (IsSoundOne state) (λ (q : BridgedRequest). all_sent q.flight) (holds b.id) (after_response b.resp) state.requests.live (λ q one. response_sent b.resp q one.sent) (sound_requests state.requests agree.bridge_laws.requests)
-    in
+answered_counted : (state : BridgeState) (memory : FreeMemory) (test : BridgedRequest → Bool) (change : BridgedRequest → BridgedRequest) → Agree state memory
+    → ((q : BridgedRequest) → IsSoundOne state q → all_sent q.flight ≤ all_sent (change q).flight)
+    → bursts_sent state ≤ sum_by (λ request. all_sent request.flight) (change_first test change state.requests.live)
+answered_counted state memory test change agree more =
+    sum_more (IsSoundOne state) (λ (q : BridgedRequest). all_sent q.flight) test change state.requests.live more (sound_requests state.requests agree.bridge_laws.requests)
+
+pub agree_after_b : (state : BridgeState) (memory : FreeMemory) (id : ℕ) (b : BBeat) → b.id ≡ id → Agree state memory → IsSoundBridge (after_b_beat state b) → IsSoundMemory (after_b_of memory id)
+    → Agree (after_b_beat state b) (after_b_of memory id)
+agree_after_b state memory id b own agree bridge_laws memory_laws =
+    let counted = answered_counted state memory (holds b.id) (after_response b.resp) agree (λ q one. response_sent b.resp q one.sent) in
     record {
       bridge_laws = bridge_laws;
       memory_laws = memory_laws;
       bus = agree.bus;
-      outstanding = ap (λ (outstanding : OpenBursts). open_after outstanding (OnB b)) agree.outstanding ∙ outstanding_after_b memory b;
-      serials = record {
-        accepted = agree.serials.accepted;
-        live = omega (arith, agree.serials.live, same);
-        sent = rw same (omega (arith, agree.serials.sent, counted));
-      };
+      outstanding =
+          ap (λ (outstanding : OpenBursts). open_after outstanding (OnB b)) agree.outstanding ∙ outstanding_after_b memory b ∙ ap (λ (n : ℕ). open_bursts_of (after_b_of memory n)) own;
+      serials = serials_kept state _ memory _ agree.serials refl (length-change_first (holds b.id) (after_response b.resp) state.requests.live) (omega (arith, counted));
     }
 
-pub agree_after_r : (state : BridgeState) (memory : FreeMemory) (r : RBeat) → Agree state memory → HasBeatsToCome (find (is_read_of r.id) memory.pending) → IsSoundBridge (after_r_beat state r)
-    → IsSoundMemory (after_r_of memory r.id) → Agree (after_r_beat state r) (after_r_of memory r.id)
-agree_after_r state memory r agree to_come bridge_laws memory_laws =
+pub agree_after_r : (state : BridgeState) (memory : FreeMemory) (id : ℕ) (r : RBeat) → r.id ≡ id → Agree state memory → HasBeatsToCome (find (is_read_of r.id) memory.pending)
+    → IsSoundBridge (after_r_beat state r) → IsSoundMemory (after_r_of memory id) → Agree (after_r_beat state r) (after_r_of memory id)
+agree_after_r state memory id r own agree to_come bridge_laws memory_laws =
     let change = after_read state.requests.config.axi_bytes r in
-    let same = length-change_first (holds r.id) change state.requests.live in
-    let counted =
-    sum_more (IsSoundOne state) (λ (q : BridgedRequest). all_sent q.flight) (holds r.id) change state.requests.live (λ q one. read_sent state.requests.config.axi_bytes r q one.sent) (sound_requests state.requests agree.bridge_laws.requests)
-    in
+    let counted = answered_counted state memory (holds r.id) change agree (λ q one. read_sent state.requests.config.axi_bytes r q one.sent) in
     record {
       bridge_laws = bridge_laws;
       memory_laws = memory_laws;
       bus = agree.bus;
-      outstanding = ap (λ (outstanding : OpenBursts). open_after outstanding (OnR r)) agree.outstanding ∙ outstanding_after_r memory r to_come;
-      serials = record {
-        accepted = agree.serials.accepted;
-        live = omega (arith, agree.serials.live, same);
-        sent = rw same (omega (arith, agree.serials.sent, counted));
-      };
+      outstanding =
+          ap (λ (outstanding : OpenBursts). open_after outstanding (OnR r)) agree.outstanding ∙ outstanding_after_r memory r to_come ∙ ap (λ (n : ℕ). open_bursts_of (after_r_of memory n)) own;
+      serials = serials_kept state _ memory _ agree.serials refl (length-change_first (holds r.id) change state.requests.live) (omega (arith, counted));
     }
 
 -- ---- a reply leaves

@@ -26,7 +26,7 @@ use Rattle.bridge_core.proofs.SentLinks.{taken_by}
 use Rattle.subordinate.specs.FreeMemory.{FreeMemory, Pending, is_read_of, is_write_of, newly_pending, reads_as, writes_as}
 use Rattle.subordinate.proofs.OpenBursts.{reads_known, writes_known}
 use Rattle.world.specs.Laws.{Agree}
-use Rattle.world.proofs.TakesAll.{holder_below}
+use Rattle.world.proofs.TakesAll.{id_known}
 
 -- the ID of an open burst, on either side
 abbrev pub id_of_pending : Pending → ℕ
@@ -82,11 +82,7 @@ few_held bridge id sound (Some request) is =
 
 -- an ID under which a burst is open is one of the port's
 below_ids : (bridge : BridgeState) (memory : FreeMemory) (id : ℕ) → Agree bridge memory → 1 ≤ count_of id memory.pending → id < bridge.requests.config.ids
-below_ids bridge memory id agree some = by_holder (holder id bridge.requests.live) refl (omega (arith, some, counted bridge memory id agree))
-  where
-    by_holder : (held : Option BridgedRequest) → holder id bridge.requests.live ≡ held → 1 ≤ length (outstanding_of held) → id < bridge.requests.config.ids
-    by_holder None is some = absurd (omega (arith, some))
-    by_holder (Some request) is some = holder_below bridge id request agree.bridge_laws is
+below_ids bridge memory id agree some = id_known bridge id agree.bridge_laws (λ none. absurd (omega (arith, some, rw none at (counted bridge memory id agree))))
 
 -- each open burst counts for its own ID
 each_counts : (ids : ℕ) (before later all : List Pending) → all ≡ before ++ later → ((id : ℕ) → 1 ≤ count_of id all → id < ids) → AllByRecursion (λ p. id_of_pending p < ids) later

@@ -26,7 +26,8 @@ use Rattle.world.specs.Laws.{IsSoundWorld}
 use Rattle.world.specs.World.{WorldState, answered_r, enabled, next, perform_at, performed_by, pumped}
 use Rattle.world.specs.declared.Step.TheVariants.{AnswerB, AnswerR, Perform, Pump}
 use Rattle.world.proofs.EnabledSteps.{at_before, first_is_b, first_is_r}
-use Rattle.world.proofs.TakesAll.{takes_all}
+use Rattle.world.proofs.OpenWork.{r_found}
+use Rattle.world.proofs.TakesAll.{r_unbroken}
 
 -- ---- which is first
 
@@ -145,17 +146,6 @@ stays_idle state r sound kept none more idle =
     ∙ ap (λ (table : FlightTable). is_some (next_ready table)) (same_order state r sound none more)
     ∙ ready_goes state sound.requests ∙ ap (λ (o : Option Burst). is_some o) idle)
 
--- what an R was given by
-gives_more : (id : ℕ) (o : Option Pending) (r : RBeat) → r_from id o ≡ Some r → r.last ≡ false → (p : Pending) × (o ≡ Some p) × (gives_last p ≡ false)
-gives_more id None r is more = absurd (cc (is))
-gives_more id (Some p) r is more = (p, refl, by_beat (beat_at p p.answered) is)
-  where
-    by_beat : (beat : Option BeatState) → r_with id p beat ≡ Some r → gives_last p ≡ false
-    by_beat None is = absurd (cc (is))
-    by_beat (Some Waiting) is = absurd (cc (is))
-    by_beat (Some Written) is = absurd (cc (is))
-    by_beat (Some (Captured payload resp)) is = ap (λ (beat : RBeat). beat.last) (same_Some _ r is) ∙ more
-
 -- what may come after it is as before
 pub record StaysRead (state : WorldState) : Type 0 where
   pub performed : IsPerformed state
@@ -173,18 +163,19 @@ pub reads_on : (state : WorldState) (id : ℕ) → IsSoundWorld state → IsSoun
     → StaysRead (next state (AnswerR id)).state
 reads_on state id sound kept still goes =
     let (r, is, more) = not_last state id (r_of state.memory id) goes in
-    let (p, found, gives) = gives_more id (find (is_read_of id) state.memory.pending) r is more in
-    let none : r_fault state.bridge r ≡ None = subst (λ (o : Option RBeat). IfSome o (λ r. r_fault state.bridge r ≡ None)) is ((takes_all state sound).r id) in
+    let finds = r_found state.memory id r is in
+    let gives : gives_last finds.read ≡ false = sym (ap (λ (beat : RBeat). beat.last) finds.answer) ∙ more in
+    let none = r_unbroken state id r sound is in
     let kept_r : IsSoundWorld (answered_r state id (Some r)).state = subst (λ (o : Option RBeat). IsSoundWorld (answered_r state id o).state) is kept in
     subst (λ (o : Option RBeat). StaysRead (answered_r state id o).state) (sym is)
     (record {
       performed =
           record {
             idle = stays_idle state.bridge r sound.bridge_laws kept_r.bridge_laws none more still.performed.idle;
-            performed = same_beats id state.memory.pending p found gives ∙ still.performed.performed;
+            performed = same_beats id state.memory.pending finds.read finds.found gives ∙ still.performed.performed;
           };
       written =
           find_alike (λ (write : ℕ). is_some (b_of (after_r_of state.memory id) write)) (λ (write : ℕ). is_some (b_of state.memory write)) (range_with_len 0 16)
-          (λ write. ap (λ (o : Option Pending). is_some (b_from state.memory.faults write o)) (same_write id write state.memory.pending p found gives))
+          (λ write. ap (λ (o : Option Pending). is_some (b_from state.memory.faults write o)) (same_write id write state.memory.pending finds.read finds.found gives))
           ∙ still.written;
     })

@@ -11,6 +11,7 @@ use Rattle.axi_beats.specs.Bursts.{Burst, IsLegal, ReadBurst, WriteBurst, is_leg
 use Rattle.axi_beats.specs.Transfers.{fits_bus, in_one_page}
 use Rattle.axi_beats.specs.declared.BBeat.{BBeat}
 use Rattle.axi_beats.specs.declared.RBeat.{RBeat}
+use Rattle.axi_beats.specs.declared.Resp.{Resp}
 use Rattle.axi_checker.proofs.Few.{length-few}
 use Rattle.bus_words.proofs.PlaceChanges.{all-find, find-passes}
 use Rattle.subordinate.specs.Faults.{standing_at, write_response}
@@ -97,20 +98,21 @@ work_open-performed memory serial beat p found waits =
     omega (arith, sum_between work_in (has_serial p.serial) (with_beat beat state) memory.pending p here, work_in-with_beat p beat state waits (beat_after-performed memory p.burst beat))
 
 -- a B closes a write, of which all beats are performed
-pub record FindsWrite (memory : FreeMemory) (id : ℕ) : Type 0 where
+pub record FindsWrite (memory : FreeMemory) (id : ℕ) (b : BBeat) : Type 0 where
   pub write : Pending
   pub found : find (is_write_of id) memory.pending ≡ Some write
   pub performed : list_any is_waiting write.beats ≡ false
+  pub answer : b ≡ record { id = id; resp = write_response (standing_at memory.faults (start_of write.burst)) }
 
-pub b_found : (memory : FreeMemory) (id : ℕ) (b : BBeat) → b_of memory id ≡ Some b → FindsWrite memory id
+pub b_found : (memory : FreeMemory) (id : ℕ) (b : BBeat) → b_of memory id ≡ Some b → FindsWrite memory id b
 b_found memory id b is = by_write (find (is_write_of id) memory.pending) refl is
   where
     by_beats : (p : Pending) (waits : Bool) → find (is_write_of id) memory.pending ≡ Some p → list_any is_waiting p.beats ≡ waits
-        → (if waits then None else Some (record { id = id; resp = write_response (standing_at memory.faults (start_of p.burst)) })) ≡ Some b → FindsWrite memory id
+        → (if waits then None else Some (record { id = id; resp = write_response (standing_at memory.faults (start_of p.burst)) })) ≡ Some b → FindsWrite memory id b
     by_beats p true found waits is = absurd (cc (is))
-    by_beats p false found waits is = record { write = p; found = found; performed = waits }
+    by_beats p false found waits is = record { write = p; found = found; performed = waits; answer = sym (same_Some _ b is) }
 
-    by_write : (o : Option Pending) → find (is_write_of id) memory.pending ≡ o → b_from memory.faults id o ≡ Some b → FindsWrite memory id
+    by_write : (o : Option Pending) → find (is_write_of id) memory.pending ≡ o → b_from memory.faults id o ≡ Some b → FindsWrite memory id b
     by_write None found is = absurd (cc (is))
     by_write (Some p) found is = by_beats p (list_any is_waiting p.beats) found refl is
 
@@ -140,7 +142,10 @@ work_open-b memory id b is =
 pub record FindsRead (memory : FreeMemory) (id : ℕ) (r : RBeat) : Type 0 where
   pub read : Pending
   pub found : find (is_read_of id) memory.pending ≡ Some read
-  pub captured : beat_at read read.answered ≡ Some (Captured r.payload r.resp)
+  pub payload : ℕ
+  pub resp : Resp
+  pub captured : beat_at read read.answered ≡ Some (Captured payload resp)
+  pub answer : r ≡ record { id = id; payload = payload; resp = resp; last = gives_last read }
 
 pub r_found : (memory : FreeMemory) (id : ℕ) (r : RBeat) → r_of memory id ≡ Some r → FindsRead memory id r
 r_found memory id r is = by_read (find (is_read_of id) memory.pending) refl is
@@ -150,8 +155,7 @@ r_found memory id r is = by_read (find (is_read_of id) memory.pending) refl is
     by_beat p (Some Waiting) found at is = absurd (cc (is))
     by_beat p (Some Written) found at is = absurd (cc (is))
     by_beat p (Some (Captured payload resp)) found at is =
-        let same : record { id = id; payload = payload; resp = resp; last = gives_last p } ≡ r = same_Some _ _ is in
-        record { read = p; found = found; captured = at ∙ ap (λ (beat : RBeat). Some (Captured beat.payload beat.resp)) same }
+        record { read = p; found = found; payload = payload; resp = resp; captured = at; answer = sym (same_Some _ r is) }
 
     by_read : (o : Option Pending) → find (is_read_of id) memory.pending ≡ o → r_from id o ≡ Some r → FindsRead memory id r
     by_read None found is = absurd (cc (is))
@@ -188,13 +192,13 @@ work_open-r memory id r sound is = by_last (gives_last finds.read) refl
     each = all-find (IsSoundPending memory.bus_bytes) (is_read_of id) memory.pending finds.read sound.each finds.found
 
     within : finds.read.answered < transfers_in finds.read.burst
-    within = omega (arith, slice_get_within finds.read.beats finds.read.answered (Captured r.payload r.resp) finds.captured, each.whole)
+    within = omega (arith, slice_get_within finds.read.beats finds.read.answered _ finds.captured, each.whole)
 
     by_last : (last : Bool) → gives_last finds.read ≡ last → work_open memory ≡ 1 + work_open (after_r_of memory id)
     by_last true is_last =
         let p = finds.read in
         let end : p.answered + 1 ≡ transfers_in p.burst = eqb-true (p.answered + 1) (transfers_in p.burst) is_last in
-        let none = all_performed p.answered p.beats (Captured r.payload r.resp) each.answered finds.captured refl (omega (arith, each.whole, end)) in
+        let none = all_performed p.answered p.beats (Captured finds.payload finds.resp) each.answered finds.captured refl (omega (arith, each.whole, end)) in
         rw (pending_after_r-last id memory.pending p finds.found is_last)
         (omega (arith, sum_without work_in (is_read_of id) memory.pending p finds.found, length-waiting_in p, none, read_work id p passes p.answered, end))
     by_last false more =

@@ -30,7 +30,7 @@ use Rattle.world.specs.declared.Step.{Step}
 use Rattle.world.specs.declared.Step.TheVariants.{AnswerB, AnswerR, Perform, Pump}
 use Rattle.world.proofs.Sums.{sum_between}
 use Rattle.world.proofs.OpenWork.{waiting_found, work_open-b, work_open-performed, work_open-r, work_open-sent}
-use Rattle.world.proofs.TakesAll.{takes_all}
+use Rattle.world.proofs.TakesAll.{b_unbroken, r_unbroken}
 
 -- ---- the work of the live requests
 
@@ -199,13 +199,8 @@ b_takes state id b sound is none =
       spared = omega (arith, spared, settling.spared);
     }
 
-fault_of : {X Y : Type 0} (P : X → Option Y) (o : Option X) (x : X) → o ≡ Some x → IfSome o (λ y. P y ≡ None) → P x ≡ None
-fault_of P o x is all = rw is at all
-
 pub answer_b_takes : (state : WorldState) (id : ℕ) (b : BBeat) → IsSoundWorld state → b_of state.memory id ≡ Some b → TakesOne state (next state (AnswerB id)).state
-answer_b_takes state id b sound is =
-    let none = fault_of (b_fault state.bridge) (b_of state.memory id) b is ((takes_all state sound).b id) in
-    rw is (b_takes state id b sound is none)
+answer_b_takes state id b sound is = rw is (b_takes state id b sound is (b_unbroken state id b sound is))
 
 r_takes : (state : WorldState) (id : ℕ) (r : RBeat) → IsSoundWorld state → r_of state.memory id ≡ Some r → r_fault state.bridge r ≡ None
     → TakesOne state (record { bridge = after_r_beat state.bridge r; memory = after_r_of state.memory id; last_sent = None })
@@ -222,9 +217,7 @@ r_takes state id r sound is none =
     }
 
 pub answer_r_takes : (state : WorldState) (id : ℕ) (r : RBeat) → IsSoundWorld state → r_of state.memory id ≡ Some r → TakesOne state (next state (AnswerR id)).state
-answer_r_takes state id r sound is =
-    let none = fault_of (r_fault state.bridge) (r_of state.memory id) r is ((takes_all state sound).r id) in
-    rw is (r_takes state id r sound is none)
+answer_r_takes state id r sound is = rw is (r_takes state id r sound is (r_unbroken state id r sound is))
 
 -- ---- each enabled step
 
