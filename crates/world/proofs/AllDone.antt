@@ -52,12 +52,7 @@ all-at P (y ∷ ys) (suc n) x all at = all-at P ys n x all.1 at
 -- what a search finds nowhere isn't what another finds
 none_found : {X : Type 0} (p q : X → Bool) (xs : List X) (x : X) → find p xs ≡ None → find q xs ≡ Some x → p x ≡ false
 none_found p q [] x none found = absurd (cc (found))
-none_found {X = X} p q (y ∷ ys) x none found = by_tests (p y) (q y) refl none found (none_found p q ys x)
-  where
-    by_tests : (b d : Bool) → p y ≡ b → (if b then Some y else find p ys) ≡ None → (if d then Some y else find q ys) ≡ Some x → (find p ys ≡ None → find q ys ≡ Some x → p x ≡ false) → p x ≡ false
-    by_tests true d is none found rest = absurd (cc (none))
-    by_tests false true is none found rest = let same : y ≡ x = cc in rw same at is
-    by_tests false false is none found rest = rest none found
+none_found p q (y ∷ ys) x none found = grind (arith, none_found p q ys x)
 
 found_or_none : {X : Type 0} (P : Type 0) (o : Option X) → (o ≡ None → P) → ((x : X) → o ≡ Some x → P) → P
 found_or_none P None none some = none refl
@@ -100,14 +95,6 @@ present_at [] k within = absurd (omega (arith, within))
 present_at (x ∷ xs) zero within = refl
 present_at (x ∷ xs) (suc k) within = present_at xs k (omega (arith, within))
 
-is_ready_by : (undone more deep some free : Bool) → undone ≡ true → more ≡ true → deep ≡ true → some ≡ true → free ≡ true → (undone && more && deep && some && free) ≡ true
-is_ready_by true true true true true a b c d e = refl
-is_ready_by false more deep some free a b c d e = absurd (cc (a))
-is_ready_by true false deep some free a b c d e = absurd (cc (b))
-is_ready_by true true false some free a b c d e = absurd (cc (c))
-is_ready_by true true true false free a b c d e = absurd (cc (d))
-is_ready_by true true true true false a b c d e = absurd (cc (e))
-
 -- a live request that isn't done is ready where it may have an ID, nobody holds it back and no burst of it is outstanding
 ready_now : (table : RequestTable) (request : BridgedRequest) → IsSoundRequestTable table → IsServed table.config table.regions request
     → IsSoundRequest (table_limits_of table.config) table.accepted request.flight → request.flight.done ≡ false → request.flight.sent ≤ request.flight.answered
@@ -116,9 +103,7 @@ ready_now table request sound served each live answered some free =
     let flight = request.flight in
     let going = leb-false (length (planned flight)) flight.answered (sym served.done ∙ live) in
     let limits = limits_made table.config sound.config in
-    is_ready_by (not flight.done) (is_some (next_burst flight)) (nat_lt (unanswered flight) table.config.depth) (is_some (id_for (table_limits_of table.config) (flights_of table.live) flight))
-    (not (is_held (flights_of table.live) flight)) (ap not live) (present_at (planned flight) flight.sent (omega (arith, going, each.answered)))
-    (lt-ltb (unanswered flight) table.config.depth (omega (arith, answered, limits.some_depth))) some (ap not free)
+    rw (live, present_at (planned flight) flight.sent (omega (arith, going, each.answered)), lt-ltb (unanswered flight) table.config.depth (omega (arith, answered, limits.some_depth)), some, free) refl
 
 -- nothing goes, so no request is ready
 none_ready : (bridge : BridgeState) → IsSoundBridge bridge → burst_to_send bridge ≡ None → find (may_send bridge.requests) bridge.requests.live ≡ None
@@ -170,22 +155,7 @@ later_hold_none r (e ∷ live) all =
 first_not_held : (live : List BridgedRequest) (r : BridgedRequest) → AreRising (map (λ (f : LiveRequest). f.number) (flights_of live)) → find undone live ≡ Some r
     → list_any (holds_back r.flight) (flights_of live) ≡ false
 first_not_held [] r rising found = absurd (cc (found))
-first_not_held (e ∷ live) r rising found = by_flag e.flight.done refl found (first_not_held live r rising.1)
-  where
-    rest : nat_lt e.flight.number e.flight.number ≡ false
-    rest = grind (arith, nat_tests)
-
-    done_holds_none : (b d : Bool) → (b && false && d) ≡ false
-    done_holds_none true d = refl
-    done_holds_none false d = refl
-
-    by_flag : (b : Bool) → e.flight.done ≡ b → (if not b then Some e else find undone live) ≡ Some r → (find undone live ≡ Some r → list_any (holds_back r.flight) (flights_of live) ≡ false)
-        → list_any (holds_back r.flight) (flights_of (e ∷ live)) ≡ false
-    by_flag true done found later =
-        rw done (rw (done_holds_none (nat_lt e.flight.number r.flight.number) (conflict e.flight r.flight)) (later found))
-    by_flag false live_one found later =
-        let same : e ≡ r = same_Some e r found in
-        subst (λ (q : BridgedRequest). list_any (holds_back q.flight) (flights_of (e ∷ live)) ≡ false) same (rw rest (later_hold_none e.flight live rising.0))
+first_not_held (e ∷ live) r rising found = grind (arith, nat_tests, later_hold_none e.flight live rising.0, first_not_held live r rising.1)
 
 -- nobody holds 0, so it is free
 free_zero : (ids : ℕ) (live : List BridgedRequest) → 1 ≤ ids → holder 0 live ≡ None → is_some (free_id ids (flights_of live)) ≡ true
@@ -194,11 +164,7 @@ free_zero (suc ids) live some none = rw (not_any live none) refl
   where
     not_any : (live : List BridgedRequest) → holder 0 live ≡ None → list_any (holds_id 0) (flights_of live) ≡ false
     not_any [] none = refl
-    not_any (e ∷ live) none = by_test (holds 0 e) none (not_any live)
-      where
-        by_test : (b : Bool) → (if b then Some e else holder 0 live) ≡ None → (holder 0 live ≡ None → list_any (holds_id 0) (flights_of live) ≡ false) → (b || list_any (holds_id 0) (flights_of live)) ≡ false
-        by_test true none later = absurd (cc (none))
-        by_test false none later = later none
+    not_any (e ∷ live) none = grind (arith, none, not_any live)
 
 pub no_undone : (bridge : BridgeState) → IsSoundBridge bridge → IsIdle bridge → burst_to_send bridge ≡ None → find undone bridge.requests.live ≡ None
 no_undone bridge sound idle none = found_or_none (find undone bridge.requests.live ≡ None) (find undone bridge.requests.live) (λ is. is) (λ request is. absurd (impossible request is))
@@ -237,19 +203,7 @@ no_undone bridge sound idle none = found_or_none (find undone bridge.requests.li
 
 none_passes : (p : ℕ → Bool) (from n k : ℕ) → filter p (range_with_len from n) ≡ [] → from ≤ k → k < from + n → p k ≡ false
 none_passes p from zero k none low high = absurd (omega (arith, low, high))
-none_passes p from (suc n) k none low high = by_test (p from) refl none (none_passes p (from + 1) n k)
-  where
-    later : k ≢ from → from + 1 ≤ k
-    later other = grind (arith, low, other)
-
-    by_test : (b : Bool) → p from ≡ b → (if b then from ∷ filter p (range_with_len (from + 1) n) else filter p (range_with_len (from + 1) n)) ≡ []
-        → (filter p (range_with_len (from + 1) n) ≡ [] → from + 1 ≤ k → k < from + 1 + n → p k ≡ false) → p k ≡ false
-    by_test true is none rest = absurd (cc (none))
-    by_test false is none rest =
-        elim (cases_eq k from) [
-          | inl same ↦ rw same is
-          | inr other ↦ rest none (later other) (omega (arith, high))
-        ]
+none_passes p from (suc n) k none low high = grind (arith, cases_eq k from, none_passes p (from + 1) n k)
 
 -- no beat of the first open burst waits, where none waits at all
 first_performed : (p : Pending) (ps : List Pending) → flat_map waiting_in (p ∷ ps) ≡ [] → count_waiting p.beats ≡ 0
@@ -343,16 +297,10 @@ beats_to_come state id p sound found =
 
 none_undone : (live : List BridgedRequest) → find undone live ≡ None → length (filter is_undone (flights_of live)) ≡ 0 × (sum_by unsent_work (flights_of live) ≡ 0)
 none_undone [] none = (refl, refl)
-none_undone (e ∷ live) none = by_flag e.flight.done refl none (none_undone live)
-  where
-    by_flag : (b : Bool) → e.flight.done ≡ b → (if not b then Some e else find undone live) ≡ None
-        → (find undone live ≡ None → length (filter is_undone (flights_of live)) ≡ 0 × (sum_by unsent_work (flights_of live) ≡ 0))
-        → length (filter is_undone (flights_of (e ∷ live))) ≡ 0 × (sum_by unsent_work (flights_of (e ∷ live)) ≡ 0)
-    by_flag true done none rest =
-        let others = rest none in
-        let own : unsent_work e.flight ≡ 0 = rw done refl in
-        (rw done others.0, omega (arith, sum_by-cons unsent_work e.flight (flights_of live), own, others.1))
-    by_flag false done none rest = absurd (cc (none))
+none_undone (e ∷ live) none =
+    let others = none_undone live in
+    let work = sum_by-cons unsent_work e.flight (flights_of live) in
+    (grind (arith, none, others), grind (arith, none, others, work))
 
 pub nothing_left : (state : WorldState) → IsSoundWorld state → burst_to_send state.bridge ≡ None → IsStill state.memory → IsQuiet state × (work_left state ≡ 0)
 nothing_left state sound none still =

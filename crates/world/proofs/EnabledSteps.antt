@@ -67,20 +67,12 @@ length-after f xs ys = length-append (map f xs) ys ∙ ap (λ n. n + length ys) 
 -- the first that a filter keeps is what a search finds
 pub first_kept : {X : Type 0} (p : X → Bool) (xs : List X) → slice_get (filter p xs) 0 ≡ find p xs
 first_kept p [] = refl
-first_kept {X = X} p (x ∷ xs) = by_test (p x) (first_kept p xs)
-  where
-    by_test : (b : Bool) → slice_get (filter p xs) 0 ≡ find p xs → slice_get (if b then x ∷ filter p xs else filter p xs) 0 ≡ (if b then Some x else find p xs)
-    by_test true rest = refl
-    by_test false rest = rest
+first_kept p (x ∷ xs) = grind (arith, first_kept p xs)
 
 -- where a search finds nothing a filter keeps nothing
 pub none_kept : {X : Type 0} (p : X → Bool) (xs : List X) → find p xs ≡ None → filter p xs ≡ []
 none_kept p [] none = refl
-none_kept {X = X} p (x ∷ xs) none = by_test (p x) none (none_kept p xs)
-  where
-    by_test : (b : Bool) → (if b then Some x else find p xs) ≡ None → (find p xs ≡ None → filter p xs ≡ []) → (if b then x ∷ filter p xs else filter p xs) ≡ []
-    by_test true none rest = absurd (cc (none))
-    by_test false none rest = rest none
+none_kept p (x ∷ xs) none = grind (arith, none_kept p xs)
 
 -- ---- the answers that may come
 

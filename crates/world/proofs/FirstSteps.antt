@@ -1,5 +1,5 @@
 -- The first step that is enabled, by what stands before it; and that an R of whose burst more come enables nothing else.
-use Rattle.std.proofs.Common.{◌≡◌, ℕ, Bool, true, false, List, [], ◌∷◌, ◌++◌, length, Option, Some, None, is_some, refl, ap, sym, ◌∙◌, subst, ◌+◌, ◌<◌}
+use Rattle.std.proofs.Common.{◌≡◌, ℕ, Bool, true, false, List, [], ◌∷◌, ◌++◌, length, Option, Some, None, is_some, refl, ap, sym, ◌∙◌, subst, ◌+◌, ◌<◌, arith}
 use Rattle.std.specs.Prelude.{IfSome, find, flat_map, if◌then◌else◌, not, slice_get}
 use Rattle.std.specs.List.{range_with_len}
 use Rattle.std.proofs.lemmas.Bool.{lt-leb}
@@ -87,12 +87,7 @@ stays_unready state serial beat idle = ap burst_to_send (performed_apart state (
 -- the open bursts keep their beats
 same_beats : (id : ℕ) (ps : List Pending) (p : Pending) → find (is_read_of id) ps ≡ Some p → gives_last p ≡ false → flat_map waiting_in (pending_after_r id ps) ≡ flat_map waiting_in ps
 same_beats id [] p found more = absurd (cc (found))
-same_beats id (q ∷ ps) p found more = by_test (is_read_of id q) found (λ later. same_beats id ps p later more)
-  where
-    by_test : (b : Bool) → (if b then Some q else find (is_read_of id) ps) ≡ Some p → (find (is_read_of id) ps ≡ Some p → flat_map waiting_in (pending_after_r id ps) ≡ flat_map waiting_in ps)
-        → flat_map waiting_in (if b then (if gives_last q then ps else record q { answered = q.answered + 1 } ∷ ps) else q ∷ pending_after_r id ps) ≡ flat_map waiting_in (q ∷ ps)
-    by_test true here rest = let last : gives_last q ≡ false = ap gives_last (same_Some q p here) ∙ more in rw last refl
-    by_test false later rest = ap (λ places. waiting_in q ++ places) (rest later)
+same_beats id (q ∷ ps) p found more = grind (arith, more, same_beats id ps p)
 
 -- and so does each write
 not_write : (id write : ℕ) (burst : Burst) → reads_as id burst ≡ true → writes_as write burst ≡ false
@@ -101,31 +96,17 @@ not_write id write (ReadBurst ar) is = refl
 
 same_write : (id write : ℕ) (ps : List Pending) (p : Pending) → find (is_read_of id) ps ≡ Some p → gives_last p ≡ false → find (is_write_of write) (pending_after_r id ps) ≡ find (is_write_of write) ps
 same_write id write [] p found more = absurd (cc (found))
-same_write id write (q ∷ ps) p found more = by_test (is_read_of id q) refl found (λ later. same_write id write ps p later more)
-  where
-    by_test : (b : Bool) → is_read_of id q ≡ b → (if b then Some q else find (is_read_of id) ps) ≡ Some p → (find (is_read_of id) ps ≡ Some p → find (is_write_of write) (pending_after_r id ps) ≡ find (is_write_of write) ps)
-        → find (is_write_of write) (if b then (if gives_last q then ps else record q { answered = q.answered + 1 } ∷ ps) else q ∷ pending_after_r id ps) ≡ find (is_write_of write) (q ∷ ps)
-    by_test true is here rest =
-        let last : gives_last q ≡ false = ap gives_last (same_Some q p here) ∙ more in
-        rw (last, not_write id write q.burst is) refl
-    by_test false is later rest = ap (λ (o : Option Pending). if is_write_of write q then Some q else o) (rest later)
+same_write id write (q ∷ ps) p found more = grind (arith, more, not_write id write q.burst, same_write id write ps p)
 
 find_alike : {X : Type 0} (p q : X → Bool) (xs : List X) → ((x : X) → p x ≡ q x) → find p xs ≡ find q xs
 find_alike p q [] alike = refl
-find_alike {X = X} p q (x ∷ xs) alike = rw (alike x) (ap (λ (o : Option X). if q x then Some x else o) (find_alike p q xs alike))
+find_alike p q (x ∷ xs) alike = grind (arith, alike x, find_alike p q xs alike)
 
 -- the requests keep their places in the order
 same_flights : (id : ℕ) (f : BridgedRequest → BridgedRequest) (live : List BridgedRequest) (request : BridgedRequest) → find (holds id) live ≡ Some request → (f request).flight ≡ request.flight
     → flights_of (change_first (holds id) f live) ≡ flights_of live
 same_flights id f [] request held same = absurd (cc (held))
-same_flights id f (q ∷ live) request held same = by_test (holds id q) held (λ later. same_flights id f live request later same)
-  where
-    by_test : (b : Bool) → (if b then Some q else find (holds id) live) ≡ Some request → (find (holds id) live ≡ Some request → flights_of (change_first (holds id) f live) ≡ flights_of live)
-        → flights_of (if b then f q ∷ live else q ∷ change_first (holds id) f live) ≡ flights_of (q ∷ live)
-    by_test true here rest =
-        let is : q ≡ request = same_Some q request here in
-        ap (λ flight. flight ∷ flights_of live) (subst (λ (r : BridgedRequest). (f r).flight ≡ r.flight) (sym is) same)
-    by_test false later rest = ap (λ flights. q.flight ∷ flights) (rest later)
+same_flights id f (q ∷ live) request held same = grind (arith, same, λ (later : find (holds id) live ≡ Some request). same_flights id f live request later same)
 
 same_flight : (bus_bytes : ℕ) (r : RBeat) (request : BridgedRequest) → r.last ≡ false → request.flight.answered < length (planned request.flight) → (after_read bus_bytes r request).flight ≡ request.flight
 same_flight bus_bytes r request more within = rw (more, lt-leb (length (planned request.flight)) request.flight.answered within) refl

@@ -13,19 +13,18 @@ use Rattle.world.specs.Inside.{ArePaired}
 pub paired_opening : (config : Config) (regions : List Region) (pages : List (ℕ × PageKind)) (bad : List ℕ) (bridge : StockedBridge) (device : DeviceState) → bridge ≡ opening_bridge config regions
     → device ≡ opening_device config.axi_bytes pages bad → IsSoundBridge bridge.state → IsSoundMemory device.memory → ArePaired bridge device
 paired_opening config regions pages bad bridge device bridge_is device_is bridge_laws memory_laws =
-    subst (λ (b : StockedBridge). ArePaired b device) (sym bridge_is)
-    (subst (λ (d : DeviceState). ArePaired (opening_bridge config regions) d) (sym device_is)
+    rw (bridge_is, device_is)
     (record {
       agree = record {
-        bridge_laws = subst (λ (b : StockedBridge). IsSoundBridge b.state) bridge_is bridge_laws;
-        memory_laws = subst (λ (d : DeviceState). IsSoundMemory d.memory) device_is memory_laws;
+        bridge_laws = rw bridge_is at bridge_laws;
+        memory_laws = rw device_is at memory_laws;
         bus = refl;
         outstanding = refl;
         serials = record { accepted = omega arith; live = omega arith; sent = omega arith };
       };
       none_closed = refl;
       boxes = omega arith;
-    }))
+    })
 
 -- a device that was made is the opening one
 pub device_made : {F : Type 0} (fault : Option F) (device : DeviceState) (P : Type 0) → MatchOption fault P (λ f. ◌≡◌ {A = Result DeviceState F} (Ok device) (Err f)) → P

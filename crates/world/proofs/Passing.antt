@@ -36,27 +36,6 @@ next_in bridge memory box agree is = by_next (burst_to_send bridge) refl is (tak
     by_next None same is well = absurd (cc (is))
     by_next (Some burst) same is well = record { burst = burst; held = same_Some box (Some burst) is; next = same; well = well }
 
--- the memory takes it
-pub never_refused : (bridge : BridgeState) (memory : FreeMemory) (box : Option Burst) (refused : SendRefused) (result : Result ℕ SendRefused) (P : Burst → ℕ → Type 0) (R : Burst → SendRefused → Type 0) → IsNextIn bridge memory box
-    → result ≡ Err refused → IfSome box (λ b. MatchResult result (P b) (R b)) → ((b : Burst) (r : SendRefused) → R b r → send_fault memory b ≡ Some r.rule) → ⊥
-never_refused bridge memory box refused result P R next is answer tells =
-    let here = subst (λ (held : Option Burst). IfSome held (λ b. MatchResult result (P b) (R b))) next.held answer in
-    let told = subst (λ (r : Result ℕ SendRefused). MatchResult r (P next.burst) (R next.burst)) is here in
-    let fault = tells next.burst refused told in
-    let taken = next.well.taken in
-    absurd (cc (taken, fault))
-
--- so it answers a serial
-pub taken_as : (bridge : BridgeState) (memory : FreeMemory) (box : Option Burst) (serial : ℕ) (result : Result ℕ SendRefused) (P : Burst → ℕ → Type 0) (R : Burst → SendRefused → Type 0) → (next : IsNextIn bridge memory box)
-    → result ≡ Ok serial → IfSome box (λ b. MatchResult result (P b) (R b)) → P next.burst serial
-taken_as bridge memory box serial result P R next is answer =
-    let here = subst (λ (held : Option Burst). IfSome held (λ b. MatchResult result (P b) (R b))) next.held answer in
-    subst (λ (r : Result ℕ SendRefused). MatchResult r (P next.burst) (R next.burst)) is here
-
--- what is told of the burst that goes
-pub if_next : (bridge : BridgeState) (memory : FreeMemory) (box : Option Burst) (P : Burst → Type 0) → (next : IsNextIn bridge memory box) → P next.burst → IfSome (burst_to_send bridge) P
-if_next bridge memory box P next holds = subst (λ (o : Option Burst). IfSome o P) (sym next.next) holds
-
 -- which request sends it
 pub record IsSentBy (bridge : BridgeState) (burst : Burst) : Type 0 where
   pub sending : Sending
@@ -73,22 +52,15 @@ sent_by bridge burst is = by_sending (next_sending bridge.requests) refl is
         record { sending = sending; next = same; burst_is = same_Some sending.burst burst is; after = ap (after_pump_of bridge) same }
 
 -- both after it went
-pub paired_sent : (bridge new : StockedBridge) (device after : DeviceState) (burst : Burst) → ArePaired bridge device → burst_to_send bridge.state ≡ Some burst
-    → new ≡ record { state = after_pump bridge.state; stock = bridge.stock - 1 } → after ≡ record device { memory = with_burst device.memory burst }
-    → IsSoundBridge new.state → IsSoundMemory after.memory → ArePaired new after
-paired_sent bridge new device after burst paired goes bridge_is device_is bridge_laws memory_laws =
+pub paired_sent : (bridge : StockedBridge) (device : DeviceState) (burst : Burst) → ArePaired bridge device → burst_to_send bridge.state ≡ Some burst
+    → IsSoundBridge (after_pump bridge.state) → IsSoundMemory (with_burst device.memory burst)
+    → ArePaired (record { state = after_pump bridge.state; stock = bridge.stock - 1 }) (record device { memory = with_burst device.memory burst })
+paired_sent bridge device burst paired goes bridge_laws memory_laws =
     let sent = sent_by bridge.state burst goes in
     let some : 0 < bridge.stock = box_in_stock bridge device paired (subst IsSome (sym goes) refl) in
-    let state_is : new.state ≡ after_sent bridge.state sent.sending = ap (λ (b : StockedBridge). b.state) bridge_is ∙ sent.after in
-    let memory_is : after.memory ≡ with_burst device.memory sent.sending.burst = ap (λ (d : DeviceState). d.memory) device_is ∙ ap (with_burst device.memory) (sym sent.burst_is) in
-    let agree : Agree (after_sent bridge.state sent.sending) (with_burst device.memory sent.sending.burst) =
-    agree_sent bridge.state device.memory sent.sending paired.agree sent.next (subst IsSoundBridge state_is bridge_laws) (subst IsSoundMemory memory_is memory_laws) in
-    let longer : length after.memory.pending ≡ length device.memory.pending + 1 =
-    ap (λ (m : FreeMemory). length m.pending) memory_is ∙ length-append device.memory.pending (newly_pending device.memory.sent sent.sending.burst ∷ []) in
-    let fewer : new.stock ≡ bridge.stock - 1 = ap (λ (b : StockedBridge). b.stock) bridge_is in
-    let boxes : boxes_of new.state.requests.config ≡ boxes_of bridge.state.requests.config = ap (λ (s : BridgeState). boxes_of s.requests.config) state_is in
-    record {
-      agree = subst (λ (s : BridgeState). Agree s after.memory) (sym state_is) (subst (λ (m : FreeMemory). Agree (after_sent bridge.state sent.sending) m) (sym memory_is) agree);
-      none_closed = ap (λ (d : DeviceState). d.closed) device_is ∙ paired.none_closed;
-      boxes = omega (arith, some, paired.boxes, longer, fewer, boxes);
-    }
+    rw (← sent.burst_is, sent.after)
+    (record {
+      agree = agree_sent bridge.state device.memory sent.sending paired.agree sent.next (rw sent.after at bridge_laws) (rw (← sent.burst_is) at memory_laws);
+      none_closed = paired.none_closed;
+      boxes = omega (arith, some, paired.boxes, length-append device.memory.pending (newly_pending device.memory.sent sent.sending.burst ∷ []));
+    })

@@ -5,6 +5,7 @@ use Rattle.std.specs.List.{range_with_len}
 use Rattle.std.proofs.lemmas.Bool.{and_parts, cases_lt, leb-true}
 use Rattle.std.proofs.lemmas.List.Sums.{sum_by-cons}
 use Rattle.std.proofs.lemmas.Option.{same_Some, slice_get-map}
+use Rattle.bus_words.specs.Places.{change_first}
 use Rattle.axi_beats.specs.Bursts.{Burst}
 use Rattle.axi_beats.specs.declared.BBeat.{BBeat}
 use Rattle.axi_beats.specs.declared.RBeat.{RBeat}
@@ -21,11 +22,11 @@ use Rattle.bridge_core.proofs.NextSending.{map_some, next_found}
 use Rattle.bridge_core.proofs.ResponseLinks.{not_so}
 use Rattle.bridge_core.proofs.SentLinks.{found_by_number}
 use Rattle.responses.specs.Gathered.{Gathering, after_b, after_r}
-use Rattle.subordinate.specs.FreeMemory.{Pending, after_b_of, after_r_of, answers_left, b_of, beat_at, has_serial, ids_with_b, ids_with_r, r_of, transfers_in, waiting_beats, with_burst, with_performed}
+use Rattle.subordinate.specs.FreeMemory.{Pending, after_b_of, after_r_of, answers_left, b_of, beat_at, has_serial, ids_with_b, ids_with_r, r_of, transfers_in, waiting_beats, work_open, with_burst, with_performed}
 use Rattle.subordinate.specs.declared.BeatState.TheVariants.{Waiting}
 use Rattle.subordinate.proofs.BeatStates.{slice_get-append-after, slice_get-append-before}
 use Rattle.world.specs.Laws.{IsSoundWorld, work_spared}
-use Rattle.world.specs.World.{WorldState, enabled, next, perform_at, pumps_enabled, work_left}
+use Rattle.world.specs.World.{WorldState, answered_b, answered_r, enabled, next, perform_at, pumps_enabled, work_left}
 use Rattle.world.specs.declared.Step.{Step}
 use Rattle.world.specs.declared.Step.TheVariants.{AnswerB, AnswerR, Perform, Pump}
 use Rattle.world.proofs.Sums.{sum_between}
@@ -185,39 +186,30 @@ read_settles bus_bytes r request live within = by_last r.last
 
 -- ---- an answer comes
 
-b_takes : (state : WorldState) (id : ℕ) (b : BBeat) → IsSoundWorld state → b_of state.memory id ≡ Some b → b_fault state.bridge b ≡ None
-    → TakesOne state (record { bridge = after_b_beat state.bridge b; memory = after_b_of state.memory id; last_sent = None })
-b_takes state id b sound is none =
-    let table = state.bridge.requests in
-    let writer = answered_writer state.bridge b sound.bridge_laws none in
-    let settling = response_settles b.resp writer.request writer.live writer.sent in
-    let unsent = sum_between unsent_of (holds b.id) (after_response b.resp) table.live writer.request writer.held in
-    let spared = sum_between spared_of (holds b.id) (after_response b.resp) table.live writer.request writer.held in
-    let memory = work_open-b state.memory id b is in
+answer_takes : (state new : WorldState) (test : BridgedRequest → Bool) (change : BridgedRequest → BridgedRequest) (request : BridgedRequest) → find test state.bridge.requests.live ≡ Some request
+    → IsSettled request.flight (change request).flight → new.bridge.requests.live ≡ change_first test change state.bridge.requests.live → work_open state.memory ≡ 1 + work_open new.memory
+    → TakesOne state new
+answer_takes state new test change request found settling is memory =
+    let live = state.bridge.requests.live in
+    let spared = sum_between spared_of test change live request found in
     record {
-      work = omega (arith, unsent, spared, settling.work, memory, unsent_by_flight table.live, unsent_by_flight (after_b_beat state.bridge b).requests.live);
-      spared = omega (arith, spared, settling.spared);
+      work =
+          rw is (omega (arith, sum_between unsent_of test change live request found, spared, settling.work, memory, unsent_by_flight live, unsent_by_flight (change_first test change live)));
+      spared = rw is (omega (arith, spared, settling.spared));
     }
 
 pub answer_b_takes : (state : WorldState) (id : ℕ) (b : BBeat) → IsSoundWorld state → b_of state.memory id ≡ Some b → TakesOne state (next state (AnswerB id)).state
-answer_b_takes state id b sound is = rw is (b_takes state id b sound is (b_unbroken state id b sound is))
-
-r_takes : (state : WorldState) (id : ℕ) (r : RBeat) → IsSoundWorld state → r_of state.memory id ≡ Some r → r_fault state.bridge r ≡ None
-    → TakesOne state (record { bridge = after_r_beat state.bridge r; memory = after_r_of state.memory id; last_sent = None })
-r_takes state id r sound is none =
-    let table = state.bridge.requests in
-    let reader = answered_reader state.bridge r sound.bridge_laws none in
-    let settling = read_settles table.config.axi_bytes r reader.request reader.live reader.sent in
-    let unsent = sum_between unsent_of (holds r.id) (after_read table.config.axi_bytes r) table.live reader.request reader.held in
-    let spared = sum_between spared_of (holds r.id) (after_read table.config.axi_bytes r) table.live reader.request reader.held in
-    let memory = work_open-r state.memory id r sound.memory_laws is in
-    record {
-      work = omega (arith, unsent, spared, settling.work, memory, unsent_by_flight table.live, unsent_by_flight (after_r_beat state.bridge r).requests.live);
-      spared = omega (arith, spared, settling.spared);
-    }
+answer_b_takes state id b sound is =
+    let writer = answered_writer state.bridge b sound.bridge_laws (b_unbroken state id b sound is) in
+    rw is (answer_takes state (answered_b state id (Some b)).state (holds b.id) (after_response b.resp) writer.request writer.held (response_settles b.resp writer.request writer.live writer.sent) refl
+    (work_open-b state.memory id b is))
 
 pub answer_r_takes : (state : WorldState) (id : ℕ) (r : RBeat) → IsSoundWorld state → r_of state.memory id ≡ Some r → TakesOne state (next state (AnswerR id)).state
-answer_r_takes state id r sound is = rw is (r_takes state id r sound is (r_unbroken state id r sound is))
+answer_r_takes state id r sound is =
+    let reader = answered_reader state.bridge r sound.bridge_laws (r_unbroken state id r sound is) in
+    let bytes = state.bridge.requests.config.axi_bytes in
+    rw is (answer_takes state (answered_r state id (Some r)).state (holds r.id) (after_read bytes r) reader.request reader.held (read_settles bytes r reader.request reader.live reader.sent) refl
+    (work_open-r state.memory id r sound.memory_laws is))
 
 -- ---- each enabled step
 
@@ -234,12 +226,8 @@ in_mapped f xs k y P there found = map_some f (slice_get xs k) y (sym (slice_get
 -- what a filter keeps passes its test
 kept_passes : {X : Type 0} (p : X → Bool) (xs : List X) (k : ℕ) (x : X) → slice_get (filter p xs) k ≡ Some x → p x ≡ true
 kept_passes p [] k x there = absurd (cc (there))
-kept_passes {X = X} p (y ∷ ys) k x there = by_test (p y) refl k there (λ j later. kept_passes p ys j x later)
-  where
-    by_test : (b : Bool) → p y ≡ b → (k : ℕ) → slice_get (if b then y ∷ filter p ys else filter p ys) k ≡ Some x → ((j : ℕ) → slice_get (filter p ys) j ≡ Some x → p x ≡ true) → p x ≡ true
-    by_test true is zero there rest = let same : y ≡ x = cc in rw same at is
-    by_test true is (suc k) there rest = rest k there
-    by_test false is k there rest = rest k there
+kept_passes p (y ∷ ys) zero x there = grind (arith, there, kept_passes p ys 0 x)
+kept_passes p (y ∷ ys) (suc k) x there = grind (arith, there, kept_passes p ys k x, kept_passes p ys (suc k) x)
 
 some_value : {X : Type 0} (o : Option X) (P : Type 0) → is_some o ≡ true → ((x : X) → o ≡ Some x → P) → P
 some_value None P some found = absurd (cc (some))
