@@ -42,6 +42,7 @@ use Rattle.subordinate.specs.Laws.{IsSoundMemory}
 use Rattle.world.specs.Laws.{Agree, HasSerials, bursts_sent}
 use Rattle.world.proofs.Serials.{most_sent}
 use Rattle.subordinate.proofs.Monitors.{HasBeatsToCome, outstanding_after_b, outstanding_after_r, outstanding_performed, outstanding_sent}
+use Rattle.world.proofs.OpenWork.{sum_few}
 use Rattle.world.proofs.Sums.{sum_between, sum_more, sum_without}
 use Rattle.world.proofs.Settled.{settled_has}
 
@@ -219,12 +220,6 @@ agree_offered state memory client beat agree =
     (λ known. agree_after state memory client beat (verdict_on state client beat) agree)
 
 -- ---- serials don't run out
-
-sum_few : {X : Type 0} (measure : X → ℕ) (most : ℕ) (xs : List X) → AllByRecursion (λ x. measure x ≤ most) xs → sum_by measure xs ≤ most * length xs
-sum_few measure most [] all = omega arith
-sum_few measure most (x ∷ xs) all =
-    let one : most * suc (length xs) ≡ most * length xs + most = mul-suc most (length xs) in
-    omega (arith, sum_by-cons measure x xs, all.0, sum_few measure most xs all.1, one)
 
 sent_few : (config : Config) (regions : List Region) (limits : TableLimits) (accepted : ℕ) (live : List BridgedRequest) → is_valid config ≡ true → AllByRecursion (IsServed config regions) live
     → AllByRecursion (λ (r : BridgedRequest). IsSoundRequest limits accepted r.flight) live → AllByRecursion (λ (r : BridgedRequest). all_sent r.flight ≤ 2048) live

@@ -26,7 +26,7 @@ use Rattle.bridge_core.proofs.AnswerLinks.{holder_known}
 use Rattle.bridge_core.proofs.HolderChanges.{all-mapped, filter-found}
 use Rattle.bridge_core.proofs.NextSending.{next_sending-some}
 use Rattle.bridge_core.proofs.JoinedRequests.{limits_made}
-use Rattle.bridge_core.proofs.ResponseLinks.{part_way-zero}
+use Rattle.bridge_core.proofs.ResponseLinks.{not_so, part_way-zero}
 use Rattle.bridge_core.proofs.SendingLinks.{sound_requests}
 use Rattle.bridge_core.proofs.SentLinks.{none_sent}
 use Rattle.subordinate.specs.FreeMemory.{FreeMemory, Pending, b_of, beat_at, ids_with_b, ids_with_r, is_read_of, is_waiting, is_write_of, open_read_in, open_write_in, r_of, r_with, reads_as, transfers_in, waiting_beats, waiting_in, work_in, work_open, writes_as}
@@ -57,9 +57,6 @@ none_found p q (y ∷ ys) x none found = grind (arith, none_found p q ys x)
 found_or_none : {X : Type 0} (P : Type 0) (o : Option X) → (o ≡ None → P) → ((x : X) → o ≡ Some x → P) → P
 found_or_none P None none some = none refl
 found_or_none P (Some x) none some = some x refl
-
-contradicts : (b : Bool) → b ≡ true → b ≡ false → ⊥
-contradicts b is not_so = absurd (cc (is, not_so))
 
 -- ---- with no burst open each request has had the answers of all that it sent
 
@@ -120,25 +117,20 @@ held_ready bridge id request sound idle held =
     let table = bridge.requests in
     let known = holder_known table id request sound.requests held in
     let answered = all_answered request.flight known.sound.sent (holder_idle bridge id request sound idle held) in
-    ready_now table request sound.requests known.served known.sound known.live answered (rw known.has_id refl) (free (is_held (flights_of table.live) request.flight) refl)
+    let in_order =
+    all-find (λ (r : BridgedRequest). r.flight.done ≡ false → is_held (flights_of table.live) r.flight ≡ true → r.flight.id ≡ None) (holds id) table.live request
+    (all-mapped (λ r. r.done ≡ false → is_held (flights_of table.live) r ≡ true → r.id ≡ None) (λ (r : BridgedRequest). r.flight) table.live sound.requests.flights.in_order) held known.live in
+    ready_now table request sound.requests known.served known.sound known.live answered (rw known.has_id refl)
+    (free (is_held (flights_of table.live) request.flight) request.flight.id known.has_id in_order)
   where
-    in_order : (b : Bool) → is_held (flights_of bridge.requests.live) request.flight ≡ true → request.flight.id ≡ None
-    in_order b is =
-        let known = holder_known bridge.requests id request sound.requests held in
-        all-find (λ (r : BridgedRequest). r.flight.done ≡ false → is_held (flights_of bridge.requests.live) r.flight ≡ true → r.flight.id ≡ None) (holds id) bridge.requests.live request
-        (all-mapped (λ r. r.done ≡ false → is_held (flights_of bridge.requests.live) r ≡ true → r.id ≡ None) (λ (r : BridgedRequest). r.flight) bridge.requests.live sound.requests.flights.in_order) held known.live is
-
-    free : (b : Bool) → is_held (flights_of bridge.requests.live) request.flight ≡ b → is_held (flights_of bridge.requests.live) request.flight ≡ false
-    free true is =
-        let known = holder_known bridge.requests id request sound.requests held in
-        absurd (cc (in_order true is, known.has_id))
-    free false is = is
+    free : (b : Bool) (own : Option ℕ) → own ≡ Some id → (b ≡ true → own ≡ None) → b ≡ false
+    free true own has none = let not_any = none refl in absurd (cc (has, not_any))
+    free false own has none = refl
 
 nobody_holds : (bridge : BridgeState) (id : ℕ) → IsSoundBridge bridge → IsIdle bridge → burst_to_send bridge ≡ None → holder id bridge.requests.live ≡ None
 nobody_holds bridge id sound idle none =
     found_or_none (holder id bridge.requests.live ≡ None) (holder id bridge.requests.live) (λ is. is)
-    (λ request is. absurd (contradicts (may_send bridge.requests request) (held_ready bridge id request sound idle is)
-    (none_found (may_send bridge.requests) (holds id) bridge.requests.live request (none_ready bridge sound none) is)))
+    (λ request is. absurd (cc (held_ready bridge id request sound idle is, none_found (may_send bridge.requests) (holds id) bridge.requests.live request (none_ready bridge sound none) is)))
 
 -- ---- and the first request that isn't done would be ready
 
@@ -172,15 +164,11 @@ no_undone bridge sound idle none = found_or_none (find undone bridge.requests.li
     table : RequestTable
     table = bridge.requests
 
-    not_true : (b : Bool) → not b ≡ true → b ≡ false
-    not_true true is = absurd (cc (is))
-    not_true false is = refl
-
     impossible : (request : BridgedRequest) → find undone table.live ≡ Some request → ⊥
     impossible request is = by_id request.flight.id refl
       where
         live : request.flight.done ≡ false
-        live = not_true request.flight.done (find-passes undone table.live request is)
+        live = not_so request.flight.done (find-passes undone table.live request is)
 
         each : IsSoundRequest (table_limits_of table.config) table.accepted request.flight
         each = all-find (λ (r : BridgedRequest). IsSoundRequest (table_limits_of table.config) table.accepted r.flight) undone table.live request (sound_requests table sound.requests) is
@@ -191,13 +179,13 @@ no_undone bridge sound idle none = found_or_none (find undone bridge.requests.li
         by_id : (own : Option ℕ) → request.flight.id ≡ own → ⊥
         by_id (Some id) own =
             let passes : holds id request ≡ true = rw own (eq-eqb id id refl) in
-            contradicts (holds id request) passes (none_found (holds id) undone table.live request (nobody_holds bridge id sound idle none) is)
+            cc (passes, none_found (holds id) undone table.live request (nobody_holds bridge id sound idle none) is)
         by_id None own =
             let unsent : request.flight.sent ≡ 0 = none_sent (table_limits_of table.config) table.accepted request.flight each live own in
             let limits = limits_made table.config sound.requests.config in
             let free = free_zero table.config.ids table.live limits.some_ids (nobody_holds bridge 0 sound idle none) in
             let ready = ready_now table request sound.requests served each live (omega (arith, unsent)) (rw own free) (first_not_held table.live request sound.requests.flights.rising is) in
-            contradicts (may_send table request) ready (none_found (may_send table) undone table.live request (none_ready bridge sound none) is)
+            cc (ready, none_found (may_send table) undone table.live request (none_ready bridge sound none) is)
 
 -- ---- no burst is open
 
@@ -212,11 +200,7 @@ first_performed p ps none =
     omega (arith, count, length-append (waiting_in p) (flat_map waiting_in ps), length-waiting_in p)
 
 none_waits : (beats : List BeatState) → count_waiting beats ≡ 0 → list_any is_waiting beats ≡ false
-none_waits beats none = by_test (list_any is_waiting beats) (sym (none_waiting beats) ∙ eq-eqb (count_waiting beats) 0 none)
-  where
-    by_test : (b : Bool) → not b ≡ true → b ≡ false
-    by_test true is = absurd (cc (is))
-    by_test false is = refl
+none_waits beats none = not_so (list_any is_waiting beats) (sym (none_waiting beats) ∙ eq-eqb (count_waiting beats) 0 none)
 
 not_waiting_at : (beats : List BeatState) (n : ℕ) (beat : BeatState) → count_waiting beats ≡ 0 → slice_get beats n ≡ Some beat → is_waiting beat ≡ false
 not_waiting_at [] n beat none at = absurd (cc (at))
@@ -247,7 +231,7 @@ nothing_open memory sound still to_come = by_pending memory.pending refl
         let first : is_write_of aw.id p ≡ true = ap (writes_as aw.id) burst ∙ eq-eqb aw.id aw.id refl in
         let found : find (is_write_of aw.id) memory.pending ≡ Some p = ap (find (is_write_of aw.id)) is ∙ rw first refl in
         let gives : is_some (b_of memory aw.id) ≡ true = rw (found, none_waits p.beats performed) refl in
-        contradicts (is_some (b_of memory aw.id)) gives (none_passes (λ id. is_some (b_of memory id)) 0 16 aw.id still.bs (omega arith) (omega (arith, below)))
+        cc (gives, none_passes (λ id. is_some (b_of memory id)) 0 16 aw.id still.bs (omega arith) (omega (arith, below)))
     by_burst p ps (ReadBurst ar) is burst each known performed =
         let below : ar.id < 16 = omega (arith, known, ap queue_of_burst burst) in
         let first : is_read_of ar.id p ≡ true = ap (reads_as ar.id) burst ∙ eq-eqb ar.id ar.id refl in
@@ -257,7 +241,7 @@ nothing_open memory sound still to_come = by_pending memory.pending refl
         let at : beat_at p p.answered ≡ Some beat = slice_get-get_or p.beats p.answered Waiting within in
         let of_read : IsBeatOf (ReadBurst ar) beat = subst (λ (b : Burst). IsBeatOf b beat) burst (all-at (IsBeatOf p.burst) p.beats p.answered beat each.0.beats at) in
         let gives : is_some (r_of memory ar.id) ≡ true = rw (found, at) (read_gives ar ar.id p beat of_read (not_waiting_at p.beats p.answered beat performed at)) in
-        contradicts (is_some (r_of memory ar.id)) gives (none_passes (λ id. is_some (r_of memory id)) 0 16 ar.id still.rs (omega arith) (omega (arith, below)))
+        cc (gives, none_passes (λ id. is_some (r_of memory id)) 0 16 ar.id still.rs (omega arith) (omega (arith, below)))
 
     by_pending : (pending : List Pending) → memory.pending ≡ pending → memory.pending ≡ []
     by_pending [] is = is

@@ -16,6 +16,7 @@ use Rattle.bridge_core.specs.Laws.{IsSoundBridge}
 use Rattle.bridge_core.specs.Requests.{BridgedRequest, after_read, flight_table_of, flights_of, holds}
 use Rattle.bridge_core.proofs.AnswerLinks.{answered_reader}
 use Rattle.bridge_core.proofs.Pumps.{ready_goes}
+use Rattle.bridge_core.proofs.ResponseLinks.{not_so}
 use Rattle.subordinate.specs.FreeMemory.{FreeMemory, Pending, after_r_of, b_from, b_of, beat_at, first_with_b, first_with_r, gives_last, is_read_of, is_write_of, pending_after_r, performed, r_from, r_of, r_with, reads_as, waiting_beats, waiting_in, writes_as}
 use Rattle.subordinate.specs.declared.BeatState.{BeatState}
 use Rattle.subordinate.specs.declared.BeatState.TheVariants.{Captured, Waiting, Written}
@@ -134,11 +135,7 @@ pub record StaysRead (state : WorldState) : Type 0 where
 
 not_last : (state : WorldState) (id : ℕ) (o : Option RBeat) → goes_on (answered_r state id o).answer ≡ true → (r : RBeat) × (o ≡ Some r) × (r.last ≡ false)
 not_last state id None goes = absurd (cc (goes))
-not_last state id (Some r) goes = (r, refl, by_last r.last goes)
-  where
-    by_last : (b : Bool) → not b ≡ true → b ≡ false
-    by_last true is = absurd (cc (is))
-    by_last false is = refl
+not_last state id (Some r) goes = (r, refl, not_so r.last goes)
 
 pub reads_on : (state : WorldState) (id : ℕ) → IsSoundWorld state → IsSoundWorld (next state (AnswerR id)).state → StaysRead state → goes_on (next state (AnswerR id)).answer ≡ true
     → StaysRead (next state (AnswerR id)).state

@@ -14,6 +14,7 @@ use Rattle.axi_beats.specs.declared.RBeat.{RBeat}
 use Rattle.axi_beats.specs.declared.Resp.{Resp}
 use Rattle.axi_checker.proofs.Few.{length-few}
 use Rattle.bus_words.proofs.PlaceChanges.{all-find, find-passes}
+use Rattle.flight_table.proofs.TableChanges.{all-map}
 use Rattle.subordinate.specs.Faults.{standing_at, write_response}
 use Rattle.subordinate.specs.FreeMemory.{FreeMemory, Pending, after_b_of, after_r_of, answers_left, b_from, b_of, beat_after, beat_at, gives_last, has_serial, is_read_of, is_waiting, is_write_of, newly_pending, r_from, r_of, r_with, reads_as, start_of, transfers_in, waiting_beats, waiting_in, with_beat, with_burst, with_performed, work_in, work_open, writes_as}
 use Rattle.subordinate.specs.Inside.{count_waiting, waiting_places, with_answer}
@@ -50,17 +51,13 @@ work_in_few : (bus_bytes : ℕ) (p : Pending) → IsSoundPending bus_bytes p →
 work_in_few bus_bytes p sound =
     omega (arith, length-waiting_in p, count_waiting-le p.beats, sound.whole, few_transfers bus_bytes p.burst sound.legal, answers_few p.answered p.burst)
 
-sum_few : {X : Type 0} (f : X → ℕ) (most : ℕ) (xs : List X) → AllByRecursion (λ x. f x ≤ most) xs → sum_by f xs ≤ length xs * most
+pub sum_few : {X : Type 0} (f : X → ℕ) (most : ℕ) (xs : List X) → AllByRecursion (λ x. f x ≤ most) xs → sum_by f xs ≤ length xs * most
 sum_few f most [] all = omega arith
 sum_few f most (x ∷ xs) all = omega (arith, all.0, sum_few f most xs all.1, sum_by-cons f x xs)
 
-all_few : (bus_bytes : ℕ) (pending : List Pending) → AllByRecursion (IsSoundPending bus_bytes) pending → AllByRecursion (λ p. work_in p ≤ 512) pending
-all_few bus_bytes [] all = tt
-all_few bus_bytes (p ∷ ps) all = (work_in_few bus_bytes p all.0, all_few bus_bytes ps all.1)
-
 pub work_open_few : (memory : FreeMemory) → IsSoundMemory memory → work_open memory ≤ 65536
 work_open_few memory sound =
-    omega (arith, sum_few work_in 512 memory.pending (all_few memory.bus_bytes memory.pending sound.each), length-few queue_of 32 4 memory.pending sound.few)
+    omega (arith, sum_few work_in 512 memory.pending (all-map (IsSoundPending memory.bus_bytes) (λ p. work_in p ≤ 512) memory.pending (λ p each. work_in_few memory.bus_bytes p each) sound.each), length-few queue_of 32 4 memory.pending sound.few)
 
 waiting_in_work : (pending : List Pending) → length (flat_map waiting_in pending) ≤ sum_by work_in pending
 waiting_in_work [] = omega arith

@@ -64,12 +64,8 @@ pub record IsTakenFrom (state : BridgeState) (client number : ℕ) : Type 0 wher
   pub found : reply_taken state client ≡ Some request
 
 pub reply_of : (state : BridgeState) (client number : ℕ) → taken state client ≡ take.Reply number → IsTakenFrom state client number
-reply_of state client number is = by_test (nat_le state.requests.config.clients client) refl is
+reply_of state client number is = by_found (reply_taken state client) refl
   where
-    by_done : (found : Option BridgedRequest) → first_done state.requests.live client ≡ found → taken_of found ≡ take.Reply number → nat_le state.requests.config.clients client ≡ false → IsTakenFrom state client number
-    by_done None same is there = absurd (cc (is))
-    by_done (Some request) same is there = record { request = request; found = rw there same }
-
-    by_test : (absent : Bool) → nat_le state.requests.config.clients client ≡ absent → (if absent then take.NoClient else taken_of (first_done state.requests.live client)) ≡ take.Reply number → IsTakenFrom state client number
-    by_test true same is = absurd (cc (is))
-    by_test false same is = by_done (first_done state.requests.live client) refl is same
+    by_found : (found : Option BridgedRequest) → reply_taken state client ≡ found → IsTakenFrom state client number
+    by_found None none = absurd (grind (arith, is, none))
+    by_found (Some request) found = record { request = request; found = found }
