@@ -4,6 +4,7 @@ use Rattle.std.proofs.Common.{◌≡◌, ℕ, zero, suc, ◌+◌, ◌-◌, ◌*�
 use Rattle.std.specs.Prelude.{Option, Some, None, find, flat_map, if◌then◌else◌, option_map, slice_get, sum_by, take}
 use Rattle.std.specs.List.{AllByRecursion, enumerate_from, list_all, list_any}
 use Rattle.std.proofs.lemmas.Bool.{and_parts, cases_lt, eq-eqb, eqb-true, ltb-true, ne_eqb}
+use Rattle.std.proofs.lemmas.Bool.Decides.{nat_tests}
 use Rattle.std.proofs.lemmas.List.{length-append}
 use Rattle.std.proofs.lemmas.List.Sums.{sum_by-append, sum_by-cons}
 use Rattle.std.proofs.lemmas.Option.{same_Some, slice_get-map, slice_get_within}
@@ -30,10 +31,7 @@ use Rattle.world.proofs.Sums.{sum_between, sum_without}
 
 -- a legal burst has at most 256 transfers
 few_by : (bus_bytes address len size kind : ℕ) → is_legal_address bus_bytes address len size kind ≡ true → len + 1 ≤ 256
-few_by bus_bytes address len size kind legal =
-    let all = and_parts (fits_bus bus_bytes size && kind == 1 && nat_lt len 256) (in_one_page address len size) legal in
-    let few = and_parts (fits_bus bus_bytes size && kind == 1) (nat_lt len 256) all.0 in
-    omega (arith, ltb-true len 256 few.1)
+few_by bus_bytes address len size kind legal = grind (arith, nat_tests, legal)
 
 pub few_transfers : (bus_bytes : ℕ) (burst : Burst) → IsLegal bus_bytes burst → transfers_in burst ≤ 256
 few_transfers bus_bytes (ReadBurst ar) legal = few_by bus_bytes ar.address ar.len ar.size ar.burst legal

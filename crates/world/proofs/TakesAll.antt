@@ -25,6 +25,7 @@ use Rattle.bridge_core.specs.Laws.{IsSoundBridge, came_of, open_reads, open_writ
 use Rattle.bridge_core.specs.Requests.{BridgedRequest, holder}
 use Rattle.bridge_core.specs.Sending.{Sending, next_sending}
 use Rattle.bridge_core.proofs.AnswerLinks.{holder_known}
+use Rattle.bridge_core.proofs.JoinedRequests.{limits_made}
 use Rattle.bridge_core.proofs.NextSending.{map_some}
 use Rattle.bridge_core.proofs.SentBursts.{sent_unbroken, sent_within}
 use Rattle.subordinate.specs.Faults.{Standing, IsAbsent, IsGood, IsSlaveError, standing_at, write_response}
@@ -37,35 +38,16 @@ use Rattle.world.specs.World.{WorldState}
 use Rattle.world.proofs.OpenWork.{b_found, r_found}
 use Rattle.subordinate.proofs.Monitors.{captured_plain, oldest_read_seen, oldest_write_seen}
 
--- ---- the limits
-
--- at most 16 IDs, and at most 4 outstanding bursts of each
-pub limits_known : (config : Config) → is_valid config ≡ true → (config.ids ≤ 16) × (config.depth ≤ 4)
-limits_known config valid =
-    let clients = is_between 1 8 config.clients in
-    let quota = is_between 1 8 config.quota in
-    let ids = is_between 1 16 config.ids in
-    let depth = is_between 1 4 config.depth in
-    let len = is_max_len config.max_len in
-    let size = is_between 3 12 config.max_size in
-    let bus = config.axi_bytes == 8 || config.axi_bytes == 4 && nat_le 2 config.max_len in
-    let all = and_parts (clients && quota && ids && depth && len && size) bus valid in
-    let sizes = and_parts (clients && quota && ids && depth && len) size all.0 in
-    let lens = and_parts (clients && quota && ids && depth) len sizes.0 in
-    let depths = and_parts (clients && quota && ids) depth lens.0 in
-    let known = and_parts (clients && quota) ids depths.0 in
-    (leb-true config.ids 16 (and_parts (nat_le 1 config.ids) (nat_le config.ids 16) known.1).1, leb-true config.depth 4 (and_parts (nat_le 1 config.depth) (nat_le config.depth 4) depths.1).1)
-
 -- ---- a burst that goes
 
 goes_well : (state : WorldState) (sending : Sending) → IsSoundWorld state → next_sending state.bridge.requests ≡ Some sending → GoesWell state sending.burst
 goes_well state sending sound is =
     let sent = sent_unbroken state.bridge sending sound.bridge_laws is in
     let within = sent_within state.bridge sending sound.bridge_laws is in
-    let limits = limits_known state.bridge.requests.config sound.bridge_laws.requests.config in
+    let limits = limits_made state.bridge.requests.config sound.bridge_laws.requests.config in
     let legal : IsLegal state.memory.bus_bytes sending.burst = subst (λ (bytes : ℕ). IsLegal bytes sending.burst) (sym sound.bus) sent.0 in
     let taken : burst_fault (device_port state.memory) state.bridge.open_bursts sending.burst ≡ None =
-    legal_is_unbroken (device_port state.memory) state.bridge.open_bursts sending.burst sound.bridge_laws.filled legal (omega (arith, within.id, limits.0)) (omega (arith, within.depth, limits.1)) in
+    legal_is_unbroken (device_port state.memory) state.bridge.open_bursts sending.burst sound.bridge_laws.filled legal (omega (arith, within.id, limits.most_ids)) (omega (arith, within.depth, limits.most_depth)) in
     record {
       legal = sent.0;
       unbroken = sent.1;

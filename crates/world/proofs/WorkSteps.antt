@@ -47,7 +47,7 @@ unsent_by_flight (request ∷ live) = sum_by-cons unsent_work request.flight (fl
 
 -- ---- a burst is sent
 
-first_dropped : {X : Type 0} (xs : List X) (k : ℕ) (x : X) → slice_get xs k ≡ Some x → drop k xs ≡ x ∷ drop (suc k) xs
+pub first_dropped : {X : Type 0} (xs : List X) (k : ℕ) (x : X) → slice_get xs k ≡ Some x → drop k xs ≡ x ∷ drop (suc k) xs
 first_dropped [] k x there = absurd (cc (there))
 first_dropped {X = X} (y ∷ ys) zero x there = ap (λ (z : X). z ∷ ys) (same_Some y x there)
 first_dropped (y ∷ ys) (suc k) x there = first_dropped ys k x there
