@@ -1,21 +1,46 @@
--- Bridge and memory after an event that concerns one of them alone. It knows which of their laws look at the other part.
-use Rattle.std.proofs.Common.{◌≡◌, ℕ, ◌∙◌, Bool, true, false, length, Option, Some, None, ap, sym, refl, subst, arith}
-use Rattle.std.specs.Prelude.{if◌then◌else◌, nat_le, find}
+-- Bridge and memory at first, and after an event that concerns one of them alone. It knows what the constructors of both parts promise, and which
+-- of their laws look at the other part.
+use Rattle.std.specs.Prelude.{MatchOption, Result, Ok, Err, if◌then◌else◌, nat_le, find}
+use Rattle.std.proofs.Common.{◌≡◌, ℕ, List, Option, None, Some, sym, refl, subst, arith, ◌∙◌, Bool, true, false, length, ap}
+use Rattle.burst_plan.specs.declared.Region.{Region}
+use Rattle.bridge_core.specs.Bridge.{StockedBridge, opening_bridge, BridgeState, after_take, boxes_of, offered, reply_taken, taken, taken_of}
+use Rattle.bridge_core.specs.Laws.{IsSoundBridge}
+use Rattle.bridge_core.specs.declared.Config.{Config}
+use Rattle.subordinate.specs.Device.{DeviceState, opening_device}
+use Rattle.subordinate.specs.Laws.{IsSoundMemory}
+use Rattle.subordinate.specs.declared.PageKind.{PageKind}
+use Rattle.world.specs.Inside.{ArePaired}
 use Rattle.bus_words.proofs.PlaceChanges.{length-change_first}
 use Rattle.tl_messages.specs.declared.ABeat.{ABeat}
-use Rattle.bridge_core.specs.Bridge.{BridgeState, StockedBridge, after_take, boxes_of, offered, reply_taken, taken, taken_of}
-use Rattle.bridge_core.specs.declared.Taken.TheVariants as take
-use Rattle.bridge_core.specs.Laws.{IsSoundBridge}
 use Rattle.bridge_core.specs.Requests.{BridgedRequest, first_done, is_done_for}
-use Rattle.subordinate.specs.Device.{DeviceState}
 use Rattle.subordinate.specs.FreeMemory.{FreeMemory, Pending, beat_at, has_serial, performed, performed_beat, performed_in}
-use Rattle.subordinate.specs.Laws.{IsSoundMemory}
 use Rattle.subordinate.specs.declared.Performed.{Performed}
 use Rattle.subordinate.specs.declared.BeatState.{BeatState}
 use Rattle.subordinate.specs.declared.BeatState.TheVariants.{Captured, Waiting, Written}
-use Rattle.world.specs.Inside.{ArePaired}
 use Rattle.world.specs.Laws.{Agree}
 use Rattle.world.proofs.Agreeing.{agree_offered, agree_performed, agree_taken}
+use Rattle.bridge_core.specs.declared.Taken.TheVariants as take
+
+pub paired_opening : (config : Config) (regions : List Region) (pages : List (ℕ × PageKind)) (bad : List ℕ) (bridge : StockedBridge) (device : DeviceState) → bridge ≡ opening_bridge config regions
+    → device ≡ opening_device config.axi_bytes pages bad → IsSoundBridge bridge.state → IsSoundMemory device.memory → ArePaired bridge device
+paired_opening config regions pages bad bridge device bridge_is device_is bridge_laws memory_laws =
+    rw (bridge_is, device_is)
+    (record {
+      agree = record {
+        bridge_laws = rw bridge_is at bridge_laws;
+        memory_laws = rw device_is at memory_laws;
+        bus = refl;
+        outstanding = refl;
+        serials = record { accepted = omega arith; live = omega arith; sent = omega arith };
+      };
+      none_closed = refl;
+      boxes = omega arith;
+    })
+
+-- a device that was made is the opening one
+pub device_made : {F : Type 0} (fault : Option F) (device : DeviceState) (P : Type 0) → MatchOption fault P (λ f. ◌≡◌ {A = Result DeviceState F} (Ok device) (Err f)) → P
+device_made None device P is = is
+device_made (Some f) device P is = absurd (cc (is))
 
 -- the bridge alone changes, and has as many boxes in stock as before
 pub paired_offered : (bridge new : StockedBridge) (device : DeviceState) (client : ℕ) (beat : ABeat) → ArePaired bridge device → new ≡ record bridge { state = (offered bridge.state client beat).0 }

@@ -2,7 +2,7 @@
 use Rattle.std.proofs.Common.{◌≡◌, ℕ, zero, suc, ◌+◌, ◌-◌, ◌<◌, ◌≤◌, Bool, true, false, ◌&&◌, not, List, [], ◌∷◌, ◌++◌, length, drop, map, Option, Some, None, is_some, refl, ap, sym, ◌∙◌, subst, arith, inl, inr}
 use Rattle.std.specs.Prelude.{IfSome, filter, find, if◌then◌else◌, slice_get, sum_by}
 use Rattle.std.specs.List.{range_with_len}
-use Rattle.std.proofs.lemmas.Bool.{and_parts, cases_lt, leb-true}
+use Rattle.std.proofs.lemmas.Bool.{and_parts, cond_both, cases_lt, leb-true}
 use Rattle.std.proofs.lemmas.List.Sums.{sum_by-cons}
 use Rattle.std.proofs.lemmas.Option.{same_Some, slice_get-map}
 use Rattle.bus_words.specs.Places.{change_first}
@@ -104,14 +104,10 @@ pump_takes state burst sound is =
 
 -- ---- a beat is performed
 
-performed_takes : (state : WorldState) (serial beat : ℕ) (pending : Pending) → find (has_serial serial) state.memory.pending ≡ Some pending → beat_at pending beat ≡ Some Waiting
-    → TakesOne state (record { bridge = state.bridge; memory = with_performed state.memory pending beat; last_sent = None })
-performed_takes state serial beat pending found waits = record { work = omega (arith, work_open-performed state.memory serial beat pending found waits); spared = omega arith }
-
 pub perform_takes : (state : WorldState) (k serial beat : ℕ) → IsSoundWorld state → slice_get (waiting_beats state.memory) k ≡ Some (serial, beat) → TakesOne state (next state (Perform serial beat)).state
 perform_takes state k serial beat sound there =
     let finds = waiting_found state.memory k (serial, beat) sound.memory_laws there in
-    rw (finds.found, finds.waits) (performed_takes state serial beat finds.burst finds.found finds.waits)
+    rw (finds.found, finds.waits) (record { work = omega (arith, work_open-performed state.memory serial beat finds.burst finds.found finds.waits); spared = omega arith })
 
 -- ---- an answer is counted, and its request settled
 
@@ -148,25 +144,18 @@ write_settles flight live reads settles later =
     record { work = omega (arith, left, next, live_spared flight live, live_spared (with_write flight) live); spared = omega (arith, live_spared flight live) }
 
 settles : (request : BridgedRequest) → request.flight.done ≡ false → request.flight.answered ≤ request.flight.sent → IsSettled request.flight (settled request).flight
-settles request live later = by_flag (is_settled request.flight) refl
-  where
-    by_value : (b : Bool) → (not request.flight.writing && is_some (value_found request)) ≡ b → is_settled request.flight ≡ true → IsSettled request.flight (if b then with_write request.flight else finished request.flight)
-    by_value true found is =
-        write_settles request.flight live (not_so request.flight.writing (and_parts (not request.flight.writing) (is_some (value_found request)) found).0) is later
-    by_value false found is = finished_settles request.flight live is later
+settles request live later =
+    cond_both (is_settled request.flight) _ _ (λ (r : BridgedRequest). IsSettled request.flight r.flight)
+    (λ is.
+    cond_both (not request.flight.writing && is_some (value_found request)) _ _ (IsSettled request.flight)
+    (λ found. write_settles request.flight live (not_so request.flight.writing (and_parts (not request.flight.writing) (is_some (value_found request)) found).0) is later)
+    (λ none. finished_settles request.flight live is later))
+    (λ going. record { work = refl; spared = omega arith })
 
-    by_flag : (b : Bool) → is_settled request.flight ≡ b
-        → IsSettled request.flight
-        (if b
-        then record request { flight = if not request.flight.writing && is_some (value_found request) then with_write request.flight else finished request.flight }
-        else request).flight
-    by_flag true is = by_value (not request.flight.writing && is_some (value_found request)) refl is
-    by_flag false is = record { work = refl; spared = omega arith }
-
-response_settles : (resp : Resp) (request : BridgedRequest) → request.flight.done ≡ false → request.flight.answered < request.flight.sent
-    → IsSettled request.flight (after_response resp request).flight
-response_settles resp request live within =
-    let counted = settles (record request { flight = with_answered request.flight; gathering = after_b resp request.gathering }) live (omega (arith, within)) in
+answered_settles : (request : BridgedRequest) (gathering : Gathering) → request.flight.done ≡ false → request.flight.answered < request.flight.sent
+    → IsSettled request.flight (settled (record request { flight = with_answered request.flight; gathering = gathering })).flight
+answered_settles request gathering live within =
+    let counted = settles (record request { flight = with_answered request.flight; gathering = gathering }) live (omega (arith, within)) in
     record { work = counted.work; spared = counted.spared }
 
 read_settles : (bus_bytes : ℕ) (r : RBeat) (request : BridgedRequest) → request.flight.done ≡ false → request.flight.answered < request.flight.sent
@@ -177,12 +166,8 @@ read_settles bus_bytes r request live within = by_last r.last
     gathers = after_r bus_bytes (outline_in request) r request.gathering.came request.gathering
 
     by_last : (b : Bool) → IsSettled request.flight (settled (record request { flight = if b then with_answered request.flight else request.flight; gathering = gathers })).flight
-    by_last true =
-        let counted = settles (record request { flight = with_answered request.flight; gathering = gathers }) live (omega (arith, within)) in
-        record { work = counted.work; spared = counted.spared }
-    by_last false =
-        let counted = settles (record request { gathering = gathers }) live (omega (arith, within)) in
-        record { work = counted.work; spared = counted.spared }
+    by_last true = answered_settles request gathers live within
+    by_last false = let counted = settles (record request { gathering = gathers }) live (omega (arith, within)) in record { work = counted.work; spared = counted.spared }
 
 -- ---- an answer comes
 
@@ -201,7 +186,7 @@ answer_takes state new test change request found settling is memory =
 pub answer_b_takes : (state : WorldState) (id : ℕ) (b : BBeat) → IsSoundWorld state → b_of state.memory id ≡ Some b → TakesOne state (next state (AnswerB id)).state
 answer_b_takes state id b sound is =
     let writer = answered_writer state.bridge b sound.bridge_laws (b_unbroken state id b sound is) in
-    rw is (answer_takes state (answered_b state id (Some b)).state (holds b.id) (after_response b.resp) writer.request writer.held (response_settles b.resp writer.request writer.live writer.sent) refl
+    rw is (answer_takes state (answered_b state id (Some b)).state (holds b.id) (after_response b.resp) writer.request writer.held (answered_settles writer.request (after_b b.resp writer.request.gathering) writer.live writer.sent) refl
     (work_open-b state.memory id b is))
 
 pub answer_r_takes : (state : WorldState) (id : ℕ) (r : RBeat) → IsSoundWorld state → r_of state.memory id ≡ Some r → TakesOne state (next state (AnswerR id)).state

@@ -1,8 +1,7 @@
 -- The bridge takes the R.
 use Rattle.std.proofs.Common.{◌∙◌, refl, subst, sym}
 use Rattle.std.specs.Prelude.{IsOk, IsSome}
-use Rattle.world.proofs.Answering.{never_faults, paired_r}
-use Rattle.world.proofs.Passing.{world_of}
+use Rattle.world.proofs.Passing.{never_faults, paired_r, world_of}
 use Rattle.world.proofs.TakesAll.{r_unbroken}
 use Rattle.world.proofs.parts.give_r.Goals as goal
 
