@@ -1,11 +1,11 @@
 -- Bridge and memory agree after each event. It knows the events by case and both parts' laws; which bytes move is hidden, and why neither
 -- refuses the other stands in TakesAll.
-use Rattle.std.proofs.Common.{◌≡◌, ℕ, suc, ◌+◌, ◌*◌, ◌^◌, ◌<◌, ◌≤◌, Bool, true, false, List, [], ◌∷◌, length, Option, Some, None, refl, ap, sym, ◌∙◌, arith}
+use Rattle.std.proofs.Common.{◌≡◌, ℕ, ◌+◌, ◌^◌, ◌<◌, ◌≤◌, Bool, true, false, List, [], ◌∷◌, length, Option, Some, refl, ap, sym, ◌∙◌, arith}
 use Rattle.std.specs.Prelude.{find, if◌then◌else◌, nat_le, sum_by, Result, Ok, Err}
 use Rattle.std.specs.List.{AllByRecursion}
 use Rattle.std.proofs.lemmas.Bool.{cond_both, leb-false}
 use Rattle.std.proofs.lemmas.List.{length-append}
-use Rattle.std.proofs.lemmas.List.Sums.{sum_by-append, sum_by-cons}
+use Rattle.std.proofs.lemmas.List.Sums.{sum_by-append}
 use Rattle.bus_words.specs.Places.{change_first}
 use Rattle.bus_words.proofs.PlaceChanges.{all-find, length-change_first, length-without_found}
 use Rattle.axi_beats.specs.declared.BBeat.{BBeat}
@@ -23,14 +23,12 @@ use Rattle.tl_checker.specs.declared.TlRule.{TlRule}
 use Rattle.flight_table.specs.Laws.{IsSoundRequest}
 use Rattle.flight_table.specs.Tables.{has_room}
 use Rattle.bridge_core.specs.declared.Offered.{Offered}
-use Rattle.bridge_core.specs.declared.Offered.TheVariants as offer
 use Rattle.responses.specs.Gathered.{Gathering, after_b, after_r}
 use Rattle.bridge_core.specs.Configs.{is_valid, table_limits_of}
 use Rattle.bridge_core.specs.declared.Config.{Config}
 use Rattle.burst_plan.specs.declared.Region.{Region}
 use Rattle.flight_table.specs.declared.TableLimits.{TableLimits}
-use Rattle.std.proofs.Math.Nat.{mul-suc}
-use Rattle.bridge_core.specs.Bridge.{BridgeState, after_b_beat, after_r_beat, after_sent, after_take, completed, message_with, offered, offered_after, verdict_on, with_front}
+use Rattle.bridge_core.specs.Bridge.{BridgeState, after_b_beat, after_r_beat, after_sent, after_take, message_with, offered, offered_after, verdict_on}
 use Rattle.bridge_core.specs.Laws.{IsServed, IsSoundBridge}
 use Rattle.bridge_core.specs.Requests.{BridgedRequest, after_read, after_response, after_sending, flight_table_of, holds, is_done_for, newly_live, with_request, is_numbered, outline_in, settled}
 use Rattle.bridge_core.specs.Sending.{Sending, next_sending}

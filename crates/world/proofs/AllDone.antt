@@ -1,6 +1,6 @@
 -- Where bridge and memory can do nothing by themselves no work is left, and every request is done. It knows the laws of a sound world and
 -- what is enabled; no event, no bytes.
-use Rattle.std.proofs.Common.{◌≡◌, ◌≢◌, ℕ, zero, suc, ◌+◌, ◌<◌, ◌≤◌, nat_lt, Bool, true, false, ◌&&◌, ◌||◌, not, List, [], ◌∷◌, ◌++◌, length, take, map, Option, Some, None, get_or, is_some, refl, ap, sym, ◌∙◌, subst, arith, inl, inr, length-drop, length-take}
+use Rattle.std.proofs.Common.{◌≡◌, ℕ, zero, suc, ◌+◌, ◌<◌, ◌≤◌, nat_lt, Bool, true, false, List, [], ◌∷◌, ◌++◌, length, take, map, Option, Some, None, get_or, is_some, refl, ap, sym, ◌∙◌, subst, arith, length-drop, length-take}
 use Rattle.std.specs.Prelude.{filter, filter_map, find, flat_map, if◌then◌else◌, option_map, slice_get, sum_by}
 use Rattle.std.specs.List.{AllByRecursion, list_any, range_with_len}
 use Rattle.std.proofs.lemmas.Bool.{cases_eq, eq-eqb, leb-false, lt-ltb}
@@ -14,8 +14,8 @@ use Rattle.axi_beats.specs.declared.ArBeat.{ArBeat}
 use Rattle.axi_checker.specs.OpenBursts.{OpenBursts, OpenRead, OpenWrite, read_of_id, write_of_id}
 use Rattle.burst_plan.specs.declared.Piece.{Piece}
 use Rattle.flight_table.specs.Laws.{AreRising, IsSoundRequest}
-use Rattle.flight_table.specs.LiveRequests.{LiveRequest, next_burst, planned, unanswered}
-use Rattle.flight_table.specs.Order.{conflict, free_id, holds_back, holds_id, id_for, is_held}
+use Rattle.flight_table.specs.LiveRequests.{LiveRequest, planned, unanswered}
+use Rattle.flight_table.specs.Order.{free_id, holds_back, holds_id, id_for, is_held}
 use Rattle.flight_table.specs.Tables.{is_undone}
 use Rattle.flight_table.specs.Work.{unsent_work}
 use Rattle.bridge_core.specs.Bridge.{BridgeState, burst_to_send}

@@ -10,8 +10,8 @@ use Rattle.bridge_core.specs.Bridge as bridges
 use Rattle.bridge_core.specs.Bridge.{answered_reads}
 use Rattle.bridge_core.proofs.WorkLeft.{whole_open, whole_read, whole_write, work_apart}
 use Rattle.subordinate.specs.Inside.{count_waiting}
-use Rattle.subordinate.specs.FreeMemory.{FreeMemory, Pending, answers_left, open_bursts_of, open_read_in, open_write_in, performed_waiting, performed_waiting_in, transfers_in, work_in, work_open}
-use Rattle.subordinate.specs.Laws.{HasAnswered, IsSoundMemory, IsSoundPending}
+use Rattle.subordinate.specs.FreeMemory.{Pending, answers_left, open_read_in, open_write_in, performed_waiting, performed_waiting_in, transfers_in, work_in}
+use Rattle.subordinate.specs.Laws.{HasAnswered, IsSoundPending}
 use Rattle.subordinate.proofs.BeatStates.{length-waiting_in, performed_waiting-count}
 use Rattle.world.specs.Laws.{IsSoundWorld}
 use Rattle.world.specs.World.{WorldState, work_left}

@@ -1,7 +1,6 @@
 -- A drain makes the first step that is enabled until none is. It knows that each step takes one from the work; what the steps do is hidden.
-use Rattle.std.proofs.Common.{◌≡◌, ℕ, zero, suc, ◌+◌, ◌^◌, ◌<◌, ◌≤◌, List, [], ◌∷◌, drop, Some, refl, ap, sym, ◌∙◌, subst, arith}
+use Rattle.std.proofs.Common.{◌≡◌, ℕ, zero, suc, ◌+◌, ◌^◌, ◌<◌, ◌≤◌, [], drop, Some, refl, ap, sym, ◌∙◌, subst, arith}
 use Rattle.std.specs.Prelude.{slice_get}
-use Rattle.std.proofs.lemmas.Option.{same_Some}
 use Rattle.world.specs.Choices.{LeadsTo}
 use Rattle.world.specs.Laws.{IsDrained, IsSoundWorld, work_spared}
 use Rattle.world.specs.World.{Drains, WorldState, drained, drained_within, enabled, next, one_more, work_left}

@@ -1,9 +1,9 @@
 -- The first step that is enabled, by what stands before it; and that an R of whose burst more come enables nothing else.
-use Rattle.std.proofs.Common.{◌≡◌, ℕ, Bool, true, false, List, [], ◌∷◌, ◌++◌, length, Option, Some, None, is_some, refl, ap, sym, ◌∙◌, subst, ◌+◌, ◌<◌, arith}
-use Rattle.std.specs.Prelude.{IfSome, find, flat_map, if◌then◌else◌, not, slice_get}
+use Rattle.std.proofs.Common.{◌≡◌, ℕ, Bool, true, false, List, [], ◌∷◌, length, Option, Some, None, is_some, refl, ap, sym, ◌∙◌, subst, ◌<◌, arith}
+use Rattle.std.specs.Prelude.{find, flat_map, slice_get}
 use Rattle.std.specs.List.{range_with_len}
 use Rattle.std.proofs.lemmas.Bool.{lt-leb}
-use Rattle.std.proofs.lemmas.Option.{same_Some, slice_get_within}
+use Rattle.std.proofs.lemmas.Option.{slice_get_within}
 use Rattle.bus_words.specs.Places.{change_first}
 use Rattle.axi_beats.specs.Bursts.{Burst, ReadBurst, WriteBurst}
 use Rattle.axi_beats.specs.declared.RBeat.{RBeat}
@@ -17,9 +17,7 @@ use Rattle.bridge_core.specs.Requests.{BridgedRequest, after_read, flight_table_
 use Rattle.bridge_core.proofs.AnswerLinks.{answered_reader}
 use Rattle.bridge_core.proofs.Pumps.{ready_goes}
 use Rattle.bridge_core.proofs.ResponseLinks.{not_so}
-use Rattle.subordinate.specs.FreeMemory.{FreeMemory, Pending, after_r_of, b_from, b_of, beat_at, first_with_b, first_with_r, gives_last, is_read_of, is_write_of, pending_after_r, performed, r_from, r_of, r_with, reads_as, waiting_beats, waiting_in, writes_as}
-use Rattle.subordinate.specs.declared.BeatState.{BeatState}
-use Rattle.subordinate.specs.declared.BeatState.TheVariants.{Captured, Waiting, Written}
+use Rattle.subordinate.specs.FreeMemory.{FreeMemory, Pending, after_r_of, b_from, b_of, first_with_b, first_with_r, gives_last, is_read_of, is_write_of, pending_after_r, performed, r_of, reads_as, waiting_beats, waiting_in, writes_as}
 use Rattle.subordinate.specs.declared.Performed.{Performed}
 use Rattle.subordinate.specs.declared.Performed.TheVariants as perform
 use Rattle.world.specs.Choices.{IsPerformed, answers_enabled, goes_on, is_sent}

@@ -5,13 +5,12 @@ use Rattle.std.specs.Prelude.{IfSome, IsSome, MatchOption, find, option_map}
 use Rattle.std.proofs.lemmas.Option.{same_Some, slice_get_within}
 use Rattle.axi_beats.specs.Bursts.{Burst}
 use Rattle.std.proofs.lemmas.List.{length-append}
-use Rattle.bridge_core.specs.Bridge.{BridgeState, StockedBridge, after_pump, after_pump_of, after_sent, boxes_of, burst_to_send, after_b_beat, after_r_beat}
+use Rattle.bridge_core.specs.Bridge.{BridgeState, StockedBridge, after_pump, after_pump_of, after_sent, burst_to_send, after_b_beat, after_r_beat}
 use Rattle.bridge_core.specs.Laws.{IsSoundBridge}
 use Rattle.bridge_core.specs.Sending.{Sending, next_sending}
 use Rattle.subordinate.specs.Device.{DeviceState, open_burst, after_b, after_r, closed_by_b, closed_by_r}
-use Rattle.subordinate.specs.FreeMemory.{FreeMemory, newly_pending, send_fault, with_burst, Pending, has_serial, after_b_of, after_r_of, b_of, gives_last, is_read_of, is_write_of, r_of}
+use Rattle.subordinate.specs.FreeMemory.{FreeMemory, newly_pending, with_burst, Pending, has_serial, after_b_of, after_r_of, b_of, gives_last, is_read_of, is_write_of, r_of}
 use Rattle.subordinate.specs.Laws.{IsSoundMemory, RisesWithin, IsSoundPending}
-use Rattle.subordinate.specs.declared.SendRefused.{SendRefused}
 use Rattle.world.specs.Laws.{Agree, GoesWell}
 use Rattle.world.specs.World.{WorldState, pumped}
 use Rattle.world.specs.Inside.{ArePaired, world_state}

@@ -15,7 +15,7 @@ use Rattle.bridge_core.specs.Laws.{IsServed}
 use Rattle.bridge_core.specs.Requests.{BridgedRequest}
 use Rattle.bridge_core.specs.declared.Config.{Config}
 use Rattle.bridge_core.proofs.SentBursts.{plannable}
-use Rattle.flight_table.specs.LiveRequests.{LiveRequest, all_sent, pieces_planned, planned, read_pieces, write_pieces}
+use Rattle.flight_table.specs.LiveRequests.{LiveRequest, all_sent, pieces_planned, planned, read_pieces}
 use Rattle.flight_table.proofs.PhaseLaws.{length_reading, length_writing}
 
 -- ---- a plan has at most 1,024 pieces

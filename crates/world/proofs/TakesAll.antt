@@ -1,27 +1,21 @@
 -- In a sound world neither part refuses what the other hands it. It knows the laws of both parts and their outstanding bursts; how a state
 -- was reached, and all bytes, are hidden.
-use Rattle.std.proofs.Common.{◌≡◌, ◌≢◌, ℕ, ◌+◌, ◌==◌, ◌<◌, ◌≤◌, Bool, true, false, [], Option, Some, None, refl, ap, sym, ◌∙◌, subst, arith}
-use Rattle.std.specs.Prelude.{IfSome, filter, find, if◌then◌else◌, nat_le, not, option_map, ◌&&◌, ◌||◌}
-use Rattle.std.specs.List.{list_any}
+use Rattle.std.proofs.Common.{◌≡◌, ◌≢◌, ℕ, ◌+◌, ◌==◌, ◌<◌, Bool, true, false, Option, Some, None, refl, ap, sym, ◌∙◌, subst, arith}
+use Rattle.std.specs.Prelude.{IfSome, find, nat_le, not}
 use Rattle.std.specs.Bool.{beq}
-use Rattle.std.proofs.lemmas.Bool.{lt-leb, leb-true, and_parts}
+use Rattle.std.proofs.lemmas.Bool.{lt-leb}
 use Rattle.bus_words.proofs.PlaceChanges.{all-find}
 use Rattle.axi_beats.specs.Bursts.{Burst, IsLegal}
 use Rattle.axi_beats.specs.Responses.{is_exokay}
 use Rattle.axi_beats.specs.declared.BBeat.{BBeat}
 use Rattle.axi_beats.specs.declared.RBeat.{RBeat}
-use Rattle.axi_beats.specs.declared.Resp.{Resp}
-use Rattle.axi_checker.specs.OpenBursts.{OpenBursts, OpenRead, OpenWrite, read_of_id, write_of_id}
+use Rattle.axi_checker.specs.OpenBursts.{OpenBursts, read_of_id, write_of_id}
 use Rattle.axi_checker.specs.Rules.{burst_fault}
 use Rattle.axi_checker.proofs.LegalBursts.{last_place}
 use Rattle.axi_checker.proofs.Taking.{legal_is_unbroken}
 use Rattle.bridge_core.specs.Bridge.{BridgeState, b_fault, burst_to_send, r_fault}
-use Rattle.bridge_core.specs.Configs.{is_valid}
-use Rattle.bridge_core.specs.declared.Config.{Config}
-use Rattle.burst_plan.specs.Pieces.{is_max_len}
-use Rattle.bus_words.specs.Lanes.{is_between}
 use Rattle.bridge_core.proofs.HolderChanges.{filter-found}
-use Rattle.bridge_core.specs.Laws.{IsSoundBridge, came_of, open_reads, open_writes, outstanding_of}
+use Rattle.bridge_core.specs.Laws.{IsSoundBridge}
 use Rattle.bridge_core.specs.Requests.{BridgedRequest, holder}
 use Rattle.bridge_core.specs.Sending.{Sending, next_sending}
 use Rattle.bridge_core.proofs.AnswerLinks.{holder_known}
@@ -29,10 +23,8 @@ use Rattle.bridge_core.proofs.JoinedRequests.{limits_made}
 use Rattle.bridge_core.proofs.NextSending.{map_some}
 use Rattle.bridge_core.proofs.SentBursts.{sent_unbroken, sent_within}
 use Rattle.subordinate.specs.Faults.{Standing, IsAbsent, IsGood, IsSlaveError, standing_at, write_response}
-use Rattle.subordinate.specs.FreeMemory.{Pending, b_of, r_of, b_from, beat_at, device_port, gives_last, is_read_of, is_waiting, is_write_of, r_from, r_with, start_of, transfers_in}
+use Rattle.subordinate.specs.FreeMemory.{b_of, r_of, device_port, gives_last, is_read_of, start_of, transfers_in}
 use Rattle.subordinate.specs.Laws.{IsSoundPending}
-use Rattle.subordinate.specs.declared.BeatState.{BeatState}
-use Rattle.subordinate.specs.declared.BeatState.TheVariants.{Captured, Waiting, Written}
 use Rattle.world.specs.Laws.{GoesWell, IsSoundWorld, TakeAll}
 use Rattle.world.specs.World.{WorldState}
 use Rattle.world.proofs.OpenWork.{b_found, r_found}

@@ -1,9 +1,9 @@
 -- Bridge and memory at first, and after an event that concerns one of them alone. It knows what the constructors of both parts promise, and which
 -- of their laws look at the other part.
-use Rattle.std.specs.Prelude.{MatchOption, Result, Ok, Err, if◌then◌else◌, nat_le, find}
-use Rattle.std.proofs.Common.{◌≡◌, ℕ, List, Option, None, Some, sym, refl, subst, arith, ◌∙◌, Bool, true, false, length, ap}
+use Rattle.std.specs.Prelude.{MatchOption, Result, Ok, Err, find}
+use Rattle.std.proofs.Common.{◌≡◌, ℕ, List, Option, None, Some, refl, arith, length, ap}
 use Rattle.burst_plan.specs.declared.Region.{Region}
-use Rattle.bridge_core.specs.Bridge.{StockedBridge, opening_bridge, BridgeState, after_take, boxes_of, offered, reply_taken, taken, taken_of}
+use Rattle.bridge_core.specs.Bridge.{StockedBridge, opening_bridge, BridgeState, after_take, boxes_of, offered, reply_taken, taken}
 use Rattle.bridge_core.specs.Laws.{IsSoundBridge}
 use Rattle.bridge_core.specs.declared.Config.{Config}
 use Rattle.subordinate.specs.Device.{DeviceState, opening_device}
@@ -12,7 +12,7 @@ use Rattle.subordinate.specs.declared.PageKind.{PageKind}
 use Rattle.world.specs.Inside.{ArePaired}
 use Rattle.bus_words.proofs.PlaceChanges.{length-change_first}
 use Rattle.tl_messages.specs.declared.ABeat.{ABeat}
-use Rattle.bridge_core.specs.Requests.{BridgedRequest, first_done, is_done_for}
+use Rattle.bridge_core.specs.Requests.{BridgedRequest, is_done_for}
 use Rattle.subordinate.specs.FreeMemory.{FreeMemory, Pending, beat_at, has_serial, performed, performed_beat, performed_in}
 use Rattle.subordinate.specs.declared.Performed.{Performed}
 use Rattle.subordinate.specs.declared.BeatState.{BeatState}

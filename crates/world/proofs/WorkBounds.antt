@@ -1,6 +1,6 @@
 -- How much work there can be. It knows how many requests may be live and how many bursts each has; which is where is hidden.
-use Rattle.std.proofs.Common.{◌≡◌, ℕ, ◌+◌, ◌*◌, ◌%◌, ◌^◌, ◌<◌, ◌≤◌, Bool, true, false, List, [], ◌∷◌, length, drop, Option, Some, None, refl, ◌∙◌, arith}
-use Rattle.std.specs.Prelude.{if◌then◌else◌, sum_by}
+use Rattle.std.proofs.Common.{◌≡◌, ℕ, ◌+◌, ◌*◌, ◌%◌, ◌^◌, ◌<◌, ◌≤◌, Bool, true, false, List, [], ◌∷◌, length, drop, refl, ◌∙◌, arith}
+use Rattle.std.specs.Prelude.{sum_by}
 use Rattle.std.specs.List.{AllByRecursion}
 use Rattle.std.proofs.lemmas.Bool.{cond_both}
 use Rattle.std.proofs.Math.Nat.{div-le_self, mul-le-mul_right}
@@ -12,13 +12,12 @@ use Rattle.burst_plan.specs.declared.Piece.{Piece}
 use Rattle.burst_plan.specs.declared.Region.{Region}
 use Rattle.burst_plan.proofs.PlanLaws.{beats_counted}
 use Rattle.tl_messages.specs.Operations.{has_data, reply_has_data}
-use Rattle.flight_table.specs.LiveRequests.{LiveRequest, bursts_of, phase_pieces, pieces_planned, planned, read_pieces, write_pieces}
+use Rattle.flight_table.specs.LiveRequests.{LiveRequest, bursts_of, phase_pieces, pieces_planned, read_pieces, write_pieces}
 use Rattle.flight_table.specs.Work.{answers_of_burst, beats_of_burst, later_work, unsent_work, work_of_bursts}
 use Rattle.bridge_core.specs.Configs.{is_valid}
 use Rattle.bridge_core.specs.Laws.{IsServed, beats_in}
 use Rattle.bridge_core.specs.Requests.{BridgedRequest, flights_of}
 use Rattle.bridge_core.specs.declared.Config.{Config}
-use Rattle.bridge_core.proofs.SentBursts.{plannable}
 use Rattle.world.specs.Laws.{IsSoundWorld}
 use Rattle.world.specs.World.{WorldState, work_left}
 use Rattle.world.proofs.OpenWork.{work_open_few}

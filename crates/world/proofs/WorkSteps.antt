@@ -1,6 +1,6 @@
 -- Each step of bridge and memory takes one from the work that is left and spared. It knows how each event changes counts; bytes are hidden.
 use Rattle.std.proofs.Common.{◌≡◌, ℕ, zero, suc, ◌+◌, ◌-◌, ◌<◌, ◌≤◌, Bool, true, false, ◌&&◌, not, List, [], ◌∷◌, ◌++◌, length, drop, map, Option, Some, None, is_some, refl, ap, sym, ◌∙◌, subst, arith, inl, inr}
-use Rattle.std.specs.Prelude.{IfSome, filter, find, if◌then◌else◌, slice_get, sum_by}
+use Rattle.std.specs.Prelude.{filter, find, if◌then◌else◌, slice_get, sum_by}
 use Rattle.std.specs.List.{range_with_len}
 use Rattle.std.proofs.lemmas.Bool.{and_parts, cond_both, cases_lt, leb-true}
 use Rattle.std.proofs.lemmas.List.Sums.{sum_by-cons}
@@ -9,12 +9,11 @@ use Rattle.bus_words.specs.Places.{change_first}
 use Rattle.axi_beats.specs.Bursts.{Burst}
 use Rattle.axi_beats.specs.declared.BBeat.{BBeat}
 use Rattle.axi_beats.specs.declared.RBeat.{RBeat}
-use Rattle.axi_beats.specs.declared.Resp.{Resp}
 use Rattle.burst_plan.specs.Pieces.{PlannedRange}
 use Rattle.burst_plan.specs.declared.Piece.{Piece}
 use Rattle.flight_table.specs.LiveRequests.{LiveRequest, finished, is_settled, next_burst, planned, with_answered, with_sent, with_write}
 use Rattle.flight_table.specs.Work.{answers_of_burst, beats_of_burst, later_work, spared_work, unsent_work, work_of_bursts}
-use Rattle.bridge_core.specs.Bridge.{after_b_beat, after_r_beat, after_sent, b_fault, burst_to_send, r_fault}
+use Rattle.bridge_core.specs.Bridge.{after_sent, burst_to_send}
 use Rattle.bridge_core.specs.Requests.{BridgedRequest, after_read, after_response, after_sending, flights_of, holds, is_numbered, may_send, outline_in, settled, value_found}
 use Rattle.bridge_core.specs.Sending.{Sending, burst_of_piece, next_sending}
 use Rattle.bridge_core.proofs.AnswerLinks.{answered_reader, answered_writer}
@@ -22,8 +21,7 @@ use Rattle.bridge_core.proofs.NextSending.{map_some, next_found}
 use Rattle.bridge_core.proofs.ResponseLinks.{not_so}
 use Rattle.bridge_core.proofs.SentLinks.{found_by_number}
 use Rattle.responses.specs.Gathered.{Gathering, after_b, after_r}
-use Rattle.subordinate.specs.FreeMemory.{Pending, after_b_of, after_r_of, answers_left, b_of, beat_at, has_serial, ids_with_b, ids_with_r, r_of, transfers_in, waiting_beats, work_open, with_burst, with_performed}
-use Rattle.subordinate.specs.declared.BeatState.TheVariants.{Waiting}
+use Rattle.subordinate.specs.FreeMemory.{answers_left, b_of, ids_with_b, ids_with_r, r_of, transfers_in, waiting_beats, work_open, with_burst}
 use Rattle.subordinate.proofs.BeatStates.{slice_get-append-after, slice_get-append-before}
 use Rattle.world.specs.Laws.{IsSoundWorld, work_spared}
 use Rattle.world.specs.World.{WorldState, answered_b, answered_r, enabled, next, perform_at, pumps_enabled, work_left}
