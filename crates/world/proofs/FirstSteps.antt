@@ -50,12 +50,9 @@ first_b state id still is = sym (first_answer state still) ∙ sym (first_is_b s
 pub first_r : (state : WorldState) (id : ℕ) → IsPerformed state → first_with_b state.memory ≡ None → first_with_r state.memory ≡ Some id → slice_get (enabled state) 0 ≡ Some (AnswerR id)
 first_r state id still none is = sym (first_answer state still) ∙ sym (first_is_r state.memory none) ∙ rw is refl
 
-none_at : {X : Type 0} (xs : List X) → slice_get xs 0 ≡ None → xs ≡ []
+pub none_at : {X : Type 0} (xs : List X) → slice_get xs 0 ≡ None → xs ≡ []
 none_at [] none = refl
 none_at (x ∷ xs) none = absurd (cc (none))
-
-pub none_waits : (memory : FreeMemory) → slice_get (waiting_beats memory) 0 ≡ None → waiting_beats memory ≡ []
-none_waits memory none = none_at (waiting_beats memory) none
 
 pub none_first : (state : WorldState) → IsPerformed state → first_with_b state.memory ≡ None → first_with_r state.memory ≡ None → enabled state ≡ []
 none_first state still no_b no_r = none_at (enabled state) (sym (first_answer state still) ∙ sym (first_is_r state.memory no_b) ∙ rw no_r refl)
