@@ -8,6 +8,7 @@ use Rattle.std.proofs.lemmas.List.{length-append}
 use Rattle.bridge_core.specs.Bridge.{BridgeState, StockedBridge, after_pump, after_pump_of, after_sent, burst_to_send, after_b_beat, after_r_beat}
 use Rattle.bridge_core.specs.Laws.{IsSoundBridge}
 use Rattle.bridge_core.specs.Sending.{Sending, next_sending}
+use Rattle.bridge_core.proofs.NextSending.{map_some}
 use Rattle.subordinate.specs.Device.{DeviceState, open_burst, after_b, after_r, closed_by_b, closed_by_r}
 use Rattle.subordinate.specs.FreeMemory.{FreeMemory, newly_pending, with_burst, Pending, has_serial, after_b_of, after_r_of, b_of, gives_last, is_read_of, is_write_of, r_of}
 use Rattle.subordinate.specs.Laws.{IsSoundMemory, RisesWithin, IsSoundPending}
@@ -37,11 +38,9 @@ pub record IsNextIn (bridge : BridgeState) (memory : FreeMemory) (box : Option B
   pub well : GoesWell (world_of bridge memory) burst
 
 pub next_in : (bridge : BridgeState) (memory : FreeMemory) (box : Option Burst) → Agree bridge memory → Some box ≡ option_map Some (burst_to_send bridge) → IsNextIn bridge memory box
-next_in bridge memory box agree is = by_next (burst_to_send bridge) refl is (takes_all (world_of bridge memory) agree).pump
-  where
-    by_next : (next : Option Burst) → burst_to_send bridge ≡ next → Some box ≡ option_map Some next → IfSome next (GoesWell (world_of bridge memory)) → IsNextIn bridge memory box
-    by_next None same is well = absurd (cc (is))
-    by_next (Some burst) same is well = record { burst = burst; held = same_Some box (Some burst) is; next = same; well = well }
+next_in bridge memory box agree is =
+    map_some Some (burst_to_send bridge) box (sym is)
+    (λ burst goes same. record { burst = burst; held = sym same; next = goes; well = rw goes at (takes_all (world_of bridge memory) agree).pump })
 
 -- which request sends it
 pub record IsSentBy (bridge : BridgeState) (burst : Burst) : Type 0 where
@@ -51,12 +50,9 @@ pub record IsSentBy (bridge : BridgeState) (burst : Burst) : Type 0 where
   pub after : after_pump bridge ≡ after_sent bridge sending
 
 pub sent_by : (bridge : BridgeState) (burst : Burst) → burst_to_send bridge ≡ Some burst → IsSentBy bridge burst
-sent_by bridge burst is = by_sending (next_sending bridge.requests) refl is
-  where
-    by_sending : (sending : Option Sending) → next_sending bridge.requests ≡ sending → option_map (λ (s : Sending). s.burst) sending ≡ Some burst → IsSentBy bridge burst
-    by_sending None same is = absurd (cc (is))
-    by_sending (Some sending) same is =
-        record { sending = sending; next = same; burst_is = same_Some sending.burst burst is; after = ap (after_pump_of bridge) same }
+sent_by bridge burst is =
+    map_some (λ (s : Sending). s.burst) (next_sending bridge.requests) burst is
+    (λ sending same own. record { sending = sending; next = same; burst_is = own; after = ap (after_pump_of bridge) same })
 
 -- both after it went
 pub paired_sent : (bridge : StockedBridge) (device : DeviceState) (burst : Burst) → ArePaired bridge device → burst_to_send bridge.state ≡ Some burst
