@@ -1,7 +1,7 @@
 -- A box is in stock wherever a request is ready: each ID has at most as many bursts outstanding as it may have on one side. It counts; what
 -- a box holds is hidden.
 use Rattle.std.proofs.Common.{◌≡◌, ◌⊎◌, inl, inr, ℕ, suc, ◌+◌, ◌-◌, ◌==◌, ◌<◌, ◌≤◌, Bool, true, false, List, [], ◌∷◌, ◌++◌, length, Option, Some, None, refl, ap, sym, ◌∙◌, subst, arith}
-use Rattle.std.specs.Prelude.{IsSome, option_map, filter, take, if◌then◌else◌}
+use Rattle.std.specs.Prelude.{IsSome, option_map, filter, take}
 use Rattle.std.specs.List.{AllByRecursion}
 use Rattle.std.proofs.lemmas.List.{length-append, length-drop, length-take}
 use Rattle.std.proofs.lemmas.List.Elements.{filter-append}
