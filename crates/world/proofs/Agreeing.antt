@@ -1,11 +1,12 @@
 -- Bridge and memory agree after each event. It knows the events by case and both parts' laws; which bytes move is hidden, and why neither
 -- refuses the other stands in TakesAll.
-use Rattle.std.proofs.Common.{◌≡◌, ℕ, suc, ◌+◌, ◌*◌, ◌^◌, ◌<◌, ◌≤◌, Bool, true, false, List, [], ◌∷◌, length, Option, Some, None, refl, ap, sym, ◌∙◌, arith}
+use Rattle.std.proofs.Common.{◌≡◌, ℕ, ◌+◌, ◌^◌, ◌<◌, ◌≤◌, Bool, true, false, List, [], ◌∷◌, length, Option, Some, refl, ap, sym, ◌∙◌, arith}
 use Rattle.std.specs.Prelude.{find, if◌then◌else◌, nat_le, sum_by, Result, Ok, Err}
 use Rattle.std.specs.List.{AllByRecursion}
-use Rattle.std.proofs.lemmas.Bool.{leb-false}
+use Rattle.std.proofs.lemmas.Bool.{cond_both, leb-false}
 use Rattle.std.proofs.lemmas.List.{length-append}
-use Rattle.std.proofs.lemmas.List.Sums.{sum_by-append, sum_by-cons}
+use Rattle.std.proofs.lemmas.List.Sums.{sum_by-append}
+use Rattle.bus_words.specs.Places.{change_first}
 use Rattle.bus_words.proofs.PlaceChanges.{all-find, length-change_first, length-without_found}
 use Rattle.axi_beats.specs.declared.BBeat.{BBeat}
 use Rattle.axi_beats.specs.declared.RBeat.{RBeat}
@@ -22,27 +23,32 @@ use Rattle.tl_checker.specs.declared.TlRule.{TlRule}
 use Rattle.flight_table.specs.Laws.{IsSoundRequest}
 use Rattle.flight_table.specs.Tables.{has_room}
 use Rattle.bridge_core.specs.declared.Offered.{Offered}
-use Rattle.bridge_core.specs.declared.Offered.TheVariants as offer
 use Rattle.responses.specs.Gathered.{Gathering, after_b, after_r}
 use Rattle.bridge_core.specs.Configs.{is_valid, table_limits_of}
 use Rattle.bridge_core.specs.declared.Config.{Config}
 use Rattle.burst_plan.specs.declared.Region.{Region}
 use Rattle.flight_table.specs.declared.TableLimits.{TableLimits}
-use Rattle.std.proofs.Math.Nat.{mul-suc}
-use Rattle.bridge_core.specs.Bridge.{BridgeState, after_b_beat, after_r_beat, after_sent, after_take, completed, message_with, offered, offered_after, verdict_on, with_front}
+use Rattle.bridge_core.specs.Bridge.{BridgeState, after_b_beat, after_r_beat, after_sent, after_take, message_with, offered, offered_after, verdict_on}
 use Rattle.bridge_core.specs.Laws.{IsServed, IsSoundBridge}
 use Rattle.bridge_core.specs.Requests.{BridgedRequest, after_read, after_response, after_sending, flight_table_of, holds, is_done_for, newly_live, with_request, is_numbered, outline_in, settled}
 use Rattle.bridge_core.specs.Sending.{Sending, next_sending}
 use Rattle.bridge_core.proofs.NextSending.{next_found}
 use Rattle.bridge_core.proofs.SentLinks.{found_by_number}
 use Rattle.bridge_core.proofs.SendingLinks.{sound_requests}
-use Rattle.subordinate.specs.FreeMemory.{FreeMemory, Pending, after_b_of, after_r_of, is_read_of, with_burst, with_performed}
+use Rattle.subordinate.specs.FreeMemory.{FreeMemory, Pending, after_b_of, after_r_of, is_read_of, open_bursts_of, with_burst, with_performed}
 use Rattle.subordinate.specs.Laws.{IsSoundMemory}
-use Rattle.world.specs.Laws.{Agree, bursts_sent}
+use Rattle.world.specs.Laws.{Agree, HasSerials, bursts_sent}
 use Rattle.world.proofs.Serials.{most_sent}
 use Rattle.subordinate.proofs.Monitors.{HasBeatsToCome, outstanding_after_b, outstanding_after_r, outstanding_performed, outstanding_sent}
+use Rattle.world.proofs.OpenWork.{sum_few}
 use Rattle.world.proofs.Sums.{sum_between, sum_more, sum_without}
 use Rattle.world.proofs.Settled.{settled_has}
+
+-- as many requests live, and have sent what went to the memory
+serials_kept : (state new : BridgeState) (memory after : FreeMemory) → HasSerials state memory → new.requests.accepted ≡ state.requests.accepted → length new.requests.live ≡ length state.requests.live
+    → after.sent + bursts_sent state ≤ memory.sent + bursts_sent new → HasSerials new after
+serials_kept state new memory after serials accepted live sent =
+    record { accepted = omega (arith, serials.accepted, accepted); live = omega (arith, serials.live, accepted, live); sent = rw (accepted, live) (omega (arith, serials.sent, sent)) }
 
 -- ---- a burst is sent
 
@@ -50,8 +56,7 @@ sent_counted : (state : BridgeState) (sending : Sending) → IsSoundBridge state
 sent_counted state sending sound is =
     let next = next_found state.requests sending is in
     let there = found_by_number _ state.requests.live sending.request sound.requests.flights.rising next.found in
-    let one_more = sum_between (λ (r : BridgedRequest). all_sent r.flight) (is_numbered sending.request.flight.number) (after_sending sending.id) state.requests.live sending.request there in
-    omega (arith, one_more)
+    omega (arith, sum_between (λ (r : BridgedRequest). all_sent r.flight) (is_numbered sending.request.flight.number) (after_sending sending.id) state.requests.live sending.request there)
 
 pub agree_sent : (state : BridgeState) (memory : FreeMemory) (sending : Sending) → Agree state memory → next_sending state.requests ≡ Some sending
     → IsSoundBridge (after_sent state sending) → IsSoundMemory (with_burst memory sending.burst) → Agree (after_sent state sending) (with_burst memory sending.burst)
@@ -63,11 +68,7 @@ agree_sent state memory sending agree is bridge_laws memory_laws =
       memory_laws = memory_laws;
       bus = agree.bus;
       outstanding = ap (λ (outstanding : OpenBursts). open_with_burst outstanding sending.burst) agree.outstanding ∙ outstanding_sent memory sending.burst;
-      serials = record {
-        accepted = agree.serials.accepted;
-        live = omega (arith, agree.serials.live, same);
-        sent = rw same (omega (arith, agree.serials.sent, counted));
-      };
+      serials = serials_kept state _ memory _ agree.serials refl same (omega (arith, counted));
     }
 
 -- ---- a beat is performed
@@ -107,43 +108,37 @@ read_sent bus_bytes r request most = by_last r.last
 abbrev IsSoundOne : BridgeState → BridgedRequest → Type 0
 IsSoundOne state request = IsSoundRequest (table_limits_of state.requests.config) state.requests.accepted request.flight
 
-pub agree_after_b : (state : BridgeState) (memory : FreeMemory) (b : BBeat) → Agree state memory → IsSoundBridge (after_b_beat state b) → IsSoundMemory (after_b_of memory b.id)
-    → Agree (after_b_beat state b) (after_b_of memory b.id)
-agree_after_b state memory b agree bridge_laws memory_laws =
-    let same = length-change_first (holds b.id) (after_response b.resp) state.requests.live in
-    let counted =
-    sum_more (IsSoundOne state) (λ (q : BridgedRequest). all_sent q.flight) (holds b.id) (after_response b.resp) state.requests.live (λ q one. response_sent b.resp q one.sent) (sound_requests state.requests agree.bridge_laws.requests)
-    in
+answered_counted : (state : BridgeState) (memory : FreeMemory) (test : BridgedRequest → Bool) (change : BridgedRequest → BridgedRequest) → Agree state memory
+    → ((q : BridgedRequest) → IsSoundOne state q → all_sent q.flight ≤ all_sent (change q).flight)
+    → bursts_sent state ≤ sum_by (λ request. all_sent request.flight) (change_first test change state.requests.live)
+answered_counted state memory test change agree more =
+    sum_more (IsSoundOne state) (λ (q : BridgedRequest). all_sent q.flight) test change state.requests.live more (sound_requests state.requests agree.bridge_laws.requests)
+
+pub agree_after_b : (state : BridgeState) (memory : FreeMemory) (id : ℕ) (b : BBeat) → b.id ≡ id → Agree state memory → IsSoundBridge (after_b_beat state b) → IsSoundMemory (after_b_of memory id)
+    → Agree (after_b_beat state b) (after_b_of memory id)
+agree_after_b state memory id b own agree bridge_laws memory_laws =
+    let counted = answered_counted state memory (holds b.id) (after_response b.resp) agree (λ q one. response_sent b.resp q one.sent) in
     record {
       bridge_laws = bridge_laws;
       memory_laws = memory_laws;
       bus = agree.bus;
-      outstanding = ap (λ (outstanding : OpenBursts). open_after outstanding (OnB b)) agree.outstanding ∙ outstanding_after_b memory b;
-      serials = record {
-        accepted = agree.serials.accepted;
-        live = omega (arith, agree.serials.live, same);
-        sent = rw same (omega (arith, agree.serials.sent, counted));
-      };
+      outstanding =
+          ap (λ (outstanding : OpenBursts). open_after outstanding (OnB b)) agree.outstanding ∙ outstanding_after_b memory b ∙ ap (λ (n : ℕ). open_bursts_of (after_b_of memory n)) own;
+      serials = serials_kept state _ memory _ agree.serials refl (length-change_first (holds b.id) (after_response b.resp) state.requests.live) (omega (arith, counted));
     }
 
-pub agree_after_r : (state : BridgeState) (memory : FreeMemory) (r : RBeat) → Agree state memory → HasBeatsToCome (find (is_read_of r.id) memory.pending) → IsSoundBridge (after_r_beat state r)
-    → IsSoundMemory (after_r_of memory r.id) → Agree (after_r_beat state r) (after_r_of memory r.id)
-agree_after_r state memory r agree to_come bridge_laws memory_laws =
+pub agree_after_r : (state : BridgeState) (memory : FreeMemory) (id : ℕ) (r : RBeat) → r.id ≡ id → Agree state memory → HasBeatsToCome (find (is_read_of r.id) memory.pending)
+    → IsSoundBridge (after_r_beat state r) → IsSoundMemory (after_r_of memory id) → Agree (after_r_beat state r) (after_r_of memory id)
+agree_after_r state memory id r own agree to_come bridge_laws memory_laws =
     let change = after_read state.requests.config.axi_bytes r in
-    let same = length-change_first (holds r.id) change state.requests.live in
-    let counted =
-    sum_more (IsSoundOne state) (λ (q : BridgedRequest). all_sent q.flight) (holds r.id) change state.requests.live (λ q one. read_sent state.requests.config.axi_bytes r q one.sent) (sound_requests state.requests agree.bridge_laws.requests)
-    in
+    let counted = answered_counted state memory (holds r.id) change agree (λ q one. read_sent state.requests.config.axi_bytes r q one.sent) in
     record {
       bridge_laws = bridge_laws;
       memory_laws = memory_laws;
       bus = agree.bus;
-      outstanding = ap (λ (outstanding : OpenBursts). open_after outstanding (OnR r)) agree.outstanding ∙ outstanding_after_r memory r to_come;
-      serials = record {
-        accepted = agree.serials.accepted;
-        live = omega (arith, agree.serials.live, same);
-        sent = rw same (omega (arith, agree.serials.sent, counted));
-      };
+      outstanding =
+          ap (λ (outstanding : OpenBursts). open_after outstanding (OnR r)) agree.outstanding ∙ outstanding_after_r memory r to_come ∙ ap (λ (n : ℕ). open_bursts_of (after_r_of memory n)) own;
+      serials = serials_kept state _ memory _ agree.serials refl (length-change_first (holds r.id) change state.requests.live) (omega (arith, counted));
     }
 
 -- ---- a reply leaves
@@ -203,49 +198,26 @@ agree_joined state memory fronts message agree below bridge_laws =
       };
     }
 
-agree_completed : (state : BridgeState) (memory : FreeMemory) (client : ℕ) (message : HeldMessage) → Agree state memory → IsSoundBridge (completed state client message).0 → Agree (completed state client message).0 memory
-agree_completed state memory client message agree bridge_laws = by_tests (has_room (flight_table_of state.requests) client) (nat_le (2 ^ 48) state.requests.accepted) refl bridge_laws
-  where
-    outcome : Bool → Bool → BridgeState × Offered
-    outcome room full =
-        if room
-        then
-        (if full
-        then (state, offer.Exhausted)
-        else (record (with_front client None state) { requests = with_request message state.requests }, offer.Accepted state.requests.accepted))
-        else (state, offer.NotReady)
+-- what is kept by an offer, whatever it makes of the bridge
+abbrev pub IsKeptBy : BridgeState → FreeMemory → BridgeState × Offered → Type 0
+IsKeptBy state memory result = IsSoundBridge result.0 → Agree result.0 memory × (result.0.requests.config ≡ state.requests.config)
 
-    result : Bool → Bool → BridgeState
-    result room full = (outcome room full).0
+agree_after : (state : BridgeState) (memory : FreeMemory) (client : ℕ) (beat : ABeat) (verdict : Result Progress TlRule) → Agree state memory → IsKeptBy state memory (offered_after verdict state client beat)
+agree_after state memory client beat (Err rule) agree = λ laws. (agree, refl)
+agree_after state memory client beat (Ok More) agree = λ laws. (agree_fronts state memory _ agree laws, refl)
+agree_after state memory client beat (Ok Whole) agree =
+    cond_both (has_room (flight_table_of state.requests) client) _ _ (IsKeptBy state memory)
+    (λ room.
+    cond_both (nat_le (2 ^ 48) state.requests.accepted) _ _ (IsKeptBy state memory) (λ full laws. (agree, refl))
+    (λ some laws. (agree_joined state memory _ (message_with state client beat) agree (leb-false (2 ^ 48) state.requests.accepted some) laws, refl)))
+    (λ full laws. (agree, refl))
 
-    by_tests : (room full : Bool) → nat_le (2 ^ 48) state.requests.accepted ≡ full → IsSoundBridge (result room full) → Agree (result room full) memory
-    by_tests true true is laws = agree
-    by_tests true false is laws = agree_joined state memory (with_front client None state).fronts message agree (leb-false (2 ^ 48) state.requests.accepted is) laws
-    by_tests false full is laws = agree
-
-agree_after : (state : BridgeState) (memory : FreeMemory) (client : ℕ) (beat : ABeat) (verdict : Result Progress TlRule) → Agree state memory → IsSoundBridge (offered_after verdict state client beat).0
-    → Agree (offered_after verdict state client beat).0 memory
-agree_after state memory client beat (Err rule) agree laws = agree
-agree_after state memory client beat (Ok More) agree laws = agree_fronts state memory (with_front client (Some (message_with state client beat)) state).fronts agree laws
-agree_after state memory client beat (Ok Whole) agree laws = agree_completed state memory client (message_with state client beat) agree laws
-
-pub agree_offered : (state : BridgeState) (memory : FreeMemory) (client : ℕ) (beat : ABeat) → Agree state memory → IsSoundBridge (offered state client beat).0 → Agree (offered state client beat).0 memory
-agree_offered state memory client beat agree bridge_laws = by_test (nat_le state.requests.config.clients client) bridge_laws
-  where
-    outcome : Bool → BridgeState × Offered
-    outcome absent = if absent then (state, offer.NoClient) else offered_after (verdict_on state client beat) state client beat
-
-    by_test : (absent : Bool) → IsSoundBridge (outcome absent).0 → Agree (outcome absent).0 memory
-    by_test true laws = agree
-    by_test false laws = agree_after state memory client beat (verdict_on state client beat) agree laws
+pub agree_offered : (state : BridgeState) (memory : FreeMemory) (client : ℕ) (beat : ABeat) → Agree state memory → IsKeptBy state memory (offered state client beat)
+agree_offered state memory client beat agree =
+    cond_both (nat_le state.requests.config.clients client) _ _ (IsKeptBy state memory) (λ absent laws. (agree, refl))
+    (λ known. agree_after state memory client beat (verdict_on state client beat) agree)
 
 -- ---- serials don't run out
-
-sum_few : {X : Type 0} (measure : X → ℕ) (most : ℕ) (xs : List X) → AllByRecursion (λ x. measure x ≤ most) xs → sum_by measure xs ≤ most * length xs
-sum_few measure most [] all = omega arith
-sum_few measure most (x ∷ xs) all =
-    let one : most * suc (length xs) ≡ most * length xs + most = mul-suc most (length xs) in
-    omega (arith, sum_by-cons measure x xs, all.0, sum_few measure most xs all.1, one)
 
 sent_few : (config : Config) (regions : List Region) (limits : TableLimits) (accepted : ℕ) (live : List BridgedRequest) → is_valid config ≡ true → AllByRecursion (IsServed config regions) live
     → AllByRecursion (λ (r : BridgedRequest). IsSoundRequest limits accepted r.flight) live → AllByRecursion (λ (r : BridgedRequest). all_sent r.flight ≤ 2048) live
@@ -260,33 +232,3 @@ serials_left state memory agree =
     sum_few (λ (r : BridgedRequest). all_sent r.flight) 2048 table.live
     (sent_few table.config table.regions (table_limits_of table.config) table.accepted table.live agree.bridge_laws.requests.config agree.bridge_laws.requests.served (sound_requests table agree.bridge_laws.requests)) in
     omega (arith, agree.serials.accepted, agree.serials.live, agree.serials.sent, few)
-
--- the limits stay
-pub config_offered : (state : BridgeState) (client : ℕ) (beat : ABeat) → (offered state client beat).0.requests.config ≡ state.requests.config
-config_offered state client beat = by_test (nat_le state.requests.config.clients client)
-  where
-    outcome : Bool → Bool → HeldMessage → BridgeState × Offered
-    outcome room full message =
-        if room
-        then
-        (if full
-        then (state, offer.Exhausted)
-        else (record (with_front client None state) { requests = with_request message state.requests }, offer.Accepted state.requests.accepted))
-        else (state, offer.NotReady)
-
-    by_place : (room full : Bool) (message : HeldMessage) → (outcome room full message).0.requests.config ≡ state.requests.config
-    by_place true true message = refl
-    by_place true false message = refl
-    by_place false full message = refl
-
-    by_verdict : (verdict : Result Progress TlRule) → (offered_after verdict state client beat).0.requests.config ≡ state.requests.config
-    by_verdict (Err rule) = refl
-    by_verdict (Ok More) = refl
-    by_verdict (Ok Whole) = by_place (has_room (flight_table_of state.requests) client) (nat_le (2 ^ 48) state.requests.accepted) (message_with state client beat)
-
-    after : Bool → BridgeState × Offered
-    after absent = if absent then (state, offer.NoClient) else offered_after (verdict_on state client beat) state client beat
-
-    by_test : (absent : Bool) → (after absent).0.requests.config ≡ state.requests.config
-    by_test true = refl
-    by_test false = by_verdict (verdict_on state client beat)

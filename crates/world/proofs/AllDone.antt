@@ -1,6 +1,6 @@
 -- Where bridge and memory can do nothing by themselves no work is left, and every request is done. It knows the laws of a sound world and
 -- what is enabled; no event, no bytes.
-use Rattle.std.proofs.Common.{◌≡◌, ◌≢◌, ℕ, zero, suc, ◌+◌, ◌<◌, ◌≤◌, nat_lt, Bool, true, false, ◌&&◌, ◌||◌, not, List, [], ◌∷◌, ◌++◌, length, take, map, Option, Some, None, get_or, is_some, refl, ap, sym, ◌∙◌, subst, arith, inl, inr, length-drop, length-take}
+use Rattle.std.proofs.Common.{◌≡◌, ℕ, zero, suc, ◌+◌, ◌<◌, ◌≤◌, nat_lt, Bool, true, false, List, [], ◌∷◌, ◌++◌, length, take, map, Option, Some, None, get_or, is_some, refl, ap, sym, ◌∙◌, subst, arith, length-drop, length-take}
 use Rattle.std.specs.Prelude.{filter, filter_map, find, flat_map, if◌then◌else◌, option_map, slice_get, sum_by}
 use Rattle.std.specs.List.{AllByRecursion, list_any, range_with_len}
 use Rattle.std.proofs.lemmas.Bool.{cases_eq, eq-eqb, leb-false, lt-ltb}
@@ -14,8 +14,8 @@ use Rattle.axi_beats.specs.declared.ArBeat.{ArBeat}
 use Rattle.axi_checker.specs.OpenBursts.{OpenBursts, OpenRead, OpenWrite, read_of_id, write_of_id}
 use Rattle.burst_plan.specs.declared.Piece.{Piece}
 use Rattle.flight_table.specs.Laws.{AreRising, IsSoundRequest}
-use Rattle.flight_table.specs.LiveRequests.{LiveRequest, next_burst, planned, unanswered}
-use Rattle.flight_table.specs.Order.{conflict, free_id, holds_back, holds_id, id_for, is_held}
+use Rattle.flight_table.specs.LiveRequests.{LiveRequest, planned, unanswered}
+use Rattle.flight_table.specs.Order.{free_id, holds_back, holds_id, id_for, is_held}
 use Rattle.flight_table.specs.Tables.{is_undone}
 use Rattle.flight_table.specs.Work.{unsent_work}
 use Rattle.bridge_core.specs.Bridge.{BridgeState, burst_to_send}
@@ -26,7 +26,7 @@ use Rattle.bridge_core.proofs.AnswerLinks.{holder_known}
 use Rattle.bridge_core.proofs.HolderChanges.{all-mapped, filter-found}
 use Rattle.bridge_core.proofs.NextSending.{next_sending-some}
 use Rattle.bridge_core.proofs.JoinedRequests.{limits_made}
-use Rattle.bridge_core.proofs.ResponseLinks.{part_way-zero}
+use Rattle.bridge_core.proofs.ResponseLinks.{not_so, part_way-zero}
 use Rattle.bridge_core.proofs.SendingLinks.{sound_requests}
 use Rattle.bridge_core.proofs.SentLinks.{none_sent}
 use Rattle.subordinate.specs.FreeMemory.{FreeMemory, Pending, b_of, beat_at, ids_with_b, ids_with_r, is_read_of, is_waiting, is_write_of, open_read_in, open_write_in, r_of, r_with, reads_as, transfers_in, waiting_beats, waiting_in, work_in, work_open, writes_as}
@@ -52,19 +52,11 @@ all-at P (y ∷ ys) (suc n) x all at = all-at P ys n x all.1 at
 -- what a search finds nowhere isn't what another finds
 none_found : {X : Type 0} (p q : X → Bool) (xs : List X) (x : X) → find p xs ≡ None → find q xs ≡ Some x → p x ≡ false
 none_found p q [] x none found = absurd (cc (found))
-none_found {X = X} p q (y ∷ ys) x none found = by_tests (p y) (q y) refl none found (none_found p q ys x)
-  where
-    by_tests : (b d : Bool) → p y ≡ b → (if b then Some y else find p ys) ≡ None → (if d then Some y else find q ys) ≡ Some x → (find p ys ≡ None → find q ys ≡ Some x → p x ≡ false) → p x ≡ false
-    by_tests true d is none found rest = absurd (cc (none))
-    by_tests false true is none found rest = let same : y ≡ x = cc in rw same at is
-    by_tests false false is none found rest = rest none found
+none_found p q (y ∷ ys) x none found = grind (arith, none_found p q ys x)
 
 found_or_none : {X : Type 0} (P : Type 0) (o : Option X) → (o ≡ None → P) → ((x : X) → o ≡ Some x → P) → P
 found_or_none P None none some = none refl
 found_or_none P (Some x) none some = some x refl
-
-contradicts : (b : Bool) → b ≡ true → b ≡ false → ⊥
-contradicts b is not_so = absurd (cc (is, not_so))
 
 -- ---- with no burst open each request has had the answers of all that it sent
 
@@ -100,14 +92,6 @@ present_at [] k within = absurd (omega (arith, within))
 present_at (x ∷ xs) zero within = refl
 present_at (x ∷ xs) (suc k) within = present_at xs k (omega (arith, within))
 
-is_ready_by : (undone more deep some free : Bool) → undone ≡ true → more ≡ true → deep ≡ true → some ≡ true → free ≡ true → (undone && more && deep && some && free) ≡ true
-is_ready_by true true true true true a b c d e = refl
-is_ready_by false more deep some free a b c d e = absurd (cc (a))
-is_ready_by true false deep some free a b c d e = absurd (cc (b))
-is_ready_by true true false some free a b c d e = absurd (cc (c))
-is_ready_by true true true false free a b c d e = absurd (cc (d))
-is_ready_by true true true true false a b c d e = absurd (cc (e))
-
 -- a live request that isn't done is ready where it may have an ID, nobody holds it back and no burst of it is outstanding
 ready_now : (table : RequestTable) (request : BridgedRequest) → IsSoundRequestTable table → IsServed table.config table.regions request
     → IsSoundRequest (table_limits_of table.config) table.accepted request.flight → request.flight.done ≡ false → request.flight.sent ≤ request.flight.answered
@@ -116,9 +100,7 @@ ready_now table request sound served each live answered some free =
     let flight = request.flight in
     let going = leb-false (length (planned flight)) flight.answered (sym served.done ∙ live) in
     let limits = limits_made table.config sound.config in
-    is_ready_by (not flight.done) (is_some (next_burst flight)) (nat_lt (unanswered flight) table.config.depth) (is_some (id_for (table_limits_of table.config) (flights_of table.live) flight))
-    (not (is_held (flights_of table.live) flight)) (ap not live) (present_at (planned flight) flight.sent (omega (arith, going, each.answered)))
-    (lt-ltb (unanswered flight) table.config.depth (omega (arith, answered, limits.some_depth))) some (ap not free)
+    rw (live, present_at (planned flight) flight.sent (omega (arith, going, each.answered)), lt-ltb (unanswered flight) table.config.depth (omega (arith, answered, limits.some_depth)), some, free) refl
 
 -- nothing goes, so no request is ready
 none_ready : (bridge : BridgeState) → IsSoundBridge bridge → burst_to_send bridge ≡ None → find (may_send bridge.requests) bridge.requests.live ≡ None
@@ -135,25 +117,20 @@ held_ready bridge id request sound idle held =
     let table = bridge.requests in
     let known = holder_known table id request sound.requests held in
     let answered = all_answered request.flight known.sound.sent (holder_idle bridge id request sound idle held) in
-    ready_now table request sound.requests known.served known.sound known.live answered (rw known.has_id refl) (free (is_held (flights_of table.live) request.flight) refl)
+    let in_order =
+    all-find (λ (r : BridgedRequest). r.flight.done ≡ false → is_held (flights_of table.live) r.flight ≡ true → r.flight.id ≡ None) (holds id) table.live request
+    (all-mapped (λ r. r.done ≡ false → is_held (flights_of table.live) r ≡ true → r.id ≡ None) (λ (r : BridgedRequest). r.flight) table.live sound.requests.flights.in_order) held known.live in
+    ready_now table request sound.requests known.served known.sound known.live answered (rw known.has_id refl)
+    (free (is_held (flights_of table.live) request.flight) request.flight.id known.has_id in_order)
   where
-    in_order : (b : Bool) → is_held (flights_of bridge.requests.live) request.flight ≡ true → request.flight.id ≡ None
-    in_order b is =
-        let known = holder_known bridge.requests id request sound.requests held in
-        all-find (λ (r : BridgedRequest). r.flight.done ≡ false → is_held (flights_of bridge.requests.live) r.flight ≡ true → r.flight.id ≡ None) (holds id) bridge.requests.live request
-        (all-mapped (λ r. r.done ≡ false → is_held (flights_of bridge.requests.live) r ≡ true → r.id ≡ None) (λ (r : BridgedRequest). r.flight) bridge.requests.live sound.requests.flights.in_order) held known.live is
-
-    free : (b : Bool) → is_held (flights_of bridge.requests.live) request.flight ≡ b → is_held (flights_of bridge.requests.live) request.flight ≡ false
-    free true is =
-        let known = holder_known bridge.requests id request sound.requests held in
-        absurd (cc (in_order true is, known.has_id))
-    free false is = is
+    free : (b : Bool) (own : Option ℕ) → own ≡ Some id → (b ≡ true → own ≡ None) → b ≡ false
+    free true own has none = let not_any = none refl in absurd (cc (has, not_any))
+    free false own has none = refl
 
 nobody_holds : (bridge : BridgeState) (id : ℕ) → IsSoundBridge bridge → IsIdle bridge → burst_to_send bridge ≡ None → holder id bridge.requests.live ≡ None
 nobody_holds bridge id sound idle none =
     found_or_none (holder id bridge.requests.live ≡ None) (holder id bridge.requests.live) (λ is. is)
-    (λ request is. absurd (contradicts (may_send bridge.requests request) (held_ready bridge id request sound idle is)
-    (none_found (may_send bridge.requests) (holds id) bridge.requests.live request (none_ready bridge sound none) is)))
+    (λ request is. absurd (cc (held_ready bridge id request sound idle is, none_found (may_send bridge.requests) (holds id) bridge.requests.live request (none_ready bridge sound none) is)))
 
 -- ---- and the first request that isn't done would be ready
 
@@ -170,22 +147,7 @@ later_hold_none r (e ∷ live) all =
 first_not_held : (live : List BridgedRequest) (r : BridgedRequest) → AreRising (map (λ (f : LiveRequest). f.number) (flights_of live)) → find undone live ≡ Some r
     → list_any (holds_back r.flight) (flights_of live) ≡ false
 first_not_held [] r rising found = absurd (cc (found))
-first_not_held (e ∷ live) r rising found = by_flag e.flight.done refl found (first_not_held live r rising.1)
-  where
-    rest : nat_lt e.flight.number e.flight.number ≡ false
-    rest = grind (arith, nat_tests)
-
-    done_holds_none : (b d : Bool) → (b && false && d) ≡ false
-    done_holds_none true d = refl
-    done_holds_none false d = refl
-
-    by_flag : (b : Bool) → e.flight.done ≡ b → (if not b then Some e else find undone live) ≡ Some r → (find undone live ≡ Some r → list_any (holds_back r.flight) (flights_of live) ≡ false)
-        → list_any (holds_back r.flight) (flights_of (e ∷ live)) ≡ false
-    by_flag true done found later =
-        rw done (rw (done_holds_none (nat_lt e.flight.number r.flight.number) (conflict e.flight r.flight)) (later found))
-    by_flag false live_one found later =
-        let same : e ≡ r = same_Some e r found in
-        subst (λ (q : BridgedRequest). list_any (holds_back q.flight) (flights_of (e ∷ live)) ≡ false) same (rw rest (later_hold_none e.flight live rising.0))
+first_not_held (e ∷ live) r rising found = grind (arith, nat_tests, later_hold_none e.flight live rising.0, first_not_held live r rising.1)
 
 -- nobody holds 0, so it is free
 free_zero : (ids : ℕ) (live : List BridgedRequest) → 1 ≤ ids → holder 0 live ≡ None → is_some (free_id ids (flights_of live)) ≡ true
@@ -194,11 +156,7 @@ free_zero (suc ids) live some none = rw (not_any live none) refl
   where
     not_any : (live : List BridgedRequest) → holder 0 live ≡ None → list_any (holds_id 0) (flights_of live) ≡ false
     not_any [] none = refl
-    not_any (e ∷ live) none = by_test (holds 0 e) none (not_any live)
-      where
-        by_test : (b : Bool) → (if b then Some e else holder 0 live) ≡ None → (holder 0 live ≡ None → list_any (holds_id 0) (flights_of live) ≡ false) → (b || list_any (holds_id 0) (flights_of live)) ≡ false
-        by_test true none later = absurd (cc (none))
-        by_test false none later = later none
+    not_any (e ∷ live) none = grind (arith, none, not_any live)
 
 pub no_undone : (bridge : BridgeState) → IsSoundBridge bridge → IsIdle bridge → burst_to_send bridge ≡ None → find undone bridge.requests.live ≡ None
 no_undone bridge sound idle none = found_or_none (find undone bridge.requests.live ≡ None) (find undone bridge.requests.live) (λ is. is) (λ request is. absurd (impossible request is))
@@ -206,15 +164,11 @@ no_undone bridge sound idle none = found_or_none (find undone bridge.requests.li
     table : RequestTable
     table = bridge.requests
 
-    not_true : (b : Bool) → not b ≡ true → b ≡ false
-    not_true true is = absurd (cc (is))
-    not_true false is = refl
-
     impossible : (request : BridgedRequest) → find undone table.live ≡ Some request → ⊥
     impossible request is = by_id request.flight.id refl
       where
         live : request.flight.done ≡ false
-        live = not_true request.flight.done (find-passes undone table.live request is)
+        live = not_so request.flight.done (find-passes undone table.live request is)
 
         each : IsSoundRequest (table_limits_of table.config) table.accepted request.flight
         each = all-find (λ (r : BridgedRequest). IsSoundRequest (table_limits_of table.config) table.accepted r.flight) undone table.live request (sound_requests table sound.requests) is
@@ -225,31 +179,19 @@ no_undone bridge sound idle none = found_or_none (find undone bridge.requests.li
         by_id : (own : Option ℕ) → request.flight.id ≡ own → ⊥
         by_id (Some id) own =
             let passes : holds id request ≡ true = rw own (eq-eqb id id refl) in
-            contradicts (holds id request) passes (none_found (holds id) undone table.live request (nobody_holds bridge id sound idle none) is)
+            cc (passes, none_found (holds id) undone table.live request (nobody_holds bridge id sound idle none) is)
         by_id None own =
             let unsent : request.flight.sent ≡ 0 = none_sent (table_limits_of table.config) table.accepted request.flight each live own in
             let limits = limits_made table.config sound.requests.config in
             let free = free_zero table.config.ids table.live limits.some_ids (nobody_holds bridge 0 sound idle none) in
             let ready = ready_now table request sound.requests served each live (omega (arith, unsent)) (rw own free) (first_not_held table.live request sound.requests.flights.rising is) in
-            contradicts (may_send table request) ready (none_found (may_send table) undone table.live request (none_ready bridge sound none) is)
+            cc (ready, none_found (may_send table) undone table.live request (none_ready bridge sound none) is)
 
 -- ---- no burst is open
 
 none_passes : (p : ℕ → Bool) (from n k : ℕ) → filter p (range_with_len from n) ≡ [] → from ≤ k → k < from + n → p k ≡ false
 none_passes p from zero k none low high = absurd (omega (arith, low, high))
-none_passes p from (suc n) k none low high = by_test (p from) refl none (none_passes p (from + 1) n k)
-  where
-    later : k ≢ from → from + 1 ≤ k
-    later other = grind (arith, low, other)
-
-    by_test : (b : Bool) → p from ≡ b → (if b then from ∷ filter p (range_with_len (from + 1) n) else filter p (range_with_len (from + 1) n)) ≡ []
-        → (filter p (range_with_len (from + 1) n) ≡ [] → from + 1 ≤ k → k < from + 1 + n → p k ≡ false) → p k ≡ false
-    by_test true is none rest = absurd (cc (none))
-    by_test false is none rest =
-        elim (cases_eq k from) [
-          | inl same ↦ rw same is
-          | inr other ↦ rest none (later other) (omega (arith, high))
-        ]
+none_passes p from (suc n) k none low high = grind (arith, cases_eq k from, none_passes p (from + 1) n k)
 
 -- no beat of the first open burst waits, where none waits at all
 first_performed : (p : Pending) (ps : List Pending) → flat_map waiting_in (p ∷ ps) ≡ [] → count_waiting p.beats ≡ 0
@@ -258,11 +200,7 @@ first_performed p ps none =
     omega (arith, count, length-append (waiting_in p) (flat_map waiting_in ps), length-waiting_in p)
 
 none_waits : (beats : List BeatState) → count_waiting beats ≡ 0 → list_any is_waiting beats ≡ false
-none_waits beats none = by_test (list_any is_waiting beats) (sym (none_waiting beats) ∙ eq-eqb (count_waiting beats) 0 none)
-  where
-    by_test : (b : Bool) → not b ≡ true → b ≡ false
-    by_test true is = absurd (cc (is))
-    by_test false is = refl
+none_waits beats none = not_so (list_any is_waiting beats) (sym (none_waiting beats) ∙ eq-eqb (count_waiting beats) 0 none)
 
 not_waiting_at : (beats : List BeatState) (n : ℕ) (beat : BeatState) → count_waiting beats ≡ 0 → slice_get beats n ≡ Some beat → is_waiting beat ≡ false
 not_waiting_at [] n beat none at = absurd (cc (at))
@@ -293,7 +231,7 @@ nothing_open memory sound still to_come = by_pending memory.pending refl
         let first : is_write_of aw.id p ≡ true = ap (writes_as aw.id) burst ∙ eq-eqb aw.id aw.id refl in
         let found : find (is_write_of aw.id) memory.pending ≡ Some p = ap (find (is_write_of aw.id)) is ∙ rw first refl in
         let gives : is_some (b_of memory aw.id) ≡ true = rw (found, none_waits p.beats performed) refl in
-        contradicts (is_some (b_of memory aw.id)) gives (none_passes (λ id. is_some (b_of memory id)) 0 16 aw.id still.bs (omega arith) (omega (arith, below)))
+        cc (gives, none_passes (λ id. is_some (b_of memory id)) 0 16 aw.id still.bs (omega arith) (omega (arith, below)))
     by_burst p ps (ReadBurst ar) is burst each known performed =
         let below : ar.id < 16 = omega (arith, known, ap queue_of_burst burst) in
         let first : is_read_of ar.id p ≡ true = ap (reads_as ar.id) burst ∙ eq-eqb ar.id ar.id refl in
@@ -303,7 +241,7 @@ nothing_open memory sound still to_come = by_pending memory.pending refl
         let at : beat_at p p.answered ≡ Some beat = slice_get-get_or p.beats p.answered Waiting within in
         let of_read : IsBeatOf (ReadBurst ar) beat = subst (λ (b : Burst). IsBeatOf b beat) burst (all-at (IsBeatOf p.burst) p.beats p.answered beat each.0.beats at) in
         let gives : is_some (r_of memory ar.id) ≡ true = rw (found, at) (read_gives ar ar.id p beat of_read (not_waiting_at p.beats p.answered beat performed at)) in
-        contradicts (is_some (r_of memory ar.id)) gives (none_passes (λ id. is_some (r_of memory id)) 0 16 ar.id still.rs (omega arith) (omega (arith, below)))
+        cc (gives, none_passes (λ id. is_some (r_of memory id)) 0 16 ar.id still.rs (omega arith) (omega (arith, below)))
 
     by_pending : (pending : List Pending) → memory.pending ≡ pending → memory.pending ≡ []
     by_pending [] is = is
@@ -343,16 +281,10 @@ beats_to_come state id p sound found =
 
 none_undone : (live : List BridgedRequest) → find undone live ≡ None → length (filter is_undone (flights_of live)) ≡ 0 × (sum_by unsent_work (flights_of live) ≡ 0)
 none_undone [] none = (refl, refl)
-none_undone (e ∷ live) none = by_flag e.flight.done refl none (none_undone live)
-  where
-    by_flag : (b : Bool) → e.flight.done ≡ b → (if not b then Some e else find undone live) ≡ None
-        → (find undone live ≡ None → length (filter is_undone (flights_of live)) ≡ 0 × (sum_by unsent_work (flights_of live) ≡ 0))
-        → length (filter is_undone (flights_of (e ∷ live))) ≡ 0 × (sum_by unsent_work (flights_of (e ∷ live)) ≡ 0)
-    by_flag true done none rest =
-        let others = rest none in
-        let own : unsent_work e.flight ≡ 0 = rw done refl in
-        (rw done others.0, omega (arith, sum_by-cons unsent_work e.flight (flights_of live), own, others.1))
-    by_flag false done none rest = absurd (cc (none))
+none_undone (e ∷ live) none =
+    let others = none_undone live in
+    let work = sum_by-cons unsent_work e.flight (flights_of live) in
+    (grind (arith, none, others), grind (arith, none, others, work))
 
 pub nothing_left : (state : WorldState) → IsSoundWorld state → burst_to_send state.bridge ≡ None → IsStill state.memory → IsQuiet state × (work_left state ≡ 0)
 nothing_left state sound none still =

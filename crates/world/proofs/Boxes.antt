@@ -1,7 +1,7 @@
 -- A box is in stock wherever a request is ready: each ID has at most as many bursts outstanding as it may have on one side. It counts; what
 -- a box holds is hidden.
-use Rattle.std.proofs.Common.{◌≡◌, ℕ, suc, ◌+◌, ◌-◌, ◌==◌, ◌<◌, ◌≤◌, Bool, true, false, List, [], ◌∷◌, ◌++◌, length, Option, Some, None, refl, ap, sym, ◌∙◌, subst, arith}
-use Rattle.std.specs.Prelude.{IsSome, option_map, filter, take, if◌then◌else◌}
+use Rattle.std.proofs.Common.{◌≡◌, ◌⊎◌, inl, inr, ℕ, suc, ◌+◌, ◌-◌, ◌==◌, ◌<◌, ◌≤◌, Bool, true, false, List, [], ◌∷◌, ◌++◌, length, Option, Some, None, refl, ap, sym, ◌∙◌, subst, arith}
+use Rattle.std.specs.Prelude.{IsSome, option_map, filter, take}
 use Rattle.std.specs.List.{AllByRecursion}
 use Rattle.std.proofs.lemmas.List.{length-append, length-drop, length-take}
 use Rattle.std.proofs.lemmas.List.Elements.{filter-append}
@@ -26,7 +26,7 @@ use Rattle.bridge_core.proofs.SentLinks.{taken_by}
 use Rattle.subordinate.specs.FreeMemory.{FreeMemory, Pending, is_read_of, is_write_of, newly_pending, reads_as, writes_as}
 use Rattle.subordinate.proofs.OpenBursts.{reads_known, writes_known}
 use Rattle.world.specs.Laws.{Agree}
-use Rattle.world.proofs.TakesAll.{holder_below}
+use Rattle.world.proofs.TakesAll.{id_known}
 
 -- the ID of an open burst, on either side
 abbrev pub id_of_pending : Pending → ℕ
@@ -37,21 +37,13 @@ count_of id pending = length (filter (λ p. id_of_pending p == id) pending)
 
 -- ---- how many bursts an ID has outstanding
 
-by_side : (id : ℕ) (burst : Burst) (any writes reads : ℕ) → any ≡ writes + reads
-    → (if id_of burst == id then suc any else any) ≡ (if writes_as id burst then suc writes else writes) + (if reads_as id burst then suc reads else reads)
-by_side id (WriteBurst aw ws) any writes reads is = elim (aw.id == id) as (λ (here : Bool). (if here then suc any else any) ≡ (if here then suc writes else writes) + reads) [ true ↦ omega (arith, is) | false ↦ is ]
-by_side id (ReadBurst ar) any writes reads is = elim (ar.id == id) as (λ (here : Bool). (if here then suc any else any) ≡ writes + (if here then suc reads else reads)) [ true ↦ omega (arith, is) | false ↦ is ]
-
-length_if : {X : Type 0} (test : Bool) (x : X) (xs : List X) → length (if test then x ∷ xs else xs) ≡ (if test then suc (length xs) else length xs)
-length_if true x xs = refl
-length_if false x xs = refl
+by_side : (id : ℕ) (burst : Burst) → ((reads_as id burst ≡ false) × (writes_as id burst ≡ (id_of burst == id))) ⊎ ((writes_as id burst ≡ false) × (reads_as id burst ≡ (id_of burst == id)))
+by_side id (WriteBurst aw ws) = inl (refl, refl)
+by_side id (ReadBurst ar) = inr (refl, refl)
 
 both_sides : (id : ℕ) (pending : List Pending) → count_of id pending ≡ length (filter (is_write_of id) pending) + length (filter (is_read_of id) pending)
 both_sides id [] = refl
-both_sides id (p ∷ ps) =
-    length_if (id_of_pending p == id) p (filter (λ q. id_of_pending q == id) ps)
-    ∙ by_side id p.burst (count_of id ps) (length (filter (is_write_of id) ps)) (length (filter (is_read_of id) ps)) (both_sides id ps)
-    ∙ sym (λ i. length_if (is_write_of id p) p (filter (is_write_of id) ps) i + length_if (is_read_of id p) p (filter (is_read_of id) ps) i)
+both_sides id (p ∷ ps) = grind (arith, by_side id p.burst, both_sides id ps)
 
 -- each burst of a holder is a write or a read
 either_side : (id came : ℕ) (bursts : List (Bool × Piece)) → length (open_writes id bursts) + length (open_reads id came bursts) ≡ length bursts
@@ -82,11 +74,7 @@ few_held bridge id sound (Some request) is =
 
 -- an ID under which a burst is open is one of the port's
 below_ids : (bridge : BridgeState) (memory : FreeMemory) (id : ℕ) → Agree bridge memory → 1 ≤ count_of id memory.pending → id < bridge.requests.config.ids
-below_ids bridge memory id agree some = by_holder (holder id bridge.requests.live) refl (omega (arith, some, counted bridge memory id agree))
-  where
-    by_holder : (held : Option BridgedRequest) → holder id bridge.requests.live ≡ held → 1 ≤ length (outstanding_of held) → id < bridge.requests.config.ids
-    by_holder None is some = absurd (omega (arith, some))
-    by_holder (Some request) is some = holder_below bridge id request agree.bridge_laws is
+below_ids bridge memory id agree some = id_known bridge id agree.bridge_laws (λ none. absurd (omega (arith, some, rw none at (counted bridge memory id agree))))
 
 -- each open burst counts for its own ID
 each_counts : (ids : ℕ) (before later all : List Pending) → all ≡ before ++ later → ((id : ℕ) → 1 ≤ count_of id all → id < ids) → AllByRecursion (λ p. id_of_pending p < ids) later

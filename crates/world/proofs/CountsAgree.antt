@@ -10,8 +10,8 @@ use Rattle.bridge_core.specs.Bridge as bridges
 use Rattle.bridge_core.specs.Bridge.{answered_reads}
 use Rattle.bridge_core.proofs.WorkLeft.{whole_open, whole_read, whole_write, work_apart}
 use Rattle.subordinate.specs.Inside.{count_waiting}
-use Rattle.subordinate.specs.FreeMemory.{FreeMemory, Pending, answers_left, open_bursts_of, open_read_in, open_write_in, performed_waiting, performed_waiting_in, transfers_in, work_in, work_open}
-use Rattle.subordinate.specs.Laws.{HasAnswered, IsSoundMemory, IsSoundPending}
+use Rattle.subordinate.specs.FreeMemory.{Pending, answers_left, open_read_in, open_write_in, performed_waiting, performed_waiting_in, transfers_in, work_in}
+use Rattle.subordinate.specs.Laws.{HasAnswered, IsSoundPending}
 use Rattle.subordinate.proofs.BeatStates.{length-waiting_in, performed_waiting-count}
 use Rattle.world.specs.Laws.{IsSoundWorld}
 use Rattle.world.specs.World.{WorldState, work_left}
@@ -76,18 +76,13 @@ counted : (bus_bytes : ℕ) (pending : List Pending) → AllByRecursion (IsSound
 counted bus_bytes [] all = refl
 counted bus_bytes (p ∷ ps) all = counted_with bus_bytes p ps all.0 (counted bus_bytes ps all.1)
 
--- the work of the open bursts, and what of it is performed
-counted_open : (memory : FreeMemory) → IsSoundMemory memory
-    → work_open memory + performed_waiting memory + 2 * answered_reads (open_bursts_of memory) ≡ whole_open (open_bursts_of memory)
-counted_open memory sound = counted memory.bus_bytes memory.pending sound.each
-
 -- of a sound world
 pub counts_agree : (state : WorldState) → IsSoundWorld state → work_left state + performed_waiting state.memory ≡ bridges.work_left state.bridge
 counts_agree state sound =
     omega (
       arith,
       work_apart state.bridge sound.bridge_laws,
-      counted_open state.memory sound.memory_laws,
+      counted state.memory.bus_bytes state.memory.pending sound.memory_laws.each,
       ap answered_reads sound.outstanding,
       ap whole_open sound.outstanding,
     )

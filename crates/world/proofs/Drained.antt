@@ -1,14 +1,13 @@
 -- A drain makes the first step that is enabled until none is. It knows that each step takes one from the work; what the steps do is hidden.
-use Rattle.std.proofs.Common.{◌≡◌, ℕ, zero, suc, ◌+◌, ◌^◌, ◌<◌, ◌≤◌, List, [], ◌∷◌, drop, Some, refl, ap, sym, ◌∙◌, subst, arith}
+use Rattle.std.proofs.Common.{◌≡◌, ℕ, zero, suc, ◌+◌, ◌^◌, ◌<◌, ◌≤◌, [], drop, Some, refl, ap, sym, ◌∙◌, subst, arith}
 use Rattle.std.specs.Prelude.{slice_get}
-use Rattle.std.proofs.lemmas.Option.{same_Some}
 use Rattle.world.specs.Choices.{LeadsTo}
 use Rattle.world.specs.Laws.{IsDrained, IsSoundWorld, work_spared}
 use Rattle.world.specs.World.{Drains, WorldState, drained, drained_within, enabled, next, one_more, work_left}
 use Rattle.world.specs.declared.Step.{Step}
 use Rattle.world.proofs.AllDone.{nothing_enabled}
 use Rattle.world.proofs.WorkBounds.{few_work}
-use Rattle.world.proofs.WorkSteps.{enabled_takes}
+use Rattle.world.proofs.WorkSteps.{enabled_takes, first_dropped}
 
 -- ---- what a drain gives is what the definition gives
 
@@ -64,13 +63,9 @@ led_few (suc n) old new (step, sound, first, rest) =
     let takes = led_takes (suc n) old new (step, sound, first, rest) in
     omega (arith, takes.work, takes.spared, few_work old sound)
 
-first_and_rest : {X : Type 0} (xs : List X) (x : X) → slice_get xs 0 ≡ Some x → xs ≡ x ∷ drop 1 xs
-first_and_rest [] x first = absurd (cc (first))
-first_and_rest (y ∷ ys) x first = ap (λ z. z ∷ ys) (same_Some y x first)
-
 led_drains : (n : ℕ) (old new : WorldState) → LeadsTo old n new → enabled new ≡ [] → Drains old n new
 led_drains zero old new same none = (subst (λ (state : WorldState). enabled state ≡ []) same none, same)
-led_drains (suc n) old new (step, sound, first, rest) none = (step, drop 1 (enabled old), first_and_rest (enabled old) step first, led_drains n (next old step).state new rest none)
+led_drains (suc n) old new (step, sound, first, rest) none = (step, drop 1 (enabled old), first_dropped (enabled old) 0 step first, led_drains n (next old step).state new rest none)
 
 led_ends : (n : ℕ) (old new : WorldState) → LeadsTo old n new → IsSoundWorld new → enabled new ≡ [] → IsDrained old n new
 led_ends n old new led sound none =

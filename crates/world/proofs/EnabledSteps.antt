@@ -21,31 +21,22 @@ passing_from p n top = filter p (range_with_len n (top - n))
 from_next : (n top : ℕ) → n < top → range_with_len n (top - n) ≡ n ∷ range_with_len (n + 1) (top - (n + 1))
 from_next n top below = let more : top - n ≡ suc (top - (n + 1)) = omega (arith, below) in rw more refl
 
-pub passing_here : (p : ℕ → Bool) (n top : ℕ) → n < top → p n ≡ true → passing_from p n top ≡ n ∷ passing_from p (n + 1) top
-passing_here p n top below passes = ap (filter p) (from_next n top below) ∙ rw passes refl
-
-pub passing_not : (p : ℕ → Bool) (n top : ℕ) → n < top → p n ≡ false → passing_from p n top ≡ passing_from p (n + 1) top
-passing_not p n top below fails = ap (filter p) (from_next n top below) ∙ rw fails refl
-
-pub passing_none : (p : ℕ → Bool) (n top : ℕ) → top ≤ n → passing_from p n top ≡ []
-passing_none p n top past = let none : top - n ≡ 0 = omega (arith, past) in rw none refl
-
 -- the one that is looked for is here
 pub found_here : (p : ℕ → Bool) (n top left : ℕ) (sought : Option ℕ) → n < top → p n ≡ true → left ≡ 0 → slice_get (passing_from p n top) left ≡ sought → sought ≡ Some n
-found_here p n top left sought below passes first at = sym at ∙ rw (first, passing_here p n top below passes) refl
+found_here p n top left sought below passes first at = sym at ∙ rw (first, from_next n top below, passes) refl
 
 -- or after it
 pub found_later : (p : ℕ → Bool) (n top left less : ℕ) (sought : Option ℕ) → n < top → p n ≡ true → less + 1 ≡ left → slice_get (passing_from p n top) left ≡ sought
     → slice_get (passing_from p (n + 1) top) less ≡ sought
 found_later p n top left less sought below passes fewer at =
     let next : left ≡ suc less = omega (arith, fewer) in
-    (rw (next, passing_here p n top below passes) at at)
+    rw (next, from_next n top below, passes) at at
 
 pub found_after : (p : ℕ → Bool) (n top left : ℕ) (sought : Option ℕ) → n < top → p n ≡ false → slice_get (passing_from p n top) left ≡ sought → slice_get (passing_from p (n + 1) top) left ≡ sought
-found_after p n top left sought below fails at = (rw (passing_not p n top below fails) at at)
+found_after p n top left sought below fails at = rw (from_next n top below, fails) at at
 
 pub found_past : (p : ℕ → Bool) (n top left : ℕ) (sought : Option ℕ) → top ≤ n → slice_get (passing_from p n top) left ≡ sought → sought ≡ None
-found_past p n top left sought past at = sym at ∙ ap (λ (ids : List ℕ). slice_get ids left) (passing_none p n top past)
+found_past p n top left sought past at = let none : top - n ≡ 0 = omega (arith, past) in sym at ∙ rw none refl
 
 -- ---- the steps, one kind after another
 
@@ -67,20 +58,12 @@ length-after f xs ys = length-append (map f xs) ys ∙ ap (λ n. n + length ys) 
 -- the first that a filter keeps is what a search finds
 pub first_kept : {X : Type 0} (p : X → Bool) (xs : List X) → slice_get (filter p xs) 0 ≡ find p xs
 first_kept p [] = refl
-first_kept {X = X} p (x ∷ xs) = by_test (p x) (first_kept p xs)
-  where
-    by_test : (b : Bool) → slice_get (filter p xs) 0 ≡ find p xs → slice_get (if b then x ∷ filter p xs else filter p xs) 0 ≡ (if b then Some x else find p xs)
-    by_test true rest = refl
-    by_test false rest = rest
+first_kept p (x ∷ xs) = grind (arith, first_kept p xs)
 
 -- where a search finds nothing a filter keeps nothing
 pub none_kept : {X : Type 0} (p : X → Bool) (xs : List X) → find p xs ≡ None → filter p xs ≡ []
 none_kept p [] none = refl
-none_kept {X = X} p (x ∷ xs) none = by_test (p x) none (none_kept p xs)
-  where
-    by_test : (b : Bool) → (if b then Some x else find p xs) ≡ None → (find p xs ≡ None → filter p xs ≡ []) → (if b then x ∷ filter p xs else filter p xs) ≡ []
-    by_test true none rest = absurd (cc (none))
-    by_test false none rest = rest none
+none_kept p (x ∷ xs) none = grind (arith, none_kept p xs)
 
 -- ---- the answers that may come
 

@@ -1,9 +1,9 @@
 -- The first step that is enabled, by what stands before it; and that an R of whose burst more come enables nothing else.
-use Rattle.std.proofs.Common.{◌≡◌, ℕ, Bool, true, false, List, [], ◌∷◌, ◌++◌, length, Option, Some, None, is_some, refl, ap, sym, ◌∙◌, subst, ◌+◌, ◌<◌}
-use Rattle.std.specs.Prelude.{IfSome, find, flat_map, if◌then◌else◌, not, slice_get}
+use Rattle.std.proofs.Common.{◌≡◌, ℕ, Bool, true, false, List, [], ◌∷◌, length, Option, Some, None, is_some, refl, ap, sym, ◌∙◌, subst, ◌<◌, arith}
+use Rattle.std.specs.Prelude.{find, flat_map, slice_get}
 use Rattle.std.specs.List.{range_with_len}
 use Rattle.std.proofs.lemmas.Bool.{lt-leb}
-use Rattle.std.proofs.lemmas.Option.{same_Some, slice_get_within}
+use Rattle.std.proofs.lemmas.Option.{slice_get_within}
 use Rattle.bus_words.specs.Places.{change_first}
 use Rattle.axi_beats.specs.Bursts.{Burst, ReadBurst, WriteBurst}
 use Rattle.axi_beats.specs.declared.RBeat.{RBeat}
@@ -16,9 +16,8 @@ use Rattle.bridge_core.specs.Laws.{IsSoundBridge}
 use Rattle.bridge_core.specs.Requests.{BridgedRequest, after_read, flight_table_of, flights_of, holds}
 use Rattle.bridge_core.proofs.AnswerLinks.{answered_reader}
 use Rattle.bridge_core.proofs.Pumps.{ready_goes}
-use Rattle.subordinate.specs.FreeMemory.{FreeMemory, Pending, after_r_of, b_from, b_of, beat_at, first_with_b, first_with_r, gives_last, is_read_of, is_write_of, pending_after_r, performed, r_from, r_of, r_with, reads_as, waiting_beats, waiting_in, writes_as}
-use Rattle.subordinate.specs.declared.BeatState.{BeatState}
-use Rattle.subordinate.specs.declared.BeatState.TheVariants.{Captured, Waiting, Written}
+use Rattle.bridge_core.proofs.ResponseLinks.{not_so}
+use Rattle.subordinate.specs.FreeMemory.{FreeMemory, Pending, after_r_of, b_from, b_of, first_with_b, first_with_r, gives_last, is_read_of, is_write_of, pending_after_r, performed, r_of, reads_as, waiting_beats, waiting_in, writes_as}
 use Rattle.subordinate.specs.declared.Performed.{Performed}
 use Rattle.subordinate.specs.declared.Performed.TheVariants as perform
 use Rattle.world.specs.Choices.{IsPerformed, answers_enabled, goes_on, is_sent}
@@ -26,7 +25,8 @@ use Rattle.world.specs.Laws.{IsSoundWorld}
 use Rattle.world.specs.World.{WorldState, answered_r, enabled, next, perform_at, performed_by, pumped}
 use Rattle.world.specs.declared.Step.TheVariants.{AnswerB, AnswerR, Perform, Pump}
 use Rattle.world.proofs.EnabledSteps.{at_before, first_is_b, first_is_r}
-use Rattle.world.proofs.TakesAll.{takes_all}
+use Rattle.world.proofs.OpenWork.{r_found}
+use Rattle.world.proofs.TakesAll.{r_unbroken}
 
 -- ---- which is first
 
@@ -50,12 +50,9 @@ first_b state id still is = sym (first_answer state still) ∙ sym (first_is_b s
 pub first_r : (state : WorldState) (id : ℕ) → IsPerformed state → first_with_b state.memory ≡ None → first_with_r state.memory ≡ Some id → slice_get (enabled state) 0 ≡ Some (AnswerR id)
 first_r state id still none is = sym (first_answer state still) ∙ sym (first_is_r state.memory none) ∙ rw is refl
 
-none_at : {X : Type 0} (xs : List X) → slice_get xs 0 ≡ None → xs ≡ []
+pub none_at : {X : Type 0} (xs : List X) → slice_get xs 0 ≡ None → xs ≡ []
 none_at [] none = refl
 none_at (x ∷ xs) none = absurd (cc (none))
-
-pub none_waits : (memory : FreeMemory) → slice_get (waiting_beats memory) 0 ≡ None → waiting_beats memory ≡ []
-none_waits memory none = none_at (waiting_beats memory) none
 
 pub none_first : (state : WorldState) → IsPerformed state → first_with_b state.memory ≡ None → first_with_r state.memory ≡ None → enabled state ≡ []
 none_first state still no_b no_r = none_at (enabled state) (sym (first_answer state still) ∙ sym (first_is_r state.memory no_b) ∙ rw no_r refl)
@@ -86,12 +83,7 @@ stays_unready state serial beat idle = ap burst_to_send (performed_apart state (
 -- the open bursts keep their beats
 same_beats : (id : ℕ) (ps : List Pending) (p : Pending) → find (is_read_of id) ps ≡ Some p → gives_last p ≡ false → flat_map waiting_in (pending_after_r id ps) ≡ flat_map waiting_in ps
 same_beats id [] p found more = absurd (cc (found))
-same_beats id (q ∷ ps) p found more = by_test (is_read_of id q) found (λ later. same_beats id ps p later more)
-  where
-    by_test : (b : Bool) → (if b then Some q else find (is_read_of id) ps) ≡ Some p → (find (is_read_of id) ps ≡ Some p → flat_map waiting_in (pending_after_r id ps) ≡ flat_map waiting_in ps)
-        → flat_map waiting_in (if b then (if gives_last q then ps else record q { answered = q.answered + 1 } ∷ ps) else q ∷ pending_after_r id ps) ≡ flat_map waiting_in (q ∷ ps)
-    by_test true here rest = let last : gives_last q ≡ false = ap gives_last (same_Some q p here) ∙ more in rw last refl
-    by_test false later rest = ap (λ places. waiting_in q ++ places) (rest later)
+same_beats id (q ∷ ps) p found more = grind (arith, more, same_beats id ps p)
 
 -- and so does each write
 not_write : (id write : ℕ) (burst : Burst) → reads_as id burst ≡ true → writes_as write burst ≡ false
@@ -100,31 +92,17 @@ not_write id write (ReadBurst ar) is = refl
 
 same_write : (id write : ℕ) (ps : List Pending) (p : Pending) → find (is_read_of id) ps ≡ Some p → gives_last p ≡ false → find (is_write_of write) (pending_after_r id ps) ≡ find (is_write_of write) ps
 same_write id write [] p found more = absurd (cc (found))
-same_write id write (q ∷ ps) p found more = by_test (is_read_of id q) refl found (λ later. same_write id write ps p later more)
-  where
-    by_test : (b : Bool) → is_read_of id q ≡ b → (if b then Some q else find (is_read_of id) ps) ≡ Some p → (find (is_read_of id) ps ≡ Some p → find (is_write_of write) (pending_after_r id ps) ≡ find (is_write_of write) ps)
-        → find (is_write_of write) (if b then (if gives_last q then ps else record q { answered = q.answered + 1 } ∷ ps) else q ∷ pending_after_r id ps) ≡ find (is_write_of write) (q ∷ ps)
-    by_test true is here rest =
-        let last : gives_last q ≡ false = ap gives_last (same_Some q p here) ∙ more in
-        rw (last, not_write id write q.burst is) refl
-    by_test false is later rest = ap (λ (o : Option Pending). if is_write_of write q then Some q else o) (rest later)
+same_write id write (q ∷ ps) p found more = grind (arith, more, not_write id write q.burst, same_write id write ps p)
 
 find_alike : {X : Type 0} (p q : X → Bool) (xs : List X) → ((x : X) → p x ≡ q x) → find p xs ≡ find q xs
 find_alike p q [] alike = refl
-find_alike {X = X} p q (x ∷ xs) alike = rw (alike x) (ap (λ (o : Option X). if q x then Some x else o) (find_alike p q xs alike))
+find_alike p q (x ∷ xs) alike = grind (arith, alike x, find_alike p q xs alike)
 
 -- the requests keep their places in the order
 same_flights : (id : ℕ) (f : BridgedRequest → BridgedRequest) (live : List BridgedRequest) (request : BridgedRequest) → find (holds id) live ≡ Some request → (f request).flight ≡ request.flight
     → flights_of (change_first (holds id) f live) ≡ flights_of live
 same_flights id f [] request held same = absurd (cc (held))
-same_flights id f (q ∷ live) request held same = by_test (holds id q) held (λ later. same_flights id f live request later same)
-  where
-    by_test : (b : Bool) → (if b then Some q else find (holds id) live) ≡ Some request → (find (holds id) live ≡ Some request → flights_of (change_first (holds id) f live) ≡ flights_of live)
-        → flights_of (if b then f q ∷ live else q ∷ change_first (holds id) f live) ≡ flights_of (q ∷ live)
-    by_test true here rest =
-        let is : q ≡ request = same_Some q request here in
-        ap (λ flight. flight ∷ flights_of live) (subst (λ (r : BridgedRequest). (f r).flight ≡ r.flight) (sym is) same)
-    by_test false later rest = ap (λ flights. q.flight ∷ flights) (rest later)
+same_flights id f (q ∷ live) request held same = grind (arith, same, λ (later : find (holds id) live ≡ Some request). same_flights id f live request later same)
 
 same_flight : (bus_bytes : ℕ) (r : RBeat) (request : BridgedRequest) → r.last ≡ false → request.flight.answered < length (planned request.flight) → (after_read bus_bytes r request).flight ≡ request.flight
 same_flight bus_bytes r request more within = rw (more, lt-leb (length (planned request.flight)) request.flight.answered within) refl
@@ -145,17 +123,6 @@ stays_idle state r sound kept none more idle =
     ∙ ap (λ (table : FlightTable). is_some (next_ready table)) (same_order state r sound none more)
     ∙ ready_goes state sound.requests ∙ ap (λ (o : Option Burst). is_some o) idle)
 
--- what an R was given by
-gives_more : (id : ℕ) (o : Option Pending) (r : RBeat) → r_from id o ≡ Some r → r.last ≡ false → (p : Pending) × (o ≡ Some p) × (gives_last p ≡ false)
-gives_more id None r is more = absurd (cc (is))
-gives_more id (Some p) r is more = (p, refl, by_beat (beat_at p p.answered) is)
-  where
-    by_beat : (beat : Option BeatState) → r_with id p beat ≡ Some r → gives_last p ≡ false
-    by_beat None is = absurd (cc (is))
-    by_beat (Some Waiting) is = absurd (cc (is))
-    by_beat (Some Written) is = absurd (cc (is))
-    by_beat (Some (Captured payload resp)) is = ap (λ (beat : RBeat). beat.last) (same_Some _ r is) ∙ more
-
 -- what may come after it is as before
 pub record StaysRead (state : WorldState) : Type 0 where
   pub performed : IsPerformed state
@@ -163,28 +130,25 @@ pub record StaysRead (state : WorldState) : Type 0 where
 
 not_last : (state : WorldState) (id : ℕ) (o : Option RBeat) → goes_on (answered_r state id o).answer ≡ true → (r : RBeat) × (o ≡ Some r) × (r.last ≡ false)
 not_last state id None goes = absurd (cc (goes))
-not_last state id (Some r) goes = (r, refl, by_last r.last goes)
-  where
-    by_last : (b : Bool) → not b ≡ true → b ≡ false
-    by_last true is = absurd (cc (is))
-    by_last false is = refl
+not_last state id (Some r) goes = (r, refl, not_so r.last goes)
 
 pub reads_on : (state : WorldState) (id : ℕ) → IsSoundWorld state → IsSoundWorld (next state (AnswerR id)).state → StaysRead state → goes_on (next state (AnswerR id)).answer ≡ true
     → StaysRead (next state (AnswerR id)).state
 reads_on state id sound kept still goes =
     let (r, is, more) = not_last state id (r_of state.memory id) goes in
-    let (p, found, gives) = gives_more id (find (is_read_of id) state.memory.pending) r is more in
-    let none : r_fault state.bridge r ≡ None = subst (λ (o : Option RBeat). IfSome o (λ r. r_fault state.bridge r ≡ None)) is ((takes_all state sound).r id) in
+    let finds = r_found state.memory id r is in
+    let gives : gives_last finds.read ≡ false = sym (ap (λ (beat : RBeat). beat.last) finds.answer) ∙ more in
+    let none = r_unbroken state id r sound is in
     let kept_r : IsSoundWorld (answered_r state id (Some r)).state = subst (λ (o : Option RBeat). IsSoundWorld (answered_r state id o).state) is kept in
     subst (λ (o : Option RBeat). StaysRead (answered_r state id o).state) (sym is)
     (record {
       performed =
           record {
             idle = stays_idle state.bridge r sound.bridge_laws kept_r.bridge_laws none more still.performed.idle;
-            performed = same_beats id state.memory.pending p found gives ∙ still.performed.performed;
+            performed = same_beats id state.memory.pending finds.read finds.found gives ∙ still.performed.performed;
           };
       written =
           find_alike (λ (write : ℕ). is_some (b_of (after_r_of state.memory id) write)) (λ (write : ℕ). is_some (b_of state.memory write)) (range_with_len 0 16)
-          (λ write. ap (λ (o : Option Pending). is_some (b_from state.memory.faults write o)) (same_write id write state.memory.pending p found gives))
+          (λ write. ap (λ (o : Option Pending). is_some (b_from state.memory.faults write o)) (same_write id write state.memory.pending finds.read finds.found gives))
           ∙ still.written;
     })

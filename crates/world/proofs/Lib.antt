@@ -1,6 +1,5 @@
 pub mod Agreeing
 pub mod AllDone
-pub mod Answering
 pub mod Boxes
 pub mod CountsAgree
 pub mod Drained
@@ -9,9 +8,7 @@ pub mod Events
 pub mod Examples
 pub mod FirstSteps
 pub mod Kept
-pub mod LastSent
 pub mod OpenWork
-pub mod Opening
 pub mod Passing
 pub mod Serials
 pub mod Settled

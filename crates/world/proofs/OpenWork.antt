@@ -1,18 +1,20 @@
 -- The work in the open bursts of a memory: how much of it there can be, and what each event makes of it. It counts beats and answers; the
 -- bridge and all bytes are hidden.
-use Rattle.std.proofs.Common.{◌≡◌, ℕ, zero, suc, ◌+◌, ◌-◌, ◌*◌, ◌<◌, ◌≤◌, ◌==◌, nat_lt, Bool, true, false, ◌&&◌, not, List, [], ◌∷◌, length, refl, sym, ◌∙◌, ap, arith, inl, inr}
+use Rattle.std.proofs.Common.{◌≡◌, ℕ, zero, suc, ◌+◌, ◌-◌, ◌*◌, ◌<◌, ◌≤◌, ◌==◌, Bool, true, false, ◌&&◌, not, List, [], ◌∷◌, length, refl, sym, ◌∙◌, ap, arith, inl, inr}
 use Rattle.std.specs.Prelude.{Option, Some, None, find, flat_map, if◌then◌else◌, option_map, slice_get, sum_by, take}
 use Rattle.std.specs.List.{AllByRecursion, enumerate_from, list_all, list_any}
-use Rattle.std.proofs.lemmas.Bool.{and_parts, cases_lt, eq-eqb, eqb-true, ltb-true, ne_eqb}
+use Rattle.std.proofs.lemmas.Bool.{and_parts, cases_lt, eq-eqb, eqb-true, ne_eqb}
+use Rattle.std.proofs.lemmas.Bool.Decides.{nat_tests}
 use Rattle.std.proofs.lemmas.List.{length-append}
 use Rattle.std.proofs.lemmas.List.Sums.{sum_by-append, sum_by-cons}
 use Rattle.std.proofs.lemmas.Option.{same_Some, slice_get-map, slice_get_within}
 use Rattle.axi_beats.specs.Bursts.{Burst, IsLegal, ReadBurst, WriteBurst, is_legal_address, is_legal_data}
-use Rattle.axi_beats.specs.Transfers.{fits_bus, in_one_page}
 use Rattle.axi_beats.specs.declared.BBeat.{BBeat}
 use Rattle.axi_beats.specs.declared.RBeat.{RBeat}
+use Rattle.axi_beats.specs.declared.Resp.{Resp}
 use Rattle.axi_checker.proofs.Few.{length-few}
 use Rattle.bus_words.proofs.PlaceChanges.{all-find, find-passes}
+use Rattle.flight_table.proofs.TableChanges.{all-map}
 use Rattle.subordinate.specs.Faults.{standing_at, write_response}
 use Rattle.subordinate.specs.FreeMemory.{FreeMemory, Pending, after_b_of, after_r_of, answers_left, b_from, b_of, beat_after, beat_at, gives_last, has_serial, is_read_of, is_waiting, is_write_of, newly_pending, r_from, r_of, r_with, reads_as, start_of, transfers_in, waiting_beats, waiting_in, with_beat, with_burst, with_performed, work_in, work_open, writes_as}
 use Rattle.subordinate.specs.Inside.{count_waiting, waiting_places, with_answer}
@@ -28,10 +30,7 @@ use Rattle.world.proofs.Sums.{sum_between, sum_without}
 
 -- a legal burst has at most 256 transfers
 few_by : (bus_bytes address len size kind : ℕ) → is_legal_address bus_bytes address len size kind ≡ true → len + 1 ≤ 256
-few_by bus_bytes address len size kind legal =
-    let all = and_parts (fits_bus bus_bytes size && kind == 1 && nat_lt len 256) (in_one_page address len size) legal in
-    let few = and_parts (fits_bus bus_bytes size && kind == 1) (nat_lt len 256) all.0 in
-    omega (arith, ltb-true len 256 few.1)
+few_by bus_bytes address len size kind legal = grind (arith, nat_tests, legal)
 
 pub few_transfers : (bus_bytes : ℕ) (burst : Burst) → IsLegal bus_bytes burst → transfers_in burst ≤ 256
 few_transfers bus_bytes (ReadBurst ar) legal = few_by bus_bytes ar.address ar.len ar.size ar.burst legal
@@ -49,17 +48,13 @@ work_in_few : (bus_bytes : ℕ) (p : Pending) → IsSoundPending bus_bytes p →
 work_in_few bus_bytes p sound =
     omega (arith, length-waiting_in p, count_waiting-le p.beats, sound.whole, few_transfers bus_bytes p.burst sound.legal, answers_few p.answered p.burst)
 
-sum_few : {X : Type 0} (f : X → ℕ) (most : ℕ) (xs : List X) → AllByRecursion (λ x. f x ≤ most) xs → sum_by f xs ≤ length xs * most
+pub sum_few : {X : Type 0} (f : X → ℕ) (most : ℕ) (xs : List X) → AllByRecursion (λ x. f x ≤ most) xs → sum_by f xs ≤ length xs * most
 sum_few f most [] all = omega arith
 sum_few f most (x ∷ xs) all = omega (arith, all.0, sum_few f most xs all.1, sum_by-cons f x xs)
 
-all_few : (bus_bytes : ℕ) (pending : List Pending) → AllByRecursion (IsSoundPending bus_bytes) pending → AllByRecursion (λ p. work_in p ≤ 512) pending
-all_few bus_bytes [] all = tt
-all_few bus_bytes (p ∷ ps) all = (work_in_few bus_bytes p all.0, all_few bus_bytes ps all.1)
-
 pub work_open_few : (memory : FreeMemory) → IsSoundMemory memory → work_open memory ≤ 65536
 work_open_few memory sound =
-    omega (arith, sum_few work_in 512 memory.pending (all_few memory.bus_bytes memory.pending sound.each), length-few queue_of 32 4 memory.pending sound.few)
+    omega (arith, sum_few work_in 512 memory.pending (all-map (IsSoundPending memory.bus_bytes) (λ p. work_in p ≤ 512) memory.pending (λ p each. work_in_few memory.bus_bytes p each) sound.each), length-few queue_of 32 4 memory.pending sound.few)
 
 waiting_in_work : (pending : List Pending) → length (flat_map waiting_in pending) ≤ sum_by work_in pending
 waiting_in_work [] = omega arith
@@ -97,20 +92,21 @@ work_open-performed memory serial beat p found waits =
     omega (arith, sum_between work_in (has_serial p.serial) (with_beat beat state) memory.pending p here, work_in-with_beat p beat state waits (beat_after-performed memory p.burst beat))
 
 -- a B closes a write, of which all beats are performed
-pub record FindsWrite (memory : FreeMemory) (id : ℕ) : Type 0 where
+pub record FindsWrite (memory : FreeMemory) (id : ℕ) (b : BBeat) : Type 0 where
   pub write : Pending
   pub found : find (is_write_of id) memory.pending ≡ Some write
   pub performed : list_any is_waiting write.beats ≡ false
+  pub answer : b ≡ record { id = id; resp = write_response (standing_at memory.faults (start_of write.burst)) }
 
-pub b_found : (memory : FreeMemory) (id : ℕ) (b : BBeat) → b_of memory id ≡ Some b → FindsWrite memory id
+pub b_found : (memory : FreeMemory) (id : ℕ) (b : BBeat) → b_of memory id ≡ Some b → FindsWrite memory id b
 b_found memory id b is = by_write (find (is_write_of id) memory.pending) refl is
   where
     by_beats : (p : Pending) (waits : Bool) → find (is_write_of id) memory.pending ≡ Some p → list_any is_waiting p.beats ≡ waits
-        → (if waits then None else Some (record { id = id; resp = write_response (standing_at memory.faults (start_of p.burst)) })) ≡ Some b → FindsWrite memory id
+        → (if waits then None else Some (record { id = id; resp = write_response (standing_at memory.faults (start_of p.burst)) })) ≡ Some b → FindsWrite memory id b
     by_beats p true found waits is = absurd (cc (is))
-    by_beats p false found waits is = record { write = p; found = found; performed = waits }
+    by_beats p false found waits is = record { write = p; found = found; performed = waits; answer = sym (same_Some _ b is) }
 
-    by_write : (o : Option Pending) → find (is_write_of id) memory.pending ≡ o → b_from memory.faults id o ≡ Some b → FindsWrite memory id
+    by_write : (o : Option Pending) → find (is_write_of id) memory.pending ≡ o → b_from memory.faults id o ≡ Some b → FindsWrite memory id b
     by_write None found is = absurd (cc (is))
     by_write (Some p) found is = by_beats p (list_any is_waiting p.beats) found refl is
 
@@ -140,7 +136,10 @@ work_open-b memory id b is =
 pub record FindsRead (memory : FreeMemory) (id : ℕ) (r : RBeat) : Type 0 where
   pub read : Pending
   pub found : find (is_read_of id) memory.pending ≡ Some read
-  pub captured : beat_at read read.answered ≡ Some (Captured r.payload r.resp)
+  pub payload : ℕ
+  pub resp : Resp
+  pub captured : beat_at read read.answered ≡ Some (Captured payload resp)
+  pub answer : r ≡ record { id = id; payload = payload; resp = resp; last = gives_last read }
 
 pub r_found : (memory : FreeMemory) (id : ℕ) (r : RBeat) → r_of memory id ≡ Some r → FindsRead memory id r
 r_found memory id r is = by_read (find (is_read_of id) memory.pending) refl is
@@ -150,8 +149,7 @@ r_found memory id r is = by_read (find (is_read_of id) memory.pending) refl is
     by_beat p (Some Waiting) found at is = absurd (cc (is))
     by_beat p (Some Written) found at is = absurd (cc (is))
     by_beat p (Some (Captured payload resp)) found at is =
-        let same : record { id = id; payload = payload; resp = resp; last = gives_last p } ≡ r = same_Some _ _ is in
-        record { read = p; found = found; captured = at ∙ ap (λ (beat : RBeat). Some (Captured beat.payload beat.resp)) same }
+        record { read = p; found = found; payload = payload; resp = resp; captured = at; answer = sym (same_Some _ r is) }
 
     by_read : (o : Option Pending) → find (is_read_of id) memory.pending ≡ o → r_from id o ≡ Some r → FindsRead memory id r
     by_read None found is = absurd (cc (is))
@@ -188,13 +186,13 @@ work_open-r memory id r sound is = by_last (gives_last finds.read) refl
     each = all-find (IsSoundPending memory.bus_bytes) (is_read_of id) memory.pending finds.read sound.each finds.found
 
     within : finds.read.answered < transfers_in finds.read.burst
-    within = omega (arith, slice_get_within finds.read.beats finds.read.answered (Captured r.payload r.resp) finds.captured, each.whole)
+    within = omega (arith, slice_get_within finds.read.beats finds.read.answered _ finds.captured, each.whole)
 
     by_last : (last : Bool) → gives_last finds.read ≡ last → work_open memory ≡ 1 + work_open (after_r_of memory id)
     by_last true is_last =
         let p = finds.read in
         let end : p.answered + 1 ≡ transfers_in p.burst = eqb-true (p.answered + 1) (transfers_in p.burst) is_last in
-        let none = all_performed p.answered p.beats (Captured r.payload r.resp) each.answered finds.captured refl (omega (arith, each.whole, end)) in
+        let none = all_performed p.answered p.beats (Captured finds.payload finds.resp) each.answered finds.captured refl (omega (arith, each.whole, end)) in
         rw (pending_after_r-last id memory.pending p finds.found is_last)
         (omega (arith, sum_without work_in (is_read_of id) memory.pending p finds.found, length-waiting_in p, none, read_work id p passes p.answered, end))
     by_last false more =

@@ -15,7 +15,7 @@ use Rattle.bridge_core.specs.Laws.{IsServed}
 use Rattle.bridge_core.specs.Requests.{BridgedRequest}
 use Rattle.bridge_core.specs.declared.Config.{Config}
 use Rattle.bridge_core.proofs.SentBursts.{plannable}
-use Rattle.flight_table.specs.LiveRequests.{LiveRequest, all_sent, pieces_planned, planned, read_pieces, write_pieces}
+use Rattle.flight_table.specs.LiveRequests.{LiveRequest, all_sent, pieces_planned, planned, read_pieces}
 use Rattle.flight_table.proofs.PhaseLaws.{length_reading, length_writing}
 
 -- ---- a plan has at most 1,024 pieces
@@ -48,29 +48,31 @@ few_pieces range plans =
     omega (arith, length-pieces range even, count)
 
 -- a request sends each of its pieces at most twice, to read it and to write it
-few_either : (test : Bool) (parts : List Piece) → length parts ≤ 1024 → length (if test then parts else []) ≤ 1024
-few_either true parts few = few
-few_either false parts few = omega arith
-
 few_planned : (flight : LiveRequest) → length (pieces_planned flight.plan) ≤ 1024 → flight.sent ≤ length (planned flight) → all_sent flight ≤ 2048
 few_planned flight few most = by_side flight.writing refl
   where
-    reads : length (read_pieces flight) ≤ 1024
-    reads = few_either (reply_has_data flight.operation) (pieces_planned flight.plan) few
+    few_if : (test : Bool) → length (if test then pieces_planned flight.plan else []) ≤ 1024
+    few_if true = few
+    few_if false = omega arith
 
-    writes : length (write_pieces flight) ≤ 1024
-    writes = few_either (has_data flight.operation) (pieces_planned flight.plan) few
+    reads : length (read_pieces flight) ≤ 1024
+    reads = few_if (reply_has_data flight.operation)
 
     by_side : (b : Bool) → flight.writing ≡ b → all_sent flight ≤ 2048
-    by_side true is = let sent : flight.sent ≤ 1024 = omega (arith, most, length_writing flight is, writes) in rw is (omega (arith, sent, reads))
-    by_side false is = let sent : flight.sent ≤ 1024 = omega (arith, most, length_reading flight is, reads) in rw is (omega (arith, sent))
+    by_side true is = rw is (omega (arith, most, length_writing flight is, few_if (has_data flight.operation), reads))
+    by_side false is = rw is (omega (arith, most, length_reading flight is, reads))
+
+-- what holds of the pieces of each range that can be planned holds of those of a live request
+pub plan_has : (P : List Piece → Type 0) → P [] → ((range : PlannedRange) → IsPlannable range → P (pieces range)) → (config : Config) (regions : List Region) (request : BridgedRequest)
+    → is_valid config ≡ true → IsServed config regions request → P (pieces_planned request.flight.plan)
+plan_has P none some config regions request valid served = by_plan request.flight.plan refl
+  where
+    by_plan : (plan : Option PlannedRange) → request.flight.plan ≡ plan → P (pieces_planned plan)
+    by_plan None is = none
+    by_plan (Some range) is = some range (plannable config regions request range valid served.pages served is).0
 
 -- a live request has sent at most 2,048 bursts
-few_of_plan : (config : Config) (regions : List Region) (request : BridgedRequest) → is_valid config ≡ true → IsServed config regions request → (plan : Option PlannedRange) → request.flight.plan ≡ plan
-    → length (pieces_planned plan) ≤ 1024
-few_of_plan config regions request valid served None is = omega arith
-few_of_plan config regions request valid served (Some range) is = few_pieces range (plannable config regions request range valid served.pages served is).0
-
 pub most_sent : (config : Config) (regions : List Region) (request : BridgedRequest) → is_valid config ≡ true → IsServed config regions request → request.flight.sent ≤ length (planned request.flight)
     → all_sent request.flight ≤ 2048
-most_sent config regions request valid served most = few_planned request.flight (few_of_plan config regions request valid served request.flight.plan refl) most
+most_sent config regions request valid served most =
+    few_planned request.flight (plan_has (λ parts. length parts ≤ 1024) (omega arith) few_pieces config regions request valid served) most

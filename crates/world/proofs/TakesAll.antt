@@ -1,57 +1,34 @@
 -- In a sound world neither part refuses what the other hands it. It knows the laws of both parts and their outstanding bursts; how a state
 -- was reached, and all bytes, are hidden.
-use Rattle.std.proofs.Common.{◌≡◌, ℕ, ◌+◌, ◌==◌, ◌<◌, ◌≤◌, Bool, true, false, [], Option, Some, None, refl, ap, sym, ◌∙◌, subst, arith}
-use Rattle.std.specs.Prelude.{IfSome, filter, find, if◌then◌else◌, nat_le, not, option_map, ◌&&◌, ◌||◌}
-use Rattle.std.specs.List.{list_any}
+use Rattle.std.proofs.Common.{◌≡◌, ◌≢◌, ℕ, ◌+◌, ◌==◌, ◌<◌, Bool, true, false, Option, Some, None, refl, ap, sym, ◌∙◌, subst, arith}
+use Rattle.std.specs.Prelude.{IfSome, find, nat_le, not}
 use Rattle.std.specs.Bool.{beq}
-use Rattle.std.proofs.lemmas.Bool.{lt-leb, leb-true, and_parts}
+use Rattle.std.proofs.lemmas.Bool.{lt-leb}
 use Rattle.bus_words.proofs.PlaceChanges.{all-find}
 use Rattle.axi_beats.specs.Bursts.{Burst, IsLegal}
 use Rattle.axi_beats.specs.Responses.{is_exokay}
 use Rattle.axi_beats.specs.declared.BBeat.{BBeat}
-use Rattle.axi_beats.specs.declared.Resp.{Resp}
-use Rattle.axi_checker.specs.OpenBursts.{OpenBursts, OpenRead, OpenWrite, read_of_id, write_of_id}
+use Rattle.axi_beats.specs.declared.RBeat.{RBeat}
+use Rattle.axi_checker.specs.OpenBursts.{OpenBursts, read_of_id, write_of_id}
 use Rattle.axi_checker.specs.Rules.{burst_fault}
 use Rattle.axi_checker.proofs.LegalBursts.{last_place}
 use Rattle.axi_checker.proofs.Taking.{legal_is_unbroken}
-use Rattle.bridge_core.specs.Bridge.{BridgeState, b_fault, r_fault}
-use Rattle.bridge_core.specs.Configs.{is_valid}
-use Rattle.bridge_core.specs.declared.Config.{Config}
-use Rattle.burst_plan.specs.Pieces.{is_max_len}
-use Rattle.bus_words.specs.Lanes.{is_between}
+use Rattle.bridge_core.specs.Bridge.{BridgeState, b_fault, burst_to_send, r_fault}
 use Rattle.bridge_core.proofs.HolderChanges.{filter-found}
-use Rattle.bridge_core.specs.Laws.{IsSoundBridge, came_of, open_reads, open_writes, outstanding_of}
+use Rattle.bridge_core.specs.Laws.{IsSoundBridge}
 use Rattle.bridge_core.specs.Requests.{BridgedRequest, holder}
 use Rattle.bridge_core.specs.Sending.{Sending, next_sending}
 use Rattle.bridge_core.proofs.AnswerLinks.{holder_known}
+use Rattle.bridge_core.proofs.JoinedRequests.{limits_made}
+use Rattle.bridge_core.proofs.NextSending.{map_some}
 use Rattle.bridge_core.proofs.SentBursts.{sent_unbroken, sent_within}
 use Rattle.subordinate.specs.Faults.{Standing, IsAbsent, IsGood, IsSlaveError, standing_at, write_response}
-use Rattle.subordinate.specs.FreeMemory.{Pending, b_from, beat_at, device_port, gives_last, is_read_of, is_waiting, is_write_of, r_from, r_with, start_of, transfers_in}
+use Rattle.subordinate.specs.FreeMemory.{b_of, r_of, device_port, gives_last, is_read_of, start_of, transfers_in}
 use Rattle.subordinate.specs.Laws.{IsSoundPending}
-use Rattle.subordinate.specs.declared.BeatState.{BeatState}
-use Rattle.subordinate.specs.declared.BeatState.TheVariants.{Captured, Waiting, Written}
 use Rattle.world.specs.Laws.{GoesWell, IsSoundWorld, TakeAll}
 use Rattle.world.specs.World.{WorldState}
+use Rattle.world.proofs.OpenWork.{b_found, r_found}
 use Rattle.subordinate.proofs.Monitors.{captured_plain, oldest_read_seen, oldest_write_seen}
-
--- ---- the limits
-
--- at most 16 IDs, and at most 4 outstanding bursts of each
-pub limits_known : (config : Config) → is_valid config ≡ true → (config.ids ≤ 16) × (config.depth ≤ 4)
-limits_known config valid =
-    let clients = is_between 1 8 config.clients in
-    let quota = is_between 1 8 config.quota in
-    let ids = is_between 1 16 config.ids in
-    let depth = is_between 1 4 config.depth in
-    let len = is_max_len config.max_len in
-    let size = is_between 3 12 config.max_size in
-    let bus = config.axi_bytes == 8 || config.axi_bytes == 4 && nat_le 2 config.max_len in
-    let all = and_parts (clients && quota && ids && depth && len && size) bus valid in
-    let sizes = and_parts (clients && quota && ids && depth && len) size all.0 in
-    let lens = and_parts (clients && quota && ids && depth) len sizes.0 in
-    let depths = and_parts (clients && quota && ids) depth lens.0 in
-    let known = and_parts (clients && quota) ids depths.0 in
-    (leb-true config.ids 16 (and_parts (nat_le 1 config.ids) (nat_le config.ids 16) known.1).1, leb-true config.depth 4 (and_parts (nat_le 1 config.depth) (nat_le config.depth 4) depths.1).1)
 
 -- ---- a burst that goes
 
@@ -59,19 +36,15 @@ goes_well : (state : WorldState) (sending : Sending) → IsSoundWorld state → 
 goes_well state sending sound is =
     let sent = sent_unbroken state.bridge sending sound.bridge_laws is in
     let within = sent_within state.bridge sending sound.bridge_laws is in
-    let limits = limits_known state.bridge.requests.config sound.bridge_laws.requests.config in
+    let limits = limits_made state.bridge.requests.config sound.bridge_laws.requests.config in
     let legal : IsLegal state.memory.bus_bytes sending.burst = subst (λ (bytes : ℕ). IsLegal bytes sending.burst) (sym sound.bus) sent.0 in
     let taken : burst_fault (device_port state.memory) state.bridge.open_bursts sending.burst ≡ None =
-    legal_is_unbroken (device_port state.memory) state.bridge.open_bursts sending.burst sound.bridge_laws.filled legal (omega (arith, within.id, limits.0)) (omega (arith, within.depth, limits.1)) in
+    legal_is_unbroken (device_port state.memory) state.bridge.open_bursts sending.burst sound.bridge_laws.filled legal (omega (arith, within.id, limits.most_ids)) (omega (arith, within.depth, limits.most_depth)) in
     record {
       legal = sent.0;
       unbroken = sent.1;
       taken = subst (λ (outstanding : OpenBursts). burst_fault (device_port state.memory) outstanding sending.burst ≡ None) sound.outstanding taken;
     }
-
-goes_well_of : (state : WorldState) → IsSoundWorld state → (sending : Option Sending) → next_sending state.bridge.requests ≡ sending → IfSome (option_map (λ (s : Sending). s.burst) sending) (GoesWell state)
-goes_well_of state sound None is = tt
-goes_well_of state sound (Some sending) is = goes_well state sending sound is
 
 -- ---- the IDs of answers
 
@@ -80,22 +53,13 @@ holder_below bridge id request sound held =
     let known = holder_known bridge.requests id request sound.requests held in
     subst (λ (own : Option ℕ). IfSome own (λ (n : ℕ). n < bridge.requests.config.ids)) known.has_id known.sound.id
 
--- an ID under which a write is outstanding is one of the port's
-write_id_known : (bridge : BridgeState) (id : ℕ) (write : OpenWrite) → IsSoundBridge bridge → (held : Option BridgedRequest) → holder id bridge.requests.live ≡ held
-    → find (write_of_id id) bridge.open_bursts.writes ≡ Some write → id < bridge.requests.config.ids
-write_id_known bridge id write sound None is found =
-    let none : filter (write_of_id id) bridge.open_bursts.writes ≡ [] = (sound.linked id).writes ∙ ap (λ (held : Option BridgedRequest). open_writes id (outstanding_of held)) is in
-    let one = filter-found (write_of_id id) bridge.open_bursts.writes write found in
-    absurd (cc (none, one))
-write_id_known bridge id write sound (Some request) is found = holder_below bridge id request sound is
-
-read_id_known : (bridge : BridgeState) (id : ℕ) (read : OpenRead) → IsSoundBridge bridge → (held : Option BridgedRequest) → holder id bridge.requests.live ≡ held
-    → find (read_of_id id) bridge.open_bursts.reads ≡ Some read → id < bridge.requests.config.ids
-read_id_known bridge id read sound None is found =
-    let none : filter (read_of_id id) bridge.open_bursts.reads ≡ [] = (sound.linked id).reads ∙ ap (λ (held : Option BridgedRequest). open_reads id (came_of held) (outstanding_of held)) is in
-    let one = filter-found (read_of_id id) bridge.open_bursts.reads read found in
-    absurd (cc (none, one))
-read_id_known bridge id read sound (Some request) is found = holder_below bridge id request sound is
+-- an ID that somebody holds is one of the port's
+pub id_known : (bridge : BridgeState) (id : ℕ) → IsSoundBridge bridge → holder id bridge.requests.live ≢ None → id < bridge.requests.config.ids
+id_known bridge id sound some = by_holder (holder id bridge.requests.live) refl
+  where
+    by_holder : (held : Option BridgedRequest) → holder id bridge.requests.live ≡ held → id < bridge.requests.config.ids
+    by_holder None is = absurd (some is)
+    by_holder (Some request) is = holder_below bridge id request sound is
 
 -- ---- a B
 
@@ -107,27 +71,15 @@ no_exokay IsAbsent = refl
 full_write : (len : ℕ) → nat_le (len + 1) len ≡ false
 full_write len = lt-leb (len + 1) len (omega arith)
 
-b_unbroken : (state : WorldState) (id : ℕ) (pending : Pending) → IsSoundWorld state → find (is_write_of id) state.memory.pending ≡ Some pending
-    → b_fault state.bridge (record { id = id; resp = write_response (standing_at state.memory.faults (start_of pending.burst)) }) ≡ None
-b_unbroken state id pending sound found =
-    let oldest = oldest_write_seen id state.memory.pending pending found in
+pub b_unbroken : (state : WorldState) (id : ℕ) (b : BBeat) → IsSoundWorld state → b_of state.memory id ≡ Some b → b_fault state.bridge b ≡ None
+b_unbroken state id b sound is =
+    let finds = b_found state.memory id b is in
+    let oldest = oldest_write_seen id state.memory.pending finds.write finds.found in
     let there : find (write_of_id id) state.bridge.open_bursts.writes ≡ Some (record { aw = oldest.aw; came = oldest.aw.len + 1 }) =
     ap (λ (outstanding : OpenBursts). find (write_of_id id) outstanding.writes) sound.outstanding ∙ oldest.seen in
-    let known : nat_le state.bridge.requests.config.ids id ≡ false =
-    lt-leb state.bridge.requests.config.ids id (write_id_known state.bridge id _ sound.bridge_laws (holder id state.bridge.requests.live) refl there) in
-    rw (known, there, full_write oldest.aw.len, no_exokay (standing_at state.memory.faults (start_of pending.burst))) refl
-
-b_unbroken_of : (state : WorldState) (id : ℕ) → IsSoundWorld state → (pending : Option Pending) → find (is_write_of id) state.memory.pending ≡ pending
-    → IfSome (b_from state.memory.faults id pending) (λ b. b_fault state.bridge b ≡ None)
-b_unbroken_of state id sound None found = tt
-b_unbroken_of state id sound (Some pending) found = by_test (list_any is_waiting pending.beats) (b_unbroken state id pending sound found)
-  where
-    b : BBeat
-    b = record { id = id; resp = write_response (standing_at state.memory.faults (start_of pending.burst)) }
-
-    by_test : (waits : Bool) → b_fault state.bridge b ≡ None → IfSome (if waits then None else Some b) (λ b. b_fault state.bridge b ≡ None)
-    by_test true none = tt
-    by_test false none = none
+    let listed = filter-found (write_of_id id) state.bridge.open_bursts.writes _ there in
+    let below = id_known state.bridge id sound.bridge_laws (λ none. absurd (cc (listed, rw none at (sound.bridge_laws.linked id).writes))) in
+    rw (finds.answer, lt-leb state.bridge.requests.config.ids id below, there, full_write oldest.aw.len, no_exokay (standing_at state.memory.faults (start_of finds.write.burst))) refl
 
 -- ---- an R
 
@@ -135,39 +87,33 @@ same_flag : (b : Bool) → not (beq b b) ≡ false
 same_flag true = refl
 same_flag false = refl
 
-r_unbroken : (state : WorldState) (id payload : ℕ) (resp : Resp) (pending : Pending) → IsSoundWorld state → find (is_read_of id) state.memory.pending ≡ Some pending
-    → beat_at pending pending.answered ≡ Some (Captured payload resp)
-    → r_fault state.bridge (record { id = id; payload = payload; resp = resp; last = gives_last pending }) ≡ None
-r_unbroken state id payload resp pending sound found at =
-    let oldest = oldest_read_seen id state.memory.pending pending found in
-    let there : find (read_of_id id) state.bridge.open_bursts.reads ≡ Some (record { ar = oldest.ar; came = pending.answered }) =
+pub r_unbroken : (state : WorldState) (id : ℕ) (r : RBeat) → IsSoundWorld state → r_of state.memory id ≡ Some r → r_fault state.bridge r ≡ None
+r_unbroken state id r sound is =
+    let finds = r_found state.memory id r is in
+    let p = finds.read in
+    let oldest = oldest_read_seen id state.memory.pending p finds.found in
+    let there : find (read_of_id id) state.bridge.open_bursts.reads ≡ Some (record { ar = oldest.ar; came = p.answered }) =
     ap (λ (outstanding : OpenBursts). find (read_of_id id) outstanding.reads) sound.outstanding ∙ oldest.seen in
-    let known : nat_le state.bridge.requests.config.ids id ≡ false =
-    lt-leb state.bridge.requests.config.ids id (read_id_known state.bridge id _ sound.bridge_laws (holder id state.bridge.requests.live) refl there) in
-    let last : gives_last pending ≡ (pending.answered == oldest.ar.len) =
-    ap (λ (burst : Burst). pending.answered + 1 == transfers_in burst) oldest.burst ∙ last_place pending.answered oldest.ar.len in
-    let each = all-find (IsSoundPending state.memory.bus_bytes) (is_read_of id) state.memory.pending pending sound.memory_laws.each found in
-    let plain = captured_plain pending.burst pending.beats pending.answered payload resp each.beats at in
-    rw (known, there, last, same_flag (pending.answered == oldest.ar.len), plain) refl
-
-r_unbroken_of : (state : WorldState) (id : ℕ) (pending : Pending) → IsSoundWorld state → find (is_read_of id) state.memory.pending ≡ Some pending → (beat : Option BeatState)
-    → beat_at pending pending.answered ≡ beat → IfSome (r_with id pending beat) (λ r. r_fault state.bridge r ≡ None)
-r_unbroken_of state id pending sound found None at = tt
-r_unbroken_of state id pending sound found (Some Waiting) at = tt
-r_unbroken_of state id pending sound found (Some Written) at = tt
-r_unbroken_of state id pending sound found (Some (Captured payload resp)) at = r_unbroken state id payload resp pending sound found at
-
-r_unbroken_from : (state : WorldState) (id : ℕ) → IsSoundWorld state → (pending : Option Pending) → find (is_read_of id) state.memory.pending ≡ pending
-    → IfSome (r_from id pending) (λ r. r_fault state.bridge r ≡ None)
-r_unbroken_from state id sound None found = tt
-r_unbroken_from state id sound (Some pending) found = r_unbroken_of state id pending sound found (beat_at pending pending.answered) refl
+    let listed = filter-found (read_of_id id) state.bridge.open_bursts.reads _ there in
+    let below = id_known state.bridge id sound.bridge_laws (λ none. absurd (cc (listed, rw none at (sound.bridge_laws.linked id).reads))) in
+    let last : gives_last p ≡ (p.answered == oldest.ar.len) =
+    ap (λ (burst : Burst). p.answered + 1 == transfers_in burst) oldest.burst ∙ last_place p.answered oldest.ar.len in
+    let each = all-find (IsSoundPending state.memory.bus_bytes) (is_read_of id) state.memory.pending p sound.memory_laws.each finds.found in
+    let plain = captured_plain p.burst p.beats p.answered finds.payload finds.resp each.beats finds.captured in
+    rw (finds.answer, lt-leb state.bridge.requests.config.ids id below, there, last, same_flag (p.answered == oldest.ar.len), plain) refl
 
 -- ---- all
+
+if_some : {X : Type 0} (P : X → Type 0) (o : Option X) → ((x : X) → o ≡ Some x → P x) → IfSome o P
+if_some P None each = tt
+if_some P (Some x) each = each x refl
 
 pub takes_all : (state : WorldState) → IsSoundWorld state → TakeAll state
 takes_all state sound =
     record {
-      pump = goes_well_of state sound (next_sending state.bridge.requests) refl;
-      b = λ id. b_unbroken_of state id sound (find (is_write_of id) state.memory.pending) refl;
-      r = λ id. r_unbroken_from state id sound (find (is_read_of id) state.memory.pending) refl;
+      pump =
+          if_some (GoesWell state) (burst_to_send state.bridge)
+          (λ burst is. map_some (λ (s : Sending). s.burst) (next_sending state.bridge.requests) burst is (λ sending going same. subst (GoesWell state) same (goes_well state sending sound going)));
+      b = λ id. if_some (λ b. b_fault state.bridge b ≡ None) (b_of state.memory id) (λ b is. b_unbroken state id b sound is);
+      r = λ id. if_some (λ r. r_fault state.bridge r ≡ None) (r_of state.memory id) (λ r is. r_unbroken state id r sound is);
     }

@@ -1,87 +1,85 @@
--- Bridge and memory after an event that concerns one of them alone. It knows which of their laws look at the other part.
-use Rattle.std.proofs.Common.{◌≡◌, ℕ, ◌∙◌, Bool, true, false, length, Option, Some, None, ap, sym, refl, subst, arith}
-use Rattle.std.specs.Prelude.{if◌then◌else◌, nat_le, find}
+-- Bridge and memory at first, and after an event that concerns one of them alone. It knows what the constructors of both parts promise, and which
+-- of their laws look at the other part.
+use Rattle.std.specs.Prelude.{MatchOption, Result, Ok, Err, find}
+use Rattle.std.proofs.Common.{◌≡◌, ℕ, List, Option, None, Some, refl, arith, length, ap}
+use Rattle.burst_plan.specs.declared.Region.{Region}
+use Rattle.bridge_core.specs.Bridge.{StockedBridge, opening_bridge, BridgeState, after_take, boxes_of, offered, reply_taken, taken}
+use Rattle.bridge_core.specs.Laws.{IsSoundBridge}
+use Rattle.bridge_core.specs.declared.Config.{Config}
+use Rattle.subordinate.specs.Device.{DeviceState, opening_device}
+use Rattle.subordinate.specs.Laws.{IsSoundMemory}
+use Rattle.subordinate.specs.declared.PageKind.{PageKind}
+use Rattle.world.specs.Inside.{ArePaired}
 use Rattle.bus_words.proofs.PlaceChanges.{length-change_first}
 use Rattle.tl_messages.specs.declared.ABeat.{ABeat}
-use Rattle.bridge_core.specs.Bridge.{BridgeState, StockedBridge, after_take, boxes_of, offered, reply_taken, taken, taken_of}
-use Rattle.bridge_core.specs.declared.Taken.TheVariants as take
-use Rattle.bridge_core.specs.Laws.{IsSoundBridge}
-use Rattle.bridge_core.specs.Requests.{BridgedRequest, first_done, is_done_for}
-use Rattle.subordinate.specs.Device.{DeviceState}
+use Rattle.bridge_core.specs.Requests.{BridgedRequest, is_done_for}
 use Rattle.subordinate.specs.FreeMemory.{FreeMemory, Pending, beat_at, has_serial, performed, performed_beat, performed_in}
-use Rattle.subordinate.specs.Laws.{IsSoundMemory}
+use Rattle.subordinate.specs.declared.Performed.{Performed}
 use Rattle.subordinate.specs.declared.BeatState.{BeatState}
 use Rattle.subordinate.specs.declared.BeatState.TheVariants.{Captured, Waiting, Written}
-use Rattle.world.specs.Inside.{ArePaired}
 use Rattle.world.specs.Laws.{Agree}
-use Rattle.world.proofs.Agreeing.{agree_offered, agree_performed, agree_taken, config_offered}
+use Rattle.world.proofs.Agreeing.{agree_offered, agree_performed, agree_taken}
+use Rattle.bridge_core.specs.declared.Taken.TheVariants as take
+
+pub paired_opening : (config : Config) (regions : List Region) (pages : List (ℕ × PageKind)) (bad : List ℕ) (bridge : StockedBridge) (device : DeviceState) → bridge ≡ opening_bridge config regions
+    → device ≡ opening_device config.axi_bytes pages bad → IsSoundBridge bridge.state → IsSoundMemory device.memory → ArePaired bridge device
+paired_opening config regions pages bad bridge device bridge_is device_is bridge_laws memory_laws =
+    rw (bridge_is, device_is)
+    (record {
+      agree = record {
+        bridge_laws = rw bridge_is at bridge_laws;
+        memory_laws = rw device_is at memory_laws;
+        bus = refl;
+        outstanding = refl;
+        serials = record { accepted = omega arith; live = omega arith; sent = omega arith };
+      };
+      none_closed = refl;
+      boxes = omega arith;
+    })
+
+-- a device that was made is the opening one
+pub device_made : {F : Type 0} (fault : Option F) (device : DeviceState) (P : Type 0) → MatchOption fault P (λ f. ◌≡◌ {A = Result DeviceState F} (Ok device) (Err f)) → P
+device_made None device P is = is
+device_made (Some f) device P is = absurd (cc (is))
 
 -- the bridge alone changes, and has as many boxes in stock as before
-bridge_changed : (bridge new : StockedBridge) (device : DeviceState) → ArePaired bridge device → new.stock ≡ bridge.stock → new.state.requests.config ≡ bridge.state.requests.config → Agree new.state device.memory
-    → ArePaired new device
-bridge_changed bridge new device paired stock config agree =
-    record { agree = agree; none_closed = paired.none_closed; boxes = omega (arith, paired.boxes, stock, ap boxes_of config) }
-
 pub paired_offered : (bridge new : StockedBridge) (device : DeviceState) (client : ℕ) (beat : ABeat) → ArePaired bridge device → new ≡ record bridge { state = (offered bridge.state client beat).0 }
     → IsSoundBridge new.state → ArePaired new device
 paired_offered bridge new device client beat paired is laws =
-    let state : new.state ≡ (offered bridge.state client beat).0 = ap (λ (b : StockedBridge). b.state) is in
-    let agree = agree_offered bridge.state device.memory client beat paired.agree (subst IsSoundBridge state laws) in
-    bridge_changed bridge new device paired (ap (λ (b : StockedBridge). b.stock) is) (ap (λ (s : BridgeState). s.requests.config) state ∙ config_offered bridge.state client beat)
-    (subst (λ (s : BridgeState). Agree s device.memory) (sym state) agree)
+    let agree = agree_offered bridge.state device.memory client beat paired.agree (rw is at laws) in
+    rw is (record { agree = agree.0; none_closed = paired.none_closed; boxes = omega (arith, paired.boxes, ap boxes_of agree.1) })
 
 taken_found : (state : BridgeState) (client : ℕ) (request : BridgedRequest) → reply_taken state client ≡ Some request → find (is_done_for client) state.requests.live ≡ Some request
-taken_found state client request is = by_test (nat_le state.requests.config.clients client) is
-  where
-    by_test : (absent : Bool) → (if absent then None else first_done state.requests.live client) ≡ Some request → find (is_done_for client) state.requests.live ≡ Some request
-    by_test true is = absurd (cc (is))
-    by_test false is = is
+taken_found state client request is = grind (arith, is)
 
 pub paired_taken : (bridge new : StockedBridge) (device : DeviceState) (client : ℕ) (request : BridgedRequest) → ArePaired bridge device → reply_taken bridge.state client ≡ Some request
     → new ≡ record bridge { state = after_take bridge.state client } → IsSoundBridge new.state → ArePaired new device
 paired_taken bridge new device client request paired found is laws =
-    let state : new.state ≡ after_take bridge.state client = ap (λ (b : StockedBridge). b.state) is in
-    let agree = agree_taken bridge.state device.memory client request paired.agree (taken_found bridge.state client request found) (subst IsSoundBridge state laws) in
-    bridge_changed bridge new device paired (ap (λ (b : StockedBridge). b.stock) is) (ap (λ (s : BridgeState). s.requests.config) state)
-    (subst (λ (s : BridgeState). Agree s device.memory) (sym state) agree)
+    let agree = agree_taken bridge.state device.memory client request paired.agree (taken_found bridge.state client request found) (rw is at laws) in
+    rw is (record { agree = agree; none_closed = paired.none_closed; boxes = paired.boxes })
 
--- the memory alone changes
-agree_after_perform : (bridge : BridgeState) (memory : FreeMemory) (serial beat : ℕ) → Agree bridge memory → IsSoundMemory (performed memory serial beat).0 → Agree bridge (performed memory serial beat).0
-agree_after_perform bridge memory serial beat agree laws = by_found (find (has_serial serial) memory.pending) laws
+-- the memory alone changes, and has as many bursts open as before
+abbrev IsKeptBy : BridgeState → FreeMemory → FreeMemory × Performed → Type 0
+IsKeptBy bridge memory made = IsSoundMemory made.0 → Agree bridge made.0 × (length made.0.pending ≡ length memory.pending)
+
+kept_performed : (bridge : BridgeState) (memory : FreeMemory) (serial beat : ℕ) → Agree bridge memory → IsKeptBy bridge memory (performed memory serial beat)
+kept_performed bridge memory serial beat agree = by_found (find (has_serial serial) memory.pending)
   where
-    by_beat : (pending : Pending) (at : Option BeatState) → IsSoundMemory (performed_beat memory pending beat at).0 → Agree bridge (performed_beat memory pending beat at).0
-    by_beat pending None laws = agree
-    by_beat pending (Some Waiting) laws = agree_performed bridge memory pending beat agree laws
-    by_beat pending (Some Written) laws = agree
-    by_beat pending (Some (Captured payload resp)) laws = agree
+    by_beat : (pending : Pending) (at : Option BeatState) → IsKeptBy bridge memory (performed_beat memory pending beat at)
+    by_beat pending None laws = (agree, refl)
+    by_beat pending (Some Waiting) laws = (agree_performed bridge memory pending beat agree laws, length-change_first (has_serial pending.serial) _ memory.pending)
+    by_beat pending (Some Written) laws = (agree, refl)
+    by_beat pending (Some (Captured payload resp)) laws = (agree, refl)
 
-    by_found : (found : Option Pending) → IsSoundMemory (performed_in memory beat found).0 → Agree bridge (performed_in memory beat found).0
-    by_found None laws = agree
-    by_found (Some pending) laws = by_beat pending (beat_at pending beat) laws
-
-as_many_performed : (memory : FreeMemory) (serial beat : ℕ) → length (performed memory serial beat).0.pending ≡ length memory.pending
-as_many_performed memory serial beat = by_found (find (has_serial serial) memory.pending)
-  where
-    by_beat : (pending : Pending) (at : Option BeatState) → length (performed_beat memory pending beat at).0.pending ≡ length memory.pending
-    by_beat pending None = refl
-    by_beat pending (Some Waiting) = length-change_first (has_serial pending.serial) _ memory.pending
-    by_beat pending (Some Written) = refl
-    by_beat pending (Some (Captured payload resp)) = refl
-
-    by_found : (found : Option Pending) → length (performed_in memory beat found).0.pending ≡ length memory.pending
-    by_found None = refl
+    by_found : (found : Option Pending) → IsKeptBy bridge memory (performed_in memory beat found)
+    by_found None = λ laws. (agree, refl)
     by_found (Some pending) = by_beat pending (beat_at pending beat)
 
 pub paired_performed : (bridge : StockedBridge) (device new : DeviceState) (serial beat : ℕ) → ArePaired bridge device → new ≡ record device { memory = (performed device.memory serial beat).0 }
     → IsSoundMemory new.memory → ArePaired bridge new
 paired_performed bridge device new serial beat paired is laws =
-    let memory : new.memory ≡ (performed device.memory serial beat).0 = ap (λ (d : DeviceState). d.memory) is in
-    let agree = agree_after_perform bridge.state device.memory serial beat paired.agree (subst IsSoundMemory memory laws) in
-    record {
-      agree = subst (λ (m : FreeMemory). Agree bridge.state m) (sym memory) agree;
-      none_closed = ap (λ (d : DeviceState). d.closed) is ∙ paired.none_closed;
-      boxes = omega (arith, paired.boxes, ap (λ (m : FreeMemory). length m.pending) memory, as_many_performed device.memory serial beat);
-    }
+    let kept = kept_performed bridge.state device.memory serial beat paired.agree (rw is at laws) in
+    rw is (record { agree = kept.0; none_closed = paired.none_closed; boxes = omega (arith, paired.boxes, kept.1) })
 
 -- ---- which answer
 
@@ -91,12 +89,8 @@ pub record IsTakenFrom (state : BridgeState) (client number : ℕ) : Type 0 wher
   pub found : reply_taken state client ≡ Some request
 
 pub reply_of : (state : BridgeState) (client number : ℕ) → taken state client ≡ take.Reply number → IsTakenFrom state client number
-reply_of state client number is = by_test (nat_le state.requests.config.clients client) refl is
+reply_of state client number is = by_found (reply_taken state client) refl
   where
-    by_done : (found : Option BridgedRequest) → first_done state.requests.live client ≡ found → taken_of found ≡ take.Reply number → nat_le state.requests.config.clients client ≡ false → IsTakenFrom state client number
-    by_done None same is there = absurd (cc (is))
-    by_done (Some request) same is there = record { request = request; found = rw there same }
-
-    by_test : (absent : Bool) → nat_le state.requests.config.clients client ≡ absent → (if absent then take.NoClient else taken_of (first_done state.requests.live client)) ≡ take.Reply number → IsTakenFrom state client number
-    by_test true same is = absurd (cc (is))
-    by_test false same is = by_done (first_done state.requests.live client) refl is same
+    by_found : (found : Option BridgedRequest) → reply_taken state client ≡ found → IsTakenFrom state client number
+    by_found None none = absurd (grind (arith, is, none))
+    by_found (Some request) found = record { request = request; found = found }

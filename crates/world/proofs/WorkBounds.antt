@@ -1,7 +1,8 @@
 -- How much work there can be. It knows how many requests may be live and how many bursts each has; which is where is hidden.
-use Rattle.std.proofs.Common.{◌≡◌, ℕ, ◌+◌, ◌*◌, ◌%◌, ◌^◌, ◌<◌, ◌≤◌, Bool, true, false, List, [], ◌∷◌, length, drop, Option, Some, None, refl, ◌∙◌, arith}
-use Rattle.std.specs.Prelude.{if◌then◌else◌, sum_by}
+use Rattle.std.proofs.Common.{◌≡◌, ℕ, ◌+◌, ◌*◌, ◌%◌, ◌^◌, ◌<◌, ◌≤◌, Bool, true, false, List, [], ◌∷◌, length, drop, refl, ◌∙◌, arith}
+use Rattle.std.specs.Prelude.{sum_by}
 use Rattle.std.specs.List.{AllByRecursion}
+use Rattle.std.proofs.lemmas.Bool.{cond_both}
 use Rattle.std.proofs.Math.Nat.{div-le_self, mul-le-mul_right}
 use Rattle.std.proofs.Math.Pow.{pow_mono}
 use Rattle.std.proofs.lemmas.List.Sums.{sum_by-cons, sum_by-take-drop}
@@ -11,16 +12,16 @@ use Rattle.burst_plan.specs.declared.Piece.{Piece}
 use Rattle.burst_plan.specs.declared.Region.{Region}
 use Rattle.burst_plan.proofs.PlanLaws.{beats_counted}
 use Rattle.tl_messages.specs.Operations.{has_data, reply_has_data}
-use Rattle.flight_table.specs.LiveRequests.{LiveRequest, bursts_of, phase_pieces, pieces_planned, planned, read_pieces, write_pieces}
+use Rattle.flight_table.specs.LiveRequests.{LiveRequest, bursts_of, phase_pieces, pieces_planned, read_pieces, write_pieces}
 use Rattle.flight_table.specs.Work.{answers_of_burst, beats_of_burst, later_work, unsent_work, work_of_bursts}
 use Rattle.bridge_core.specs.Configs.{is_valid}
 use Rattle.bridge_core.specs.Laws.{IsServed, beats_in}
 use Rattle.bridge_core.specs.Requests.{BridgedRequest, flights_of}
 use Rattle.bridge_core.specs.declared.Config.{Config}
-use Rattle.bridge_core.proofs.SentBursts.{plannable}
 use Rattle.world.specs.Laws.{IsSoundWorld}
 use Rattle.world.specs.World.{WorldState, work_left}
 use Rattle.world.proofs.OpenWork.{work_open_few}
+use Rattle.world.proofs.Serials.{plan_has}
 
 -- ---- a plan has at most 4,096 transfers
 
@@ -31,11 +32,6 @@ few_transfers range plans =
     let counted = beats_counted range (beat_size range) plans refl in
     let fewer = div-le_self (1 * 2 ^ range.size % 2 ^ 16) (2 ^ beat_size range) in
     omega (arith, whole, small, counted, fewer)
-
-few_of_plan : (config : Config) (regions : List Region) (request : BridgedRequest) → is_valid config ≡ true → IsServed config regions request → (plan : Option PlannedRange) → request.flight.plan ≡ plan
-    → beats_in (pieces_planned plan) ≤ 4096
-few_of_plan config regions request valid served None is = omega arith
-few_of_plan config regions request valid served (Some range) is = few_transfers range (plannable config regions request range valid served.pages served is).0
 
 -- ---- the work of bursts is at most three times their transfers
 
@@ -51,45 +47,27 @@ beats_of_side : (write : Bool) (parts : List Piece) → sum_by beats_of_burst (b
 beats_of_side write [] = refl
 beats_of_side write (p ∷ parts) = sum_by-cons beats_of_burst (write, p) (bursts_of write parts) ∙ omega (arith, beats_of_side write parts, sum_by-cons (λ (q : Piece). q.len + 1) p parts)
 
-few_either : (test : Bool) (parts : List Piece) → beats_in parts ≤ 4096 → beats_in (if test then parts else []) ≤ 4096
-few_either true parts few = few
-few_either false parts few = omega arith
-
-few_of_two : (test : Bool) (parts others : List Piece) → beats_in parts ≤ 4096 → beats_in others ≤ 4096 → beats_in (if test then parts else others) ≤ 4096
-few_of_two true parts others few other = few
-few_of_two false parts others few other = other
-
 left_work : (sent : ℕ) (write : Bool) (parts : List Piece) → beats_in parts ≤ 4096 → work_of_bursts (drop sent (bursts_of write parts)) ≤ 12288
 left_work sent write parts few =
     omega (arith, few, beats_of_side write parts, bursts_work (drop sent (bursts_of write parts)), sum_by-take-drop beats_of_burst (bursts_of write parts) sent)
 
-few_later : (flight : LiveRequest) → beats_in (write_pieces flight) ≤ 4096 → later_work flight ≤ 12288
-few_later flight few = by_side flight.writing
-  where
-    by_side : (b : Bool) → (if b then 0 else work_of_bursts (bursts_of true (write_pieces flight))) ≤ 12288
-    by_side true = omega arith
-    by_side false = left_work 0 true (write_pieces flight) few
-
 few_unsent : (flight : LiveRequest) → beats_in (pieces_planned flight.plan) ≤ 4096 → unsent_work flight ≤ 24576
-few_unsent flight few = by_flag flight.done
+few_unsent flight few =
+    let reads : beats_in (read_pieces flight) ≤ 4096 = cond_both (reply_has_data flight.operation) _ _ Few (λ some. few) (λ none. omega arith) in
+    let writes : beats_in (write_pieces flight) ≤ 4096 = cond_both (has_data flight.operation) _ _ Few (λ some. few) (λ none. omega arith) in
+    let phase : beats_in (phase_pieces flight) ≤ 4096 = cond_both flight.writing _ _ Few (λ write. writes) (λ read. reads) in
+    let later : later_work flight ≤ 12288 = cond_both flight.writing _ _ (λ n. n ≤ 12288) (λ write. omega arith) (λ read. left_work 0 true (write_pieces flight) writes) in
+    cond_both flight.done _ _ (λ n. n ≤ 24576) (λ done. omega arith) (λ live. omega (arith, later, left_work flight.sent flight.writing (phase_pieces flight) phase))
   where
-    reads : beats_in (read_pieces flight) ≤ 4096
-    reads = few_either (reply_has_data flight.operation) (pieces_planned flight.plan) few
-
-    writes : beats_in (write_pieces flight) ≤ 4096
-    writes = few_either (has_data flight.operation) (pieces_planned flight.plan) few
-
-    by_flag : (done : Bool) → (if done then 0 else work_of_bursts (drop flight.sent (planned flight)) + later_work flight) ≤ 24576
-    by_flag true = omega arith
-    by_flag false =
-        omega (arith, few_later flight writes, left_work flight.sent flight.writing (phase_pieces flight) (few_of_two flight.writing (write_pieces flight) (read_pieces flight) writes reads))
+    Few : List Piece → Type 0
+    Few parts = beats_in parts ≤ 4096
 
 all_unsent : (config : Config) (regions : List Region) (live : List BridgedRequest) → is_valid config ≡ true → AllByRecursion (IsServed config regions) live → sum_by unsent_work (flights_of live) ≤ length live * 24576
 all_unsent config regions [] valid served = omega arith
 all_unsent config regions (request ∷ live) valid served =
     omega (
       arith,
-      few_unsent request.flight (few_of_plan config regions request valid served.0 request.flight.plan refl),
+      few_unsent request.flight (plan_has (λ parts. beats_in parts ≤ 4096) (omega arith) few_transfers config regions request valid served.0),
       all_unsent config regions live valid served.1,
       sum_by-cons unsent_work request.flight (flights_of live),
     )

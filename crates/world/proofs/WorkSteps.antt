@@ -1,19 +1,19 @@
 -- Each step of bridge and memory takes one from the work that is left and spared. It knows how each event changes counts; bytes are hidden.
 use Rattle.std.proofs.Common.{◌≡◌, ℕ, zero, suc, ◌+◌, ◌-◌, ◌<◌, ◌≤◌, Bool, true, false, ◌&&◌, not, List, [], ◌∷◌, ◌++◌, length, drop, map, Option, Some, None, is_some, refl, ap, sym, ◌∙◌, subst, arith, inl, inr}
-use Rattle.std.specs.Prelude.{IfSome, filter, find, if◌then◌else◌, slice_get, sum_by}
+use Rattle.std.specs.Prelude.{filter, find, if◌then◌else◌, slice_get, sum_by}
 use Rattle.std.specs.List.{range_with_len}
-use Rattle.std.proofs.lemmas.Bool.{and_parts, cases_lt, leb-true}
+use Rattle.std.proofs.lemmas.Bool.{and_parts, cond_both, cases_lt, leb-true}
 use Rattle.std.proofs.lemmas.List.Sums.{sum_by-cons}
 use Rattle.std.proofs.lemmas.Option.{same_Some, slice_get-map}
+use Rattle.bus_words.specs.Places.{change_first}
 use Rattle.axi_beats.specs.Bursts.{Burst}
 use Rattle.axi_beats.specs.declared.BBeat.{BBeat}
 use Rattle.axi_beats.specs.declared.RBeat.{RBeat}
-use Rattle.axi_beats.specs.declared.Resp.{Resp}
 use Rattle.burst_plan.specs.Pieces.{PlannedRange}
 use Rattle.burst_plan.specs.declared.Piece.{Piece}
 use Rattle.flight_table.specs.LiveRequests.{LiveRequest, finished, is_settled, next_burst, planned, with_answered, with_sent, with_write}
 use Rattle.flight_table.specs.Work.{answers_of_burst, beats_of_burst, later_work, spared_work, unsent_work, work_of_bursts}
-use Rattle.bridge_core.specs.Bridge.{after_b_beat, after_r_beat, after_sent, b_fault, burst_to_send, r_fault}
+use Rattle.bridge_core.specs.Bridge.{after_sent, burst_to_send}
 use Rattle.bridge_core.specs.Requests.{BridgedRequest, after_read, after_response, after_sending, flights_of, holds, is_numbered, may_send, outline_in, settled, value_found}
 use Rattle.bridge_core.specs.Sending.{Sending, burst_of_piece, next_sending}
 use Rattle.bridge_core.proofs.AnswerLinks.{answered_reader, answered_writer}
@@ -21,16 +21,15 @@ use Rattle.bridge_core.proofs.NextSending.{map_some, next_found}
 use Rattle.bridge_core.proofs.ResponseLinks.{not_so}
 use Rattle.bridge_core.proofs.SentLinks.{found_by_number}
 use Rattle.responses.specs.Gathered.{Gathering, after_b, after_r}
-use Rattle.subordinate.specs.FreeMemory.{Pending, after_b_of, after_r_of, answers_left, b_of, beat_at, has_serial, ids_with_b, ids_with_r, r_of, transfers_in, waiting_beats, with_burst, with_performed}
-use Rattle.subordinate.specs.declared.BeatState.TheVariants.{Waiting}
+use Rattle.subordinate.specs.FreeMemory.{answers_left, b_of, ids_with_b, ids_with_r, r_of, transfers_in, waiting_beats, work_open, with_burst}
 use Rattle.subordinate.proofs.BeatStates.{slice_get-append-after, slice_get-append-before}
 use Rattle.world.specs.Laws.{IsSoundWorld, work_spared}
-use Rattle.world.specs.World.{WorldState, enabled, next, perform_at, pumps_enabled, work_left}
+use Rattle.world.specs.World.{WorldState, answered_b, answered_r, enabled, next, perform_at, pumps_enabled, work_left}
 use Rattle.world.specs.declared.Step.{Step}
 use Rattle.world.specs.declared.Step.TheVariants.{AnswerB, AnswerR, Perform, Pump}
 use Rattle.world.proofs.Sums.{sum_between}
 use Rattle.world.proofs.OpenWork.{waiting_found, work_open-b, work_open-performed, work_open-r, work_open-sent}
-use Rattle.world.proofs.TakesAll.{takes_all}
+use Rattle.world.proofs.TakesAll.{b_unbroken, r_unbroken}
 
 -- ---- the work of the live requests
 
@@ -46,7 +45,7 @@ unsent_by_flight (request ∷ live) = sum_by-cons unsent_work request.flight (fl
 
 -- ---- a burst is sent
 
-first_dropped : {X : Type 0} (xs : List X) (k : ℕ) (x : X) → slice_get xs k ≡ Some x → drop k xs ≡ x ∷ drop (suc k) xs
+pub first_dropped : {X : Type 0} (xs : List X) (k : ℕ) (x : X) → slice_get xs k ≡ Some x → drop k xs ≡ x ∷ drop (suc k) xs
 first_dropped [] k x there = absurd (cc (there))
 first_dropped {X = X} (y ∷ ys) zero x there = ap (λ (z : X). z ∷ ys) (same_Some y x there)
 first_dropped (y ∷ ys) (suc k) x there = first_dropped ys k x there
@@ -103,14 +102,10 @@ pump_takes state burst sound is =
 
 -- ---- a beat is performed
 
-performed_takes : (state : WorldState) (serial beat : ℕ) (pending : Pending) → find (has_serial serial) state.memory.pending ≡ Some pending → beat_at pending beat ≡ Some Waiting
-    → TakesOne state (record { bridge = state.bridge; memory = with_performed state.memory pending beat; last_sent = None })
-performed_takes state serial beat pending found waits = record { work = omega (arith, work_open-performed state.memory serial beat pending found waits); spared = omega arith }
-
 pub perform_takes : (state : WorldState) (k serial beat : ℕ) → IsSoundWorld state → slice_get (waiting_beats state.memory) k ≡ Some (serial, beat) → TakesOne state (next state (Perform serial beat)).state
 perform_takes state k serial beat sound there =
     let finds = waiting_found state.memory k (serial, beat) sound.memory_laws there in
-    rw (finds.found, finds.waits) (performed_takes state serial beat finds.burst finds.found finds.waits)
+    rw (finds.found, finds.waits) (record { work = omega (arith, work_open-performed state.memory serial beat finds.burst finds.found finds.waits); spared = omega arith })
 
 -- ---- an answer is counted, and its request settled
 
@@ -147,25 +142,18 @@ write_settles flight live reads settles later =
     record { work = omega (arith, left, next, live_spared flight live, live_spared (with_write flight) live); spared = omega (arith, live_spared flight live) }
 
 settles : (request : BridgedRequest) → request.flight.done ≡ false → request.flight.answered ≤ request.flight.sent → IsSettled request.flight (settled request).flight
-settles request live later = by_flag (is_settled request.flight) refl
-  where
-    by_value : (b : Bool) → (not request.flight.writing && is_some (value_found request)) ≡ b → is_settled request.flight ≡ true → IsSettled request.flight (if b then with_write request.flight else finished request.flight)
-    by_value true found is =
-        write_settles request.flight live (not_so request.flight.writing (and_parts (not request.flight.writing) (is_some (value_found request)) found).0) is later
-    by_value false found is = finished_settles request.flight live is later
+settles request live later =
+    cond_both (is_settled request.flight) _ _ (λ (r : BridgedRequest). IsSettled request.flight r.flight)
+    (λ is.
+    cond_both (not request.flight.writing && is_some (value_found request)) _ _ (IsSettled request.flight)
+    (λ found. write_settles request.flight live (not_so request.flight.writing (and_parts (not request.flight.writing) (is_some (value_found request)) found).0) is later)
+    (λ none. finished_settles request.flight live is later))
+    (λ going. record { work = refl; spared = omega arith })
 
-    by_flag : (b : Bool) → is_settled request.flight ≡ b
-        → IsSettled request.flight
-        (if b
-        then record request { flight = if not request.flight.writing && is_some (value_found request) then with_write request.flight else finished request.flight }
-        else request).flight
-    by_flag true is = by_value (not request.flight.writing && is_some (value_found request)) refl is
-    by_flag false is = record { work = refl; spared = omega arith }
-
-response_settles : (resp : Resp) (request : BridgedRequest) → request.flight.done ≡ false → request.flight.answered < request.flight.sent
-    → IsSettled request.flight (after_response resp request).flight
-response_settles resp request live within =
-    let counted = settles (record request { flight = with_answered request.flight; gathering = after_b resp request.gathering }) live (omega (arith, within)) in
+answered_settles : (request : BridgedRequest) (gathering : Gathering) → request.flight.done ≡ false → request.flight.answered < request.flight.sent
+    → IsSettled request.flight (settled (record request { flight = with_answered request.flight; gathering = gathering })).flight
+answered_settles request gathering live within =
+    let counted = settles (record request { flight = with_answered request.flight; gathering = gathering }) live (omega (arith, within)) in
     record { work = counted.work; spared = counted.spared }
 
 read_settles : (bus_bytes : ℕ) (r : RBeat) (request : BridgedRequest) → request.flight.done ≡ false → request.flight.answered < request.flight.sent
@@ -176,55 +164,35 @@ read_settles bus_bytes r request live within = by_last r.last
     gathers = after_r bus_bytes (outline_in request) r request.gathering.came request.gathering
 
     by_last : (b : Bool) → IsSettled request.flight (settled (record request { flight = if b then with_answered request.flight else request.flight; gathering = gathers })).flight
-    by_last true =
-        let counted = settles (record request { flight = with_answered request.flight; gathering = gathers }) live (omega (arith, within)) in
-        record { work = counted.work; spared = counted.spared }
-    by_last false =
-        let counted = settles (record request { gathering = gathers }) live (omega (arith, within)) in
-        record { work = counted.work; spared = counted.spared }
+    by_last true = answered_settles request gathers live within
+    by_last false = let counted = settles (record request { gathering = gathers }) live (omega (arith, within)) in record { work = counted.work; spared = counted.spared }
 
 -- ---- an answer comes
 
-b_takes : (state : WorldState) (id : ℕ) (b : BBeat) → IsSoundWorld state → b_of state.memory id ≡ Some b → b_fault state.bridge b ≡ None
-    → TakesOne state (record { bridge = after_b_beat state.bridge b; memory = after_b_of state.memory id; last_sent = None })
-b_takes state id b sound is none =
-    let table = state.bridge.requests in
-    let writer = answered_writer state.bridge b sound.bridge_laws none in
-    let settling = response_settles b.resp writer.request writer.live writer.sent in
-    let unsent = sum_between unsent_of (holds b.id) (after_response b.resp) table.live writer.request writer.held in
-    let spared = sum_between spared_of (holds b.id) (after_response b.resp) table.live writer.request writer.held in
-    let memory = work_open-b state.memory id b is in
+answer_takes : (state new : WorldState) (test : BridgedRequest → Bool) (change : BridgedRequest → BridgedRequest) (request : BridgedRequest) → find test state.bridge.requests.live ≡ Some request
+    → IsSettled request.flight (change request).flight → new.bridge.requests.live ≡ change_first test change state.bridge.requests.live → work_open state.memory ≡ 1 + work_open new.memory
+    → TakesOne state new
+answer_takes state new test change request found settling is memory =
+    let live = state.bridge.requests.live in
+    let spared = sum_between spared_of test change live request found in
     record {
-      work = omega (arith, unsent, spared, settling.work, memory, unsent_by_flight table.live, unsent_by_flight (after_b_beat state.bridge b).requests.live);
-      spared = omega (arith, spared, settling.spared);
+      work =
+          rw is (omega (arith, sum_between unsent_of test change live request found, spared, settling.work, memory, unsent_by_flight live, unsent_by_flight (change_first test change live)));
+      spared = rw is (omega (arith, spared, settling.spared));
     }
-
-fault_of : {X Y : Type 0} (P : X → Option Y) (o : Option X) (x : X) → o ≡ Some x → IfSome o (λ y. P y ≡ None) → P x ≡ None
-fault_of P o x is all = rw is at all
 
 pub answer_b_takes : (state : WorldState) (id : ℕ) (b : BBeat) → IsSoundWorld state → b_of state.memory id ≡ Some b → TakesOne state (next state (AnswerB id)).state
 answer_b_takes state id b sound is =
-    let none = fault_of (b_fault state.bridge) (b_of state.memory id) b is ((takes_all state sound).b id) in
-    rw is (b_takes state id b sound is none)
-
-r_takes : (state : WorldState) (id : ℕ) (r : RBeat) → IsSoundWorld state → r_of state.memory id ≡ Some r → r_fault state.bridge r ≡ None
-    → TakesOne state (record { bridge = after_r_beat state.bridge r; memory = after_r_of state.memory id; last_sent = None })
-r_takes state id r sound is none =
-    let table = state.bridge.requests in
-    let reader = answered_reader state.bridge r sound.bridge_laws none in
-    let settling = read_settles table.config.axi_bytes r reader.request reader.live reader.sent in
-    let unsent = sum_between unsent_of (holds r.id) (after_read table.config.axi_bytes r) table.live reader.request reader.held in
-    let spared = sum_between spared_of (holds r.id) (after_read table.config.axi_bytes r) table.live reader.request reader.held in
-    let memory = work_open-r state.memory id r sound.memory_laws is in
-    record {
-      work = omega (arith, unsent, spared, settling.work, memory, unsent_by_flight table.live, unsent_by_flight (after_r_beat state.bridge r).requests.live);
-      spared = omega (arith, spared, settling.spared);
-    }
+    let writer = answered_writer state.bridge b sound.bridge_laws (b_unbroken state id b sound is) in
+    rw is (answer_takes state (answered_b state id (Some b)).state (holds b.id) (after_response b.resp) writer.request writer.held (answered_settles writer.request (after_b b.resp writer.request.gathering) writer.live writer.sent) refl
+    (work_open-b state.memory id b is))
 
 pub answer_r_takes : (state : WorldState) (id : ℕ) (r : RBeat) → IsSoundWorld state → r_of state.memory id ≡ Some r → TakesOne state (next state (AnswerR id)).state
 answer_r_takes state id r sound is =
-    let none = fault_of (r_fault state.bridge) (r_of state.memory id) r is ((takes_all state sound).r id) in
-    rw is (r_takes state id r sound is none)
+    let reader = answered_reader state.bridge r sound.bridge_laws (r_unbroken state id r sound is) in
+    let bytes = state.bridge.requests.config.axi_bytes in
+    rw is (answer_takes state (answered_r state id (Some r)).state (holds r.id) (after_read bytes r) reader.request reader.held (read_settles bytes r reader.request reader.live reader.sent) refl
+    (work_open-r state.memory id r sound.memory_laws is))
 
 -- ---- each enabled step
 
@@ -241,12 +209,8 @@ in_mapped f xs k y P there found = map_some f (slice_get xs k) y (sym (slice_get
 -- what a filter keeps passes its test
 kept_passes : {X : Type 0} (p : X → Bool) (xs : List X) (k : ℕ) (x : X) → slice_get (filter p xs) k ≡ Some x → p x ≡ true
 kept_passes p [] k x there = absurd (cc (there))
-kept_passes {X = X} p (y ∷ ys) k x there = by_test (p y) refl k there (λ j later. kept_passes p ys j x later)
-  where
-    by_test : (b : Bool) → p y ≡ b → (k : ℕ) → slice_get (if b then y ∷ filter p ys else filter p ys) k ≡ Some x → ((j : ℕ) → slice_get (filter p ys) j ≡ Some x → p x ≡ true) → p x ≡ true
-    by_test true is zero there rest = let same : y ≡ x = cc in rw same at is
-    by_test true is (suc k) there rest = rest k there
-    by_test false is k there rest = rest k there
+kept_passes p (y ∷ ys) zero x there = grind (arith, there, kept_passes p ys 0 x)
+kept_passes p (y ∷ ys) (suc k) x there = grind (arith, there, kept_passes p ys k x, kept_passes p ys (suc k) x)
 
 some_value : {X : Type 0} (o : Option X) (P : Type 0) → is_some o ≡ true → ((x : X) → o ≡ Some x → P) → P
 some_value None P some found = absurd (cc (some))

@@ -1,18 +1,19 @@
 -- The bridge takes the B.
 use Rattle.std.proofs.Common.{◌∙◌, refl, subst, sym}
 use Rattle.std.specs.Prelude.{IsOk, IsSome}
-use Rattle.world.proofs.Answering.{b_taken, never_faults, paired_back_b}
+use Rattle.world.proofs.Passing.{never_faults, paired_b, world_of}
+use Rattle.world.proofs.TakesAll.{b_unbroken}
 use Rattle.world.proofs.parts.give_b.Goals as goal
 
 pub unreachable-requires : goal.unreachable-requires
 unreachable-requires c =
     let here = sym c.answer_b.ensures.answer ∙ c.in_ok-beat.was in
-    never_faults _ c.on_b.result c.in_default.field-0 (b_taken c.args.bridge.now.state c.args.device.now.memory c.args.id c.in_ok-beat.beat c.requires.agree here) c.in_default.is c.on_b.ensures.answer
+    never_faults _ c.on_b.result c.in_default.field-0 (b_unbroken (world_of c.args.bridge.now.state c.args.device.now.memory) c.args.id c.in_ok-beat.beat c.requires.agree here) c.in_default.is c.on_b.ensures.answer
 
 pub returns-clause-paired : goal.returns-clause-paired
 returns-clause-paired c =
     let here = sym c.answer_b.ensures.answer ∙ c.in_ok-beat.was in
     let answered = c.answer_b.ensures.closed (subst IsSome (sym c.in_ok-beat.was) refl) in
     let taken = c.on_b.ensures.taken (subst IsOk (sym c.in-Ok.is) refl) in
-    paired_back_b c.args.bridge.now c.on_b.new.self c.take_back.new.bridge c.args.device.now c.answer_b.new.self c.take_back.new.device c.args.id c.in_ok-beat.beat c.requires here answered taken c.take_back.ensures.device
-    c.take_back.ensures.bridge c.on_b.ensures.laws c.answer_b.ensures.laws
+    rw (c.take_back.ensures.bridge, c.take_back.ensures.device, taken, answered)
+    (paired_b c.args.bridge.now c.args.device.now c.args.id c.in_ok-beat.beat c.requires here (rw taken at c.on_b.ensures.laws) (rw answered at c.answer_b.ensures.laws))

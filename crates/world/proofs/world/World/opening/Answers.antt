@@ -1,5 +1,5 @@
 -- Bridge and memory agree at first.
-use Rattle.world.proofs.Opening.{device_made, paired_opening}
+use Rattle.world.proofs.Taking.{device_made, paired_opening}
 use Rattle.world.proofs.world.World.opening.Goals as goal
 
 pub invariant_of-result : goal.invariant_of-result

@@ -1,8 +1,9 @@
 -- Where no request is ready the first beat that waits is the first step.
 use Rattle.std.proofs.Common.{◌∙◌, refl, arith, sym}
+use Rattle.subordinate.specs.FreeMemory.{waiting_beats}
 use Rattle.world.specs.declared.Step.TheVariants.{Perform}
 use Rattle.world.proofs.Drained.{led_few, led_step, step_less}
-use Rattle.world.proofs.FirstSteps.{first_perform, none_waits, stays_unready}
+use Rattle.world.proofs.FirstSteps.{first_perform, none_at, stays_unready}
 use Rattle.world.proofs.world.World.perform_all.Goals as goal
 
 pub loop-serial-init : goal.loop-serial-init
@@ -26,4 +27,4 @@ loop-serial-preserved c =
     )
 
 pub returns-clause-performed : goal.returns-clause-performed
-returns-clause-performed c = record { idle = c.loop-serial.invariant.1; performed = none_waits c.loop-serial.self.memory (sym c.first_pending.ensures.first ∙ c.in_default.is) }
+returns-clause-performed c = record { idle = c.loop-serial.invariant.1; performed = none_at (waiting_beats c.loop-serial.self.memory) (sym c.first_pending.ensures.first ∙ c.in_default.is) }

@@ -3,7 +3,7 @@ use Rattle.std.proofs.Common.{◌∙◌, ap}
 use Rattle.bridge_core.specs.Bridge.{burst_to_send}
 use Rattle.world.specs.Inside.{world_state}
 use Rattle.world.specs.World.{WorldState, pumped}
-use Rattle.world.proofs.LastSent.{pumped_state}
+use Rattle.world.proofs.Passing.{pumped_state}
 use Rattle.world.proofs.world.World.pump.Goals as goal
 
 pub returns-clause-state : goal.returns-clause-state
