@@ -13,7 +13,7 @@ use Rattle.world.specs.Setups.{SetupLists, faults_of}
 use Rattle.world.specs.World.{opening_world}
 use Rattle.world_run.proofs.HeldSteps.{held_opening}
 use Rattle.world_run.proofs.History.{history_opens}
-use Rattle.world_run.proofs.SerialBytes.{left_alone}
+use Rattle.world_run.proofs.BytesLeft.{left_alone}
 
 -- ---- zeros
 

@@ -33,11 +33,11 @@ use Rattle.world.specs.declared.Step.{Step}
 use Rattle.world.specs.declared.Step.TheVariants.{Offer, Take}
 use Rattle.world_run.proofs.AcceptedRequests.{HasAccepted, has_accepted-here, has_accepted-next, has_accepted-opening, request_at}
 use Rattle.world.proofs.Events.{EachWay, each_way}
-use Rattle.world_run.proofs.gathered.GatheredInOrder.{reply_served_by}
-use Rattle.world_run.proofs.HeldOrder.{unaccepted}
+use Rattle.world_run.proofs.gathered.GatheredAnswers.{reply_served_by}
+use Rattle.world_run.proofs.HeldSteps.{unaccepted}
 use Rattle.world_run.proofs.History.{quiet_memory, written_in_turn}
 use Rattle.world_run.proofs.OrderOpens.{keeps_opening}
-use Rattle.world_run.proofs.SerialBytes.{all_carried_out, message_within, replies_at, writer_touches}
+use Rattle.world_run.proofs.BytesLeft.{all_carried_out, message_within, replies_at, writer_touches}
 
 -- ---- what is accepted is foreseen
 
