@@ -1,9 +1,7 @@
 -- The requests one at a time: which bytes each writes and leaves alone, what it leaves there, and their replies by number. It knows what
 -- requests mean, a message, its plan and an atomic's old value; bridge, memory and bursts are hidden.
-use Rattle.std.specs.Prelude.{is_some, nat_le, option_map, slice_get, unwrap_or, if◌then◌else◌, IsSome}
-use Rattle.std.specs.List.{find}
 use Rattle.std.specs.Option.{option_flatten}
-use Rattle.std.proofs.Common.{◌≡◌, ℕ, ◌+◌, ◌-◌, ◌^◌, ◌<◌, ◌≤◌, zero, suc, Bool, true, false, ◌&&◌, not, List, [], ◌∷◌, length, map, inl, inr, Option, Some, None, refl, sym, subst, ◌∙◌, ap, arith, ◌/◌, nat_lt}
+use Rattle.std.proofs.Common.{◌≡◌, ℕ, ◌+◌, ◌-◌, ◌^◌, ◌<◌, ◌≤◌, zero, suc, Bool, true, false, ◌&&◌, not, List, [], ◌∷◌, length, map, inl, inr, Option, Some, None, refl, sym, subst, ◌∙◌, ap, arith, ◌/◌, nat_lt, is_some, nat_le, option_map, slice_get, unwrap_or, if◌then◌else◌, IsSome, find}
 use Rattle.std.proofs.lemmas.Bool.Decides.{nat_tests}
 use Rattle.std.proofs.lemmas.Bool.{and_parts, cases_lt, cases_Bool, leb-true, ltb-true}
 use Rattle.std.proofs.lemmas.List.{length-map}

@@ -1,10 +1,9 @@
 -- Of two requests that touch a byte which one of them writes, the later starts when the earlier is finished: no event changes that. It knows
 -- the hold rule of the table of live requests, what each event makes of these, and which have started and are finished; bursts and the memory
 -- are hidden.
-use Rattle.std.specs.Prelude.{option_map, if◌then◌else◌, is_none}
 use Rattle.std.specs.List.{AllByRecursion, find, list_any}
 use Rattle.std.specs.Option.{option_or}
-use Rattle.std.proofs.Common.{◌≡◌, ℕ, ◌<◌, ◌≤◌, nat_lt, Bool, true, false, ◌&&◌, ◌||◌, not, List, [], ◌∷◌, ◌⊎◌, inl, inr, Option, Some, None, is_some, refl, sym, subst, ◌∙◌, ap, arith, ◌≢◌, ◌+◌, ◌==◌, ◌++◌, map}
+use Rattle.std.proofs.Common.{◌≡◌, ℕ, ◌<◌, ◌≤◌, nat_lt, Bool, true, false, ◌&&◌, ◌||◌, not, List, [], ◌∷◌, ◌⊎◌, inl, inr, Option, Some, None, is_some, refl, sym, subst, ◌∙◌, ap, arith, ◌≢◌, ◌+◌, ◌==◌, ◌++◌, map, option_map, if◌then◌else◌, is_none}
 use Rattle.std.proofs.lemmas.Bool.Decides.{nat_tests}
 use Rattle.std.proofs.lemmas.Bool.{and_parts, cases_Bool, eqb-true, cases_eq, cond_both, eq-eqb, ne_eqb}
 use Rattle.std.proofs.lemmas.List.Folds.{find-append}
@@ -35,7 +34,7 @@ use Rattle.world.specs.Laws.{IsSoundWorld}
 use Rattle.world.specs.Setups.{SetupLists}
 use Rattle.world.specs.World.{Outcome, WorldState, next, opening_world}
 use Rattle.world.specs.declared.Step.{Step}
-use Rattle.world.proofs.Events.{EachWay, each_way}
+use Rattle.world.proofs.Events.{each_way}
 use Rattle.world_run.specs.InOrder.{HoldsBack, finished, has_begun, is_over, started, IsForeseen, IsForeseenBy, IsInOrder, KeepsOrder, IsHistory}
 use Rattle.world_run.specs.Serial.{Order, asked, covers, gives_byte, is_intent, touches, touches_byte, touches_from, writes, writes_byte, writes_from}
 use Rattle.world_run.specs.Meaning.{Bytes}
@@ -159,17 +158,7 @@ held_by order config i j x a b before of_a of_b both undone = rw (earlier, undon
 none_passes : (test : LiveRequest → Bool) (p : BridgedRequest → Bool) (live : List BridgedRequest) (request : BridgedRequest) → list_any test (flights_of live) ≡ false → find p live ≡ Some request
     → test request.flight ≡ false
 none_passes test p [] request none found = absurd (cc)
-none_passes test p (r ∷ live) request none found = by_test (p r) found (λ later. none_passes test p live request (or_parts (test r.flight) (list_any test (flights_of live)) none).1 later)
-  where
-    or_parts : (a b : Bool) → (a || b) ≡ false → (a ≡ false) × (b ≡ false)
-    or_parts true b none = absurd (cc)
-    or_parts false b none = (refl, none)
-
-    by_test : (b : Bool) → (if b then Some r else find p live) ≡ Some request → (find p live ≡ Some request → test request.flight ≡ false) → test request.flight ≡ false
-    by_test true here rest =
-        let same : r ≡ request = cc in
-        subst (λ (q : BridgedRequest). test q.flight ≡ false) same (or_parts (test r.flight) (list_any test (flights_of live)) none).0
-    by_test false later rest = rest later
+none_passes test p (r ∷ live) request none found = grind (arith, none_passes test p live request)
 
 -- the request of each live number is the one that was asked for
 abbrev pub AreAsked : Order → List BridgedRequest → Type 0
@@ -290,9 +279,7 @@ search_changed {X = X} q p f (y ∷ ys) same = by_test (p y) (q y) refl (search_
 -- numbers above another
 none_above : (n : ℕ) (live : List BridgedRequest) → AllByRecursion (λ m. n < m) (map (λ (flight : LiveRequest). flight.number) (flights_of live)) → find (is_numbered n) live ≡ None
 none_above n [] above = refl
-none_above n (r ∷ live) above =
-    let other : (r.flight.number == n) ≡ false = ne_eqb r.flight.number n (λ same. let first = above.0 in absurd (omega (arith, first, same))) in
-    rw other (none_above n live above.1)
+none_above n (r ∷ live) above = grind (arith, nat_tests, above.0, none_above n live above.1)
 
 pub found_without : (p : BridgedRequest → Bool) (n : ℕ) (live : List BridgedRequest) → AreRising (map (λ (flight : LiveRequest). flight.number) (flights_of live))
     → (find (is_numbered n) (without_first p live) ≡ find (is_numbered n) live)
@@ -553,21 +540,20 @@ module _ (order : Order) (state : WorldState) (sound : IsSoundWorld state) (regi
   abbrev Moves : Step → Outcome → Type 0
   Moves step outcome = IsSoundWorld outcome.state → IsForeseenBy order state.bridge step outcome.answer → MovesOn order state.bridge.requests outcome.state.bridge.requests
 
-  ways : EachWay Moves state
-  ways = record {
-    quiet = λ step answer still new foreseen. moves_same order state.bridge.requests all;
-    begins = λ client beat taken new foreseen. moves_same order state.bridge.requests all;
-    accepts = λ client beat accepted new foreseen. accepts_on order state.bridge.requests (message_with state.bridge client beat) all sound.bridge_laws.requests regions foreseen;
-    sends = λ sending is new foreseen. sends_on order state.bridge.requests sending.request.flight.number sending.id all;
-    performs = λ serial beat memory done new foreseen. moves_same order state.bridge.requests all;
-    gives_b = λ id b given new foreseen. responds_on order state.bridge.requests b.id b.resp all;
-    gives_r = λ id r given new foreseen. reads_on order state.bridge.requests r all;
-    hands_out = λ client request known first new foreseen. takes_on order state.bridge.requests client all sound.bridge_laws.requests;
-  }
-
   -- an event lets the requests go on
   pub moves_on : (step : Step) → IsSoundWorld (next state step).state → IsForeseen order state step → MovesOn order state.bridge.requests (next state step).state.bridge.requests
-  moves_on step new foreseen = each_way Moves state ways step new foreseen
+  moves_on step new foreseen = each_way Moves state
+      (record {
+        quiet = λ step answer still new foreseen. moves_same order state.bridge.requests all;
+        begins = λ client beat taken new foreseen. moves_same order state.bridge.requests all;
+        accepts = λ client beat accepted new foreseen. accepts_on order state.bridge.requests (message_with state.bridge client beat) all sound.bridge_laws.requests regions foreseen;
+        sends = λ sending is new foreseen. sends_on order state.bridge.requests sending.request.flight.number sending.id all;
+        performs = λ serial beat memory done new foreseen. moves_same order state.bridge.requests all;
+        gives_b = λ id b given new foreseen. responds_on order state.bridge.requests b.id b.resp all;
+        gives_r = λ id r given new foreseen. reads_on order state.bridge.requests r all;
+        hands_out = λ client request known first new foreseen. takes_on order state.bridge.requests client all sound.bridge_laws.requests;
+      })
+      step new foreseen
 
 -- so the later ones still wait
 pub held_kept : (order : Order) (state : WorldState) (step : Step) → IsSoundWorld state → IsSoundWorld (next state step).state → IsForeseen order state step → KeepsOrder order state

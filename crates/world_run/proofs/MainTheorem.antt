@@ -1,9 +1,9 @@
 -- The main theorem: what a run shows is as though its accepted requests were carried out whole, one at a time. No number is handed out twice,
 -- since one that was handed out is accepted and live no more; the beats sent are those of whole legal bursts, one for each answer Sent, and no
 -- beat breaks a rule at its place. What requests ask for and beats carry is hidden; Told and OrderedRuns show the rest.
-use Rattle.std.specs.Prelude.{filter, find, nat_eq, if◌then◌else◌, ◌&&◌, is_some, not, IsTrue, IfSome, option_map}
 use Rattle.std.specs.List.{AllByRecursion, IsDistinct, cons_option, list_all}
-use Rattle.std.proofs.Common.{◌≡◌, ℕ, ◌<◌, ◌==◌, Bool, true, false, List, [], ◌∷◌, map, length, Option, Some, None, refl, sym, subst, ap, ◌∙◌, arith, suc, ◌+◌, ◌++◌}
+use Rattle.std.proofs.Common.{◌≡◌, ℕ, ◌<◌, ◌==◌, Bool, true, false, List, [], ◌∷◌, map, length, Option, Some, None, refl, sym, subst, ap, ◌∙◌, arith, suc, ◌+◌, ◌++◌, filter, find, nat_eq, if◌then◌else◌, ◌&&◌, is_some, not, IsTrue, IfSome, option_map}
+use Rattle.std.proofs.lemmas.Bool.Decides.{nat_tests}
 use Rattle.std.proofs.lemmas.Bool.{eq-eqb, false≢true, ne_eqb, and_from}
 use Rattle.std.proofs.lemmas.List.{length-append}
 use Rattle.std.proofs.lemmas.List.Elements.{filter-append}
@@ -145,20 +145,7 @@ over_next state step number over = each_way (λ event outcome. IsOver outcome.st
 found_counted : (p : BridgedRequest → Bool) (live : List BridgedRequest) (request : BridgedRequest) → find p live ≡ Some request
     → 0 < length (filter (is_numbered request.flight.number) live)
 found_counted p [] request found = absurd (cc)
-found_counted p (x ∷ live) request found = by_test (p x) (found_counted p live request) found
-  where
-    more : (b : Bool) → 0 < length (filter (is_numbered request.flight.number) live)
-        → 0 < length (if b then x ∷ filter (is_numbered request.flight.number) live else filter (is_numbered request.flight.number) live)
-    more true some = omega arith
-    more false some = some
-
-    by_test : (b : Bool) → (find p live ≡ Some request → 0 < length (filter (is_numbered request.flight.number) live)) → (if b then Some x else find p live) ≡ Some request
-        → 0 < length (filter (is_numbered request.flight.number) (x ∷ live))
-    by_test true others here =
-        let same : x ≡ request = cc in
-        subst (λ (r : BridgedRequest). 0 < length (filter (is_numbered r.flight.number) (x ∷ live))) same
-        (rw (eq-eqb x.flight.number x.flight.number refl) (omega arith))
-    by_test false others later = more (is_numbered request.flight.number x) (others later)
+found_counted p (x ∷ live) request found = grind (arith, nat_tests, found_counted p live request)
 
 -- of numbers above one none is it
 none_above : (number : ℕ) (live : List BridgedRequest) → AllByRecursion (λ m. number < m) (map (λ flight. flight.number) (flights_of live))
@@ -170,11 +157,7 @@ none_above number (x ∷ live) above = rw (ne_eqb x.flight.number number (λ sam
 found_above : (number : ℕ) (p : BridgedRequest → Bool) (live : List BridgedRequest) (request : BridgedRequest)
     → AllByRecursion (λ m. number < m) (map (λ flight. flight.number) (flights_of live)) → find p live ≡ Some request → number < request.flight.number
 found_above number p [] request above found = absurd (cc)
-found_above number p (x ∷ live) request above found = by_test (p x) (found_above number p live request above.1) found
-  where
-    by_test : (b : Bool) → (find p live ≡ Some request → number < request.flight.number) → (if b then Some x else find p live) ≡ Some request → number < request.flight.number
-    by_test true others here = let same : x ≡ request = cc in subst (λ (r : BridgedRequest). number < r.flight.number) same above.0
-    by_test false others later = others later
+found_above number p (x ∷ live) request above found = grind (arith, above.0, found_above number p live request above.1)
 
 -- where numbers rise, no other has the number of one that is found
 gone_without : (p : BridgedRequest → Bool) (live : List BridgedRequest) (request : BridgedRequest) → AreRising (map (λ flight. flight.number) (flights_of live))
@@ -218,7 +201,19 @@ abbrev pub HandsOutRightly : WorldState → Step → Outcome → Type 0
 HandsOutRightly state event outcome = (handed : HandedReply) → handed_at event outcome.answer outcome.reply ≡ Some handed → HandsOut state outcome handed.number
 
 pub hands_out_rightly : (state : WorldState) (step : Step) → IsSoundWorld state → HandsOutRightly state step (next state step)
-hands_out_rightly state step sound = each_way (HandsOutRightly state) state ways step
+hands_out_rightly state step sound = each_way (HandsOutRightly state) state
+    (record {
+      quiet = λ event answer still handed is. absurd (let none = quiet_hands_out event answer [] still in cc);
+      begins = λ client beat taken handed is. absurd (cc);
+      accepts = λ client beat accepted handed is. absurd (cc);
+      sends = λ sending sent handed is. absurd (cc);
+      performs = λ serial beat memory done handed is. absurd (cc);
+      gives_b = λ id b given handed is. absurd (cc);
+      gives_r = λ id r given handed is. absurd (cc);
+      hands_out = λ client request known first handed is.
+          subst (HandsOut state (taken state client (Some request))) (ap (λ reply. reply.number) (same_Some _ handed is)) (took client request first);
+    })
+    step
   where
     took : (client : ℕ) (request : BridgedRequest) → first_done state.bridge.requests.live client ≡ Some request
         → HandsOut state (taken state client (Some request)) request.flight.number
@@ -230,20 +225,6 @@ hands_out_rightly state step sound = each_way (HandsOutRightly state) state ways
             accepted = found_accepted state.bridge.requests (is_done_for client) state.bridge.requests.live request flights.requests first;
             gone = gone_without (is_done_for client) state.bridge.requests.live request flights.rising first;
           };
-        }
-
-    ways : EachWay (HandsOutRightly state) state
-    ways =
-        record {
-          quiet = λ event answer still handed is. absurd (let none = quiet_hands_out event answer [] still in cc);
-          begins = λ client beat taken handed is. absurd (cc);
-          accepts = λ client beat accepted handed is. absurd (cc);
-          sends = λ sending sent handed is. absurd (cc);
-          performs = λ serial beat memory done handed is. absurd (cc);
-          gives_b = λ id b given handed is. absurd (cc);
-          gives_r = λ id r given handed is. absurd (cc);
-          hands_out = λ client request known first handed is.
-              subst (HandsOut state (taken state client (Some request))) (ap (λ reply. reply.number) (same_Some _ handed is)) (took client request first);
         }
 
 -- ---- over a list of events
@@ -319,25 +300,23 @@ one_more n m same = omega arith
 -- a run sends one burst for each answer Sent
 paired_along : (state : WorldState) (steps : List Step) → length (bursts_along state steps) ≡ pumps_told (answers_of state steps)
 paired_along state [] = refl
-paired_along state (step ∷ steps) = each_way Goes state ways step (paired_along (next state step).state steps)
+paired_along state (step ∷ steps) = each_way Goes state
+    (record {
+      quiet = λ event answer still rest. rest ∙ sym (quiet_pumps answer _ still);
+      begins = λ client beat taken rest. rest;
+      accepts = λ client beat accepted rest. rest;
+      sends = λ sending sent rest. one_more _ _ rest;
+      performs = λ serial beat memory done rest. rest;
+      gives_b = λ id b given rest. rest;
+      gives_r = λ id r given rest. rest;
+      hands_out = λ client request known first rest. rest;
+    })
+    step (paired_along (next state step).state steps)
   where
     Goes : Step → Outcome → Type 0
     Goes event outcome =
         length (bursts_along outcome.state steps) ≡ pumps_told (answers_of outcome.state steps)
         → length (cons_option outcome.burst (bursts_along outcome.state steps)) ≡ pumps_told (outcome.answer ∷ answers_of outcome.state steps)
-
-    ways : EachWay Goes state
-    ways =
-        record {
-          quiet = λ event answer still rest. rest ∙ sym (quiet_pumps answer _ still);
-          begins = λ client beat taken rest. rest;
-          accepts = λ client beat accepted rest. rest;
-          sends = λ sending sent rest. one_more _ _ rest;
-          performs = λ serial beat memory done rest. rest;
-          gives_b = λ id b given rest. rest;
-          gives_r = λ id r given rest. rest;
-          hands_out = λ client request known first rest. rest;
-        }
 
 -- ---- each burst, and each answer, in its place
 
@@ -358,7 +337,18 @@ legal_along : (config : Config) (state : WorldState) (steps : List Step) → sta
     → IsTrue (list_all (is_legal config.axi_bytes) (bursts_along state steps))
 legal_along config state [] same along = refl
 legal_along config state (step ∷ steps) same along =
-    each_way Goes state ways step (legal_along config (next state step).state steps (config_next state step ∙ same) along.1)
+    each_way Goes state
+    (record {
+      quiet = λ event answer still rest. rest;
+      begins = λ client beat taken rest. rest;
+      accepts = λ client beat accepted rest. rest;
+      sends = λ sending sent rest. and_from _ _ (legal sending sent) rest;
+      performs = λ serial beat memory done rest. rest;
+      gives_b = λ id b given rest. rest;
+      gives_r = λ id r given rest. rest;
+      hands_out = λ client request known first rest. rest;
+    })
+    step (legal_along config (next state step).state steps (config_next state step ∙ same) along.1)
   where
     Goes : Step → Outcome → Type 0
     Goes event outcome =
@@ -367,19 +357,6 @@ legal_along config state (step ∷ steps) same along =
 
     legal : (sending : Sending) → next_sending state.bridge.requests ≡ Some sending → is_legal config.axi_bytes sending.burst ≡ true
     legal sending sent = subst (λ kept. is_legal kept.axi_bytes sending.burst ≡ true) same (sent_well state along.0 sending sent).legal
-
-    ways : EachWay Goes state
-    ways =
-        record {
-          quiet = λ event answer still rest. rest;
-          begins = λ client beat taken rest. rest;
-          accepts = λ client beat accepted rest. rest;
-          sends = λ sending sent rest. and_from _ _ (legal sending sent) rest;
-          performs = λ serial beat memory done rest. rest;
-          gives_b = λ id b given rest. rest;
-          gives_r = λ id r given rest. rest;
-          hands_out = λ client request known first rest. rest;
-        }
 
 -- an answer that leaves all as it is tells no AXI beat
 quiet_history : (answer : Answer) (answers : List Answer) (bursts : List Burst) → leaves_all answer ≡ true → axi_history (answer ∷ answers) bursts ≡ axi_history answers bursts
@@ -393,7 +370,18 @@ fine_along : (config : Config) (state : WorldState) (steps : List Step) → stat
     → first_axi_fault (axi_port_of config) state.bridge.open_bursts (axi_history (answers_of state steps) (bursts_along state steps)) ≡ None
 fine_along config state [] same along = refl
 fine_along config state (step ∷ steps) same along =
-    each_way Goes state ways step (fine_along config (next state step).state steps (config_next state step ∙ same) along.1)
+    each_way Goes state
+    (record {
+      quiet = λ event answer still rest. rw (quiet_history answer _ _ still) rest;
+      begins = λ client beat taken rest. rest;
+      accepts = λ client beat accepted rest. rest;
+      sends = λ sending sent rest. sent_fine sending _ sent rest;
+      performs = λ serial beat memory done rest. rest;
+      gives_b = λ id b given rest. answer_fine (OnB b) _ (b_well state along.0 id b given) rest;
+      gives_r = λ id r given rest. answer_fine (OnR r) _ (r_well state along.0 id r given) rest;
+      hands_out = λ client request known first rest. rest;
+    })
+    step (fine_along config (next state step).state steps (config_next state step ∙ same) along.1)
   where
     Goes : Step → Outcome → Type 0
     Goes event outcome =
@@ -410,34 +398,10 @@ fine_along config state (step ∷ steps) same along =
         (subst (λ kept. burst_fault (axi_port_of kept) state.bridge.open_bursts sending.burst ≡ None) same (sent_well state along.0 sending sent).unbroken)
         ∙ rest
 
-    b_fine : (id : ℕ) (b : BBeat) (later : List AxiBeat) → b_of state.memory id ≡ Some b
-        → first_axi_fault (axi_port_of config) (open_after state.bridge.open_bursts (OnB b)) later ≡ None
-        → first_axi_fault (axi_port_of config) state.bridge.open_bursts (OnB b ∷ later) ≡ None
-    b_fine id b later given rest =
-        first_axi_fault-none (axi_port_of config) state.bridge.open_bursts (OnB b) later
-        (subst (λ kept. axi_fault (axi_port_of kept) state.bridge.open_bursts (OnB b) ≡ None) same (b_well state along.0 id b given))
-        ∙ rest
-
-    r_fine : (id : ℕ) (r : RBeat) (later : List AxiBeat) → r_of state.memory id ≡ Some r
-        → first_axi_fault (axi_port_of config) (open_after state.bridge.open_bursts (OnR r)) later ≡ None
-        → first_axi_fault (axi_port_of config) state.bridge.open_bursts (OnR r ∷ later) ≡ None
-    r_fine id r later given rest =
-        first_axi_fault-none (axi_port_of config) state.bridge.open_bursts (OnR r) later
-        (subst (λ kept. axi_fault (axi_port_of kept) state.bridge.open_bursts (OnR r) ≡ None) same (r_well state along.0 id r given))
-        ∙ rest
-
-    ways : EachWay Goes state
-    ways =
-        record {
-          quiet = λ event answer still rest. rw (quiet_history answer _ _ still) rest;
-          begins = λ client beat taken rest. rest;
-          accepts = λ client beat accepted rest. rest;
-          sends = λ sending sent rest. sent_fine sending _ sent rest;
-          performs = λ serial beat memory done rest. rest;
-          gives_b = λ id b given rest. b_fine id b _ given rest;
-          gives_r = λ id r given rest. r_fine id r _ given rest;
-          hands_out = λ client request known first rest. rest;
-        }
+    answer_fine : (beat : AxiBeat) (later : List AxiBeat) → axi_fault (axi_port_of state.bridge.requests.config) state.bridge.open_bursts beat ≡ None
+        → first_axi_fault (axi_port_of config) (open_after state.bridge.open_bursts beat) later ≡ None → first_axi_fault (axi_port_of config) state.bridge.open_bursts (beat ∷ later) ≡ None
+    answer_fine beat later fine rest =
+        first_axi_fault-none (axi_port_of config) state.bridge.open_bursts beat later (subst (λ kept. axi_fault (axi_port_of kept) state.bridge.open_bursts beat ≡ None) same fine) ∙ rest
 
 -- ---- the field of the main statement
 

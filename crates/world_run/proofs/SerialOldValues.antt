@@ -1,7 +1,6 @@
 -- The old value that the read of an atomic finds is that of serial execution. It knows a list of reads and the bytes that they tell; which
 -- bridge or memory they passed is hidden.
-use Rattle.std.proofs.Common.{◌≡◌, ℕ, ◌^◌, ◌≤◌, ◌%◌, Bool, true, false, not, ◌&&◌, List, [], length, Option, Some, None, if◌then◌else◌, refl, ◌∙◌, ap}
-use Rattle.std.specs.Prelude.{slice_get, option_map}
+use Rattle.std.proofs.Common.{◌≡◌, ℕ, ◌^◌, ◌≤◌, ◌%◌, Bool, true, false, not, ◌&&◌, List, [], length, Option, Some, None, if◌then◌else◌, refl, ◌∙◌, ap, slice_get, option_map}
 use Rattle.std.specs.Option.{option_flatten}
 use Rattle.std.proofs.Math.Pow.{pow_pos}
 use Rattle.std.proofs.lemmas.Bool.{and_from, eq-eqb, le-leb}

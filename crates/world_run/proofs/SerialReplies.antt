@@ -1,9 +1,8 @@
 -- What is gathered of a memory's answers is the reply of serial execution. It knows lists of reads and responses, of one page, and the
 -- bytes that they tell; which bridge or memory they passed is hidden.
-use Rattle.std.proofs.Common.{◌≡◌, ℕ, zero, suc, ◌+◌, ◌-◌, ◌*◌, ◌/◌, ◌%◌, ◌^◌, ◌<◌, ◌≤◌, ◌==◌, min, max, Bool, true, false, not, ◌||◌, List, [], ◌∷◌, map, length, Option, Some, None, if◌then◌else◌, refl, sym, subst, ◌∙◌, ap, arith, inl, inr}
-use Rattle.std.specs.Prelude.{replicate, slice_get, All}
+use Rattle.std.proofs.Common.{◌≡◌, ℕ, zero, suc, ◌+◌, ◌-◌, ◌*◌, ◌/◌, ◌%◌, ◌^◌, ◌<◌, ◌≤◌, ◌==◌, min, max, Bool, true, false, not, ◌||◌, List, [], ◌∷◌, map, length, Option, Some, None, if◌then◌else◌, refl, sym, subst, ◌∙◌, ap, arith, inl, inr, replicate, slice_get, All}
 use Rattle.std.specs.List.{enumerate_from, range_with_len, list_any, find}
-use Rattle.std.proofs.lemmas.Bool.Decides.{eqb_tells}
+use Rattle.std.proofs.lemmas.Bool.Decides.{nat_tests}
 use Rattle.std.proofs.lemmas.List.Elements.{All-cons, All-head, All-nil, All-tail}
 use Rattle.std.proofs.lemmas.Option.{slice_get_within}
 use Rattle.bus_words.specs.Lanes.{lane_byte, word_address}
@@ -187,14 +186,7 @@ each_at P reads each = all_at P reads 0 (λ k r there. let start : k ≡ 0 + k =
 
 all_came : (reads : List RBeat) (from place : ℕ) → from ≤ place → place < from + length reads → list_any (λ read. read.0 == place) (enumerate_from from reads) ≡ true
 all_came [] from place low high = absurd (omega (arith, low, high))
-all_came (r ∷ reads) from place low high =
-    elim (eqb_tells from place) [
-      | inl (test, same) ↦ rw test refl
-      | inr (test, other) ↦ rw test (all_came reads (from + 1) place (above from place low other) (omega (arith, high)))
-    ]
-  where
-    above : (a b : ℕ) → a ≤ b → (a ≡ b → ⊥) → a + 1 ≤ b
-    above a b low other = grind (arith, low, other)
+all_came (r ∷ reads) from place low high = grind (arith, nat_tests, all_came reads (from + 1) place)
 
 none_denies : (reads : List RBeat) (from : ℕ) → ((k : ℕ) (r : RBeat) → slice_get reads k ≡ Some r → is_decerr r.resp ≡ false) → list_any (λ read. is_decerr read.1.resp) (enumerate_from from reads) ≡ false
 none_denies [] from each = refl
@@ -226,12 +218,10 @@ abbrev pub gathering_told : ℕ → Outline → List RBeat → List Resp → Gat
 gathering_told bus_bytes outline reads responses = gathering_after bus_bytes outline (answers_in_order reads responses)
 
 either_false : (a b : Bool) → a ≡ false → b ≡ false → (a || b) ≡ false
-either_false true b is other = is
-either_false false b is other = other
+either_false a b is other = rw (is, other) refl
 
 left_true : (a b : Bool) → a ≡ true → (a || b) ≡ true
-left_true true b is = refl
-left_true false b is = absurd (cc (is))
+left_true a b is = rw is refl
 
 right_true : (a b : Bool) → b ≡ true → (a || b) ≡ true
 right_true true b is = refl

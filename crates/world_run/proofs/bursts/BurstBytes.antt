@@ -1,9 +1,8 @@
 -- What single bursts of a live request are to single bytes: their writes put what the request leaves, each byte by one transfer, their reads have
 -- told nothing yet, and once all its pieces are written it has written all. It knows the plan of one request, its bursts as they are sent and
 -- while they are open; what becomes of them, and all other requests, are hidden.
-use Rattle.std.specs.Prelude.{unwrap_or, option_map}
 use Rattle.std.specs.List.{range_with_len, slice_get, filter, find}
-use Rattle.std.proofs.Common.{◌≡◌, ℕ, zero, suc, ◌+◌, ◌^◌, ◌<◌, ◌≤◌, nat_le, nat_lt, Bool, true, false, ◌&&◌, not, List, map, replicate, Option, Some, is_some, refl, ap, sym, ◌∙◌, subst, arith, ◌-◌, length, None, ◌||◌, [], ◌∷◌, drop, take}
+use Rattle.std.proofs.Common.{◌≡◌, ℕ, zero, suc, ◌+◌, ◌^◌, ◌<◌, ◌≤◌, nat_le, nat_lt, Bool, true, false, ◌&&◌, not, List, map, replicate, Option, Some, is_some, refl, ap, sym, ◌∙◌, subst, arith, ◌-◌, length, None, ◌||◌, [], ◌∷◌, drop, take, unwrap_or, option_map}
 use Rattle.std.proofs.lemmas.Bool.{and_from, and_parts, le-leb, lt-ltb, and_right, leb-true}
 use Rattle.std.proofs.lemmas.List.FromFn.{length-map-range_with_len, get_or-map-range_with_len}
 use Rattle.std.proofs.lemmas.Option.{get_or_from_slice_get, slice_get_within}

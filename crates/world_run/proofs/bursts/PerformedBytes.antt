@@ -4,6 +4,7 @@
 use Rattle.std.specs.Prelude.{unwrap_or, IfSome, slice_set, ⊤, if◌then◌else◌}
 use Rattle.std.specs.List.{enumerate_from, list_all, list_any, slice_get, AllByRecursion, find, filter}
 use Rattle.std.proofs.Common.{◌≡◌, ◌≢◌, ℕ, zero, suc, ◌+◌, ◌-◌, ◌%◌, ◌<◌, ◌≤◌, ◌==◌, Bool, true, false, ◌&&◌, List, [], ◌∷◌, length, Option, Some, None, is_some, inl, inr, ◌⊎◌, refl, ap, sym, ◌∙◌, subst, arith, not, ◌||◌, ◌++◌}
+use Rattle.std.proofs.lemmas.Bool.Decides.{nat_tests}
 use Rattle.std.proofs.lemmas.Bool.{and_parts, and_from, eqb-true, or_parts, ne_eqb}
 use Rattle.std.proofs.lemmas.Option.{same_Some, slice_get_within}
 use Rattle.bus_words.specs.Lanes.{has_lane, lane_byte}
@@ -424,11 +425,7 @@ of_one_id : (n id other : ℕ) → id ≢ other → (n == id) ≡ true → (n ==
 of_one_id n id other apart is = let same : n ≡ id = eqb-true n id is in rw same (ne_eqb id other apart)
 
 pub burst_of_one : (id other : ℕ) (burst : Burst) → id ≢ other → (writes_as id burst || reads_as id burst) ≡ true → (writes_as other burst || reads_as other burst) ≡ false
-burst_of_one id other (WriteBurst aw w_beats) apart is = by_test (aw.id == id) refl is
-  where
-    by_test : (b : Bool) → (aw.id == id) ≡ b → (b || false) ≡ true → ((aw.id == other) || false) ≡ false
-    by_test true here is = rw (of_one_id aw.id id other apart here) refl
-    by_test false here is = absurd (cc (is))
+burst_of_one id other (WriteBurst aw w_beats) apart is = grind (arith, nat_tests)
 burst_of_one id other (ReadBurst ar) apart is = of_one_id ar.id id other apart is
 
 pub of_one : (id other : ℕ) (pending : Pending) → id ≢ other → is_of_id id pending ≡ true → is_of_id other pending ≡ false
@@ -438,11 +435,7 @@ pub write_is_of : (id : ℕ) (pending : Pending) → is_write_of id pending ≡ 
 write_is_of id pending is = rw is refl
 
 pub read_is_of : (id : ℕ) (pending : Pending) → is_read_of id pending ≡ true → is_of_id id pending ≡ true
-read_is_of id pending is = by_test (is_write_of id pending)
-  where
-    by_test : (b : Bool) → (b || is_read_of id pending) ≡ true
-    by_test true = refl
-    by_test false = is
+read_is_of id pending is = grind (arith, is)
 
 -- ---- the first of an ID is answered
 

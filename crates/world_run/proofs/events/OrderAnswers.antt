@@ -2,8 +2,7 @@
 -- written, and its response tells of the page; an R tells what its request finds, at the place of the next read. It knows the open burst that
 -- was answered and its holder; which bytes the answer tells of is hidden.
 use Rattle.std.specs.List.{filter, find, list_any, slice_get}
-use Rattle.std.specs.Prelude.{if◌then◌else◌, filter_map}
-use Rattle.std.proofs.Common.{◌≡◌, ◌≢◌, ℕ, ◌≤◌, Bool, true, false, List, length, Some, ap, sym, ◌∙◌, subst, inl, inr, Option, None, refl, arith, ◌+◌, ◌==◌, [], ◌∷◌}
+use Rattle.std.proofs.Common.{◌≡◌, ◌≢◌, ℕ, ◌≤◌, Bool, true, false, List, length, Some, ap, sym, ◌∙◌, subst, inl, inr, Option, None, refl, arith, ◌+◌, ◌==◌, [], ◌∷◌, if◌then◌else◌, filter_map}
 use Rattle.std.proofs.lemmas.Bool.{cases_eq, cases_lt, cases_Bool}
 use Rattle.std.proofs.lemmas.Option.{same_Some}
 use Rattle.std.proofs.lemmas.Bool.Decides.{nat_tests}

@@ -2,8 +2,7 @@
 -- so that it has no open burst; a burst that is sent is one more of its request, under the ID that this holds; a beat that is performed stores
 -- what its request leaves, or captures what it finds. It knows the request that each is of; what bursts do to single bytes is hidden.
 use Rattle.std.specs.List.{filter, find, AllByRecursion, slice_get}
-use Rattle.std.specs.Prelude.{if◌then◌else◌, unwrap_or, IfSome}
-use Rattle.std.proofs.Common.{◌≡◌, ◌≢◌, ℕ, ◌+◌, nat_lt, Bool, true, false, ◌&&◌, [], ◌∷◌, ◌++◌, Option, Some, refl, ap, sym, ◌∙◌, arith, inl, inr, ◌⊎◌, ◌==◌, ◌||◌, None, is_some, List, subst, ◌≤◌}
+use Rattle.std.proofs.Common.{◌≡◌, ◌≢◌, ℕ, ◌+◌, nat_lt, Bool, true, false, ◌&&◌, [], ◌∷◌, ◌++◌, Option, Some, refl, ap, sym, ◌∙◌, arith, inl, inr, ◌⊎◌, ◌==◌, ◌||◌, None, is_some, List, subst, ◌≤◌, if◌then◌else◌, unwrap_or, IfSome}
 use Rattle.std.proofs.lemmas.Bool.{cases_Bool, cases_eq, ne_eqb, and_parts, eq-eqb, eqb-true, and_right}
 use Rattle.std.proofs.lemmas.Bool.Decides.{nat_tests}
 use Rattle.std.proofs.lemmas.List.{append-nil}
@@ -180,11 +179,7 @@ take_keeps order state client request sound keeps held =
 
 -- a burst just sent is of its ID alone
 sent_of_id : (id j serial : ℕ) (request : BridgedRequest) (range : PlannedRange) (burst : Bool × Piece) → is_of_id j (newly_pending serial (burst_of_piece id request range burst)) ≡ (id == j)
-sent_of_id id j serial request range (true, piece) = by_test (id == j)
-  where
-    by_test : (b : Bool) → (b || false) ≡ b
-    by_test true = refl
-    by_test false = refl
+sent_of_id id j serial request range (true, piece) = grind (arith, nat_tests)
 sent_of_id id j serial request range (false, piece) = refl
 
 filter_one : (test : Pending → Bool) (pending : Pending) (b : Bool) → test pending ≡ b → filter test (pending ∷ []) ≡ (if b then pending ∷ [] else [])

@@ -1,8 +1,7 @@
 -- Worked values of what requests mean: each case of one request, and requests one at a time. Cases that the statements on runs refuse: a
 -- message of a client that isn't there, and bytes that count as written before they are.
-use Rattle.std.specs.Prelude.{replicate}
 use Rattle.std.specs.List.{range_with_len}
-use Rattle.std.proofs.Common.{◌≡◌, ℕ, ◌+◌, ◌/◌, ◌%◌, true, false, List, [], ◌∷◌, ◌++◌, map, Option, Some, None, refl, arith}
+use Rattle.std.proofs.Common.{◌≡◌, ℕ, ◌+◌, ◌/◌, ◌%◌, true, false, List, [], ◌∷◌, ◌++◌, map, Option, Some, None, refl, arith, replicate}
 use Rattle.tl_messages.specs.Requests.{WholeRequest, message_of, request_of}
 use Rattle.tl_messages.specs.declared.AtomicOp.{AtomicOp}
 use Rattle.tl_messages.specs.declared.AtomicOp.TheVariants.{Min, Max, MinU, MaxU, Add, Xor, Or, And, Swap}

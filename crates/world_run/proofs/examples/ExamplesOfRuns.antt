@@ -1,8 +1,7 @@
 -- Worked runs of events: answers, the bursts sent, the replies handed out, and the bytes left. The main statement holds of what one of them
 -- shows, and not of records that tell something else of it.
-use Rattle.std.specs.Prelude.{replicate, ◌≢◌, drop, flat_map, unwrap_or}
 use Rattle.std.specs.List.{range_with_len, IsDistinct}
-use Rattle.std.proofs.Common.{◌≡◌, ℕ, ◌+◌, ◌*◌, Bool, true, false, List, [], ◌∷◌, ◌++◌, map, Option, Some, refl, suc, ◌/◌, ◌-◌, ◌==◌, length, filter, None, if◌then◌else◌, true≢false, sym, subst, ap, ◌∙◌, get_or, inl, inr, ◌≤◌, arith}
+use Rattle.std.proofs.Common.{◌≡◌, ℕ, ◌+◌, ◌*◌, Bool, true, false, List, [], ◌∷◌, ◌++◌, map, Option, Some, refl, suc, ◌/◌, ◌-◌, ◌==◌, length, filter, None, if◌then◌else◌, true≢false, sym, subst, ap, ◌∙◌, get_or, inl, inr, ◌≤◌, arith, replicate, ◌≢◌, drop, flat_map, unwrap_or}
 use Rattle.std.proofs.lemmas.Bool.Decides.{eqb_tells, leb_tells}
 use Rattle.bus_words.specs.Lanes.{given_at}
 use Rattle.tl_messages.specs.Requests.{WholeRequest}

@@ -1,10 +1,9 @@
 -- What a live request has gathered is what serial execution says, and stays so as the memory's answers come: its reply, and the old value of an
 -- atomic. It knows the bridge's request, its gathered answers, and the places of reads among pieces and transfers; it hides them from
 -- SerialReplies and SerialOldValues, which know lists of answers alone.
-use Rattle.std.specs.Prelude.{option_map, IsSome}
 use Rattle.std.specs.List.{enumerate_from, slice_get}
 use Rattle.std.specs.Option.{option_flatten}
-use Rattle.std.proofs.Common.{◌≡◌, ℕ, ◌+◌, ◌%◌, ◌^◌, ◌≤◌, min, Bool, true, false, ◌&&◌, ◌||◌, List, [], ◌∷◌, length, Option, Some, None, if◌then◌else◌, refl, sym, ◌∙◌, ap, arith, not, subst, zero, suc, ◌-◌, ◌*◌, ◌/◌, ◌<◌, take, ◌==◌, is_some}
+use Rattle.std.proofs.Common.{◌≡◌, ℕ, ◌+◌, ◌%◌, ◌^◌, ◌≤◌, min, Bool, true, false, ◌&&◌, ◌||◌, List, [], ◌∷◌, length, Option, Some, None, if◌then◌else◌, refl, sym, ◌∙◌, ap, arith, not, subst, zero, suc, ◌-◌, ◌*◌, ◌/◌, ◌<◌, take, ◌==◌, is_some, option_map, IsSome}
 use Rattle.std.proofs.lemmas.Bool.{leb-true, leb-false, and_parts, and_from, le-leb, eqb-true}
 use Rattle.std.proofs.lemmas.List.{nil_from_length}
 use Rattle.std.proofs.lemmas.Nat.{div-add-mod', mod_below}
