@@ -76,8 +76,7 @@ effect_alone faults q m address (Atomic op) IsGood false x is none =
         omega (arith, mapped, made)
 
     not_covered : (bad covered : Bool) → false ≡ bad → (not bad && covered) ≡ false → covered ≡ false
-    not_covered true covered is none = absurd (cc)
-    not_covered false covered is none = none
+    not_covered bad covered is none = grind (arith, is, none)
 
 effect_at_alone : (faults : Faults) (q : WholeRequest) (m : Bytes) (place : Option ℕ) (x : ℕ) → writes_from faults q place x ≡ false → (effect_at faults q m place).after x ≡ m x
 effect_at_alone faults q m None x none = refl
@@ -188,13 +187,7 @@ all_carried_out order = all_carried order.faults order.regions order.requests ze
 -- ---- a request of a number, at its AXI address
 
 meaning_is : (faults : Faults) (regions : List Region) (q : WholeRequest) (m : Bytes) → (meaning faults regions q m).after ≡ (effect_at faults q m (address_of regions q)).after
-meaning_is faults regions q m = by_corrupt q.corrupt
-  where
-    by_corrupt : (b : Bool)
-        → (if b then record { reply = denied; after = m } else effect_at faults q m (translated_address regions q)).after
-        ≡ (effect_at faults q m (if b then None else translated_address regions q)).after
-    by_corrupt true = refl
-    by_corrupt false = refl
+meaning_is faults regions q m = grind arith
 
 pub byte_left_is : (order : Order) (number : ℕ) (q : WholeRequest) (address x : ℕ) → asked order number ≡ Some q → address_of order.regions q ≡ Some address
     → byte_left order number x ≡ (effect order.faults q (bytes_before order number) address q.operation (standing_at order.faults address) (is_bad order.faults address)).after x
@@ -233,14 +226,7 @@ given_of_bytes bytes address x = from (nat_le address x) refl
     from false below = refl
 
 none_given : (address x : ℕ) → is_some (given_at [] address x) ≡ false
-none_given address x = from (nat_le address x)
-  where
-    nothing : List (Option ℕ)
-    nothing = []
-
-    from : (b : Bool) → is_some (if b then option_flatten (slice_get nothing (x - address)) else None) ≡ false
-    from true = refl
-    from false = refl
+none_given address x = grind arith
 
 -- a request's bursts write just where it writes; an atomic does so where its word isn't bad
 pub gives_where_written : (faults : Faults) (q : WholeRequest) (operation : Operation) (address x old : ℕ) → ((op : AtomicOp) → operation ≡ Atomic op → is_bad faults address ≡ false)

@@ -43,14 +43,8 @@ use Rattle.world_run.proofs.History.{history_moves}
 
 -- ---- tests
 
-or_last : (a b : Bool) → b ≡ true → (a || b) ≡ true
-or_last true b is = refl
-or_last false b is = is
-
 not_both : (a b : Bool) → (a ≡ false) ⊎ (b ≡ false) → (a && b) ≡ false
-not_both true b (inl is) = absurd (cc)
-not_both true b (inr is) = is
-not_both false b out = refl
+not_both a b out = grind (arith, out)
 
 -- a number that isn't given yet has nothing started or finished
 pub unaccepted : (table : RequestTable) (j : ℕ) → table.accepted ≤ j → started table j ≡ false
@@ -59,7 +53,7 @@ unaccepted table j past = let none : nat_lt j table.accepted ≡ false = grind (
 -- who is finished has started
 pub done_begun : (o : Option BridgedRequest) → is_over o ≡ true → has_begun o ≡ true
 done_begun None over = refl
-done_begun (Some request) over = or_last (is_some request.flight.id) request.flight.done over
+done_begun (Some request) over = grind (arith, over)
 
 -- ---- the range of a request that touches a byte
 
@@ -112,8 +106,7 @@ no_get order message k x is there =
     no_get_at order.faults (request_of message) (address_of order.regions (request_of message)) x (sym (ap (λ (o : Option WholeRequest). writes_byte order o x) is) ∙ there)
 
 first_only : (a b : Bool) → (a || b) ≡ true → b ≡ false → a ≡ true
-first_only true b one other = refl
-first_only false b one other = absurd (cc)
+first_only a b one other = grind (arith, one, other)
 
 -- ---- of two live requests
 
@@ -355,8 +348,7 @@ given_twice order old new j same follows = record {
 }
   where
     both : (a b c : Bool) → (b ≡ true → c ≡ true) → (a && b) ≡ true → (a && c) ≡ true
-    both true b c goes was = goes was
-    both false b c goes was = was
+    both a b c goes was = grind (arith, goes)
 
 goes_same : (order : Order) (table : RequestTable) (j : ℕ) → Goes order table table j
 goes_same order table j = given_twice order table table j refl (follows_same (find (is_numbered j) table.live))
@@ -624,10 +616,6 @@ changed_table test change table = record table { live = change_first test change
 with_found : (accepted n : ℕ) (test : Option BridgedRequest → Bool) (o p : Option BridgedRequest) → o ≡ p → (nat_lt n accepted && test o) ≡ (nat_lt n accepted && test p)
 with_found accepted n test o p same = ap (λ (found : Option BridgedRequest). nat_lt n accepted && test found) same
 
-and_last : (a b : Bool) → (a && b) ≡ true → b ≡ true
-and_last true b both = both
-and_last false b both = absurd (cc (both))
-
 pub ends_changed : (table : RequestTable) (test : BridgedRequest → Bool) (change : BridgedRequest → BridgedRequest) (request : BridgedRequest) → HaveNumbers table.live → find test table.live ≡ Some request
     → (change request).flight.number ≡ request.flight.number
     → (n : ℕ) → finished (changed_table test change table) n ≡ true → (finished table n ≡ true) ⊎ ((request.flight.number ≡ n) × ((change request).flight.done ≡ true))
@@ -639,8 +627,8 @@ ends_changed table test change request rising found same n now =
   where
     own : finished (changed_table test change table) request.flight.number ≡ true → (change request).flight.done ≡ true
     own now =
-        and_last (nat_lt request.flight.number table.accepted) (change request).flight.done
-        (with_found table.accepted request.flight.number is_over _ _ (sym (found_changed table.live test change request rising found same)) ∙ now)
+        (and_parts (nat_lt request.flight.number table.accepted) (change request).flight.done
+        (with_found table.accepted request.flight.number is_over _ _ (sym (found_changed table.live test change request rising found same)) ∙ now)).1
 
 -- the history goes on where one live request changes
 pub history_changed : (writing : ℕ → ℕ → Bool) (before : ℕ → Bytes) (wrote : ℕ → ℕ → Bool) (bytes : Bytes) (table : RequestTable) (test : BridgedRequest → Bool) (change : BridgedRequest → BridgedRequest) (request : BridgedRequest)

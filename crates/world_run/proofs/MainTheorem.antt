@@ -58,21 +58,13 @@ pub record IsOver (table : RequestTable) (number : ℕ) : Type 0 where
 
 -- a request keeps its number
 settled-number : (number : ℕ) (request : BridgedRequest) → is_numbered number (settled request) ≡ is_numbered number request
-settled-number number request = by_tests (is_settled request.flight) (not request.flight.writing && is_some (value_found request))
-  where
-    by_tests : (at_end write : Bool)
-        → is_numbered number (if at_end then record request { flight = if write then with_write request.flight else finished request.flight } else request)
-        ≡ is_numbered number request
-    by_tests true true = refl
-    by_tests true false = refl
-    by_tests false write = refl
+settled-number number request = grind arith
 
 response-number : (number : ℕ) (resp : Resp) (request : BridgedRequest) → is_numbered number (after_response resp request) ≡ is_numbered number request
 response-number number resp request = settled-number number (record request { flight = with_answered request.flight; gathering = after_b resp request.gathering })
 
 answered-number : (number : ℕ) (last : Bool) (flight : LiveRequest) → ((if last then with_answered flight else flight).number == number) ≡ (flight.number == number)
-answered-number number true flight = refl
-answered-number number false flight = refl
+answered-number number last flight = grind arith
 
 read-number : (number bus_bytes : ℕ) (r : RBeat) (request : BridgedRequest) → is_numbered number (after_read bus_bytes r request) ≡ is_numbered number request
 read-number number bus_bytes r request =
@@ -163,16 +155,8 @@ found_above number p (x ∷ live) request above found = grind (arith, above.0, f
 gone_without : (p : BridgedRequest → Bool) (live : List BridgedRequest) (request : BridgedRequest) → AreRising (map (λ flight. flight.number) (flights_of live))
     → find p live ≡ Some request → length (filter (is_numbered request.flight.number) (without_first p live)) ≡ 0
 gone_without p [] request rising found = absurd (cc)
-gone_without p (x ∷ live) request rising found = by_test (p x) (gone_without p live request rising.1) found
-  where
-    by_test : (b : Bool) → (find p live ≡ Some request → length (filter (is_numbered request.flight.number) (without_first p live)) ≡ 0) → (if b then Some x else find p live) ≡ Some request
-        → length (filter (is_numbered request.flight.number) (if b then live else x ∷ without_first p live)) ≡ 0
-    by_test true others here =
-        let same : x ≡ request = cc in
-        subst (λ (r : BridgedRequest). length (filter (is_numbered r.flight.number) live) ≡ 0) same (none_above x.flight.number live rising.0)
-    by_test false others later =
-        let above = found_above x.flight.number p live request rising.0 later in
-        rw (ne_eqb x.flight.number request.flight.number (λ same. omega (arith, same, above))) (others later)
+gone_without p (x ∷ live) request rising found =
+    grind (arith, nat_tests, none_above x.flight.number live rising.0, found_above x.flight.number p live request rising.0, gone_without p live request rising.1)
 
 -- a reply that an event hands out
 pub record HandsOut (state : WorldState) (outcome : Outcome) (number : ℕ) : Type 0 where

@@ -110,8 +110,7 @@ reply_served order state client request sound keeps taken =
     (all-find (IsInOrder order state.memory.bus_bytes keeps.wrote) (is_done_for client) state.bridge.requests.live request keeps.live first).gathered)
   where
     first_of : (none : Bool) (o : Option BridgedRequest) → (if none then None else o) ≡ Some request → o ≡ Some request
-    first_of true o is = absurd (cc)
-    first_of false o is = is
+    first_of none o is = grind (arith, is)
 
     first : first_done state.bridge.requests.live client ≡ Some request
     first = first_of (nat_le state.bridge.requests.config.clients client) (first_done state.bridge.requests.live client) taken

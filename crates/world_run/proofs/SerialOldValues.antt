@@ -1,6 +1,6 @@
 -- The old value that the read of an atomic finds is that of serial execution. It knows a list of reads and the bytes that they tell; which
 -- bridge or memory they passed is hidden.
-use Rattle.std.proofs.Common.{◌≡◌, ℕ, ◌^◌, ◌≤◌, ◌%◌, Bool, true, false, not, ◌&&◌, List, [], length, Option, Some, None, if◌then◌else◌, refl, ◌∙◌, ap, slice_get, option_map}
+use Rattle.std.proofs.Common.{◌≡◌, ℕ, ◌^◌, ◌≤◌, ◌%◌, Bool, true, false, not, ◌&&◌, List, [], length, Option, Some, None, if◌then◌else◌, refl, ◌∙◌, ap, arith, slice_get, option_map}
 use Rattle.std.specs.Option.{option_flatten}
 use Rattle.std.proofs.Math.Pow.{pow_pos}
 use Rattle.std.proofs.lemmas.Bool.{and_from, eq-eqb, le-leb}
@@ -54,12 +54,7 @@ old_hidden faults bus_bytes outline address m reads told atomic small whole fine
 
 -- nor in a denied request
 old_denied : (outline : Outline) (gathering : Gathering) → gathering.denied ≡ true → old_value outline gathering ≡ None
-old_denied outline gathering denied = rw denied (by_test (is_atomic outline.operation))
-  where
-    by_test : (atomic : Bool)
-        → (if atomic && not true && holds_number outline then option_map (λ word. operand_in word outline.address outline.size) (option_flatten (slice_get gathering.words 0)) else None) ≡ None
-    by_test true = refl
-    by_test false = refl
+old_denied outline gathering denied = rw denied (grind arith)
 
 old_by : (faults : Faults) (bus_bytes : ℕ) (outline : Outline) (address : ℕ) (m : Bytes) (reads : List RBeat) → IsAnsweredAs faults bus_bytes outline address m reads []
     → is_atomic outline.operation ≡ true → outline.size ≤ 3 → length reads ≡ reads_of bus_bytes outline

@@ -96,11 +96,7 @@ one_number address (suc (suc (suc (suc size)))) x small aligned low high = absur
 -- ---- one read
 
 read_inside : (has : Bool) (k most : ℕ) → k < (if has then most else 0) → k < most
-read_inside true k most below = below
-read_inside false k most below = absurd (none below)
-  where
-    none : k < 0 → ⊥
-    none e = omega arith
+read_inside has k most below = grind (arith, below)
 
 -- where a read that came stands among those of its request
 pub inside_of : (faults : Faults) (bus_bytes : ℕ) (outline : Outline) (address : ℕ) (m : Bytes) (reads : List RBeat) (responses : List Resp) → IsAnsweredAs faults bus_bytes outline address m reads responses
@@ -142,8 +138,7 @@ abbrev pub shown_none : ℕ → Option ℕ
 shown_none x = None
 
 slverr_bad : (bad : Bool) → is_slverr (read_response_on IsGood bad) ≡ true → bad ≡ true
-slverr_bad true is = refl
-slverr_bad false is = is
+slverr_bad bad is = grind (arith, is)
 
 okay_fine : (bad : Bool) → is_slverr (read_response_on IsGood bad) ≡ false → (bad ≡ false) × (is_okay (read_response_on IsGood bad) ≡ true)
 okay_fine true is = absurd (cc (is))
@@ -224,8 +219,7 @@ left_true : (a b : Bool) → a ≡ true → (a || b) ≡ true
 left_true a b is = rw is refl
 
 right_true : (a b : Bool) → b ≡ true → (a || b) ≡ true
-right_true true b is = refl
-right_true false b is = is
+right_true a b is = grind (arith, is)
 
 -- a page that is there denies no read
 never_decerr : (standing : Standing) (bad : Bool) → (standing ≡ IsAbsent → ⊥) → is_decerr (read_response_on standing bad) ≡ false
@@ -349,10 +343,7 @@ put_denied faults bus_bytes outline address m reads responses told failed some =
 -- a request without data in its reply has no reads
 no_reads : (bus_bytes : ℕ) (outline : Outline) (reads : List RBeat) → reply_has_data outline.operation ≡ false → length reads ≤ reads_of bus_bytes outline → reads ≡ []
 no_reads bus_bytes outline [] none few = refl
-no_reads bus_bytes outline (r ∷ reads) none few = absurd (too_many (rw none at few))
-  where
-    too_many : suc (length reads) ≤ 0 → ⊥
-    too_many e = omega arith
+no_reads bus_bytes outline (r ∷ reads) none few = absurd (let past : suc (length reads) ≤ 0 = rw none at few in omega (arith, past))
 
 not_denied : (faults : Faults) (bus_bytes : ℕ) (outline : Outline) (address : ℕ) (m : Bytes) (reads : List RBeat) (responses : List Resp) → IsAnsweredAs faults bus_bytes outline address m reads responses
     → reply_has_data outline.operation ≡ false → list_any (λ resp. not (is_okay resp)) responses ≡ false → (gathering_told bus_bytes outline reads responses).denied ≡ false

@@ -311,11 +311,7 @@ all_pieces_written order number range wrote once each inside x written =
 atomic_fine : (faults : Faults) (q : WholeRequest) (address x : ℕ) (operation : Operation) → (reply_has_data operation && has_data operation) ≡ true → gives_byte faults q address operation x ≡ true → is_bad faults address ≡ false
 atomic_fine faults q address x PutFull atomic gives = absurd (cc (atomic))
 atomic_fine faults q address x PutPartial atomic gives = absurd (cc (atomic))
-atomic_fine faults q address x (Atomic op) atomic gives = isnt (is_bad faults address) (and_parts (not (is_bad faults address)) (covers address q.size x) gives).0
-  where
-    isnt : (b : Bool) → not b ≡ true → b ≡ false
-    isnt true is = absurd (cc (is))
-    isnt false is = refl
+atomic_fine faults q address x (Atomic op) atomic gives = grind (arith, gives)
 atomic_fine faults q address x Get atomic gives = absurd (cc (atomic))
 atomic_fine faults q address x (Intent write) atomic gives = absurd (cc (atomic))
 
@@ -484,12 +480,8 @@ going_on order state id request k burst sound regions known there =
         → (nat_lt request.flight.number state.bridge.requests.accepted && (is_some request.flight.id || request.flight.done)) ≡ true
     both below has = rw (lt-ltb request.flight.number state.bridge.requests.accepted below, has) refl
 
-    last : (a : Bool) → (a && false) ≡ false
-    last true = refl
-    last false = refl
-
     neither : request.flight.done ≡ false → (nat_lt request.flight.number state.bridge.requests.accepted && request.flight.done) ≡ false
-    neither undone = rw undone (last (nat_lt request.flight.number state.bridge.requests.accepted))
+    neither undone = grind (arith, undone)
 
 -- its place is counted through the bursts of its phase
 pub going_on-place : (order : Order) (state : WorldState) (id : ℕ) (request : BridgedRequest) (k : ℕ) (burst : Bool × Piece) (sound : IsSoundWorld state) (regions : state.bridge.requests.regions ≡ order.regions)

@@ -447,11 +447,7 @@ is_on false = is_read_of
 -- an open burst of an ID is on the side of its piece
 write_side : (id : ℕ) (burst : Burst) (aw : AwBeat) (w_beats : List WBeat) → burst ≡ WriteBurst aw w_beats → (writes_as id burst || reads_as id burst) ≡ true → (writes_as id burst ≡ true) × (reads_as id burst ≡ false)
 write_side id burst aw w_beats is one =
-    subst (λ (b : Burst). (writes_as id b || reads_as id b) ≡ true → (writes_as id b ≡ true) × (reads_as id b ≡ false)) (sym is) (by_test (aw.id == id) refl) one
-  where
-    by_test : (b : Bool) → (aw.id == id) ≡ b → (b || false) ≡ true → ((aw.id == id) ≡ true) × (false ≡ false)
-    by_test true here one = (here, refl)
-    by_test false here one = absurd (cc (one))
+    subst (λ (b : Burst). (writes_as id b || reads_as id b) ≡ true → (writes_as id b ≡ true) × (reads_as id b ≡ false)) (sym is) (λ here. (grind (arith, here), refl)) one
 
 read_side : (id : ℕ) (burst : Burst) (ar : ArBeat) → burst ≡ ReadBurst ar → (writes_as id burst || reads_as id burst) ≡ true → (writes_as id burst ≡ false) × (reads_as id burst ≡ true)
 read_side id burst ar is one =

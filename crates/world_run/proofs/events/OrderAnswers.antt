@@ -400,9 +400,9 @@ module _ (order : Order) (state : WorldState) (id : ℕ) (pending : Pending) (pa
       reader.place tells
       (subst (λ bus. IsGathered order bus request (address_of order.regions (request_of request.message))) sound.bus of.gathered))
 
-  told_settled : (answered : BridgedRequest) → after_read table.config.axi_bytes r request ≡ settled answered
-      → IsGathered order state.memory.bus_bytes (settled answered) (address_of order.regions (request_of request.message))
-  told_settled answered is = subst (λ (q : BridgedRequest). IsGathered order state.memory.bus_bytes q (address_of order.regions (request_of request.message))) is told
+  told_settled : (after : BridgedRequest) → after_read table.config.axi_bytes r request ≡ settled after
+      → IsGathered order state.memory.bus_bytes (settled after) (address_of order.regions (request_of request.message))
+  told_settled after is = subst (λ (q : BridgedRequest). IsGathered order state.memory.bus_bytes q (address_of order.regions (request_of request.message))) is told
 
   -- the last beat of a burst
   abbrev closed : BridgedRequest

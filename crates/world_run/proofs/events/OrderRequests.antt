@@ -165,8 +165,7 @@ take_keeps order state client request sound keeps held =
     rising = sound.bridge_laws.requests.flights.rising
 
     begun_last : (a b : Bool) → b ≡ true → (a || b) ≡ true
-    begun_last true b is = refl
-    begun_last false b is = is
+    begun_last a b is = grind (arith, is)
 
     same_holder : (id : ℕ) → holder id (without_done client state.bridge.requests).live ≡ holder id state.bridge.requests.live
     same_holder id =
@@ -182,16 +181,11 @@ sent_of_id : (id j serial : ℕ) (request : BridgedRequest) (range : PlannedRang
 sent_of_id id j serial request range (true, piece) = grind (arith, nat_tests)
 sent_of_id id j serial request range (false, piece) = refl
 
-filter_one : (test : Pending → Bool) (pending : Pending) (b : Bool) → test pending ≡ b → filter test (pending ∷ []) ≡ (if b then pending ∷ [] else [])
-filter_one test pending true is = rw is refl
-filter_one test pending false is = rw is refl
-
 filter_more : (test : Pending → Bool) (pending : List Pending) (one : Pending) → test one ≡ true → filter test (pending ++ one ∷ []) ≡ filter test pending ++ one ∷ []
-filter_more test pending one is = filter-append test pending (one ∷ []) ∙ ap (λ (ps : List Pending). filter test pending ++ ps) (filter_one test one true is)
+filter_more test pending one is = filter-append test pending (one ∷ []) ∙ rw is refl
 
 filter_no_more : (test : Pending → Bool) (pending : List Pending) (one : Pending) → test one ≡ false → filter test (pending ++ one ∷ []) ≡ filter test pending
-filter_no_more test pending one is =
-    filter-append test pending (one ∷ []) ∙ ap (λ (ps : List Pending). filter test pending ++ ps) (filter_one test one false is) ∙ append-nil (filter test pending)
+filter_no_more test pending one is = filter-append test pending (one ∷ []) ∙ rw is (append-nil (filter test pending))
 
 -- ---- a burst is sent
 
@@ -324,11 +318,7 @@ own_id (ReadBurst ar) = eq-eqb ar.id ar.id refl
 
 -- who isn't of this number wrote nothing more
 not_added : (number : ℕ) (P : ℕ → Bool) (wrote : ℕ → ℕ → Bool) (i x : ℕ) → ((i == number) && P x) ≡ false → with_written number P wrote i x ≡ wrote i x
-not_added number P wrote i x none = ap (λ b. wrote i x || b) none ∙ last (wrote i x)
-  where
-    last : (b : Bool) → (b || false) ≡ b
-    last true = refl
-    last false = refl
+not_added number P wrote i x none = grind (arith, none)
 
 module _ (order : Order) (state : WorldState) (pending : Pending) (beat : ℕ) (sound : IsSoundWorld state) (keeps : KeepsOrder order state)
     (found : find (has_serial pending.serial) state.memory.pending ≡ Some pending) (waits : beat_at pending beat ≡ Some Waiting) where

@@ -204,11 +204,7 @@ all_came order config limits accepted request address valid served sound done at
         by_side false reads = absurd (cc (sound.reads reads, sides.0))
 
     either : is_put request.message.operation ≡ true → (reply_has_data request.message.operation || is_put request.message.operation) ≡ true
-    either put = by_data (reply_has_data request.message.operation)
-      where
-        by_data : (b : Bool) → (b || is_put request.message.operation) ≡ true
-        by_data true = refl
-        by_data false = put
+    either put = grind (arith, put)
 
     some_planned : request.flight.plan ≡ Some (range_at config (request_of request.message) address) → 1 ≤ length (pieces (range_at config (request_of request.message) address))
     some_planned plan =
@@ -230,12 +226,7 @@ all_came order config limits accepted request address valid served sound done at
 -- ---- the reply
 
 meaning_at : (faults : Faults) (regions : List Region) (q : WholeRequest) (m : Bytes) → meaning faults regions q m ≡ effect_at faults q m (address_of regions q)
-meaning_at faults regions q m = by_flag q.corrupt (translated_address regions q)
-  where
-    by_flag : (corrupt : Bool) (place : Option ℕ)
-        → (if corrupt then record { reply = denied; after = m } else effect_at faults q m place) ≡ effect_at faults q m (if corrupt then None else place)
-    by_flag true place = refl
-    by_flag false place = refl
+meaning_at faults regions q m = grind arith
 
 gathered_reply : (order : Order) (config : Config) (limits : TableLimits) (accepted : ℕ) (request : BridgedRequest) → is_valid config ≡ true → IsServed config order.regions request
     → IsSoundRequest limits accepted request.flight → request.flight.done ≡ true → (place : Option ℕ) → address_of order.regions (request_of request.message) ≡ place
@@ -335,8 +326,7 @@ okay_there true number found = refl
 okay_there false number found = absurd (cc (found))
 
 isnt_bad : (bad : Bool) → not bad ≡ true → bad ≡ false
-isnt_bad true is = absurd (cc (is))
-isnt_bad false is = refl
+isnt_bad bad is = grind (arith, is)
 
 pub finds_number : (order : Order) (request : BridgedRequest) (address : ℕ) → value_found request ≡ number_there order request address → FindsSerially order request address
 finds_number order request address is =
@@ -450,8 +440,7 @@ transfer_at range even k n =
 -- ---- a read of a request
 
 read_has : (has : Bool) (parts : List Piece) (k : ℕ) (piece : Piece) → slice_get (if has then parts else []) k ≡ Some piece → has ≡ true
-read_has true parts k piece found = refl
-read_has false parts k piece found = absurd (cc (found))
+read_has has parts k piece found = grind (arith, found)
 
 -- the next beat of a read, as one of the transfers of the request's range
 transfer_of_read : (order : Order) (config : Config) (request : BridgedRequest) (address : ℕ) (piece : Piece) (n : ℕ) → is_valid config ≡ true → IsServed config order.regions request
@@ -510,19 +499,10 @@ place_of_read order config request address piece n r valid served at reading tel
 
 -- what has an old value is an atomic
 found_atomic : (outline : Outline) (gathering : Gathering) → is_some (old_value outline gathering) ≡ true → is_atomic outline.operation ≡ true
-found_atomic outline gathering found = by_test (is_atomic outline.operation) found
-  where
-    by_test : (b : Bool)
-        → is_some
-        (if b && not gathering.denied && holds_number outline then option_map (λ word. operand_in word outline.address outline.size) (option_flatten (slice_get gathering.words 0)) else None)
-        ≡ true
-        → b ≡ true
-    by_test true found = refl
-    by_test false found = found
+found_atomic outline gathering found = grind (arith, found)
 
 found_readable : (okay : Bool) (number : ℕ) → is_some (if okay then Some number else None) ≡ true → okay ≡ true
-found_readable true number found = refl
-found_readable false number found = found
+found_readable okay number found = grind (arith, found)
 
 -- with the last read of all, an atomic finds its old value where its range can be read
 last_readable : (order : Order) (config : Config) (request : BridgedRequest) (piece : Piece) (count address : ℕ) (r : RBeat) → is_valid config ≡ true → IsServed config order.regions request

@@ -27,8 +27,7 @@ use Rattle.world_run.specs.Serial.{Order, asked, writes}
 -- ---- a new request
 
 none_yet : (writing : Bool) → ◌≡◌ {A = ℕ} 0 (if writing then 0 else 0)
-none_yet true = refl
-none_yet false = refl
+none_yet writing = grind arith
 
 nothing_told : (order : Order) (table : RequestTable) (bus_bytes : ℕ) (message : HeldMessage) (place : Option ℕ) → address_of table.regions (request_of message) ≡ place
     → IsGathered order bus_bytes (newly_live table message) place
