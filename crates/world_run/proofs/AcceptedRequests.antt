@@ -246,20 +246,18 @@ accepted_count state step = each_way (CountsAccepted state) state
 
 -- an event keeps the limits
 pub config_next : (state : WorldState) (step : Step) → (next state step).state.bridge.requests.config ≡ state.bridge.requests.config
-config_next state step = each_way (λ event outcome. outcome.state.bridge.requests.config ≡ state.bridge.requests.config) state ways step
-  where
-    ways : EachWay (λ event outcome. outcome.state.bridge.requests.config ≡ state.bridge.requests.config) state
-    ways =
-        record {
-          quiet = λ event answer still. refl;
-          begins = λ client beat taken. refl;
-          accepts = λ client beat accepted. refl;
-          sends = λ sending sent. refl;
-          performs = λ serial beat memory done. refl;
-          gives_b = λ id b given. refl;
-          gives_r = λ id r given. refl;
-          hands_out = λ client request known first. refl;
-        }
+config_next state step = each_way (λ event outcome. outcome.state.bridge.requests.config ≡ state.bridge.requests.config) state
+    (record {
+      quiet = λ event answer still. refl;
+      begins = λ client beat taken. refl;
+      accepts = λ client beat accepted. refl;
+      sends = λ sending sent. refl;
+      performs = λ serial beat memory done. refl;
+      gives_b = λ id b given. refl;
+      gives_r = λ id r given. refl;
+      hands_out = λ client request known first. refl;
+    })
+    step
 
 -- an optional entry before a list
 cons_option-list : {A : Type 0} (o : Option A) (xs : List A) → cons_option o xs ≡ option_to_list o ++ xs

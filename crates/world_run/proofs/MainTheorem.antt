@@ -26,7 +26,7 @@ use Rattle.flight_table.specs.Laws.{AreRising, IsSoundRequest}
 use Rattle.flight_table.specs.LiveRequests.{LiveRequest, finished, is_settled, with_answered, with_write}
 use Rattle.bridge_core.specs.Configs.{table_limits_of, axi_port_of}
 use Rattle.bridge_core.specs.Requests.{BridgedRequest, RequestTable, after_read, after_response, after_sending, first_done, flights_of, holds, is_done_for, is_numbered, newly_live, outline_in, settled, value_found, with_read, with_request, with_response, with_sent_burst, without_done}
-use Rattle.bridge_core.specs.Bridge.{b_fault, r_fault}
+use Rattle.bridge_core.specs.Bridge.{message_with, b_fault, r_fault}
 use Rattle.bridge_core.specs.Sending.{Sending, next_sending}
 use Rattle.bridge_core.specs.declared.Config.{Config}
 use Rattle.subordinate.specs.FreeMemory.{b_of, r_of}
@@ -77,59 +77,39 @@ read-number number bus_bytes r request =
 
 -- ---- what is over stays over
 
-over_sent : (number of id : ℕ) (table : RequestTable) → IsOver table number → IsOver (with_sent_burst of id table) number
-over_sent number of id table over =
-    record { accepted = over.accepted; gone = length-filter-change_first (is_numbered number) (is_numbered of) (after_sending id) table.live (λ r. refl) ∙ over.gone }
-
-over_response : (number id : ℕ) (resp : Resp) (table : RequestTable) → IsOver table number → IsOver (with_response id resp table) number
-over_response number id resp table over =
-    record {
-      accepted = over.accepted;
-      gone = length-filter-change_first (is_numbered number) (holds id) (after_response resp) table.live (response-number number resp) ∙ over.gone;
-    }
-
-over_read : (number : ℕ) (r : RBeat) (table : RequestTable) → IsOver table number → IsOver (with_read r table) number
-over_read number r table over =
-    record {
-      accepted = over.accepted;
-      gone =
-          length-filter-change_first (is_numbered number) (holds r.id) (after_read table.config.axi_bytes r) table.live (read-number number table.config.axi_bytes r)
-          ∙ over.gone;
-    }
-
-over_taken : (number client : ℕ) (table : RequestTable) → IsOver table number → IsOver (without_done client table) number
-over_taken number client table over =
-    record {
-      accepted = over.accepted;
-      gone = omega (arith, over.gone, length-filter-without_first (is_numbered number) (is_done_for client) table.live);
-    }
-
-over_accepted : (number : ℕ) (message : HeldMessage) (table : RequestTable) → IsOver table number → IsOver (with_request message table) number
-over_accepted number message table over =
-    record {
-      accepted = omega (arith, over.accepted);
-      gone =
-          ap length (filter-append (is_numbered number) table.live (newly_live table message ∷ []))
-          ∙ length-append (filter (is_numbered number) table.live) (filter (is_numbered number) (newly_live table message ∷ []))
-          ∙ rw (over.gone, ne_eqb table.accepted number (λ same. omega (arith, same, over.accepted))) refl;
-    }
-
--- an event leaves over what is over
 over_next : (state : WorldState) (step : Step) (number : ℕ) → IsOver state.bridge.requests number → IsOver (next state step).state.bridge.requests number
-over_next state step number over = each_way (λ event outcome. IsOver outcome.state.bridge.requests number) state ways step
-  where
-    ways : EachWay (λ event outcome. IsOver outcome.state.bridge.requests number) state
-    ways =
-        record {
-          quiet = λ event answer still. over;
-          begins = λ client beat taken. over;
-          accepts = λ client beat accepted. over_accepted number _ state.bridge.requests over;
-          sends = λ sending sent. over_sent number _ _ state.bridge.requests over;
-          performs = λ serial beat memory done. over;
-          gives_b = λ id b given. over_response number b.id b.resp state.bridge.requests over;
-          gives_r = λ id r given. over_read number r state.bridge.requests over;
-          hands_out = λ client request known first. over_taken number client state.bridge.requests over;
-        }
+over_next state step number over = each_way (λ event outcome. IsOver outcome.state.bridge.requests number) state
+    (record {
+      quiet = λ event answer still. over;
+      begins = λ client beat taken. over;
+      accepts = λ client beat accepted. record {
+        accepted = omega (arith, over.accepted);
+        gone =
+            ap length (filter-append (is_numbered number) state.bridge.requests.live (newly_live state.bridge.requests (message_with state.bridge client beat) ∷ []))
+            ∙ length-append (filter (is_numbered number) state.bridge.requests.live) _
+            ∙ rw (over.gone, ne_eqb state.bridge.requests.accepted number (λ same. omega (arith, same, over.accepted))) refl;
+      };
+      sends = λ sending sent. record {
+        accepted = over.accepted;
+        gone = length-filter-change_first (is_numbered number) (is_numbered sending.request.flight.number) (after_sending sending.id) state.bridge.requests.live (λ r. refl) ∙ over.gone;
+      };
+      performs = λ serial beat memory done. over;
+      gives_b = λ id b given. record {
+        accepted = over.accepted;
+        gone = length-filter-change_first (is_numbered number) (holds b.id) (after_response b.resp) state.bridge.requests.live (response-number number b.resp) ∙ over.gone;
+      };
+      gives_r = λ id r given. record {
+        accepted = over.accepted;
+        gone =
+            length-filter-change_first (is_numbered number) (holds r.id) (after_read state.bridge.requests.config.axi_bytes r) state.bridge.requests.live
+            (read-number number state.bridge.requests.config.axi_bytes r) ∙ over.gone;
+      };
+      hands_out = λ client request known first. record {
+        accepted = over.accepted;
+        gone = omega (arith, over.gone, length-filter-without_first (is_numbered number) (is_done_for client) state.bridge.requests.live);
+      };
+    })
+    step
 
 -- ---- what is handed out is live, and then over
 
