@@ -52,19 +52,9 @@ outside bytes address size x within out = elim (cases_lt x address) [
 
 effect_alone : (faults : Faults) (q : WholeRequest) (m : Bytes) (address : ℕ) (operation : Operation) (standing : Standing) (bad : Bool) (x : ℕ) → bad ≡ is_bad faults address
     → (is_good standing && gives_byte faults q address operation x) ≡ false → (effect faults q m address operation standing bad).after x ≡ m x
-effect_alone faults q m address (Intent write) standing bad x is none = refl
-effect_alone faults q m address PutFull IsAbsent bad x is none = refl
-effect_alone faults q m address PutPartial IsAbsent bad x is none = refl
-effect_alone faults q m address Get IsAbsent bad x is none = refl
-effect_alone faults q m address (Atomic op) IsAbsent bad x is none = refl
-effect_alone faults q m address PutFull IsSlaveError bad x is none = refl
-effect_alone faults q m address PutPartial IsSlaveError bad x is none = refl
-effect_alone faults q m address Get IsSlaveError bad x is none = refl
-effect_alone faults q m address (Atomic op) IsSlaveError bad x is none = refl
 effect_alone faults q m address PutFull IsGood bad x is none = not_given (given_at q.bytes address x) (m x) none
 effect_alone faults q m address PutPartial IsGood bad x is none = not_given (given_at q.bytes address x) (m x) none
 effect_alone faults q m address Get IsGood bad x is none = refl
-effect_alone faults q m address (Atomic op) IsGood true x is none = refl
 effect_alone faults q m address (Atomic op) IsGood false x is none =
     ap (λ (o : Option ℕ). unwrap_or o (m x)) (outside (atomic_bytes op m address (2 ^ q.size) q.bytes) address q.size x (atomic_size op m address q) (not_covered (is_bad faults address) (covers address q.size x) is none))
   where
@@ -77,6 +67,7 @@ effect_alone faults q m address (Atomic op) IsGood false x is none =
 
     not_covered : (bad covered : Bool) → false ≡ bad → (not bad && covered) ≡ false → covered ≡ false
     not_covered bad covered is none = grind (arith, is, none)
+effect_alone faults q m address _ _ bad x is none = refl
 
 effect_at_alone : (faults : Faults) (q : WholeRequest) (m : Bytes) (place : Option ℕ) (x : ℕ) → writes_from faults q place x ≡ false → (effect_at faults q m place).after x ≡ m x
 effect_at_alone faults q m None x none = refl
@@ -109,8 +100,7 @@ touches_there : (faults : Faults) (q : WholeRequest) (address : ℕ) (operation 
 touches_there faults q address PutFull x within gives = given_within q.bytes address q.size x within gives
 touches_there faults q address PutPartial x within gives = given_within q.bytes address q.size x within gives
 touches_there faults q address (Atomic op) x within gives = (and_parts (not (is_bad faults address)) (covers address q.size x) gives).1
-touches_there faults q address Get x within gives = absurd (cc)
-touches_there faults q address (Intent write) x within gives = absurd (cc)
+touches_there faults q address _ x within gives = absurd (cc)
 
 touches_where : (faults : Faults) (q : WholeRequest) (place : Option ℕ) (x : ℕ) → length q.bytes ≤ 2 ^ q.size → writes_from faults q place x ≡ true → touches_from q place x ≡ true
 touches_where faults q None x within writes_it = absurd (cc)
@@ -250,20 +240,15 @@ pub gives_what_is_left : (faults : Faults) (q : WholeRequest) (m : Bytes) (opera
     → ((op : AtomicOp) → operation ≡ Atomic op → (bad ≡ false) × (old ≡ value (bytes_at m address (2 ^ q.size)))) → is_some (given_at (bytes_written q operation old) address x) ≡ true
     → given_at (bytes_written q operation old) address x ≡ Some ((effect faults q m address operation standing bad).after x)
 gives_what_is_left faults q m PutFull IsGood bad address x old good found there = some_given (given_at q.bytes address x) (m x) there
-gives_what_is_left faults q m PutFull IsSlaveError bad address x old good found there = absurd (cc (good))
-gives_what_is_left faults q m PutFull IsAbsent bad address x old good found there = absurd (cc (good))
 gives_what_is_left faults q m PutPartial IsGood bad address x old good found there = some_given (given_at q.bytes address x) (m x) there
-gives_what_is_left faults q m PutPartial IsSlaveError bad address x old good found there = absurd (cc (good))
-gives_what_is_left faults q m PutPartial IsAbsent bad address x old good found there = absurd (cc (good))
 gives_what_is_left faults q m (Atomic op) IsGood true address x old good found there = absurd (cc ((found op refl).0))
 gives_what_is_left faults q m (Atomic op) IsGood false address x old good found there =
     let wanted = λ (v : ℕ). given_at (bytes_written q (Atomic op) v) address x in
     let same : wanted old ≡ wanted (value (bytes_at m address (2 ^ q.size))) = ap wanted (found op refl).1 in
     same ∙ some_given (wanted (value (bytes_at m address (2 ^ q.size)))) (m x) (ap (λ (o : Option ℕ). is_some o) (sym same) ∙ there)
-gives_what_is_left faults q m (Atomic op) IsSlaveError bad address x old good found there = absurd (cc (good))
-gives_what_is_left faults q m (Atomic op) IsAbsent bad address x old good found there = absurd (cc (good))
 gives_what_is_left faults q m Get standing bad address x old good found there = absurd (cc (there, none_given address x))
 gives_what_is_left faults q m (Intent write) standing bad address x old good found there = absurd (cc (there, none_given address x))
+gives_what_is_left faults q m _ _ bad address x old good found there = absurd (cc (good))
 
 -- ---- where it writes
 
@@ -301,8 +286,7 @@ gives_within faults message operation address x is = by_operation operation is
     by_operation PutFull is = put is
     by_operation PutPartial is = put is
     by_operation (Atomic op) is = covered_within address message.size x (and_parts (not (is_bad faults address)) (covers address message.size x) is).1
-    by_operation Get is = absurd (cc (is))
-    by_operation (Intent write) is = absurd (cc (is))
+    by_operation _ is = absurd (cc (is))
 
 -- all bytes of a range are in the page of its first
 pub same_standing : (faults : Faults) (range : PlannedRange) (x : ℕ) → IsPlannable range → HasAddress range x → standing_at faults x ≡ standing_at faults range.address

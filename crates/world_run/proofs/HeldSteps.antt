@@ -64,11 +64,8 @@ HasByte (Some range) x = covers range.address range.size x ≡ true
 
 planned_there : (config : Config) (q : WholeRequest) (address : ℕ) (operation : Operation) (x : ℕ) → (not (is_intent operation) && covers address q.size x) ≡ true
     → HasByte (plan_for operation (Some (range_at config q address))) x
-planned_there config q address PutFull x there = there
-planned_there config q address PutPartial x there = there
-planned_there config q address (Atomic op) x there = there
-planned_there config q address Get x there = there
 planned_there config q address (Intent write) x there = absurd (cc)
+planned_there config q address _ x there = there
 
 planned_at : (config : Config) (q : WholeRequest) (place : Option ℕ) (x : ℕ) → touches_from q place x ≡ true → HasByte (plan_for q.operation (option_map (range_at config q) place)) x
 planned_at config q None x there = absurd (cc)
@@ -90,11 +87,8 @@ share (Some a) (Some b) x in_a in_b = grind (arith, nat_tests)
 
 -- who writes is no Get
 no_get_there : (faults : Faults) (q : WholeRequest) (address : ℕ) (operation : Operation) (x : ℕ) → gives_byte faults q address operation x ≡ true → is_get operation ≡ false
-no_get_there faults q address PutFull x gives = refl
-no_get_there faults q address PutPartial x gives = refl
-no_get_there faults q address (Atomic op) x gives = refl
 no_get_there faults q address Get x gives = absurd (cc)
-no_get_there faults q address (Intent write) x gives = refl
+no_get_there faults q address _ x gives = refl
 
 no_get_at : (faults : Faults) (q : WholeRequest) (place : Option ℕ) (x : ℕ) → writes_from faults q place x ≡ true → is_get q.operation ≡ false
 no_get_at faults q None x there = absurd (cc)
@@ -350,11 +344,8 @@ given_twice order old new j same follows = record {
     both : (a b c : Bool) → (b ≡ true → c ≡ true) → (a && b) ≡ true → (a && c) ≡ true
     both a b c goes was = grind (arith, goes)
 
-goes_same : (order : Order) (table : RequestTable) (j : ℕ) → Goes order table table j
-goes_same order table j = given_twice order table table j refl (follows_same (find (is_numbered j) table.live))
-
 moves_same : (order : Order) (table : RequestTable) → AreAsked order table.live → MovesOn order table table
-moves_same order table all = record { regions = refl; asked = all; goes = goes_same order table }
+moves_same order table all = record { regions = refl; asked = all; goes = λ j. given_twice order table table j refl (follows_same (find (is_numbered j) table.live)) }
 
 -- one live request goes on
 changes : (order : Order) (table : RequestTable) (test : BridgedRequest → Bool) (change : BridgedRequest → BridgedRequest) → AreAsked order table.live
@@ -402,8 +393,8 @@ responds_on order table id resp all =
 
 reads_on : (order : Order) (table : RequestTable) (beat : RBeat) → AreAsked order table.live → MovesOn order table (with_read beat table)
 reads_on order table beat all =
-    changes order table (holds beat.id) (after_read table.config.axi_bytes beat) all (λ r. (still_settled (middle r)).number ∙ number r beat.last) (λ r. (still_settled (middle r)).message)
-    (λ j r first now. follows_answered r (middle r) (after_read table.config.axi_bytes beat r) beat.id (still_settled (middle r)) (own r beat.last) (done r beat.last) (find-passes (holds beat.id) table.live r first))
+    changes order table (holds beat.id) (after_read table.config.axi_bytes beat) all (λ r. (still_settled (middle r)).number ∙ (same r.flight beat.last).0) (λ r. (still_settled (middle r)).message)
+    (λ j r first now. follows_answered r (middle r) (after_read table.config.axi_bytes beat r) beat.id (still_settled (middle r)) (same r.flight beat.last).1 (same r.flight beat.last).2 (find-passes (holds beat.id) table.live r first))
   where
     middle : BridgedRequest → BridgedRequest
     middle r = record r {
@@ -411,17 +402,9 @@ reads_on order table beat all =
       gathering = after_r table.config.axi_bytes (outline_in r) beat r.gathering.came r.gathering;
     }
 
-    number : (r : BridgedRequest) (last : Bool) → (if last then with_answered r.flight else r.flight).number ≡ r.flight.number
-    number r true = refl
-    number r false = refl
-
-    own : (r : BridgedRequest) (last : Bool) → (if last then with_answered r.flight else r.flight).id ≡ r.flight.id
-    own r true = refl
-    own r false = refl
-
-    done : (r : BridgedRequest) (last : Bool) → (if last then with_answered r.flight else r.flight).done ≡ r.flight.done
-    done r true = refl
-    done r false = refl
+    same : (flight : LiveRequest) (last : Bool) → let new = if last then with_answered flight else flight in (new.number ≡ flight.number) × (new.id ≡ flight.id) × (new.done ≡ flight.done)
+    same flight true = (refl, refl, refl)
+    same flight false = (refl, refl, refl)
 
 takes_on : (order : Order) (table : RequestTable) (client : ℕ) → AreAsked order table.live → IsSoundRequestTable table → MovesOn order table (without_done client table)
 takes_on order table client all sound = record {

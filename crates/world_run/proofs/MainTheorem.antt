@@ -257,10 +257,6 @@ quiet_pumps : (answer : Answer) (answers : List Answer) → leaves_all answer �
 quiet_pumps (Sent serial) answers still = absurd (false≢true still)
 quiet_pumps _ answers still = refl
 
--- one burst more is one answer more
-one_more : (n m : ℕ) → n ≡ m → suc n ≡ 1 + m
-one_more n m same = omega arith
-
 -- a run sends one burst for each answer Sent
 paired_along : (state : WorldState) (steps : List Step) → length (bursts_along state steps) ≡ pumps_told (answers_of state steps)
 paired_along state [] = refl
@@ -269,7 +265,7 @@ paired_along state (step ∷ steps) = each_way Goes state
       quiet = λ event answer still rest. rest ∙ sym (quiet_pumps answer _ still);
       begins = λ client beat taken rest. rest;
       accepts = λ client beat accepted rest. rest;
-      sends = λ sending sent rest. one_more _ _ rest;
+      sends = λ sending sent rest. omega (arith, rest);
       performs = λ serial beat memory done rest. rest;
       gives_b = λ id b given rest. rest;
       gives_r = λ id r given rest. rest;

@@ -95,9 +95,6 @@ one_number address (suc (suc (suc (suc size)))) x small aligned low high = absur
 
 -- ---- one read
 
-read_inside : (has : Bool) (k most : ℕ) → k < (if has then most else 0) → k < most
-read_inside has k most below = grind (arith, below)
-
 -- ---- what a memory shows
 
 -- of a good page the bytes outside bad words
@@ -183,15 +180,10 @@ never_decerr IsSlaveError bad there = refl
 never_decerr IsAbsent bad there = absurd (there refl)
 
 pub good_there : IsGood ≡ IsAbsent → ⊥
-good_there is = let flags : true ≡ false = ap is_good is in absurd (cc (flags))
-
-abbrev is_there : Standing → Bool
-is_there IsGood = true
-is_there IsSlaveError = true
-is_there IsAbsent = false
+good_there is = absurd (cc (is))
 
 pub slave_there : IsSlaveError ≡ IsAbsent → ⊥
-slave_there is = let flags : true ≡ false = ap is_there is in absurd (cc (flags))
+slave_there is = absurd (cc (is))
 
 -- all reads came, and none of the answers denies
 pub have_answers : (bus_bytes : ℕ) (outline : Outline) (address : ℕ) (reads : List RBeat) (responses : List Resp) (seen : ℕ → Option ℕ) → outline.address % 2 ^ outline.size ≡ 0
@@ -215,10 +207,6 @@ none_shown a (suc n) = ap (λ (rest : List (Option ℕ)). None ∷ rest) (none_s
 pub all_shown : (m : Bytes) (xs : List ℕ) → map (λ x. Some (m x)) xs ≡ map Some (map m xs)
 all_shown m [] = refl
 all_shown m (x ∷ xs) = ap (λ (rest : List (Option ℕ)). Some (m x) ∷ rest) (all_shown m xs)
-
--- on an absent page the first read denies
-some_reads : (bus_bytes : ℕ) (outline : Outline) → reply_has_data outline.operation ≡ true → 0 < reads_of bus_bytes outline
-some_reads bus_bytes outline has = rw has (omega arith)
 
 -- ---- by operation and page
 
@@ -251,7 +239,7 @@ module _ (faults : Faults) (bus_bytes : ℕ) (outline : Outline) (address : ℕ)
   pub inside_of : (k : ℕ) (r : RBeat) → slice_get reads k ≡ Some r → (k < reads_of bus_bytes outline) × (k < max 1 (2 ^ outline.size / bus_bytes))
   inside_of k r there =
       let below : k < reads_of bus_bytes outline = omega (arith, told.few, slice_get_within reads k r there) in
-      (below, read_inside (reply_has_data outline.operation) k (max 1 (2 ^ outline.size / bus_bytes)) below)
+      (below, grind (arith, below))
 
   address_aligned : address % 2 ^ outline.size ≡ 0
   address_aligned = same_byte-mod outline.address address outline.size told.small told.same_byte ∙ told.aligned
@@ -320,12 +308,13 @@ module _ (faults : Faults) (bus_bytes : ℕ) (outline : Outline) (address : ℕ)
       (λ k r there. tells_none bus_bytes outline address k r (inside_of k r there).0 (failed k r there))
       ∙ ap {B = Reply} (λ bytes. record { denied = false; bytes = bytes }) (none_shown address (2 ^ outline.size))
 
+  -- on an absent page the first read denies
   pub reads_denied : standing_at faults address ≡ IsAbsent → reply_has_data outline.operation ≡ true → length reads ≡ reads_of bus_bytes outline
       → (gathering_told bus_bytes outline reads responses).denied ≡ true
   reads_denied absent has whole =
       denied_by_answers bus_bytes outline (answers_in_order reads responses)
       ∙ left_true (list_any (λ read. is_decerr read.1.resp) (enumerate_from 0 reads)) (list_any (λ resp. not (is_okay resp)) responses)
-      (one_denies reads 0 (rw whole (some_reads bus_bytes outline has)) (λ r there. ap is_decerr (page_response IsAbsent absent 0 r there)))
+      (one_denies reads 0 (rw (whole, has) (omega arith)) (λ r there. ap is_decerr (page_response IsAbsent absent 0 r there)))
 
   reply_absent : standing_at faults address ≡ IsAbsent → reply_has_data outline.operation ≡ true → length reads ≡ reads_of bus_bytes outline
       → ◌≡◌ {A = Reply} (gathered outline (gathering_told bus_bytes outline reads responses)) (record { denied = true; bytes = [] })
@@ -393,9 +382,7 @@ put_reply faults bus_bytes q PutPartial address m reads responses told all put I
     bare _ true (put_denied faults bus_bytes (outline_as q PutPartial) address m reads responses told (ap (λ (s : Standing). is_okay (write_response s)) at) (all.one_response refl))
 put_reply faults bus_bytes q PutPartial address m reads responses told all put IsAbsent at =
     bare _ true (put_denied faults bus_bytes (outline_as q PutPartial) address m reads responses told (ap (λ (s : Standing). is_okay (write_response s)) at) (all.one_response refl))
-put_reply faults bus_bytes q (Atomic op) address m reads responses told all put standing at = absurd (cc (put))
-put_reply faults bus_bytes q Get address m reads responses told all put standing at = absurd (cc (put))
-put_reply faults bus_bytes q (Intent write) address m reads responses told all put standing at = absurd (cc (put))
+put_reply faults bus_bytes q _ address m reads responses told all put standing at = absurd (cc (put))
 
 intent_reply : (faults : Faults) (bus_bytes : ℕ) (q : WholeRequest) (write : Bool) (address : ℕ) (m : Bytes) (reads : List RBeat) (responses : List Resp)
     → IsAnsweredAs faults bus_bytes (outline_as q (Intent write)) address m reads responses → HasAllAnswers faults bus_bytes (outline_as q (Intent write)) address reads responses

@@ -100,11 +100,8 @@ pub transfer_inside : (config : Config) (regions : List Region) (request : Bridg
 transfer_inside config regions request range piece n x at (k, listed) one last has = ((holds_each_byte_once range at.plannable).back k n x piece listed one last has).0
 
 not_intent : (operation : Operation) (plan : Option PlannedRange) (range : PlannedRange) → plan_for operation plan ≡ Some range → not (is_intent operation) ≡ true
-not_intent PutFull plan range is = refl
-not_intent PutPartial plan range is = refl
-not_intent (Atomic op) plan range is = refl
-not_intent Get plan range is = refl
 not_intent (Intent write) plan range is = absurd (cc (is))
+not_intent _ plan range is = refl
 
 -- and these are the bytes that the request touches
 pub range_touched : (order : Order) (config : Config) (request : BridgedRequest) (range : PlannedRange) (x : ℕ) → IsServed config order.regions request → IsPlannedAt config order.regions request range
@@ -265,8 +262,7 @@ without_data : (faults : Faults) (q : WholeRequest) (address x : ℕ) (operation
 without_data faults q address x PutFull none = absurd (cc (none))
 without_data faults q address x PutPartial none = absurd (cc (none))
 without_data faults q address x (Atomic op) none = absurd (cc (none, (and_parts (reply_has_data (Atomic op)) (has_data (Atomic op)) (atomic_both (Atomic op) refl)).1))
-without_data faults q address x Get none = refl
-without_data faults q address x (Intent write) none = refl
+without_data faults q address x _ none = refl
 
 -- a Get or an Intent writes nothing
 pub no_data_written : (order : Order) (number : ℕ) (q : WholeRequest) (x : ℕ) → asked order number ≡ Some q → has_data q.operation ≡ false → writes order number x ≡ false
@@ -292,11 +288,8 @@ nothing_written order config request x served is_asked none = by_operation reque
     nowhere no_range = writes_nowhere order request.flight.number q x is_asked (none_mapped (range_at config q) (address_of order.regions q) no_range)
 
     by_operation : (operation : Operation) → request.message.operation ≡ operation → plan_for operation (range_of config order.regions q) ≡ None → writes order request.flight.number x ≡ false
-    by_operation PutFull is no_plan = nowhere no_plan
-    by_operation PutPartial is no_plan = nowhere no_plan
-    by_operation (Atomic op) is no_plan = nowhere no_plan
-    by_operation Get is no_plan = nowhere no_plan
     by_operation (Intent write) is no_plan = no_data_written order request.flight.number q x is_asked (ap has_data is)
+    by_operation _ is no_plan = nowhere no_plan
 
 -- ---- where all pieces are written
 
@@ -309,11 +302,8 @@ all_pieces_written order number range wrote once each inside x written =
 
 -- an atomic writes only where its word isn't bad
 atomic_fine : (faults : Faults) (q : WholeRequest) (address x : ℕ) (operation : Operation) → (reply_has_data operation && has_data operation) ≡ true → gives_byte faults q address operation x ≡ true → is_bad faults address ≡ false
-atomic_fine faults q address x PutFull atomic gives = absurd (cc (atomic))
-atomic_fine faults q address x PutPartial atomic gives = absurd (cc (atomic))
 atomic_fine faults q address x (Atomic op) atomic gives = grind (arith, gives)
-atomic_fine faults q address x Get atomic gives = absurd (cc (atomic))
-atomic_fine faults q address x (Intent write) atomic gives = absurd (cc (atomic))
+atomic_fine faults q address x _ atomic gives = absurd (cc (atomic))
 
 -- an atomic that is done and only read found no old value, so it writes nothing
 failed_atomic : (order : Order) (config : Config) (request : BridgedRequest) (range : PlannedRange) (x : ℕ) → IsPlannedAt config order.regions request range → IsServed config order.regions request

@@ -214,14 +214,12 @@ read_performed order bus_bytes number pending piece n becomes captures of =
     }
   where
     payload_in : BeatState → ℕ
-    payload_in Waiting = 0
-    payload_in Written = 0
     payload_in (Captured payload resp) = payload
+    payload_in _ = 0
 
     resp_in : Resp → BeatState → Resp
-    resp_in other Waiting = other
-    resp_in other Written = other
     resp_in other (Captured payload resp) = resp
+    resp_in other _ = other
 
     captured_parts : (payload payload' : ℕ) (resp resp' : Resp) → Captured payload resp ≡ Captured payload' resp' → (payload ≡ payload') × (resp ≡ resp')
     captured_parts payload payload' resp resp' same = (ap payload_in same, ap (resp_in resp) same)

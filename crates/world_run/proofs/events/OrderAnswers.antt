@@ -271,11 +271,9 @@ pub gives_r : (memory : FreeMemory) (id : ℕ) (r : RBeat) → r_of memory id �
 gives_r memory id r gives = by_found (find (is_read_of id) memory.pending) refl gives
   where
     by_state : (pending : Pending) (there : Option BeatState) → find (is_read_of id) memory.pending ≡ Some pending → beat_at pending pending.answered ≡ there → r_with id pending there ≡ Some r → GivesR memory id r
-    by_state pending None found is none = absurd (cc (none))
-    by_state pending (Some Waiting) found is none = absurd (cc (none))
-    by_state pending (Some Written) found is none = absurd (cc (none))
     by_state pending (Some (Captured payload resp)) found is same =
         record { pending = pending; payload = payload; resp = resp; found = found; captured = is; is = sym (same_Some _ r same) }
+    by_state pending _ found is none = absurd (cc (none))
 
     by_found : (found : Option Pending) → find (is_read_of id) memory.pending ≡ found → r_from id found ≡ Some r → GivesR memory id r
     by_found None is none = absurd (cc (none))

@@ -107,11 +107,8 @@ answered_as order config request address fits told =
 
 -- what is not an Intent has a plan
 plan_there : (operation : Operation) (plan : Option PlannedRange) → (reply_has_data operation || is_put operation) ≡ true → plan_for operation plan ≡ plan
-plan_there PutFull plan is = refl
-plan_there PutPartial plan is = refl
-plan_there (Atomic op) plan is = refl
-plan_there Get plan is = refl
 plan_there (Intent write) plan is = absurd (cc (is))
+plan_there _ plan is = refl
 
 pub has_range : (order : Order) (config : Config) (request : BridgedRequest) (address : ℕ) → IsServed config order.regions request → address_of order.regions (request_of request.message) ≡ Some address
     → (reply_has_data request.message.operation || is_put request.message.operation) ≡ true → request.flight.plan ≡ Some (range_at config (request_of request.message) address)
@@ -153,17 +150,14 @@ no_responses order bus_bytes request address told none = nil_from_length told.re
 put_sides : (operation : Operation) → is_put operation ≡ true → (reply_has_data operation ≡ false) × (has_data operation ≡ true)
 put_sides PutFull is = (refl, refl)
 put_sides PutPartial is = (refl, refl)
-put_sides (Atomic op) is = absurd (cc (is))
-put_sides Get is = absurd (cc (is))
-put_sides (Intent write) is = absurd (cc (is))
+put_sides _ is = absurd (cc (is))
 
 -- what has data is a Put or an atomic
 carries_none : (operation : Operation) → is_put operation ≡ false → (reply_has_data operation && has_data operation) ≡ false → has_data operation ≡ false
 carries_none PutFull isnt other = absurd (cc (isnt))
 carries_none PutPartial isnt other = absurd (cc (isnt))
 carries_none (Atomic op) isnt other = other
-carries_none Get isnt other = refl
-carries_none (Intent write) isnt other = refl
+carries_none _ isnt other = refl
 
 -- all answers to a request that is done
 all_came : (order : Order) (config : Config) (limits : TableLimits) (accepted : ℕ) (request : BridgedRequest) (address : ℕ) → is_valid config ≡ true → IsServed config order.regions request
@@ -271,11 +265,8 @@ old_value_by order config request address fits atomic small told most none = by_
     by_responses (resp ∷ responses) is gathered answers = absurd (cc (is))
 
 pub atomic_small : (operation : Operation) (size : ℕ) → is_atomic operation ≡ true → ((op : AtomicOp) → operation ≡ Atomic op → size ≤ 3) → (reply_has_data operation ≡ true) × (size ≤ 3)
-atomic_small PutFull size is small = absurd (cc (is))
-atomic_small PutPartial size is small = absurd (cc (is))
 atomic_small (Atomic op) size is small = (refl, small op refl)
-atomic_small Get size is small = absurd (cc (is))
-atomic_small (Intent write) size is small = absurd (cc (is))
+atomic_small _ size is small = absurd (cc (is))
 
 -- the old value of an atomic whose reads all came and of which no write was answered
 pub old_value_served : (order : Order) (config : Config) (request : BridgedRequest) (address : ℕ) → is_valid config ≡ true → IsServed config order.regions request
@@ -298,11 +289,8 @@ writes_unanswered order config limits accepted request valid served sound undone
 
 -- what reads and writes is an atomic
 pub atomic_is : (operation : Operation) → (reply_has_data operation && has_data operation) ≡ true → is_atomic operation ≡ true
-atomic_is PutFull is = is
-atomic_is PutPartial is = is
 atomic_is (Atomic op) is = refl
-atomic_is Get is = is
-atomic_is (Intent write) is = is
+atomic_is _ is = is
 
 -- a range can be read where its page is good and its word isn't bad
 pub readable_is : (faults : Faults) (address : ℕ) → is_okay (read_response faults address) ≡ (is_good (standing_at faults address) && not (is_bad faults address))
@@ -583,11 +571,8 @@ gathered-response order config request piece address resp served burst is told =
 -- ---- the answers as the memory gives them
 
 no_range : (operation : Operation) → plan_for operation None ≡ None
-no_range PutFull = refl
-no_range PutPartial = refl
-no_range (Atomic op) = refl
-no_range Get = refl
 no_range (Intent write) = refl
+no_range _ = refl
 
 -- a request without an AXI address is done
 nowhere_done : (order : Order) (config : Config) (limits : TableLimits) (accepted : ℕ) (request : BridgedRequest) → IsServed config order.regions request → IsSoundRequest limits accepted request.flight
@@ -647,11 +632,8 @@ response_in_order order config limits accepted request piece resp valid served s
         at_address = ap (λ (place : Option ℕ). plan_for request.message.operation (option_map (range_at config (request_of request.message)) place)) at
 
         of_message : (operation : Operation) → plan_for operation (Some (range_at config (request_of request.message) address)) ≡ Some range → Some (range_at config (request_of request.message) address) ≡ Some range
-        of_message PutFull same = same
-        of_message PutPartial same = same
-        of_message (Atomic op) same = same
-        of_message Get same = same
         of_message (Intent write) same = absurd (cc (same))
+        of_message _ same = same
 
     by_place : (place : Option ℕ) → address_of order.regions (request_of request.message) ≡ place → IsGathered order config.axi_bytes request place
         → IsGathered order config.axi_bytes (after_response resp request) place

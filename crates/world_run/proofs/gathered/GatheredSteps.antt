@@ -26,9 +26,6 @@ use Rattle.world_run.specs.Serial.{Order, asked, writes}
 
 -- ---- a new request
 
-none_yet : (writing : Bool) → ◌≡◌ {A = ℕ} 0 (if writing then 0 else 0)
-none_yet writing = grind arith
-
 nothing_told : (order : Order) (table : RequestTable) (bus_bytes : ℕ) (message : HeldMessage) (place : Option ℕ) → address_of table.regions (request_of message) ≡ place
     → IsGathered order bus_bytes (newly_live table message) place
 nothing_told order table bus_bytes message None at = rw at refl
@@ -38,7 +35,7 @@ nothing_told order table bus_bytes message (Some address) at =
       responses = [];
       gathered = rw at refl;
       came = refl;
-      answered = none_yet (not (reply_has_data message.operation));
+      answered = grind arith;
       tell = λ place r there. absurd (cc (there));
       responded = All-nil (λ (resp : Resp). resp ≡ write_response (standing_at order.faults address));
       readable = λ atomic writing. absurd (atomic_first (reply_has_data message.operation) (has_data message.operation) atomic writing);
