@@ -28,7 +28,7 @@ use Rattle.world.specs.declared.Answer.{Answer}
 use Rattle.world.specs.declared.Answer.TheVariants.{More, Accepted}
 use Rattle.world.specs.declared.Step.{Step}
 use Rattle.world.specs.declared.Step.TheVariants.{Offer}
-use Rattle.world.proofs.Events.{IsTaken, EachWay, after_accepted, each_way}
+use Rattle.world.proofs.Events.{IsTaken, after_accepted, each_way}
 
 -- ---- what one event tells
 

@@ -23,7 +23,7 @@ use Rattle.burst_plan.specs.PlannedTransfers.{HasAddress}
 use Rattle.burst_plan.proofs.PieceLaws.{range_in_page}
 use Rattle.bridge_core.specs.Requests.{address_of, BridgedRequest, value_found}
 use Rattle.bridge_core.specs.Sending.{bytes_written, operand_of}
-use Rattle.subordinate.specs.Faults.{Faults, Standing, IsGood, IsSlaveError, IsAbsent, standing_at, is_bad, is_good, lists_page, standing_of_listed}
+use Rattle.subordinate.specs.Faults.{Faults, Standing, IsGood, standing_at, is_bad, is_good, lists_page, standing_of_listed}
 use Rattle.world_run.specs.Meaning.{Bytes, atomic_bytes, bytes_after_all, bytes_at, denied, effect, effect_at, meaning, replies_in_order, zeros}
 use Rattle.world_run.specs.Serial.{Order, after_one, asked, bytes_before, covers, gives_byte, is_intent, touches, touches_byte, touches_from, writes, writes_byte, writes_from, byte_left}
 
@@ -171,8 +171,6 @@ replies_at order n =
 
 pub all_carried_out : (order : Order) → bytes_after_all order.faults order.regions order.requests zeros ≡ bytes_before order (length order.requests)
 all_carried_out order = all_carried order.faults order.regions order.requests zeros ∙ carried_before order (length order.requests)
-
--- ---- what the request of a number leaves
 
 -- ---- a request of a number, at its AXI address
 

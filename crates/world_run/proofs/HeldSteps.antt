@@ -12,7 +12,7 @@ use Rattle.bus_words.specs.Places.{change_first, without_first}
 use Rattle.bus_words.proofs.PlaceChanges.{all-find, find-passes, all-append, all-change_first, all-without_first}
 use Rattle.tl_messages.specs.Requests.{HeldMessage, WholeRequest, request_of}
 use Rattle.tl_messages.specs.declared.Operation.{Operation}
-use Rattle.tl_messages.specs.declared.Operation.TheVariants.{PutFull, PutPartial, Atomic, Get, Intent}
+use Rattle.tl_messages.specs.declared.Operation.TheVariants.{Get, Intent}
 use Rattle.axi_beats.specs.declared.RBeat.{RBeat}
 use Rattle.axi_beats.specs.declared.Resp.{Resp}
 use Rattle.burst_plan.specs.Pieces.{PlannedRange}
@@ -243,8 +243,6 @@ held_next order old new sound regions moves held = record {
           | inl done ↦ ended (rw (is, done) refl)
           | inr live ↦ waits order new sound here moves.asked i j x b before (grind (arith, nat_tests)) both is (sym (ap (λ (o : Option BridgedRequest). has_begun o) is) ∙ has) live
         ]
-
--- ---- what each event makes of the live requests
 
 -- ---- what a search finds after a change
 
@@ -544,8 +542,6 @@ held_opening order setup = record {
   earlier = λ i j x before begun writes_it touches_it. (let none = unaccepted (opening_world setup).bridge.requests j (omega arith) in absurd (cc));
   later = λ i j x before begun touches_it writes_it. (let none = unaccepted (opening_world setup).bridge.requests j (omega arith) in absurd (cc));
 }
-
--- ---- after one has changed, left or come
 
 -- ---- in a table
 

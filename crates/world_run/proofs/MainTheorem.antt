@@ -2,15 +2,15 @@
 -- since one that was handed out is accepted and live no more; the beats sent are those of whole legal bursts, one for each answer Sent, and no
 -- beat breaks a rule at its place. What requests ask for and beats carry is hidden; Told and OrderedRuns show the rest.
 use Rattle.std.specs.List.{AllByRecursion, IsDistinct, cons_option, list_all}
-use Rattle.std.proofs.Common.{◌≡◌, ℕ, ◌<◌, ◌==◌, Bool, true, false, List, [], ◌∷◌, map, length, Option, Some, None, refl, sym, subst, ap, ◌∙◌, arith, suc, ◌+◌, ◌++◌, filter, find, nat_eq, if◌then◌else◌, ◌&&◌, is_some, not, IsTrue, IfSome, option_map}
+use Rattle.std.proofs.Common.{◌≡◌, ℕ, ◌<◌, ◌==◌, Bool, true, false, List, [], ◌∷◌, map, length, Option, Some, None, refl, sym, subst, ap, ◌∙◌, arith, ◌++◌, filter, find, nat_eq, if◌then◌else◌, IsTrue, IfSome, option_map}
 use Rattle.std.proofs.lemmas.Bool.Decides.{nat_tests}
-use Rattle.std.proofs.lemmas.Bool.{eq-eqb, false≢true, ne_eqb, and_from}
+use Rattle.std.proofs.lemmas.Bool.{false≢true, ne_eqb, and_from}
 use Rattle.std.proofs.lemmas.List.{length-append}
 use Rattle.std.proofs.lemmas.List.Elements.{filter-append}
 use Rattle.std.proofs.lemmas.Option.{same_Some}
 use Rattle.bus_words.specs.Places.{without_first}
 use Rattle.bus_words.proofs.PlaceChanges.{all-find, length-filter-change_first, length-filter-without_first}
-use Rattle.tl_messages.specs.Requests.{HeldMessage, WholeRequest}
+use Rattle.tl_messages.specs.Requests.{WholeRequest}
 use Rattle.tl_messages.specs.declared.DBeat.{DBeat}
 use Rattle.axi_beats.specs.declared.RBeat.{RBeat}
 use Rattle.axi_beats.specs.declared.Resp.{Resp}
@@ -23,9 +23,9 @@ use Rattle.axi_checker.proofs.InOrder.{unbroken_is_in_order}
 use Rattle.axi_checker.proofs.Judging.{first_axi_fault-none}
 use Rattle.responses.specs.Gathered.{after_b, after_r}
 use Rattle.flight_table.specs.Laws.{AreRising, IsSoundRequest}
-use Rattle.flight_table.specs.LiveRequests.{LiveRequest, finished, is_settled, with_answered, with_write}
+use Rattle.flight_table.specs.LiveRequests.{LiveRequest, with_answered}
 use Rattle.bridge_core.specs.Configs.{table_limits_of, axi_port_of}
-use Rattle.bridge_core.specs.Requests.{BridgedRequest, RequestTable, after_read, after_response, after_sending, first_done, flights_of, holds, is_done_for, is_numbered, newly_live, outline_in, settled, value_found, with_read, with_request, with_response, with_sent_burst, without_done}
+use Rattle.bridge_core.specs.Requests.{BridgedRequest, RequestTable, after_read, after_response, after_sending, first_done, flights_of, holds, is_done_for, is_numbered, newly_live, outline_in, settled}
 use Rattle.bridge_core.specs.Bridge.{message_with, b_fault, r_fault}
 use Rattle.bridge_core.specs.Sending.{Sending, next_sending}
 use Rattle.bridge_core.specs.declared.Config.{Config}
@@ -37,7 +37,7 @@ use Rattle.world.specs.declared.Answer.{Answer}
 use Rattle.world.specs.declared.Answer.TheVariants.{Reply, Sent, B, R}
 use Rattle.world.specs.declared.Step.{Step}
 use Rattle.world.specs.declared.Step.TheVariants.{Take}
-use Rattle.world.proofs.Events.{EachWay, each_way}
+use Rattle.world.proofs.Events.{each_way}
 use Rattle.world.proofs.TakesAll.{takes_all}
 use Rattle.world_run.specs.Runs.{HandedReply, handed_at, handed_in, bursts_in, sent_in, pumps_told, axi_history, answers_of, IsRunOf, accepted_in, handed_of}
 use Rattle.world_run.specs.Headline.{IsLegalTraffic, IsOneAtATime, IsReplyTo, replies_of, bytes_of_all, byte_shown}

@@ -1,12 +1,11 @@
 -- The old value that the read of an atomic finds is that of serial execution. It knows a list of reads and the bytes that they tell; which
 -- bridge or memory they passed is hidden.
-use Rattle.std.proofs.Common.{◌≡◌, ℕ, ◌^◌, ◌≤◌, ◌%◌, Bool, true, false, not, ◌&&◌, List, [], length, Option, Some, None, if◌then◌else◌, refl, ◌∙◌, ap, arith, slice_get, option_map}
-use Rattle.std.specs.Option.{option_flatten}
+use Rattle.std.proofs.Common.{◌≡◌, ℕ, ◌^◌, ◌≤◌, ◌%◌, Bool, true, false, List, [], length, Option, Some, None, if◌then◌else◌, refl, ◌∙◌, ap, arith, slice_get}
 use Rattle.std.proofs.Math.Pow.{pow_pos}
 use Rattle.std.proofs.lemmas.Bool.{and_from, eq-eqb, le-leb}
 use Rattle.axi_beats.specs.Responses.{is_okay, is_slverr}
 use Rattle.axi_beats.specs.declared.RBeat.{RBeat}
-use Rattle.data_unit.specs.Words.{operand_in, value}
+use Rattle.data_unit.specs.Words.{value}
 use Rattle.responses.specs.Answers.{bytes_seen, denies, number_of, TellsOf}
 use Rattle.responses.specs.Gathered.{Gathering, holds_number, is_atomic, old_value, reads_of}
 use Rattle.responses.specs.declared.gather.Outline.{Outline}

@@ -1,6 +1,6 @@
 -- What is gathered of a memory's answers is the reply of serial execution. It knows lists of reads and responses, of one page, and the
 -- bytes that they tell; which bridge or memory they passed is hidden.
-use Rattle.std.proofs.Common.{◌≡◌, ℕ, zero, suc, ◌+◌, ◌-◌, ◌*◌, ◌/◌, ◌%◌, ◌^◌, ◌<◌, ◌≤◌, ◌==◌, min, max, Bool, true, false, not, ◌||◌, List, [], ◌∷◌, map, length, Option, Some, None, if◌then◌else◌, refl, sym, subst, ◌∙◌, ap, arith, inl, inr, replicate, slice_get, All}
+use Rattle.std.proofs.Common.{◌≡◌, ℕ, zero, suc, ◌+◌, ◌-◌, ◌*◌, ◌/◌, ◌%◌, ◌^◌, ◌<◌, ◌≤◌, ◌==◌, min, max, Bool, true, false, not, ◌||◌, List, [], ◌∷◌, map, length, Option, Some, None, if◌then◌else◌, refl, sym, subst, ◌∙◌, ap, arith, replicate, slice_get, All}
 use Rattle.std.specs.List.{enumerate_from, range_with_len, list_any, find}
 use Rattle.std.proofs.lemmas.Bool.Decides.{nat_tests}
 use Rattle.std.proofs.lemmas.List.Elements.{All-cons, All-head, All-nil, All-tail}
@@ -92,8 +92,6 @@ one_number address (suc zero) x small aligned low high = omega arith
 one_number address (suc (suc zero)) x small aligned low high = omega arith
 one_number address (suc (suc (suc zero))) x small aligned low high = omega arith
 one_number address (suc (suc (suc (suc size)))) x small aligned low high = absurd (omega arith)
-
--- ---- one read
 
 -- ---- what a memory shows
 

@@ -2,7 +2,7 @@
 -- told nothing yet, and once all its pieces are written it has written all. It knows the plan of one request, its bursts as they are sent and
 -- while they are open; what becomes of them, and all other requests, are hidden.
 use Rattle.std.specs.List.{range_with_len, slice_get, filter, find}
-use Rattle.std.proofs.Common.{◌≡◌, ℕ, zero, suc, ◌+◌, ◌^◌, ◌<◌, ◌≤◌, nat_le, nat_lt, Bool, true, false, ◌&&◌, not, List, map, replicate, Option, Some, is_some, refl, ap, sym, ◌∙◌, subst, arith, ◌-◌, length, None, ◌||◌, [], ◌∷◌, drop, take, unwrap_or, option_map}
+use Rattle.std.proofs.Common.{◌≡◌, ℕ, zero, suc, ◌+◌, ◌^◌, ◌<◌, ◌≤◌, nat_le, nat_lt, Bool, true, false, ◌&&◌, not, List, map, replicate, Option, Some, is_some, refl, ap, sym, ◌∙◌, subst, arith, length, None, ◌||◌, [], ◌∷◌, drop, take, unwrap_or, option_map}
 use Rattle.std.proofs.lemmas.Bool.{and_from, and_parts, le-leb, lt-ltb, and_right, leb-true}
 use Rattle.std.proofs.lemmas.List.FromFn.{length-map-range_with_len, get_or-map-range_with_len}
 use Rattle.std.proofs.lemmas.Option.{get_or_from_slice_get, slice_get_within}
@@ -11,7 +11,7 @@ use Rattle.tl_messages.specs.Operations.{has_data, reply_has_data}
 use Rattle.tl_messages.specs.Requests.{WholeRequest, request_of}
 use Rattle.tl_messages.specs.declared.AtomicOp.{AtomicOp}
 use Rattle.tl_messages.specs.declared.Operation.{Operation}
-use Rattle.tl_messages.specs.declared.Operation.TheVariants.{PutFull, PutPartial, Atomic, Get, Intent}
+use Rattle.tl_messages.specs.declared.Operation.TheVariants.{PutFull, PutPartial, Atomic, Intent}
 use Rattle.axi_beats.specs.Transfers.{transfer_has}
 use Rattle.axi_beats.specs.declared.Resp.{Resp}
 use Rattle.axi_beats.specs.declared.WBeat.{WBeat}
@@ -254,8 +254,6 @@ burst_of_next order config wrote serial id request range true piece valid pages 
 burst_of_next order config wrote serial id request range false piece valid pages served is_asked live plan next finds none =
     burst_of_read order config.axi_bytes request.flight.number serial id request range piece
 
--- ---- when all is written
-
 -- ---- requests that write nothing
 
 without_data : (faults : Faults) (q : WholeRequest) (address x : ℕ) (operation : Operation) → has_data operation ≡ false → gives_byte faults q address operation x ≡ false
@@ -350,8 +348,6 @@ all_written_done order config bus_bytes wrote request valid pages served of is_d
     by_plan (Some range) plan =
         by_writes range plan (planned_at config order.regions request range valid pages served plan) (has_data request.flight.operation) request.flight.writing refl refl
 
--- ---- each byte by one transfer
-
 -- ---- a planned write is a piece of the plan, at its place
 
 write_listed : (flight : LiveRequest) (range : PlannedRange) (k : ℕ) (piece : Piece) → flight.plan ≡ Some range → slice_get (planned flight) k ≡ Some (true, piece) → slice_get (pieces range) k ≡ Some piece
@@ -367,8 +363,6 @@ same_transfer flight range k j n m x piece other plannable plan there here first
     let one = once.back k n x piece (write_listed flight range k piece plan there) first last has in
     let two = once.back j m x other (write_listed flight range j other plan here) first' last' has' in
     (omega (arith, one.1, two.1), sym one.2 ∙ two.2)
-
--- ---- the request of an open burst
 
 -- ---- the holder of an ID with open bursts
 

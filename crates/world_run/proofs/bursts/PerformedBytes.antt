@@ -28,7 +28,7 @@ use Rattle.subordinate.specs.FreeMemory.{FreeMemory, Pending, beat_after, is_wai
 use Rattle.subordinate.specs.Laws.{IsSoundPending, IsSoundMemory}
 use Rattle.subordinate.specs.Pages.{Memory, byte_at_address}
 use Rattle.subordinate.specs.declared.BeatState.{BeatState}
-use Rattle.subordinate.specs.declared.BeatState.TheVariants.{Captured, Waiting, Written}
+use Rattle.subordinate.specs.declared.BeatState.TheVariants.{Captured, Waiting}
 use Rattle.subordinate.proofs.EffectLaws.{has_effect}
 use Rattle.subordinate.proofs.SoundDevices.{beat_after-performed}
 use Rattle.world_run.specs.InOrder.{AreBurstsOf, AreOfHolder, IsBurstOf, IsInOrder, IsReadOf, IsWriteOf, PutsSerially, TellsSerially, is_of_id}
@@ -351,8 +351,6 @@ in_order_more order bus_bytes wrote more request kept same leaves of =
       gathered = of.gathered;
     }
 
--- ---- the open bursts of an ID
-
 -- ---- one is sent
 
 pub bursts_append : (order : Order) (bus_bytes : ℕ) (wrote : ℕ → ℕ → Bool) (number : ℕ) (mine : List Pending) (bursts : List (Bool × Piece)) (pending : Pending) (burst : Bool × Piece)
@@ -512,8 +510,6 @@ pub first_on : (order : Order) (bus_bytes : ℕ) (wrote : ℕ → ℕ → Bool) 
 first_on order bus_bytes wrote number id found_on side mine bursts pending ones sides are found =
     let same : side ≡ found_on = found_side order bus_bytes wrote number id found_on side mine bursts pending ones sides are found in
     first_found order bus_bytes wrote number id found_on mine bursts pending ones (subst (λ s. AreOf s bursts) same sides) are found
-
--- ---- after an answer
 
 -- ---- who holds the ID
 

@@ -35,7 +35,7 @@ use Rattle.subordinate.specs.Faults.{Faults, standing_at, write_response}
 use Rattle.subordinate.specs.Laws.{IsSoundPending}
 use Rattle.subordinate.specs.Inside.{with_answer}
 use Rattle.subordinate.specs.declared.BeatState.{BeatState}
-use Rattle.subordinate.specs.declared.BeatState.TheVariants.{Captured, Waiting, Written}
+use Rattle.subordinate.specs.declared.BeatState.TheVariants.{Captured}
 use Rattle.subordinate.proofs.OpenBursts.{pending_after_r-last, pending_after_r-more}
 use Rattle.world.specs.Laws.{IsSoundWorld}
 use Rattle.world.specs.World.{WorldState, changed, answered_b, answered_r}
@@ -128,8 +128,6 @@ answered_keeps order state id request change after open_bursts answer sound keep
         subst (λ (ps : List Pending). AreOfHolder order state.memory.bus_bytes keeps.wrote ps (holder j (change_first (holds id) change state.bridge.requests.live))) (sym (leaves.others j other))
         (of_same_holder order state.memory.bus_bytes keeps.wrote (filter (is_of_id j) state.memory.pending) (holder j state.bridge.requests.live) (holder j (change_first (holds id) change state.bridge.requests.live))
         (sym (holder-other id j state.bridge.requests.live change other (leaves.held_by_others j))) (keeps.bursts j))
-
--- ---- which write a B answers
 
 -- ---- which write it answers
 
@@ -254,8 +252,6 @@ b_keeps order state id b gives sound keeps =
     subst
     (λ (beat : BBeat). IsSoundWorld (answered_b state id (Some beat)).state → MovesOn order state.bridge.requests (answered_b state id (Some beat)).state.bridge.requests → HoldsBackIn order (answered_b state id (Some beat)).state.bridge.requests → KeepsOrder order (answered_b state id (Some beat)).state)
     (sym given.is) (b_leaves order state id given.pending sound keeps given.found given.performed)
-
--- ---- an R
 
 -- ---- which read it answers
 

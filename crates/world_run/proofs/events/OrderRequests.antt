@@ -2,7 +2,7 @@
 -- so that it has no open burst; a burst that is sent is one more of its request, under the ID that this holds; a beat that is performed stores
 -- what its request leaves, or captures what it finds. It knows the request that each is of; what bursts do to single bytes is hidden.
 use Rattle.std.specs.List.{filter, find, AllByRecursion, slice_get}
-use Rattle.std.proofs.Common.{◌≡◌, ◌≢◌, ℕ, ◌+◌, nat_lt, Bool, true, false, ◌&&◌, [], ◌∷◌, ◌++◌, Option, Some, refl, ap, sym, ◌∙◌, arith, inl, inr, ◌⊎◌, ◌==◌, ◌||◌, None, is_some, List, subst, ◌≤◌, if◌then◌else◌, unwrap_or, IfSome}
+use Rattle.std.proofs.Common.{◌≡◌, ◌≢◌, ℕ, ◌+◌, nat_lt, Bool, true, false, ◌&&◌, [], ◌∷◌, ◌++◌, Option, Some, refl, ap, sym, ◌∙◌, arith, inl, inr, ◌⊎◌, ◌==◌, ◌||◌, None, is_some, List, subst, ◌≤◌, unwrap_or, IfSome}
 use Rattle.std.proofs.lemmas.Bool.{cases_Bool, cases_eq, ne_eqb, and_parts, eq-eqb, eqb-true, and_right}
 use Rattle.std.proofs.lemmas.Bool.Decides.{nat_tests}
 use Rattle.std.proofs.lemmas.List.{append-nil}
@@ -172,8 +172,6 @@ take_keeps order state client request sound keeps held =
         find-without_first (λ (r : BridgedRequest). IsSoundRequest (table_limits_of state.bridge.requests.config) state.bridge.requests.accepted r.flight) (holds id) (is_done_for client) state.bridge.requests.live
         (λ r each done. no_holder id r (each.freed (done_is client r done))) (sound_requests state.bridge.requests sound.bridge_laws.requests)
 
--- ---- a burst is sent
-
 -- ---- the list of open bursts
 
 -- a burst just sent is of its ID alone
@@ -300,8 +298,6 @@ module _ (order : Order) (state : WorldState) (sending : Sending) (sent : IsNext
         live = all-change_found (IsInOrder order state.memory.bus_bytes keeps.wrote) (is_numbered sent_number) (after_sending sending.id) sent_table.live request by_number in_order keeps.live;
         bursts = λ id. all_bursts id (sending.id == id) refl;
       }
-
--- ---- a beat is performed
 
 -- ---- what its request hasn't written
 

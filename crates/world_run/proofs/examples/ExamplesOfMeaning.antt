@@ -312,8 +312,6 @@ beside_it = refl
 touched_and_not_written : writes order 3 0x11000 ∷ touches order 3 0x11000 ∷ [] ≡ false ∷ true ∷ []
 touched_and_not_written = refl
 
--- ---- what the statements refuse
-
 -- ---- who may send a message
 
 -- a Get of eight bytes

@@ -449,8 +449,6 @@ bursts_of_a_page_on_it = refl
 work_of_a_page_on_it : work_left (end (record plain { config = config 256 4 }) (Offer 0 (a 4 0 12 0 0x1000 0xff 0) ∷ [])) ≡ 2052
 work_of_a_page_on_it = refl
 
--- ---- the main statement of one run
-
 -- ---- what the run shows
 
 -- one good page

@@ -2,7 +2,6 @@
 -- atomic. It knows the bridge's request, its gathered answers, and the places of reads among pieces and transfers; it hides them from
 -- SerialReplies and SerialOldValues, which know lists of answers alone.
 use Rattle.std.specs.List.{enumerate_from, slice_get}
-use Rattle.std.specs.Option.{option_flatten}
 use Rattle.std.proofs.Common.{◌≡◌, ℕ, ◌+◌, ◌%◌, ◌^◌, ◌≤◌, min, Bool, true, false, ◌&&◌, ◌||◌, List, [], ◌∷◌, length, Option, Some, None, if◌then◌else◌, refl, sym, ◌∙◌, ap, arith, not, subst, zero, suc, ◌-◌, ◌*◌, ◌/◌, ◌<◌, take, ◌==◌, is_some, option_map, IsSome}
 use Rattle.std.proofs.lemmas.Bool.{leb-true, leb-false, and_parts, and_from, le-leb, eqb-true}
 use Rattle.std.proofs.lemmas.List.{nil_from_length}
@@ -11,13 +10,13 @@ use Rattle.std.proofs.lemmas.Option.{slice_get_within}
 use Rattle.tl_messages.specs.Operations.{has_data, reply_has_data}
 use Rattle.tl_messages.specs.Requests.{HeldMessage, WholeRequest, request_of}
 use Rattle.tl_messages.specs.declared.Operation.{Operation}
-use Rattle.tl_messages.specs.declared.Operation.TheVariants.{PutFull, PutPartial, Atomic, Get, Intent}
+use Rattle.tl_messages.specs.declared.Operation.TheVariants.{PutFull, PutPartial, Atomic, Intent}
 use Rattle.tl_messages.specs.declared.AtomicOp.{AtomicOp}
 use Rattle.axi_beats.specs.Transfers.{IsBusWidth, transfer_address, transfer_end, transfer_has}
 use Rattle.axi_beats.specs.declared.RBeat.{RBeat}
 use Rattle.axi_beats.specs.declared.Resp.{Resp}
 use Rattle.axi_beats.specs.Responses.{is_okay}
-use Rattle.data_unit.specs.Words.{value, operand_in}
+use Rattle.data_unit.specs.Words.{value}
 use Rattle.tl_checker.specs.Sound.{IsSound}
 use Rattle.burst_plan.specs.PageMap.{IsPageMap, translated_address}
 use Rattle.burst_plan.specs.Pieces.{PlannedRange, pieces, beat_size}
@@ -27,7 +26,7 @@ use Rattle.burst_plan.specs.declared.Piece.{Piece}
 use Rattle.burst_plan.proofs.PieceLaws.{DividesEvenly, burst_count, divides_evenly, piece_at, piece_listed, slice_get-pieces, piece_within}
 use Rattle.burst_plan.proofs.TransferPlaces.{transfer_end-at, transfer_start-at}
 use Rattle.responses.specs.Answers.{after_reads, after_writes}
-use Rattle.responses.specs.Gathered.{Gathering, after_b, after_r, gathered, gathering_of, reads_of, is_atomic, old_value, holds_number}
+use Rattle.responses.specs.Gathered.{Gathering, after_b, after_r, gathered, gathering_of, reads_of, is_atomic, old_value}
 use Rattle.responses.specs.Shown.{shown}
 use Rattle.responses.specs.declared.gather.Outline.{Outline}
 use Rattle.responses.proofs.AnswerLaws.{no_bytes}
@@ -48,7 +47,7 @@ use Rattle.bridge_core.proofs.ResponseLinks.{not_so}
 use Rattle.subordinate.specs.Faults.{Faults, is_bad, is_good, standing_at, IsAbsent, IsGood, IsSlaveError, Standing, read_response, read_response_on, write_response}
 use Rattle.subordinate.proofs.EffectLaws.{okay_is_good}
 use Rattle.world_run.specs.InOrder.{HasGathered, IsGathered, TellsAt, TellsSerially}
-use Rattle.world_run.specs.Meaning.{Bytes, Effect, denied, effect_at, meaning, bytes_at}
+use Rattle.world_run.specs.Meaning.{Bytes, Effect, effect_at, meaning, bytes_at}
 use Rattle.world_run.specs.Serial.{Order, bytes_before}
 use Rattle.world_run.proofs.SerialReplies.{HasAllAnswers, IsAnsweredAs, is_put, reply_at, gathering_told, in_page, standing_of}
 use Rattle.world_run.proofs.SerialOldValues.{old_value_at}
@@ -302,8 +301,6 @@ readable_is faults address = by_both (standing_at faults address) (is_bad faults
     by_both IsSlaveError bad = refl
     by_both IsAbsent bad = refl
 
--- ---- that it is the one found one at a time
-
 -- ---- where it is the number at the address
 
 found_where : (okay good bad : Bool) (number : ℕ) → okay ≡ (good && not bad) → good ≡ true → bad ≡ false → (if okay then Some number else None) ≡ Some number
@@ -366,8 +363,6 @@ pub finds_unplanned : (order : Order) (config : Config) (limits : TableLimits) (
 finds_unplanned order config limits accepted request address valid served sound done atomic isnt at told =
     let settles = leb-true (length (planned request.flight)) request.flight.answered (sym served.done ∙ done) in
     finds_old_value order config request address valid served at atomic (reads_came request.flight isnt (omega (arith, settles, length_reading request.flight isnt))) (rw isnt refl) told
-
--- ---- the places of reads
 
 -- ---- the transfers before a burst
 
@@ -480,8 +475,6 @@ place_of_read order config request address piece n r valid served at reading tel
       response = tells.response ∙ ap (read_response order.faults) transfer.first;
       bytes = λ x okay read. tells.bytes x okay (transfer.has x read.first read.counted);
     }
-
--- ---- an answer comes
 
 -- ---- a read
 

@@ -223,8 +223,6 @@ response_told order bus_bytes request address resp writes is told =
       readable = told.readable;
     }
 
--- ---- a request that is settled
-
 -- ---- it is in order
 
 -- what its answered writes put is written
