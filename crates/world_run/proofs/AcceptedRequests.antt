@@ -1,7 +1,6 @@
 -- The beats that a run shows tell what the bridge holds: each client's front is what was heard of it, and so each request that is accepted
 -- is the message that the bridge makes of its last beat. It knows beats and answers; the memory plays no part.
-use Rattle.std.proofs.Common.{◌≡◌, ℕ, ◌+◌, inl, inr, true, false, List, [], ◌∷◌, ◌++◌, length, Option, Some, None, Ok, option_to_list, zero, suc, refl, sym, subst, ap, ◌∙◌, arith, append_assoc, length-append}
-use Rattle.std.specs.Prelude.{zip, ◌==◌, ◌≢◌, nat_le, option_map, slice_get, slice_set, if◌then◌else◌}
+use Rattle.std.proofs.Common.{◌≡◌, ℕ, ◌+◌, inl, inr, true, false, List, [], ◌∷◌, ◌++◌, length, Option, Some, None, Ok, option_to_list, zero, suc, refl, sym, subst, ap, ◌∙◌, arith, append_assoc, length-append, zip, ◌==◌, ◌≢◌, nat_le, option_map, slice_get, slice_set, if◌then◌else◌}
 use Rattle.std.specs.List.{cons_option}
 use Rattle.std.specs.Option.{option_flatten}
 use Rattle.std.proofs.lemmas.Bool.{cases_eq, eq-eqb, ne_eqb, leb-false}
@@ -29,7 +28,7 @@ use Rattle.world.specs.declared.Answer.{Answer}
 use Rattle.world.specs.declared.Answer.TheVariants.{More, Accepted}
 use Rattle.world.specs.declared.Step.{Step}
 use Rattle.world.specs.declared.Step.TheVariants.{Offer}
-use Rattle.world.proofs.Events.{IsTaken, EachWay, after_accepted, each_way}
+use Rattle.world.proofs.Events.{IsTaken, after_accepted, each_way}
 
 -- ---- what one event tells
 
@@ -183,26 +182,24 @@ module _ {config : Config} {bridge : BridgeState} {heard : Heard} (is : IsHeard 
 -- an event keeps what was heard and what the bridge holds the same
 pub heard_next : (config : Config) (state : WorldState) (heard : Heard) (step : Step) → IsHeard config state.bridge heard
     → IsHeard config (next state step).state.bridge (heard_after heard step (next state step).answer)
-heard_next config state heard step is = each_way Goes state ways step
+heard_next config state heard step is = each_way Goes state
+    (record {
+      quiet = λ event answer still. rw (quiet_heard heard event answer still) is;
+      begins = λ client beat taken.
+          with_front_heard config state.bridge heard client (heard client ++ beat ∷ []) (Some (message_with state.bridge client beat)) is (known_heard config state.bridge heard client is taken.known) (begun_heard is client beat taken);
+      accepts = λ client beat accepted.
+          with_requests_heard config (with_front client None state.bridge) (after_accepted state.bridge client beat) (with_heard client [] heard) refl refl
+          (with_front_heard config state.bridge heard client [] None is (known_heard config state.bridge heard client is accepted.taken.known) (record { begins = none_front (port_of config client); held = refl }));
+      sends = λ sending sent. with_requests_heard config state.bridge _ heard refl refl is;
+      performs = λ serial beat memory done. is;
+      gives_b = λ id b given. with_requests_heard config state.bridge _ heard refl refl is;
+      gives_r = λ id r given. with_requests_heard config state.bridge _ heard refl refl is;
+      hands_out = λ client request known first. with_requests_heard config state.bridge _ heard refl refl is;
+    })
+    step
   where
     Goes : Step → Outcome → Type 0
     Goes event outcome = IsHeard config outcome.state.bridge (heard_after heard event outcome.answer)
-
-    ways : EachWay Goes state
-    ways =
-        record {
-          quiet = λ event answer still. rw (quiet_heard heard event answer still) is;
-          begins = λ client beat taken.
-              with_front_heard config state.bridge heard client (heard client ++ beat ∷ []) (Some (message_with state.bridge client beat)) is (known_heard config state.bridge heard client is taken.known) (begun_heard is client beat taken);
-          accepts = λ client beat accepted.
-              with_requests_heard config (with_front client None state.bridge) (after_accepted state.bridge client beat) (with_heard client [] heard) refl refl
-              (with_front_heard config state.bridge heard client [] None is (known_heard config state.bridge heard client is accepted.taken.known) (record { begins = none_front (port_of config client); held = refl }));
-          sends = λ sending sent. with_requests_heard config state.bridge _ heard refl refl is;
-          performs = λ serial beat memory done. is;
-          gives_b = λ id b given. with_requests_heard config state.bridge _ heard refl refl is;
-          gives_r = λ id r given. with_requests_heard config state.bridge _ heard refl refl is;
-          hands_out = λ client request known first. with_requests_heard config state.bridge _ heard refl refl is;
-        }
 
 -- ---- all requests that a run accepts
 
@@ -231,40 +228,36 @@ CountsAccepted state event outcome =
     outcome.state.bridge.requests.accepted ≡ state.bridge.requests.accepted + length (option_to_list (request_at state.bridge event outcome.answer))
 
 accepted_count : (state : WorldState) (step : Step) → CountsAccepted state step (next state step)
-accepted_count state step = each_way (CountsAccepted state) state ways step
+accepted_count state step = each_way (CountsAccepted state) state
+    (record {
+      quiet = λ event answer still. rw (quiet_request state.bridge event answer still) none;
+      begins = λ client beat taken. none;
+      accepts = λ client beat accepted. refl;
+      sends = λ sending sent. none;
+      performs = λ serial beat memory done. none;
+      gives_b = λ id b given. none;
+      gives_r = λ id r given. none;
+      hands_out = λ client request known first. none;
+    })
+    step
   where
     none : state.bridge.requests.accepted ≡ state.bridge.requests.accepted + 0
     none = omega arith
 
-    ways : EachWay (CountsAccepted state) state
-    ways =
-        record {
-          quiet = λ event answer still. rw (quiet_request state.bridge event answer still) none;
-          begins = λ client beat taken. none;
-          accepts = λ client beat accepted. refl;
-          sends = λ sending sent. none;
-          performs = λ serial beat memory done. none;
-          gives_b = λ id b given. none;
-          gives_r = λ id r given. none;
-          hands_out = λ client request known first. none;
-        }
-
 -- an event keeps the limits
 pub config_next : (state : WorldState) (step : Step) → (next state step).state.bridge.requests.config ≡ state.bridge.requests.config
-config_next state step = each_way (λ event outcome. outcome.state.bridge.requests.config ≡ state.bridge.requests.config) state ways step
-  where
-    ways : EachWay (λ event outcome. outcome.state.bridge.requests.config ≡ state.bridge.requests.config) state
-    ways =
-        record {
-          quiet = λ event answer still. refl;
-          begins = λ client beat taken. refl;
-          accepts = λ client beat accepted. refl;
-          sends = λ sending sent. refl;
-          performs = λ serial beat memory done. refl;
-          gives_b = λ id b given. refl;
-          gives_r = λ id r given. refl;
-          hands_out = λ client request known first. refl;
-        }
+config_next state step = each_way (λ event outcome. outcome.state.bridge.requests.config ≡ state.bridge.requests.config) state
+    (record {
+      quiet = λ event answer still. refl;
+      begins = λ client beat taken. refl;
+      accepts = λ client beat accepted. refl;
+      sends = λ sending sent. refl;
+      performs = λ serial beat memory done. refl;
+      gives_b = λ id b given. refl;
+      gives_r = λ id r given. refl;
+      hands_out = λ client request known first. refl;
+    })
+    step
 
 -- an optional entry before a list
 cons_option-list : {A : Type 0} (o : Option A) (xs : List A) → cons_option o xs ≡ option_to_list o ++ xs

@@ -1,41 +1,181 @@
--- What the request of a number writes, byte by byte, and what it leaves there. It knows a message, its plan and an atomic's old value;
--- bursts and the memory are hidden.
-use Rattle.std.proofs.Common.{◌≡◌, ℕ, zero, suc, ◌+◌, ◌-◌, ◌/◌, ◌^◌, ◌<◌, ◌≤◌, nat_le, nat_lt, Bool, true, false, ◌&&◌, not, List, [], ◌∷◌, map, length, Option, Some, None, is_some, refl, ap, sym, ◌∙◌, arith}
-use Rattle.std.specs.Prelude.{if◌then◌else◌, unwrap_or, IsSome}
-use Rattle.std.specs.List.{find, slice_get}
+-- The requests one at a time: which bytes each writes and leaves alone, what it leaves there, and their replies by number. It knows what
+-- requests mean, a message, its plan and an atomic's old value; bridge, memory and bursts are hidden.
 use Rattle.std.specs.Option.{option_flatten}
-use Rattle.std.proofs.lemmas.Bool.{and_parts, leb-true, ltb-true}
+use Rattle.std.proofs.Common.{◌≡◌, ℕ, ◌+◌, ◌-◌, ◌^◌, ◌<◌, ◌≤◌, zero, suc, Bool, true, false, ◌&&◌, not, List, [], ◌∷◌, length, map, inl, inr, Option, Some, None, refl, sym, subst, ◌∙◌, ap, arith, ◌/◌, nat_lt, is_some, nat_le, option_map, slice_get, unwrap_or, if◌then◌else◌, IsSome, find}
+use Rattle.std.proofs.lemmas.Bool.Decides.{nat_tests}
+use Rattle.std.proofs.lemmas.Bool.{and_parts, cases_lt, cases_Bool, leb-true, ltb-true}
+use Rattle.std.proofs.lemmas.List.{length-map}
 use Rattle.std.proofs.lemmas.List.FromFn.{length-map-range_with_len}
+use Rattle.std.proofs.lemmas.Option.{slice_get_past}
 use Rattle.bus_words.specs.Lanes.{given_at}
-use Rattle.tl_messages.specs.Operations.{has_data}
 use Rattle.tl_messages.specs.Requests.{HeldMessage, WholeRequest, byte_given, request_of}
+use Rattle.tl_messages.specs.Operations.{has_data}
 use Rattle.tl_messages.specs.declared.AtomicOp.{AtomicOp}
 use Rattle.tl_messages.specs.declared.Operation.{Operation}
 use Rattle.tl_messages.specs.declared.Operation.TheVariants.{PutFull, PutPartial, Atomic, Get, Intent}
-use Rattle.data_unit.specs.Atomics.{atomic_result}
 use Rattle.data_unit.specs.Words.{bytes_of, value}
+use Rattle.data_unit.specs.Atomics.{atomic_result}
 use Rattle.data_unit.proofs.NumberLaws.{length-bytes_of}
 use Rattle.burst_plan.specs.PageMap.{translated_address}
+use Rattle.burst_plan.specs.declared.Region.{Region}
 use Rattle.burst_plan.specs.Pieces.{IsPlannable, PlannedRange}
 use Rattle.burst_plan.specs.PlannedTransfers.{HasAddress}
-use Rattle.burst_plan.specs.declared.Region.{Region}
 use Rattle.burst_plan.proofs.PieceLaws.{range_in_page}
-use Rattle.bridge_core.specs.Requests.{BridgedRequest, address_of, value_found}
+use Rattle.bridge_core.specs.Requests.{address_of, BridgedRequest, value_found}
 use Rattle.bridge_core.specs.Sending.{bytes_written, operand_of}
-use Rattle.subordinate.specs.Faults.{Faults, IsAbsent, IsGood, IsSlaveError, Standing, is_bad, is_good, lists_page, standing_at, standing_of_listed}
-use Rattle.world_run.specs.Meaning.{Bytes, bytes_at, denied, effect, effect_at, meaning}
-use Rattle.world_run.specs.Serial.{Order, after_one, asked, byte_left, bytes_before, covers, gives_byte, writes, writes_byte, writes_from}
+use Rattle.subordinate.specs.Faults.{Faults, Standing, IsGood, standing_at, is_bad, is_good, lists_page, standing_of_listed}
+use Rattle.world_run.specs.Meaning.{Bytes, atomic_bytes, bytes_after_all, bytes_at, denied, effect, effect_at, meaning, replies_in_order, zeros}
+use Rattle.world_run.specs.Serial.{Order, after_one, asked, bytes_before, covers, gives_byte, is_intent, touches, touches_byte, touches_from, writes, writes_byte, writes_from, byte_left}
+
+-- ---- bytes of a list
+
+given_before : (bytes : List (Option ℕ)) (start x : ℕ) → x < start → given_at bytes start x ≡ None
+given_before bytes start x below = let out : nat_le start x ≡ false = grind (arith, nat_tests) in rw out refl
+
+given_past : (bytes : List (Option ℕ)) (start x : ℕ) → start + length bytes ≤ x → given_at bytes start x ≡ None
+given_past bytes start x above =
+    let after : nat_le start x ≡ true = grind (arith, nat_tests) in
+    rw (after, slice_get_past bytes (x - start) (omega (arith, above))) refl
+
+not_given : (o : Option ℕ) (d : ℕ) → is_some o ≡ false → unwrap_or o d ≡ d
+not_given None d none = refl
+not_given (Some byte) d none = absurd (cc)
+
+-- a byte outside the range
+outside : (bytes : List (Option ℕ)) (address size x : ℕ) → length bytes ≤ 2 ^ size → covers address size x ≡ false → given_at bytes address x ≡ None
+outside bytes address size x within out = elim (cases_lt x address) [
+  | inl below ↦ given_before bytes address x below
+  | inr above ↦ given_past bytes address x (let past : address + 2 ^ size ≤ x = grind (arith, nat_tests) in omega (arith, past, within))
+]
+
+-- ---- what a request doesn't write
+
+effect_alone : (faults : Faults) (q : WholeRequest) (m : Bytes) (address : ℕ) (operation : Operation) (standing : Standing) (bad : Bool) (x : ℕ) → bad ≡ is_bad faults address
+    → (is_good standing && gives_byte faults q address operation x) ≡ false → (effect faults q m address operation standing bad).after x ≡ m x
+effect_alone faults q m address PutFull IsGood bad x is none = not_given (given_at q.bytes address x) (m x) none
+effect_alone faults q m address PutPartial IsGood bad x is none = not_given (given_at q.bytes address x) (m x) none
+effect_alone faults q m address Get IsGood bad x is none = refl
+effect_alone faults q m address (Atomic op) IsGood false x is none =
+    ap (λ (o : Option ℕ). unwrap_or o (m x)) (outside (atomic_bytes op m address (2 ^ q.size) q.bytes) address q.size x (atomic_size op m address q) (not_covered (is_bad faults address) (covers address q.size x) is none))
+  where
+    atomic_size : (op : AtomicOp) (m : Bytes) (address : ℕ) (q : WholeRequest) → length (atomic_bytes op m address (2 ^ q.size) q.bytes) ≤ 2 ^ q.size
+    atomic_size op m address q =
+        let number = atomic_result op (2 ^ q.size) (value (bytes_at m address (2 ^ q.size))) (value (map (λ byte. unwrap_or byte 0) q.bytes)) in
+        let mapped = length-map (bytes_of (2 ^ q.size) number) Some in
+        let made = length-bytes_of (2 ^ q.size) number in
+        omega (arith, mapped, made)
+
+    not_covered : (bad covered : Bool) → false ≡ bad → (not bad && covered) ≡ false → covered ≡ false
+    not_covered bad covered is none = grind (arith, is, none)
+effect_alone faults q m address _ _ bad x is none = refl
+
+effect_at_alone : (faults : Faults) (q : WholeRequest) (m : Bytes) (place : Option ℕ) (x : ℕ) → writes_from faults q place x ≡ false → (effect_at faults q m place).after x ≡ m x
+effect_at_alone faults q m None x none = refl
+effect_at_alone faults q m (Some address) x none = effect_alone faults q m address q.operation (standing_at faults address) (is_bad faults address) x refl none
+
+request_alone : (faults : Faults) (regions : List Region) (q : WholeRequest) (m : Bytes) (corrupt : Bool) (x : ℕ)
+    → writes_from faults q (if corrupt then None else translated_address regions q) x ≡ false
+    → (if corrupt then record { reply = denied; after = m } else effect_at faults q m (translated_address regions q)).after x ≡ m x
+request_alone faults regions q m true x none = refl
+request_alone faults regions q m false x none = effect_at_alone faults q m (translated_address regions q) x none
+
+one_alone : (order : Order) (o : Option WholeRequest) (m : Bytes) (x : ℕ) → writes_byte order o x ≡ false → after_one order o m x ≡ m x
+one_alone order None m x none = refl
+one_alone order (Some q) m x none = request_alone order.faults order.regions q m q.corrupt x none
+
+-- a request leaves alone what it doesn't write
+pub left_alone : (order : Order) (n x : ℕ) → writes order n x ≡ false → bytes_before order (suc n) x ≡ bytes_before order n x
+left_alone order n x none = one_alone order (asked order n) (bytes_before order n) x none
+
+-- ---- who writes a byte touches it
+
+given_within : (bytes : List (Option ℕ)) (address size x : ℕ) → length bytes ≤ 2 ^ size → is_some (given_at bytes address x) ≡ true → covers address size x ≡ true
+given_within bytes address size x within given = elim (cases_Bool (covers address size x)) [
+  | inl covered ↦ covered
+  | inr out ↦ (let none = outside bytes address size x within out in let nothing : is_some {T = ℕ} None ≡ true = rw none at given in absurd (cc (nothing)))
+]
+
+touches_there : (faults : Faults) (q : WholeRequest) (address : ℕ) (operation : Operation) (x : ℕ) → length q.bytes ≤ 2 ^ q.size
+    → gives_byte faults q address operation x ≡ true → (not (is_intent operation) && covers address q.size x) ≡ true
+touches_there faults q address PutFull x within gives = given_within q.bytes address q.size x within gives
+touches_there faults q address PutPartial x within gives = given_within q.bytes address q.size x within gives
+touches_there faults q address (Atomic op) x within gives = (and_parts (not (is_bad faults address)) (covers address q.size x) gives).1
+touches_there faults q address _ x within gives = absurd (cc)
+
+touches_where : (faults : Faults) (q : WholeRequest) (place : Option ℕ) (x : ℕ) → length q.bytes ≤ 2 ^ q.size → writes_from faults q place x ≡ true → touches_from q place x ≡ true
+touches_where faults q None x within writes_it = absurd (cc)
+touches_where faults q (Some address) x within writes_it =
+    touches_there faults q address q.operation x within ((and_parts (is_good (standing_at faults address)) (gives_byte faults q address q.operation x) writes_it).1)
+
+touches_asked : (order : Order) (o : Option WholeRequest) (x : ℕ) → ((q : WholeRequest) → o ≡ Some q → length q.bytes ≤ 2 ^ q.size) → writes_byte order o x ≡ true → touches_byte order o x ≡ true
+touches_asked order None x within writes_it = absurd (cc)
+touches_asked order (Some q) x within writes_it = touches_where order.faults q (address_of order.regions q) x (within q refl) writes_it
+
+-- a request that gives no more bytes than it has touches what it writes
+pub writer_touches : (order : Order) (n x : ℕ) → ((q : WholeRequest) → asked order n ≡ Some q → length q.bytes ≤ 2 ^ q.size) → writes order n x ≡ true → touches order n x ≡ true
+writer_touches order n x within writes_it = touches_asked order (asked order n) x within writes_it
+
+-- as the request of a message does
+pub message_within : (message : HeldMessage) → length (request_of message).bytes ≤ 2 ^ (request_of message).size
+message_within message = omega (arith, length-map-range_with_len (λ i. if has_data message.operation then byte_given message.address message.beats i else None) 0 (2 ^ message.size))
+
+pub message_touches : (order : Order) (n x : ℕ) (message : HeldMessage) → asked order n ≡ Some (request_of message) → writes order n x ≡ true → touches order n x ≡ true
+message_touches order n x message is writes_it = writer_touches order n x (λ q other. same q (sym is ∙ other)) writes_it
+  where
+    same : (q : WholeRequest) → Some (request_of message) ≡ Some q → length q.bytes ≤ 2 ^ q.size
+    same q other = (let one : request_of message ≡ q = cc in subst (λ (p : WholeRequest). length p.bytes ≤ 2 ^ p.size) one (message_within message))
+
+-- ---- replies by number
+
+abbrev order_of : Faults → List Region → List WholeRequest → Order
+order_of faults regions qs = record { faults = faults; regions = regions; requests = qs }
+
+-- the bytes after the first n of a list of requests
+abbrev carried : Faults → List Region → List WholeRequest → Bytes → ℕ → Bytes
+carried faults regions qs m zero = m
+carried faults regions qs m (suc n) = after_one (order_of faults regions qs) (slice_get qs n) (carried faults regions qs m n)
+
+-- the first comes first
+carried-first : (faults : Faults) (regions : List Region) (q : WholeRequest) (qs : List WholeRequest) (m : Bytes) (n : ℕ)
+    → carried faults regions (q ∷ qs) m (suc n) ≡ carried faults regions qs (meaning faults regions q m).after n
+carried-first faults regions q qs m zero = refl
+carried-first faults regions q qs m (suc n) = carried_one faults regions q qs (slice_get qs n) _ _ (carried-first faults regions q qs m n)
+  where
+    carried_one : (faults : Faults) (regions : List Region) (q : WholeRequest) (qs : List WholeRequest) (o : Option WholeRequest) (m k : Bytes) → m ≡ k
+        → after_one (order_of faults regions (q ∷ qs)) o m ≡ after_one (order_of faults regions qs) o k
+    carried_one faults regions q qs None m k same = same
+    carried_one faults regions q qs (Some p) m k same = ap (λ (bytes : Bytes). (meaning faults regions p bytes).after) same
+
+replies_carried : (faults : Faults) (regions : List Region) (qs : List WholeRequest) (m : Bytes) (n : ℕ)
+    → slice_get (replies_in_order faults regions qs m) n ≡ option_map (λ q. (meaning faults regions q (carried faults regions qs m n)).reply) (slice_get qs n)
+replies_carried faults regions [] m n = refl
+replies_carried faults regions (q ∷ qs) m zero = refl
+replies_carried faults regions (q ∷ qs) m (suc n) =
+    replies_carried faults regions qs (meaning faults regions q m).after n
+    ∙ ap (λ (bytes : Bytes). option_map (λ p. (meaning faults regions p bytes).reply) (slice_get qs n)) (sym (carried-first faults regions q qs m n))
+
+all_carried : (faults : Faults) (regions : List Region) (qs : List WholeRequest) (m : Bytes) → bytes_after_all faults regions qs m ≡ carried faults regions qs m (length qs)
+all_carried faults regions [] m = refl
+all_carried faults regions (q ∷ qs) m = all_carried faults regions qs (meaning faults regions q m).after ∙ sym (carried-first faults regions q qs m (length qs))
+
+carried_before : (order : Order) (n : ℕ) → carried order.faults order.regions order.requests zeros n ≡ bytes_before order n
+carried_before order zero = refl
+carried_before order (suc n) = ap (λ (bytes : Bytes). after_one order (asked order n) bytes) (carried_before order n)
+
+-- the reply of a number is what its request means on the bytes that it finds
+pub replies_at : (order : Order) (n : ℕ) → slice_get (replies_in_order order.faults order.regions order.requests zeros) n
+    ≡ option_map (λ q. (meaning order.faults order.regions q (bytes_before order n)).reply) (asked order n)
+replies_at order n =
+    replies_carried order.faults order.regions order.requests zeros n
+    ∙ ap (λ (bytes : Bytes). option_map (λ q. (meaning order.faults order.regions q bytes).reply) (asked order n)) (carried_before order n)
+
+pub all_carried_out : (order : Order) → bytes_after_all order.faults order.regions order.requests zeros ≡ bytes_before order (length order.requests)
+all_carried_out order = all_carried order.faults order.regions order.requests zeros ∙ carried_before order (length order.requests)
 
 -- ---- a request of a number, at its AXI address
 
 meaning_is : (faults : Faults) (regions : List Region) (q : WholeRequest) (m : Bytes) → (meaning faults regions q m).after ≡ (effect_at faults q m (address_of regions q)).after
-meaning_is faults regions q m = by_corrupt q.corrupt
-  where
-    by_corrupt : (b : Bool)
-        → (if b then record { reply = denied; after = m } else effect_at faults q m (translated_address regions q)).after
-        ≡ (effect_at faults q m (if b then None else translated_address regions q)).after
-    by_corrupt true = refl
-    by_corrupt false = refl
+meaning_is faults regions q m = grind arith
 
 pub byte_left_is : (order : Order) (number : ℕ) (q : WholeRequest) (address x : ℕ) → asked order number ≡ Some q → address_of order.regions q ≡ Some address
     → byte_left order number x ≡ (effect order.faults q (bytes_before order number) address q.operation (standing_at order.faults address) (is_bad order.faults address)).after x
@@ -74,14 +214,7 @@ given_of_bytes bytes address x = from (nat_le address x) refl
     from false below = refl
 
 none_given : (address x : ℕ) → is_some (given_at [] address x) ≡ false
-none_given address x = from (nat_le address x)
-  where
-    nothing : List (Option ℕ)
-    nothing = []
-
-    from : (b : Bool) → is_some (if b then option_flatten (slice_get nothing (x - address)) else None) ≡ false
-    from true = refl
-    from false = refl
+none_given address x = grind arith
 
 -- a request's bursts write just where it writes; an atomic does so where its word isn't bad
 pub gives_where_written : (faults : Faults) (q : WholeRequest) (operation : Operation) (address x old : ℕ) → ((op : AtomicOp) → operation ≡ Atomic op → is_bad faults address ≡ false)
@@ -105,25 +238,20 @@ pub gives_what_is_left : (faults : Faults) (q : WholeRequest) (m : Bytes) (opera
     → ((op : AtomicOp) → operation ≡ Atomic op → (bad ≡ false) × (old ≡ value (bytes_at m address (2 ^ q.size)))) → is_some (given_at (bytes_written q operation old) address x) ≡ true
     → given_at (bytes_written q operation old) address x ≡ Some ((effect faults q m address operation standing bad).after x)
 gives_what_is_left faults q m PutFull IsGood bad address x old good found there = some_given (given_at q.bytes address x) (m x) there
-gives_what_is_left faults q m PutFull IsSlaveError bad address x old good found there = absurd (cc (good))
-gives_what_is_left faults q m PutFull IsAbsent bad address x old good found there = absurd (cc (good))
 gives_what_is_left faults q m PutPartial IsGood bad address x old good found there = some_given (given_at q.bytes address x) (m x) there
-gives_what_is_left faults q m PutPartial IsSlaveError bad address x old good found there = absurd (cc (good))
-gives_what_is_left faults q m PutPartial IsAbsent bad address x old good found there = absurd (cc (good))
 gives_what_is_left faults q m (Atomic op) IsGood true address x old good found there = absurd (cc ((found op refl).0))
 gives_what_is_left faults q m (Atomic op) IsGood false address x old good found there =
     let wanted = λ (v : ℕ). given_at (bytes_written q (Atomic op) v) address x in
     let same : wanted old ≡ wanted (value (bytes_at m address (2 ^ q.size))) = ap wanted (found op refl).1 in
     same ∙ some_given (wanted (value (bytes_at m address (2 ^ q.size)))) (m x) (ap (λ (o : Option ℕ). is_some o) (sym same) ∙ there)
-gives_what_is_left faults q m (Atomic op) IsSlaveError bad address x old good found there = absurd (cc (good))
-gives_what_is_left faults q m (Atomic op) IsAbsent bad address x old good found there = absurd (cc (good))
 gives_what_is_left faults q m Get standing bad address x old good found there = absurd (cc (there, none_given address x))
 gives_what_is_left faults q m (Intent write) standing bad address x old good found there = absurd (cc (there, none_given address x))
+gives_what_is_left faults q m _ _ bad address x old good found there = absurd (cc (good))
 
 -- ---- where it writes
 
-given_within : (bytes : List (Option ℕ)) (address x : ℕ) → is_some (given_at bytes address x) ≡ true → (address ≤ x) × (x < address + length bytes)
-given_within bytes address x there = from (nat_le address x) refl there
+given_inside : (bytes : List (Option ℕ)) (address x : ℕ) → is_some (given_at bytes address x) ≡ true → (address ≤ x) × (x < address + length bytes)
+given_inside bytes address x there = from (nat_le address x) refl there
   where
     listed : (parts : List (Option ℕ)) (i : ℕ) → is_some (option_flatten (slice_get parts i)) ≡ true → i < length parts
     listed [] i there = absurd (cc (there))
@@ -150,14 +278,13 @@ gives_within faults message operation address x is = by_operation operation is
     count = length-map-range_with_len (λ i. if has_data message.operation then byte_given message.address message.beats i else None) 0 (2 ^ message.size)
 
     put : is_some (given_at (request_of message).bytes address x) ≡ true → (address ≤ x) × (x < address + 2 ^ message.size)
-    put there = let within = given_within (request_of message).bytes address x there in (within.0, omega (arith, within.1, count))
+    put there = let within = given_inside (request_of message).bytes address x there in (within.0, omega (arith, within.1, count))
 
     by_operation : (operation : Operation) → gives_byte faults (request_of message) address operation x ≡ true → (address ≤ x) × (x < address + 2 ^ message.size)
     by_operation PutFull is = put is
     by_operation PutPartial is = put is
     by_operation (Atomic op) is = covered_within address message.size x (and_parts (not (is_bad faults address)) (covers address message.size x) is).1
-    by_operation Get is = absurd (cc (is))
-    by_operation (Intent write) is = absurd (cc (is))
+    by_operation _ is = absurd (cc (is))
 
 -- all bytes of a range are in the page of its first
 pub same_standing : (faults : Faults) (range : PlannedRange) (x : ℕ) → IsPlannable range → HasAddress range x → standing_at faults x ≡ standing_at faults range.address

@@ -1,23 +1,18 @@
 pub mod AcceptedRequests
 pub mod BytesLeft
 pub mod CarriedOut
-pub mod HeldOrder
 pub mod HeldSteps
 pub mod History
 pub mod ListChanges
-pub mod LiveNumbers
 pub mod MainTheorem
 pub mod OrderOpens
 pub mod OrderSteps
 pub mod OrderedRuns
 pub mod RunLemmas
 pub mod RunLoop
-pub mod RunNumbers
-pub mod SerialBytes
 pub mod SerialOldValues
 pub mod SerialReplies
 pub mod Told
-pub mod Traffic
 pub mod bursts
 pub mod events
 mod examples

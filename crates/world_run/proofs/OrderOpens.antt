@@ -1,6 +1,5 @@
 -- The opening world keeps the order: nothing is written, and every byte is zero. It knows the opening state alone.
-use Rattle.std.proofs.Common.{◌≡◌, ℕ, zero, suc, ◌%◌, nat_lt, false, List, [], ◌∷◌, map, replicate, Option, Some, None, refl, sym, arith}
-use Rattle.std.specs.Prelude.{filter, find, option_map, slice_index, unwrap_or}
+use Rattle.std.proofs.Common.{◌≡◌, ℕ, zero, suc, ◌%◌, nat_lt, false, List, [], ◌∷◌, map, replicate, Option, Some, None, refl, sym, arith, filter, find, option_map, slice_index, unwrap_or}
 use Rattle.std.specs.List.{AllByRecursion}
 use Rattle.std.proofs.lemmas.Bool.Decides.{nat_tests}
 use Rattle.bus_words.specs.Lanes.{lane_byte}
@@ -13,7 +12,7 @@ use Rattle.world.specs.Setups.{SetupLists, faults_of}
 use Rattle.world.specs.World.{opening_world}
 use Rattle.world_run.proofs.HeldSteps.{held_opening}
 use Rattle.world_run.proofs.History.{history_opens}
-use Rattle.world_run.proofs.SerialBytes.{left_alone}
+use Rattle.world_run.proofs.BytesLeft.{left_alone}
 
 -- ---- zeros
 

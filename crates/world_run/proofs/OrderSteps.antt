@@ -1,4 +1,4 @@
--- Each event keeps the order of acceptance. It only gathers the cases, a file for each; how they hold is hidden.
+-- Each event keeps the order of acceptance. It only gathers the cases; how they hold is hidden.
 use Rattle.bridge_core.proofs.NextSending.{next_found}
 use Rattle.world_run.specs.InOrder.{IsForeseen, IsForeseenBy, KeepsOrder}
 use Rattle.world.specs.Laws.{IsSoundWorld}
@@ -6,15 +6,9 @@ use Rattle.world_run.specs.Serial.{Order}
 use Rattle.world.specs.World.{Outcome, WorldState, next}
 use Rattle.world.specs.declared.Step.{Step}
 use Rattle.world.proofs.Events.{EachWay, each_way}
-use Rattle.world_run.proofs.HeldOrder.{MovesOn}
-use Rattle.world_run.proofs.HeldSteps.{are_asked, held_kept, moves_on}
-use Rattle.world_run.proofs.LiveNumbers.{HoldsBackIn}
-use Rattle.world_run.proofs.events.OrderAnswerB.{b_keeps}
-use Rattle.world_run.proofs.events.OrderAnswerR.{r_keeps}
-use Rattle.world_run.proofs.events.OrderOffer.{accept_keeps, begins_keeps}
-use Rattle.world_run.proofs.events.OrderPerform.{performed_keeps}
-use Rattle.world_run.proofs.events.OrderPump.{sent_keeps}
-use Rattle.world_run.proofs.events.OrderTake.{take_keeps}
+use Rattle.world_run.proofs.HeldSteps.{HoldsBackIn, MovesOn, are_asked, held_kept, moves_on}
+use Rattle.world_run.proofs.events.OrderAnswers.{b_keeps, r_keeps}
+use Rattle.world_run.proofs.events.OrderRequests.{accept_keeps, begins_keeps, performed_keeps, sent_keeps, take_keeps}
 
 module _ (order : Order) (state : WorldState) (sound : IsSoundWorld state) (keeps : KeepsOrder order state) where
   abbrev Keeps : Step → Outcome → Type 0

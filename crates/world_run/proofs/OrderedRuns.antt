@@ -1,7 +1,6 @@
 -- A whole run: its replies are those of the accepted requests one at a time, and once it is quiet its memory is theirs. It knows that each
 -- event keeps the order, as a premise, and fixes the list of all requests; which event came is hidden.
-use Rattle.std.proofs.Common.{◌≡◌, ℕ, zero, suc, ◌==◌, ◌<◌, ◌≤◌, ◌^◌, nat_lt, Bool, true, false, not, List, [], ◌∷◌, length, Option, Some, None, refl, sym, subst, ◌∙◌, ap, arith}
-use Rattle.std.specs.Prelude.{filter, find, is_some, nat_le, option_map, slice_get, unwrap_or, if◌then◌else◌}
+use Rattle.std.proofs.Common.{◌≡◌, ℕ, zero, suc, ◌==◌, ◌<◌, ◌≤◌, ◌^◌, nat_lt, Bool, true, false, List, [], ◌∷◌, length, Option, Some, None, refl, sym, subst, ◌∙◌, ap, arith, filter, find, is_some, nat_le, option_map, slice_get, unwrap_or, if◌then◌else◌}
 use Rattle.std.specs.List.{AllByRecursion, cons_option}
 use Rattle.std.proofs.lemmas.Bool.Decides.{nat_tests}
 use Rattle.std.proofs.lemmas.Bool.{and_parts, eqb-true}
@@ -33,11 +32,11 @@ use Rattle.world.specs.declared.Step.{Step}
 use Rattle.world.specs.declared.Step.TheVariants.{Offer, Take}
 use Rattle.world_run.proofs.AcceptedRequests.{HasAccepted, has_accepted-here, has_accepted-next, has_accepted-opening, request_at}
 use Rattle.world.proofs.Events.{EachWay, each_way}
-use Rattle.world_run.proofs.gathered.GatheredInOrder.{reply_served_by}
-use Rattle.world_run.proofs.HeldOrder.{unaccepted}
+use Rattle.world_run.proofs.gathered.GatheredAnswers.{reply_served_by}
+use Rattle.world_run.proofs.HeldSteps.{unaccepted}
 use Rattle.world_run.proofs.History.{quiet_memory, written_in_turn}
 use Rattle.world_run.proofs.OrderOpens.{keeps_opening}
-use Rattle.world_run.proofs.SerialBytes.{all_carried_out, message_within, replies_at, writer_touches}
+use Rattle.world_run.proofs.BytesLeft.{all_carried_out, message_within, replies_at, writer_touches}
 
 -- ---- what is accepted is foreseen
 
@@ -111,8 +110,7 @@ reply_served order state client request sound keeps taken =
     (all-find (IsInOrder order state.memory.bus_bytes keeps.wrote) (is_done_for client) state.bridge.requests.live request keeps.live first).gathered)
   where
     first_of : (none : Bool) (o : Option BridgedRequest) → (if none then None else o) ≡ Some request → o ≡ Some request
-    first_of true o is = absurd (cc)
-    first_of false o is = is
+    first_of none o is = grind (arith, is)
 
     first : first_done state.bridge.requests.live client ≡ Some request
     first = first_of (nat_le state.bridge.requests.config.clients client) (first_done state.bridge.requests.live client) taken
@@ -123,16 +121,7 @@ reply_served order state client request sound keeps taken =
 all_done : (p : BridgedRequest → Bool) (live : List BridgedRequest) (request : BridgedRequest) → length (filter is_undone (flights_of live)) ≡ 0 → find p live ≡ Some request
     → request.flight.done ≡ true
 all_done p [] request none found = absurd (cc)
-all_done p (r ∷ live) request none found = by_tests (p r) r.flight.done refl none found (λ fewer later. all_done p live request fewer later)
-  where
-    by_tests : (b c : Bool) → r.flight.done ≡ c
-        → length (if not c then r.flight ∷ filter is_undone (flights_of live) else filter is_undone (flights_of live)) ≡ 0 → (if b then Some r else find p live) ≡ Some request
-        → (length (filter is_undone (flights_of live)) ≡ 0 → find p live ≡ Some request → request.flight.done ≡ true) → request.flight.done ≡ true
-    by_tests b false is none found rest = absurd (omega (arith, none))
-    by_tests true true is none here rest =
-        let same : r ≡ request = cc in
-        ap (λ (q : BridgedRequest). q.flight.done) (sym same) ∙ is
-    by_tests false true is none later rest = rest none later
+all_done p (r ∷ live) request none found = grind (arith, all_done p live request)
 
 all_finished : (state : WorldState) → IsQuiet state → (j : ℕ) → j < state.bridge.requests.accepted → finished state.bridge.requests j ≡ true
 all_finished state quiet j below =

@@ -1,7 +1,6 @@
 -- A run's record with one event more: the record of a run is that of the run with the event at its end. It knows the lists of a record, for
 -- the loop of run; what an event does is hidden.
-use Rattle.std.proofs.Common.{◌≡◌, ℕ, ◌+◌, ◌≤◌, true, List, [], ◌∷◌, ◌++◌, map, length, take, Option, Some, None, Result, Ok, Err, option_to_list, refl, sym, ap, ◌∙◌, subst, arith, zero, suc, flat_map, if◌then◌else◌, length-append}
-use Rattle.std.specs.Prelude.{slice_get, IfSome, OnOk}
+use Rattle.std.proofs.Common.{◌≡◌, ℕ, ◌+◌, ◌≤◌, true, List, [], ◌∷◌, ◌++◌, map, length, take, Option, Some, None, Result, Ok, Err, option_to_list, refl, sym, ap, ◌∙◌, subst, arith, zero, suc, flat_map, if◌then◌else◌, length-append, slice_get, IfSome, OnOk}
 use Rattle.std.proofs.lemmas.List.{append-nil, append_assoc, map-append, take_all}
 use Rattle.tl_messages.specs.declared.DBeat.{DBeat}
 use Rattle.axi_beats.specs.declared.WBeat.{WBeat}

@@ -1,9 +1,8 @@
 -- What is gathered of a memory's answers is the reply of serial execution. It knows lists of reads and responses, of one page, and the
 -- bytes that they tell; which bridge or memory they passed is hidden.
-use Rattle.std.proofs.Common.{◌≡◌, ℕ, zero, suc, ◌+◌, ◌-◌, ◌*◌, ◌/◌, ◌%◌, ◌^◌, ◌<◌, ◌≤◌, ◌==◌, min, max, Bool, true, false, not, ◌||◌, List, [], ◌∷◌, map, length, Option, Some, None, if◌then◌else◌, refl, sym, subst, ◌∙◌, ap, arith, inl, inr}
-use Rattle.std.specs.Prelude.{replicate, slice_get, All}
+use Rattle.std.proofs.Common.{◌≡◌, ℕ, zero, suc, ◌+◌, ◌-◌, ◌*◌, ◌/◌, ◌%◌, ◌^◌, ◌<◌, ◌≤◌, ◌==◌, min, max, Bool, true, false, not, ◌||◌, List, [], ◌∷◌, map, length, Option, Some, None, if◌then◌else◌, refl, sym, subst, ◌∙◌, ap, arith, replicate, slice_get, All}
 use Rattle.std.specs.List.{enumerate_from, range_with_len, list_any, find}
-use Rattle.std.proofs.lemmas.Bool.Decides.{eqb_tells}
+use Rattle.std.proofs.lemmas.Bool.Decides.{nat_tests}
 use Rattle.std.proofs.lemmas.List.Elements.{All-cons, All-head, All-nil, All-tail}
 use Rattle.std.proofs.lemmas.Option.{slice_get_within}
 use Rattle.bus_words.specs.Lanes.{lane_byte, word_address}
@@ -94,45 +93,6 @@ one_number address (suc (suc zero)) x small aligned low high = omega arith
 one_number address (suc (suc (suc zero))) x small aligned low high = omega arith
 one_number address (suc (suc (suc (suc size)))) x small aligned low high = absurd (omega arith)
 
--- ---- one read
-
-read_inside : (has : Bool) (k most : ℕ) → k < (if has then most else 0) → k < most
-read_inside true k most below = below
-read_inside false k most below = absurd (none below)
-  where
-    none : k < 0 → ⊥
-    none e = omega arith
-
--- where a read that came stands among those of its request
-pub inside_of : (faults : Faults) (bus_bytes : ℕ) (outline : Outline) (address : ℕ) (m : Bytes) (reads : List RBeat) (responses : List Resp) → IsAnsweredAs faults bus_bytes outline address m reads responses
-    → (k : ℕ) (r : RBeat) → slice_get reads k ≡ Some r → (k < reads_of bus_bytes outline) × (k < max 1 (2 ^ outline.size / bus_bytes))
-inside_of faults bus_bytes outline address m reads responses told k r there =
-    let below : k < reads_of bus_bytes outline = omega (arith, told.few, slice_get_within reads k r there) in
-    (below, read_inside (reply_has_data outline.operation) k (max 1 (2 ^ outline.size / bus_bytes)) below)
-
-address_aligned : (faults : Faults) (bus_bytes : ℕ) (outline : Outline) (address : ℕ) (m : Bytes) (reads : List RBeat) (responses : List Resp) → IsAnsweredAs faults bus_bytes outline address m reads responses
-    → address % 2 ^ outline.size ≡ 0
-address_aligned faults bus_bytes outline address m reads responses told = same_byte-mod outline.address address outline.size told.small told.same_byte ∙ told.aligned
-
--- the page of the request decides its response, and its word
-pub page_response : (faults : Faults) (bus_bytes : ℕ) (outline : Outline) (address : ℕ) (m : Bytes) (reads : List RBeat) (responses : List Resp) → IsAnsweredAs faults bus_bytes outline address m reads responses
-    → (standing : Standing) → standing_at faults address ≡ standing → (k : ℕ) (r : RBeat) → slice_get reads k ≡ Some r
-    → r.resp ≡ read_response_on standing (is_bad faults (address + k * min (2 ^ outline.size) bus_bytes))
-page_response faults bus_bytes outline address m reads responses told standing is k r there =
-    let inside = inside_of faults bus_bytes outline address m reads responses told k r there in
-    let first = first_byte bus_bytes k outline told.width inside.1 in
-    let page = in_page bus_bytes address outline.size (k * min (2 ^ outline.size) bus_bytes) told.width told.small (address_aligned faults bus_bytes outline address m reads responses told) first.0 in
-    told.response k r there
-    ∙ ap (λ s. read_response_on s (is_bad faults (address + k * min (2 ^ outline.size) bus_bytes))) (standing_of faults (address + k * min (2 ^ outline.size) bus_bytes) address page ∙ is)
-
-byte_response : (faults : Faults) (bus_bytes : ℕ) (outline : Outline) (address : ℕ) (m : Bytes) (reads : List RBeat) (responses : List Resp) → IsAnsweredAs faults bus_bytes outline address m reads responses
-    → (standing : Standing) → standing_at faults address ≡ standing → (k x : ℕ) (r : RBeat) → slice_get reads k ≡ Some r → IsReadAt bus_bytes outline address k x
-    → r.resp ≡ read_response_on standing (is_bad faults x)
-byte_response faults bus_bytes outline address m reads responses told standing is k x r there read =
-    let inside = inside_of faults bus_bytes outline address m reads responses told k r there in
-    page_response faults bus_bytes outline address m reads responses told standing is k r there
-    ∙ ap (read_response_on standing) (bad_of faults (address + k * min (2 ^ outline.size) bus_bytes) x (one_word bus_bytes outline address k x told.width told.aligned told.same_byte inside.1 read))
-
 -- ---- what a memory shows
 
 -- of a good page the bytes outside bad words
@@ -143,28 +103,11 @@ abbrev pub shown_none : ℕ → Option ℕ
 shown_none x = None
 
 slverr_bad : (bad : Bool) → is_slverr (read_response_on IsGood bad) ≡ true → bad ≡ true
-slverr_bad true is = refl
-slverr_bad false is = is
+slverr_bad bad is = grind (arith, is)
 
 okay_fine : (bad : Bool) → is_slverr (read_response_on IsGood bad) ≡ false → (bad ≡ false) × (is_okay (read_response_on IsGood bad) ≡ true)
 okay_fine true is = absurd (cc (is))
 okay_fine false is = (refl, refl)
-
-pub tells_good : (faults : Faults) (bus_bytes : ℕ) (outline : Outline) (address : ℕ) (m : Bytes) (reads : List RBeat) (responses : List Resp) → IsAnsweredAs faults bus_bytes outline address m reads responses
-    → standing_at faults address ≡ IsGood → (k : ℕ) (r : RBeat) → slice_get reads k ≡ Some r → TellsOf bus_bytes outline address (shown_good faults m) k r
-tells_good faults bus_bytes outline address m reads responses told good k r there =
-    record {
-      inside = (inside_of faults bus_bytes outline address m reads responses told k r there).0;
-      failed = λ slverr x y read same.
-          let response = byte_response faults bus_bytes outline address m reads responses told IsGood good k x r there read in
-          let bad : is_bad faults x ≡ true = slverr_bad (is_bad faults x) (ap is_slverr (sym response) ∙ slverr) in
-          let bad_too : is_bad faults y ≡ true = bad_of faults y x same ∙ bad in
-          rw bad_too refl;
-      bytes = λ granted x read.
-          let response = byte_response faults bus_bytes outline address m reads responses told IsGood good k x r there read in
-          let (fine, okay) = okay_fine (is_bad faults x) (ap is_slverr (sym response) ∙ granted) in
-          rw fine (ap (λ (byte : ℕ). Some byte) (sym (told.bytes k r there x (ap is_okay response ∙ okay) read)));
-    }
 
 -- where each read fails, a memory shows nothing
 pub tells_none : (bus_bytes : ℕ) (outline : Outline) (address k : ℕ) (r : RBeat) → k < reads_of bus_bytes outline → is_slverr r.resp ≡ true → TellsOf bus_bytes outline address shown_none k r
@@ -187,14 +130,7 @@ each_at P reads each = all_at P reads 0 (λ k r there. let start : k ≡ 0 + k =
 
 all_came : (reads : List RBeat) (from place : ℕ) → from ≤ place → place < from + length reads → list_any (λ read. read.0 == place) (enumerate_from from reads) ≡ true
 all_came [] from place low high = absurd (omega (arith, low, high))
-all_came (r ∷ reads) from place low high =
-    elim (eqb_tells from place) [
-      | inl (test, same) ↦ rw test refl
-      | inr (test, other) ↦ rw test (all_came reads (from + 1) place (above from place low other) (omega (arith, high)))
-    ]
-  where
-    above : (a b : ℕ) → a ≤ b → (a ≡ b → ⊥) → a + 1 ≤ b
-    above a b low other = grind (arith, low, other)
+all_came (r ∷ reads) from place low high = grind (arith, nat_tests, all_came reads (from + 1) place)
 
 none_denies : (reads : List RBeat) (from : ℕ) → ((k : ℕ) (r : RBeat) → slice_get reads k ≡ Some r → is_decerr r.resp ≡ false) → list_any (λ read. is_decerr read.1.resp) (enumerate_from from reads) ≡ false
 none_denies [] from each = refl
@@ -226,16 +162,13 @@ abbrev pub gathering_told : ℕ → Outline → List RBeat → List Resp → Gat
 gathering_told bus_bytes outline reads responses = gathering_after bus_bytes outline (answers_in_order reads responses)
 
 either_false : (a b : Bool) → a ≡ false → b ≡ false → (a || b) ≡ false
-either_false true b is other = is
-either_false false b is other = other
+either_false a b is other = rw (is, other) refl
 
 left_true : (a b : Bool) → a ≡ true → (a || b) ≡ true
-left_true true b is = refl
-left_true false b is = absurd (cc (is))
+left_true a b is = rw is refl
 
 right_true : (a b : Bool) → b ≡ true → (a || b) ≡ true
-right_true true b is = refl
-right_true false b is = is
+right_true a b is = grind (arith, is)
 
 -- a page that is there denies no read
 never_decerr : (standing : Standing) (bad : Bool) → (standing ≡ IsAbsent → ⊥) → is_decerr (read_response_on standing bad) ≡ false
@@ -245,30 +178,10 @@ never_decerr IsSlaveError bad there = refl
 never_decerr IsAbsent bad there = absurd (there refl)
 
 pub good_there : IsGood ≡ IsAbsent → ⊥
-good_there is = let flags : true ≡ false = ap is_good is in absurd (cc (flags))
-
-abbrev is_there : Standing → Bool
-is_there IsGood = true
-is_there IsSlaveError = true
-is_there IsAbsent = false
+good_there is = absurd (cc (is))
 
 pub slave_there : IsSlaveError ≡ IsAbsent → ⊥
-slave_there is = let flags : true ≡ false = ap is_there is in absurd (cc (flags))
-
--- no answer denies, where the page is there and no write failed
-pub granted : (faults : Faults) (bus_bytes : ℕ) (outline : Outline) (address : ℕ) (m : Bytes) (reads : List RBeat) (responses : List Resp) → IsAnsweredAs faults bus_bytes outline address m reads responses
-    → (standing : Standing) → standing_at faults address ≡ standing → (standing ≡ IsAbsent → ⊥) → (is_good standing ≡ false → responses ≡ []) → denies (answers_in_order reads responses) ≡ false
-granted faults bus_bytes outline address m reads responses told standing is there unwritten =
-    either_false (list_any (λ read. is_decerr read.1.resp) (enumerate_from 0 reads)) (list_any (λ resp. not (is_okay resp)) responses)
-    (none_denies reads 0 (λ k r here.
-    ap is_decerr (page_response faults bus_bytes outline address m reads responses told standing is k r here)
-    ∙ never_decerr standing (is_bad faults (address + k * min (2 ^ outline.size) bus_bytes)) there))
-    (by_standing standing is unwritten)
-  where
-    by_standing : (s : Standing) → standing_at faults address ≡ s → (is_good s ≡ false → responses ≡ []) → list_any (λ resp. not (is_okay resp)) responses ≡ false
-    by_standing IsGood at none = all_okay (write_response (standing_at faults address)) responses (ap (λ (s : Standing). is_okay (write_response s)) at) told.responded
-    by_standing IsSlaveError at none = rw (none refl) refl
-    by_standing IsAbsent at none = rw (none refl) refl
+slave_there is = absurd (cc (is))
 
 -- all reads came, and none of the answers denies
 pub have_answers : (bus_bytes : ℕ) (outline : Outline) (address : ℕ) (reads : List RBeat) (responses : List Resp) (seen : ℕ → Option ℕ) → outline.address % 2 ^ outline.size ≡ 0
@@ -285,16 +198,6 @@ have_answers bus_bytes outline address reads responses seen aligned same_byte wh
       came = λ place below. all_came reads 0 place (omega arith) (omega (arith, below, whole));
     }
 
--- the reply to a Get or an atomic whose page is there
-reply_shown : (faults : Faults) (bus_bytes : ℕ) (outline : Outline) (address : ℕ) (m : Bytes) (reads : List RBeat) (responses : List Resp) (seen : ℕ → Option ℕ) → IsAnsweredAs faults bus_bytes outline address m reads responses
-    → reply_has_data outline.operation ≡ true → length reads ≡ reads_of bus_bytes outline → denies (answers_in_order reads responses) ≡ false
-    → ((k : ℕ) (r : RBeat) → slice_get reads k ≡ Some r → TellsOf bus_bytes outline address seen k r)
-    → ◌≡◌ {A = Reply} (gathered outline (gathering_told bus_bytes outline reads responses)) (record { denied = false; bytes = bytes_seen seen address (2 ^ outline.size) })
-reply_shown faults bus_bytes outline address m reads responses seen told has whole fine tell =
-    gathered_seen bus_bytes outline address seen (answers_in_order reads responses) told.width
-    (have_answers bus_bytes outline address reads responses seen told.aligned told.same_byte whole fine tell)
-    ∙ rw has refl
-
 pub none_shown : (a n : ℕ) → map shown_none (range_with_len a n) ≡ replicate n None
 none_shown a zero = refl
 none_shown a (suc n) = ap (λ (rest : List (Option ℕ)). None ∷ rest) (none_shown (a + 1) n)
@@ -302,34 +205,6 @@ none_shown a (suc n) = ap (λ (rest : List (Option ℕ)). None ∷ rest) (none_s
 pub all_shown : (m : Bytes) (xs : List ℕ) → map (λ x. Some (m x)) xs ≡ map Some (map m xs)
 all_shown m [] = refl
 all_shown m (x ∷ xs) = ap (λ (rest : List (Option ℕ)). Some (m x) ∷ rest) (all_shown m xs)
-
--- it gives no byte, where each read fails
-reply_none : (faults : Faults) (bus_bytes : ℕ) (outline : Outline) (address : ℕ) (m : Bytes) (reads : List RBeat) (responses : List Resp) → IsAnsweredAs faults bus_bytes outline address m reads responses
-    → reply_has_data outline.operation ≡ true → length reads ≡ reads_of bus_bytes outline → denies (answers_in_order reads responses) ≡ false
-    → ((k : ℕ) (r : RBeat) → slice_get reads k ≡ Some r → is_slverr r.resp ≡ true)
-    → gathered outline (gathering_told bus_bytes outline reads responses) ≡ no_byte_given (2 ^ outline.size)
-reply_none faults bus_bytes outline address m reads responses told has whole fine failed =
-    reply_shown faults bus_bytes outline address m reads responses shown_none told has whole fine
-    (λ k r there. tells_none bus_bytes outline address k r (inside_of faults bus_bytes outline address m reads responses told k r there).0 (failed k r there))
-    ∙ ap {B = Reply} (λ bytes. record { denied = false; bytes = bytes }) (none_shown address (2 ^ outline.size))
-
--- on an absent page the first read denies
-some_reads : (bus_bytes : ℕ) (outline : Outline) → reply_has_data outline.operation ≡ true → 0 < reads_of bus_bytes outline
-some_reads bus_bytes outline has = rw has (omega arith)
-
-pub reads_denied : (faults : Faults) (bus_bytes : ℕ) (outline : Outline) (address : ℕ) (m : Bytes) (reads : List RBeat) (responses : List Resp) → IsAnsweredAs faults bus_bytes outline address m reads responses
-    → standing_at faults address ≡ IsAbsent → reply_has_data outline.operation ≡ true → length reads ≡ reads_of bus_bytes outline
-    → (gathering_told bus_bytes outline reads responses).denied ≡ true
-reads_denied faults bus_bytes outline address m reads responses told absent has whole =
-    denied_by_answers bus_bytes outline (answers_in_order reads responses)
-    ∙ left_true (list_any (λ read. is_decerr read.1.resp) (enumerate_from 0 reads)) (list_any (λ resp. not (is_okay resp)) responses)
-    (one_denies reads 0 (rw whole (some_reads bus_bytes outline has)) (λ r there. ap is_decerr (page_response faults bus_bytes outline address m reads responses told IsAbsent absent 0 r there)))
-
-reply_absent : (faults : Faults) (bus_bytes : ℕ) (outline : Outline) (address : ℕ) (m : Bytes) (reads : List RBeat) (responses : List Resp) → IsAnsweredAs faults bus_bytes outline address m reads responses
-    → standing_at faults address ≡ IsAbsent → reply_has_data outline.operation ≡ true → length reads ≡ reads_of bus_bytes outline
-    → ◌≡◌ {A = Reply} (gathered outline (gathering_told bus_bytes outline reads responses)) (record { denied = true; bytes = [] })
-reply_absent faults bus_bytes outline address m reads responses told absent has whole =
-    no_bytes outline (gathering_told bus_bytes outline reads responses) (reads_denied faults bus_bytes outline address m reads responses told absent has whole)
 
 -- ---- by operation and page
 
@@ -349,29 +224,133 @@ pub record HasAllAnswers (faults : Faults) (bus_bytes : ℕ) (outline : Outline)
   pub one_response : is_put outline.operation ≡ true → 0 < length responses
   pub others : is_put outline.operation ≡ false → is_good (standing_at faults address) ≡ false → responses ≡ []
 
-put_denied : (faults : Faults) (bus_bytes : ℕ) (outline : Outline) (address : ℕ) (m : Bytes) (reads : List RBeat) (responses : List Resp) → IsAnsweredAs faults bus_bytes outline address m reads responses
-    → is_okay (write_response (standing_at faults address)) ≡ false → 0 < length responses → (gathering_told bus_bytes outline reads responses).denied ≡ true
-put_denied faults bus_bytes outline address m reads responses told failed some =
-    denied_by_answers bus_bytes outline (answers_in_order reads responses)
-    ∙ right_true (list_any (λ read. is_decerr read.1.resp) (enumerate_from 0 reads)) (list_any (λ resp. not (is_okay resp)) responses)
-    (one_failed (write_response (standing_at faults address)) responses failed some told.responded)
-
 -- a request without data in its reply has no reads
 no_reads : (bus_bytes : ℕ) (outline : Outline) (reads : List RBeat) → reply_has_data outline.operation ≡ false → length reads ≤ reads_of bus_bytes outline → reads ≡ []
 no_reads bus_bytes outline [] none few = refl
-no_reads bus_bytes outline (r ∷ reads) none few = absurd (too_many (rw none at few))
-  where
-    too_many : suc (length reads) ≤ 0 → ⊥
-    too_many e = omega arith
+no_reads bus_bytes outline (r ∷ reads) none few = absurd (let past : suc (length reads) ≤ 0 = rw none at few in omega (arith, past))
 
-not_denied : (faults : Faults) (bus_bytes : ℕ) (outline : Outline) (address : ℕ) (m : Bytes) (reads : List RBeat) (responses : List Resp) → IsAnsweredAs faults bus_bytes outline address m reads responses
-    → reply_has_data outline.operation ≡ false → list_any (λ resp. not (is_okay resp)) responses ≡ false → (gathering_told bus_bytes outline reads responses).denied ≡ false
-not_denied faults bus_bytes outline address m reads responses told none fine =
-    denied_by_answers bus_bytes outline (answers_in_order reads responses)
-    ∙ either_false (list_any (λ read. is_decerr read.1.resp) (enumerate_from 0 reads)) (list_any (λ resp. not (is_okay resp)) responses) no_read_denies fine
-  where
-    no_read_denies : list_any (λ read. is_decerr read.1.resp) (enumerate_from 0 reads) ≡ false
-    no_read_denies = rw (no_reads bus_bytes outline reads none told.few) refl
+-- ---- a request that is answered so
+
+module _ (faults : Faults) (bus_bytes : ℕ) (outline : Outline) (address : ℕ) (m : Bytes) (reads : List RBeat) (responses : List Resp)
+    (told : IsAnsweredAs faults bus_bytes outline address m reads responses) where
+  -- where a read that came stands among those of its request
+  pub inside_of : (k : ℕ) (r : RBeat) → slice_get reads k ≡ Some r → (k < reads_of bus_bytes outline) × (k < max 1 (2 ^ outline.size / bus_bytes))
+  inside_of k r there =
+      let below : k < reads_of bus_bytes outline = omega (arith, told.few, slice_get_within reads k r there) in
+      (below, grind (arith, below))
+
+  address_aligned : address % 2 ^ outline.size ≡ 0
+  address_aligned = same_byte-mod outline.address address outline.size told.small told.same_byte ∙ told.aligned
+
+  -- the page of the request decides its response, and its word
+  pub page_response : (standing : Standing) → standing_at faults address ≡ standing → (k : ℕ) (r : RBeat) → slice_get reads k ≡ Some r
+      → r.resp ≡ read_response_on standing (is_bad faults (address + k * min (2 ^ outline.size) bus_bytes))
+  page_response standing is k r there =
+      let inside = inside_of k r there in
+      let first = first_byte bus_bytes k outline told.width inside.1 in
+      let page = in_page bus_bytes address outline.size (k * min (2 ^ outline.size) bus_bytes) told.width told.small address_aligned first.0 in
+      told.response k r there
+      ∙ ap (λ s. read_response_on s (is_bad faults (address + k * min (2 ^ outline.size) bus_bytes))) (standing_of faults (address + k * min (2 ^ outline.size) bus_bytes) address page ∙ is)
+
+  byte_response : (standing : Standing) → standing_at faults address ≡ standing → (k x : ℕ) (r : RBeat) → slice_get reads k ≡ Some r → IsReadAt bus_bytes outline address k x
+      → r.resp ≡ read_response_on standing (is_bad faults x)
+  byte_response standing is k x r there read =
+      let inside = inside_of k r there in
+      page_response standing is k r there
+      ∙ ap (read_response_on standing) (bad_of faults (address + k * min (2 ^ outline.size) bus_bytes) x (one_word bus_bytes outline address k x told.width told.aligned told.same_byte inside.1 read))
+
+  pub tells_good : standing_at faults address ≡ IsGood → (k : ℕ) (r : RBeat) → slice_get reads k ≡ Some r → TellsOf bus_bytes outline address (shown_good faults m) k r
+  tells_good good k r there =
+      record {
+        inside = (inside_of k r there).0;
+        failed = λ slverr x y read same.
+            let response = byte_response IsGood good k x r there read in
+            let bad : is_bad faults x ≡ true = slverr_bad (is_bad faults x) (ap is_slverr (sym response) ∙ slverr) in
+            let bad_too : is_bad faults y ≡ true = bad_of faults y x same ∙ bad in
+            rw bad_too refl;
+        bytes = λ granted x read.
+            let response = byte_response IsGood good k x r there read in
+            let (fine, okay) = okay_fine (is_bad faults x) (ap is_slverr (sym response) ∙ granted) in
+            rw fine (ap (λ (byte : ℕ). Some byte) (sym (told.bytes k r there x (ap is_okay response ∙ okay) read)));
+      }
+
+  -- no answer denies, where the page is there and no write failed
+  pub granted : (standing : Standing) → standing_at faults address ≡ standing → (standing ≡ IsAbsent → ⊥) → (is_good standing ≡ false → responses ≡ []) → denies (answers_in_order reads responses) ≡ false
+  granted standing is there unwritten =
+      either_false (list_any (λ read. is_decerr read.1.resp) (enumerate_from 0 reads)) (list_any (λ resp. not (is_okay resp)) responses)
+      (none_denies reads 0 (λ k r here.
+      ap is_decerr (page_response standing is k r here)
+      ∙ never_decerr standing (is_bad faults (address + k * min (2 ^ outline.size) bus_bytes)) there))
+      (by_standing standing is unwritten)
+    where
+      by_standing : (s : Standing) → standing_at faults address ≡ s → (is_good s ≡ false → responses ≡ []) → list_any (λ resp. not (is_okay resp)) responses ≡ false
+      by_standing IsGood at none = all_okay (write_response (standing_at faults address)) responses (ap (λ (s : Standing). is_okay (write_response s)) at) told.responded
+      by_standing IsSlaveError at none = rw (none refl) refl
+      by_standing IsAbsent at none = rw (none refl) refl
+
+  -- the reply to a Get or an atomic whose page is there
+  reply_shown : (seen : ℕ → Option ℕ) → reply_has_data outline.operation ≡ true → length reads ≡ reads_of bus_bytes outline → denies (answers_in_order reads responses) ≡ false
+      → ((k : ℕ) (r : RBeat) → slice_get reads k ≡ Some r → TellsOf bus_bytes outline address seen k r)
+      → ◌≡◌ {A = Reply} (gathered outline (gathering_told bus_bytes outline reads responses)) (record { denied = false; bytes = bytes_seen seen address (2 ^ outline.size) })
+  reply_shown seen has whole fine tell =
+      gathered_seen bus_bytes outline address seen (answers_in_order reads responses) told.width
+      (have_answers bus_bytes outline address reads responses seen told.aligned told.same_byte whole fine tell)
+      ∙ rw has refl
+
+  -- it gives no byte, where each read fails
+  reply_none : reply_has_data outline.operation ≡ true → length reads ≡ reads_of bus_bytes outline → denies (answers_in_order reads responses) ≡ false
+      → ((k : ℕ) (r : RBeat) → slice_get reads k ≡ Some r → is_slverr r.resp ≡ true)
+      → gathered outline (gathering_told bus_bytes outline reads responses) ≡ no_byte_given (2 ^ outline.size)
+  reply_none has whole fine failed =
+      reply_shown shown_none has whole fine
+      (λ k r there. tells_none bus_bytes outline address k r (inside_of k r there).0 (failed k r there))
+      ∙ ap {B = Reply} (λ bytes. record { denied = false; bytes = bytes }) (none_shown address (2 ^ outline.size))
+
+  -- on an absent page the first read denies
+  pub reads_denied : standing_at faults address ≡ IsAbsent → reply_has_data outline.operation ≡ true → length reads ≡ reads_of bus_bytes outline
+      → (gathering_told bus_bytes outline reads responses).denied ≡ true
+  reads_denied absent has whole =
+      denied_by_answers bus_bytes outline (answers_in_order reads responses)
+      ∙ left_true (list_any (λ read. is_decerr read.1.resp) (enumerate_from 0 reads)) (list_any (λ resp. not (is_okay resp)) responses)
+      (one_denies reads 0 (rw (whole, has) (omega arith)) (λ r there. ap is_decerr (page_response IsAbsent absent 0 r there)))
+
+  reply_absent : standing_at faults address ≡ IsAbsent → reply_has_data outline.operation ≡ true → length reads ≡ reads_of bus_bytes outline
+      → ◌≡◌ {A = Reply} (gathered outline (gathering_told bus_bytes outline reads responses)) (record { denied = true; bytes = [] })
+  reply_absent absent has whole = no_bytes outline (gathering_told bus_bytes outline reads responses) (reads_denied absent has whole)
+
+  put_denied : is_okay (write_response (standing_at faults address)) ≡ false → 0 < length responses → (gathering_told bus_bytes outline reads responses).denied ≡ true
+  put_denied failed some =
+      denied_by_answers bus_bytes outline (answers_in_order reads responses)
+      ∙ right_true (list_any (λ read. is_decerr read.1.resp) (enumerate_from 0 reads)) (list_any (λ resp. not (is_okay resp)) responses)
+      (one_failed (write_response (standing_at faults address)) responses failed some told.responded)
+
+  not_denied : reply_has_data outline.operation ≡ false → list_any (λ resp. not (is_okay resp)) responses ≡ false → (gathering_told bus_bytes outline reads responses).denied ≡ false
+  not_denied none fine =
+      denied_by_answers bus_bytes outline (answers_in_order reads responses)
+      ∙ either_false (list_any (λ read. is_decerr read.1.resp) (enumerate_from 0 reads)) (list_any (λ resp. not (is_okay resp)) responses) no_read_denies fine
+    where
+      no_read_denies : list_any (λ read. is_decerr read.1.resp) (enumerate_from 0 reads) ≡ false
+      no_read_denies = rw (no_reads bus_bytes outline reads none told.few) refl
+
+  -- an atomic's word is bad as a whole, or not at all
+  bad_word : outline.size ≤ 3 → (x : ℕ) → address ≤ x → x < address + 2 ^ outline.size → is_bad faults x ≡ is_bad faults address
+  bad_word number x low high = bad_of faults x address (one_number address outline.size x number address_aligned low high)
+
+  pub number_failed : outline.size ≤ 3 → standing_at faults address ≡ IsGood → is_bad faults address ≡ true → (k : ℕ) (r : RBeat) → slice_get reads k ≡ Some r → is_slverr r.resp ≡ true
+  number_failed number at bad k r there =
+      let inside = inside_of k r there in
+      let first = first_byte bus_bytes k outline told.width inside.1 in
+      let here : is_bad faults (address + k * min (2 ^ outline.size) bus_bytes) ≡ true =
+      bad_word number (address + k * min (2 ^ outline.size) bus_bytes) (omega arith) (let within = first.0 in omega (arith)) ∙ bad in
+      ap is_slverr (page_response IsGood at k r there ∙ ap (read_response_on IsGood) here)
+
+  -- the bytes of a number that is shown
+  pub number_bytes : outline.size ≤ 3 → is_bad faults address ≡ false → bytes_seen (shown_good faults m) address (2 ^ outline.size) ≡ map (λ x. Some (m x)) (range_with_len address (2 ^ outline.size))
+  number_bytes number fine =
+      map_same (shown_good faults m) (λ x. Some (m x)) address (2 ^ outline.size)
+      (λ x low high.
+      let here : is_bad faults x ≡ false = bad_word number x low high ∙ fine in
+      rw here refl)
 
 -- the responses to writes are all OKAY, on a good page
 good_writes : (faults : Faults) (address : ℕ) (responses : List Resp) → standing_at faults address ≡ IsGood → All (λ resp. resp ≡ write_response (standing_at faults address)) responses
@@ -401,9 +380,7 @@ put_reply faults bus_bytes q PutPartial address m reads responses told all put I
     bare _ true (put_denied faults bus_bytes (outline_as q PutPartial) address m reads responses told (ap (λ (s : Standing). is_okay (write_response s)) at) (all.one_response refl))
 put_reply faults bus_bytes q PutPartial address m reads responses told all put IsAbsent at =
     bare _ true (put_denied faults bus_bytes (outline_as q PutPartial) address m reads responses told (ap (λ (s : Standing). is_okay (write_response s)) at) (all.one_response refl))
-put_reply faults bus_bytes q (Atomic op) address m reads responses told all put standing at = absurd (cc (put))
-put_reply faults bus_bytes q Get address m reads responses told all put standing at = absurd (cc (put))
-put_reply faults bus_bytes q (Intent write) address m reads responses told all put standing at = absurd (cc (put))
+put_reply faults bus_bytes q _ address m reads responses told all put standing at = absurd (cc (put))
 
 intent_reply : (faults : Faults) (bus_bytes : ℕ) (q : WholeRequest) (write : Bool) (address : ℕ) (m : Bytes) (reads : List RBeat) (responses : List Resp)
     → IsAnsweredAs faults bus_bytes (outline_as q (Intent write)) address m reads responses → HasAllAnswers faults bus_bytes (outline_as q (Intent write)) address reads responses
@@ -431,33 +408,9 @@ get_reply faults bus_bytes q address m reads responses told all IsSlaveError at 
     (granted faults bus_bytes (outline_as q Get) address m reads responses told IsSlaveError at slave_there (fine_writes faults address responses IsSlaveError at (all.others refl)))
     (λ k r there. ap is_slverr (page_response faults bus_bytes (outline_as q Get) address m reads responses told IsSlaveError at k r there))
 get_reply faults bus_bytes q address m reads responses told all IsGood at =
-    reply_shown faults bus_bytes (outline_as q Get) address m reads responses (shown_good faults m) told refl (all.all_reads refl)
+    reply_shown faults bus_bytes (outline_as q Get) address m reads responses told (shown_good faults m) refl (all.all_reads refl)
     (granted faults bus_bytes (outline_as q Get) address m reads responses told IsGood at good_there (fine_writes faults address responses IsGood at (all.others refl)))
     (tells_good faults bus_bytes (outline_as q Get) address m reads responses told at)
-
--- an atomic's word is bad as a whole, or not at all
-bad_word : (faults : Faults) (bus_bytes : ℕ) (outline : Outline) (address : ℕ) (m : Bytes) (reads : List RBeat) (responses : List Resp) → IsAnsweredAs faults bus_bytes outline address m reads responses
-    → outline.size ≤ 3 → (x : ℕ) → address ≤ x → x < address + 2 ^ outline.size → is_bad faults x ≡ is_bad faults address
-bad_word faults bus_bytes outline address m reads responses told number x low high =
-    bad_of faults x address (one_number address outline.size x number (address_aligned faults bus_bytes outline address m reads responses told) low high)
-
-pub number_failed : (faults : Faults) (bus_bytes : ℕ) (outline : Outline) (address : ℕ) (m : Bytes) (reads : List RBeat) (responses : List Resp) → IsAnsweredAs faults bus_bytes outline address m reads responses
-    → outline.size ≤ 3 → standing_at faults address ≡ IsGood → is_bad faults address ≡ true → (k : ℕ) (r : RBeat) → slice_get reads k ≡ Some r → is_slverr r.resp ≡ true
-number_failed faults bus_bytes outline address m reads responses told number at bad k r there =
-    let inside = inside_of faults bus_bytes outline address m reads responses told k r there in
-    let first = first_byte bus_bytes k outline told.width inside.1 in
-    let here : is_bad faults (address + k * min (2 ^ outline.size) bus_bytes) ≡ true =
-    bad_word faults bus_bytes outline address m reads responses told number (address + k * min (2 ^ outline.size) bus_bytes) (omega arith) (let within = first.0 in omega (arith)) ∙ bad in
-    ap is_slverr (page_response faults bus_bytes outline address m reads responses told IsGood at k r there ∙ ap (read_response_on IsGood) here)
-
--- the bytes of a number that is shown
-pub number_bytes : (faults : Faults) (bus_bytes : ℕ) (outline : Outline) (address : ℕ) (m : Bytes) (reads : List RBeat) (responses : List Resp) → IsAnsweredAs faults bus_bytes outline address m reads responses
-    → outline.size ≤ 3 → is_bad faults address ≡ false → bytes_seen (shown_good faults m) address (2 ^ outline.size) ≡ map (λ x. Some (m x)) (range_with_len address (2 ^ outline.size))
-number_bytes faults bus_bytes outline address m reads responses told number fine =
-    map_same (shown_good faults m) (λ x. Some (m x)) address (2 ^ outline.size)
-    (λ x low high.
-    let here : is_bad faults x ≡ false = bad_word faults bus_bytes outline address m reads responses told number x low high ∙ fine in
-    rw here refl)
 
 atomic_reply : (faults : Faults) (bus_bytes : ℕ) (q : WholeRequest) (op : AtomicOp) (address : ℕ) (m : Bytes) (reads : List RBeat) (responses : List Resp)
     → IsAnsweredAs faults bus_bytes (outline_as q (Atomic op)) address m reads responses → HasAllAnswers faults bus_bytes (outline_as q (Atomic op)) address reads responses → q.size ≤ 3
@@ -473,7 +426,7 @@ atomic_reply faults bus_bytes q op address m reads responses told all number IsG
     (granted faults bus_bytes (outline_as q (Atomic op)) address m reads responses told IsGood at good_there (fine_writes faults address responses IsGood at (all.others refl)))
     (number_failed faults bus_bytes (outline_as q (Atomic op)) address m reads responses told number at is)
 atomic_reply faults bus_bytes q op address m reads responses told all number IsGood at false is =
-    reply_shown faults bus_bytes (outline_as q (Atomic op)) address m reads responses (shown_good faults m) told refl (all.all_reads refl)
+    reply_shown faults bus_bytes (outline_as q (Atomic op)) address m reads responses told (shown_good faults m) refl (all.all_reads refl)
     (granted faults bus_bytes (outline_as q (Atomic op)) address m reads responses told IsGood at good_there (fine_writes faults address responses IsGood at (all.others refl)))
     (tells_good faults bus_bytes (outline_as q (Atomic op)) address m reads responses told at)
     ∙ ap {B = Reply} (λ bytes. record { denied = false; bytes = bytes })

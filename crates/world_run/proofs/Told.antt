@@ -1,7 +1,6 @@
 -- What a run's answers tell: one answer for each event, the numbers of the requests that were accepted, what their beats spell, and who
 -- took which reply. It knows the bridge; the memory plays no part.
-use Rattle.std.proofs.Common.{◌≡◌, ℕ, ◌<◌, suc, true, List, [], ◌∷◌, ◌++◌, map, length, Option, Some, None, option_to_list, refl, sym, subst, ap, ap₂, ◌∙◌}
-use Rattle.std.specs.Prelude.{zip}
+use Rattle.std.proofs.Common.{◌≡◌, ℕ, ◌<◌, suc, true, List, [], ◌∷◌, ◌++◌, map, length, Option, Some, None, option_to_list, refl, sym, subst, ap, ap₂, ◌∙◌, zip}
 use Rattle.std.specs.List.{AllByRecursion, cons_option, range_with_len}
 use Rattle.std.proofs.lemmas.Bool.{false≢true, leb-false}
 use Rattle.tl_messages.specs.Requests.{request_of}
@@ -18,7 +17,7 @@ use Rattle.world.specs.declared.Answer.TheVariants.{Accepted, Reply}
 use Rattle.world.specs.declared.Step.{Step}
 use Rattle.world.specs.declared.Step.TheVariants.{Offer, Take}
 use Rattle.world_run.proofs.AcceptedRequests.{IsHeard, accepted_at_step, heard_after, heard_at_first, heard_next, known_heard, message_at, messages_from-next, quiet_message, quiet_request, request_at, whole_heard}
-use Rattle.world.proofs.Events.{EachWay, IsAccepted, each_way}
+use Rattle.world.proofs.Events.{IsAccepted, each_way}
 
 -- ---- one answer for each event
 
@@ -87,7 +86,18 @@ pub numbered_along : (config : Config) (state : WorldState) (heard : Heard) (ste
     → accepted_numbers (answers_of state steps) ≡ range_with_len state.bridge.requests.accepted (length (requests_of (messages_along heard state steps)))
 numbered_along config state heard [] is = refl
 numbered_along config state heard (step ∷ steps) is =
-    each_way Goes state ways step (numbered_along config (next state step).state (heard_after heard step (next state step).answer) steps (heard_next config state heard step is))
+    each_way Goes state
+    (record {
+      quiet = λ event answer still rest. rw (quiet_request state.bridge event answer still) (quiet_numbers answer _ still ∙ rest);
+      begins = λ client beat taken rest. rest;
+      accepts = λ client beat accepted rest. ap (λ numbers. state.bridge.requests.accepted ∷ numbers) rest;
+      sends = λ sending sent rest. rest;
+      performs = λ serial beat memory done rest. rest;
+      gives_b = λ id b given rest. rest;
+      gives_r = λ id r given rest. rest;
+      hands_out = λ client request known first rest. rest;
+    })
+    step (numbered_along config (next state step).state (heard_after heard step (next state step).answer) steps (heard_next config state heard step is))
     ∙ ap (λ requests. range_with_len state.bridge.requests.accepted (length requests)) (sym (accepted_at_step config state.bridge heard step (next state step).answer _ is))
   where
     Goes : Step → Outcome → Type 0
@@ -97,19 +107,6 @@ numbered_along config state heard (step ∷ steps) is =
         → accepted_numbers (outcome.answer ∷ answers_of outcome.state steps)
         ≡ range_with_len state.bridge.requests.accepted
         (length (cons_option (request_at state.bridge event outcome.answer) (requests_of (messages_along (heard_after heard event outcome.answer) outcome.state steps))))
-
-    ways : EachWay Goes state
-    ways =
-        record {
-          quiet = λ event answer still rest. rw (quiet_request state.bridge event answer still) (quiet_numbers answer _ still ∙ rest);
-          begins = λ client beat taken rest. rest;
-          accepts = λ client beat accepted rest. ap (λ numbers. state.bridge.requests.accepted ∷ numbers) rest;
-          sends = λ sending sent rest. rest;
-          performs = λ serial beat memory done rest. rest;
-          gives_b = λ id b given rest. rest;
-          gives_r = λ id r given rest. rest;
-          hands_out = λ client request known first rest. rest;
-        }
 
 -- ---- what the beats of an accepted request spell
 
@@ -129,7 +126,18 @@ spelled_along setup state heard (step ∷ steps) is =
     let later = zip steps (answers_of (next state step).state steps) in
     subst (λ pairs. AllByRecursion (IsSpelled setup) pairs)
     (ap₂ zip (sym (messages_from-next heard step answer later)) (sym (accepted_at_step setup.config state.bridge heard step answer later is)))
-    (each_way Goes state ways step (spelled_along setup (next state step).state (heard_after heard step answer) steps (heard_next setup.config state heard step is)))
+    (each_way Goes state
+    (record {
+      quiet = λ event answer still rest. rw (quiet_request state.bridge event answer still, quiet_message heard event answer still) rest;
+      begins = λ client beat taken rest. rest;
+      accepts = λ client beat accepted rest. (spelled_at setup state heard client beat is accepted, rest);
+      sends = λ sending sent rest. rest;
+      performs = λ serial beat memory done rest. rest;
+      gives_b = λ id b given rest. rest;
+      gives_r = λ id r given rest. rest;
+      hands_out = λ client request known first rest. rest;
+    })
+    step (spelled_along setup (next state step).state (heard_after heard step answer) steps (heard_next setup.config state heard step is)))
   where
     Goes : Step → Outcome → Type 0
     Goes event outcome =
@@ -138,19 +146,6 @@ spelled_along setup state heard (step ∷ steps) is =
         → AllByRecursion (IsSpelled setup)
         (zip (cons_option (message_at heard event outcome.answer) (messages_along (heard_after heard event outcome.answer) outcome.state steps))
         (cons_option (request_at state.bridge event outcome.answer) (requests_of (messages_along (heard_after heard event outcome.answer) outcome.state steps))))
-
-    ways : EachWay Goes state
-    ways =
-        record {
-          quiet = λ event answer still rest. rw (quiet_request state.bridge event answer still, quiet_message heard event answer still) rest;
-          begins = λ client beat taken rest. rest;
-          accepts = λ client beat accepted rest. (spelled_at setup state heard client beat is accepted, rest);
-          sends = λ sending sent rest. rest;
-          performs = λ serial beat memory done rest. rest;
-          gives_b = λ id b given rest. rest;
-          gives_r = λ id r given rest. rest;
-          hands_out = λ client request known first rest. rest;
-        }
 
 -- ---- the fields of the main statement
 

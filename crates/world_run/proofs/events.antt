@@ -1,7 +1,2 @@
-pub mod OrderAnswerB
-pub mod OrderAnswerR
 pub mod OrderAnswers
-pub mod OrderOffer
-pub mod OrderPerform
-pub mod OrderPump
-pub mod OrderTake
+pub mod OrderRequests

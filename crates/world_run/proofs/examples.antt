@@ -1,4 +1,2 @@
 mod ExamplesOfMeaning
-mod ExamplesOfOneRun
 mod ExamplesOfRuns
-mod ExamplesOfStatements

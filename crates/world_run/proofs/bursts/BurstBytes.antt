@@ -1,9 +1,9 @@
--- What single bursts of a live request are to single bytes: their writes put what the request leaves, and their reads have told nothing
--- yet. It knows the piece and the message of one request as its burst is sent; the memory and all other requests are hidden.
-use Rattle.std.proofs.Common.{◌≡◌, ℕ, zero, suc, ◌+◌, ◌^◌, ◌<◌, ◌≤◌, nat_le, nat_lt, Bool, true, false, ◌&&◌, not, List, map, replicate, Option, Some, is_some, refl, ap, sym, ◌∙◌, subst, arith}
-use Rattle.std.specs.Prelude.{unwrap_or}
-use Rattle.std.specs.List.{range_with_len, slice_get}
-use Rattle.std.proofs.lemmas.Bool.{and_from, and_parts, le-leb, lt-ltb}
+-- What single bursts of a live request are to single bytes: their writes put what the request leaves, each byte by one transfer, their reads have
+-- told nothing yet, and once all its pieces are written it has written all. It knows the plan of one request, its bursts as they are sent and
+-- while they are open; what becomes of them, and all other requests, are hidden.
+use Rattle.std.specs.List.{range_with_len, slice_get, filter, find}
+use Rattle.std.proofs.Common.{◌≡◌, ℕ, zero, suc, ◌+◌, ◌^◌, ◌<◌, ◌≤◌, nat_le, nat_lt, Bool, true, false, ◌&&◌, not, List, map, replicate, Option, Some, is_some, refl, ap, sym, ◌∙◌, subst, arith, length, None, ◌||◌, [], ◌∷◌, drop, take, unwrap_or, option_map}
+use Rattle.std.proofs.lemmas.Bool.{and_from, and_parts, le-leb, lt-ltb, and_right, leb-true}
 use Rattle.std.proofs.lemmas.List.FromFn.{length-map-range_with_len, get_or-map-range_with_len}
 use Rattle.std.proofs.lemmas.Option.{get_or_from_slice_get, slice_get_within}
 use Rattle.bus_words.specs.Lanes.{given_at}
@@ -11,7 +11,7 @@ use Rattle.tl_messages.specs.Operations.{has_data, reply_has_data}
 use Rattle.tl_messages.specs.Requests.{WholeRequest, request_of}
 use Rattle.tl_messages.specs.declared.AtomicOp.{AtomicOp}
 use Rattle.tl_messages.specs.declared.Operation.{Operation}
-use Rattle.tl_messages.specs.declared.Operation.TheVariants.{PutFull, PutPartial, Atomic, Get, Intent}
+use Rattle.tl_messages.specs.declared.Operation.TheVariants.{PutFull, PutPartial, Atomic, Intent}
 use Rattle.axi_beats.specs.Transfers.{transfer_has}
 use Rattle.axi_beats.specs.declared.Resp.{Resp}
 use Rattle.axi_beats.specs.declared.WBeat.{WBeat}
@@ -19,30 +19,34 @@ use Rattle.data_unit.specs.Words.{value}
 use Rattle.burst_plan.specs.PageMap.{IsPageMap}
 use Rattle.burst_plan.specs.Pieces.{IsPlannable, PlannedRange, pieces}
 use Rattle.burst_plan.specs.PlannedBursts.{PutsBytes, w_beat}
-use Rattle.burst_plan.specs.PlannedTransfers.{HasAddress}
+use Rattle.burst_plan.specs.PlannedTransfers.{HasAddress, HoldsEachByteOnce, piece_of, transfer_of}
 use Rattle.burst_plan.specs.declared.Piece.{Piece}
 use Rattle.burst_plan.specs.declared.Region.{Region}
 use Rattle.burst_plan.proofs.TransferPlaces.{holds_each_byte_once}
 use Rattle.burst_plan.proofs.WriteLaws.{puts_given_bytes}
-use Rattle.flight_table.specs.LiveRequests.{LiveRequest, is_atomic, next_burst, plan_for, planned}
-use Rattle.flight_table.proofs.PhaseLaws.{write_at}
+use Rattle.flight_table.specs.LiveRequests.{LiveRequest, is_atomic, next_burst, plan_for, planned, write_pieces, pieces_planned}
+use Rattle.flight_table.proofs.PhaseLaws.{write_at, write_planned, piece_planned}
 use Rattle.bridge_core.specs.Configs.{is_valid}
-use Rattle.bridge_core.specs.Laws.{IsServed}
-use Rattle.bridge_core.specs.Requests.{BridgedRequest, address_of, range_at, range_of, value_found}
+use Rattle.bridge_core.specs.Laws.{IsServed, outstanding}
+use Rattle.bridge_core.specs.Requests.{BridgedRequest, address_of, range_at, range_of, value_found, RequestTable, holder, holds, is_numbered}
 use Rattle.bridge_core.specs.Sending.{burst_of_piece, bytes_to_write}
 use Rattle.bridge_core.specs.declared.Config.{Config}
 use Rattle.bridge_core.proofs.NextSending.{map_some}
 use Rattle.bridge_core.proofs.ReadCounts.{planned_range}
 use Rattle.bridge_core.proofs.SentBursts.{IsListed, piece_of_plan, plannable, written_are_bytes}
 use Rattle.bridge_core.proofs.ServedRequests.{atomic_both}
-use Rattle.subordinate.specs.Faults.{is_bad, is_good, standing_at}
-use Rattle.subordinate.specs.FreeMemory.{is_waiting, newly_pending}
+use Rattle.bridge_core.proofs.AnswerLinks.{IsHolder, holder_known}
+use Rattle.bridge_core.proofs.SentLinks.{found_by_number}
+use Rattle.subordinate.specs.Faults.{is_bad, is_good, standing_at, Faults}
+use Rattle.subordinate.specs.FreeMemory.{is_waiting, newly_pending, Pending}
 use Rattle.subordinate.specs.declared.BeatState.{BeatState}
 use Rattle.subordinate.specs.declared.BeatState.TheVariants.{Captured, Waiting}
-use Rattle.world_run.specs.InOrder.{IsBurstOf, IsReadOf, IsWriteOf, PutsSerially}
+use Rattle.world.specs.Laws.{IsSoundWorld}
+use Rattle.world.specs.World.{WorldState}
+use Rattle.world_run.specs.InOrder.{IsBurstOf, IsReadOf, IsWriteOf, PutsSerially, IsInOrder, AreBurstsOf, AreOfHolder, finished, has_begun, is_of_id, is_over, started}
 use Rattle.world_run.specs.Meaning.{bytes_at}
-use Rattle.world_run.specs.Serial.{Order, asked, byte_left, bytes_before, covers, gives_byte, is_intent, touches, touches_byte, touches_from, writes}
-use Rattle.world_run.proofs.BytesLeft.{FindsSerially, byte_left_is, gives_what_is_left, gives_where_written, gives_within, same_standing, writes_is}
+use Rattle.world_run.specs.Serial.{Order, asked, byte_left, bytes_before, covers, gives_byte, is_intent, touches, touches_byte, touches_from, writes, writes_byte, writes_from}
+use Rattle.world_run.proofs.BytesLeft.{FindsSerially, byte_left_is, gives_what_is_left, gives_where_written, gives_within, same_standing, writes_is, writes_nowhere}
 
 -- ---- the range of a live request
 
@@ -96,11 +100,8 @@ pub transfer_inside : (config : Config) (regions : List Region) (request : Bridg
 transfer_inside config regions request range piece n x at (k, listed) one last has = ((holds_each_byte_once range at.plannable).back k n x piece listed one last has).0
 
 not_intent : (operation : Operation) (plan : Option PlannedRange) (range : PlannedRange) → plan_for operation plan ≡ Some range → not (is_intent operation) ≡ true
-not_intent PutFull plan range is = refl
-not_intent PutPartial plan range is = refl
-not_intent (Atomic op) plan range is = refl
-not_intent Get plan range is = refl
 not_intent (Intent write) plan range is = absurd (cc (is))
+not_intent _ plan range is = refl
 
 -- and these are the bytes that the request touches
 pub range_touched : (order : Order) (config : Config) (request : BridgedRequest) (range : PlannedRange) (x : ℕ) → IsServed config order.regions request → IsPlannedAt config order.regions request range
@@ -252,3 +253,230 @@ burst_of_next order config wrote serial id request range true piece valid pages 
     (burst_of_write order config wrote serial id request range piece valid pages served is_asked live plan next (λ atomic. finds atomic refl) (none refl))
 burst_of_next order config wrote serial id request range false piece valid pages served is_asked live plan next finds none =
     burst_of_read order config.axi_bytes request.flight.number serial id request range piece
+
+-- ---- requests that write nothing
+
+without_data : (faults : Faults) (q : WholeRequest) (address x : ℕ) (operation : Operation) → has_data operation ≡ false → gives_byte faults q address operation x ≡ false
+without_data faults q address x PutFull none = absurd (cc (none))
+without_data faults q address x PutPartial none = absurd (cc (none))
+without_data faults q address x (Atomic op) none = absurd (cc (none, (and_parts (reply_has_data (Atomic op)) (has_data (Atomic op)) (atomic_both (Atomic op) refl)).1))
+without_data faults q address x _ none = refl
+
+-- a Get or an Intent writes nothing
+pub no_data_written : (order : Order) (number : ℕ) (q : WholeRequest) (x : ℕ) → asked order number ≡ Some q → has_data q.operation ≡ false → writes order number x ≡ false
+no_data_written order number q x is_asked none = ap (λ (o : Option WholeRequest). writes_byte order o x) is_asked ∙ by_address (address_of order.regions q)
+  where
+    by_address : (place : Option ℕ) → writes_from order.faults q place x ≡ false
+    by_address None = refl
+    by_address (Some address) = and_right (is_good (standing_at order.faults address)) (gives_byte order.faults q address q.operation x) (without_data order.faults q address x q.operation none)
+
+none_mapped : {A B : Type 0} (f : A → B) (o : Option A) → option_map f o ≡ None → o ≡ None
+none_mapped f None none = refl
+none_mapped f (Some x) none = absurd (cc (none))
+
+-- a request without a plan writes nothing: it has no AXI address, or is an Intent
+pub nothing_written : (order : Order) (config : Config) (request : BridgedRequest) (x : ℕ) → IsServed config order.regions request → asked order request.flight.number ≡ Some (request_of request.message)
+    → request.flight.plan ≡ None → writes order request.flight.number x ≡ false
+nothing_written order config request x served is_asked none = by_operation request.message.operation refl (sym served.flight.plan ∙ none)
+  where
+    q : WholeRequest
+    q = request_of request.message
+
+    nowhere : range_of config order.regions q ≡ None → writes order request.flight.number x ≡ false
+    nowhere no_range = writes_nowhere order request.flight.number q x is_asked (none_mapped (range_at config q) (address_of order.regions q) no_range)
+
+    by_operation : (operation : Operation) → request.message.operation ≡ operation → plan_for operation (range_of config order.regions q) ≡ None → writes order request.flight.number x ≡ false
+    by_operation (Intent write) is no_plan = no_data_written order request.flight.number q x is_asked (ap has_data is)
+    by_operation _ is no_plan = nowhere no_plan
+
+-- ---- where all pieces are written
+
+pub all_pieces_written : (order : Order) (number : ℕ) (range : PlannedRange) (wrote : ℕ → ℕ → Bool) → HoldsEachByteOnce range
+    → ((k n x : ℕ) (piece : Piece) → slice_get (pieces range) k ≡ Some piece → 1 ≤ n → n ≤ piece.len + 1 → transfer_has piece.address piece.size n x ≡ true → writes order number x ≡ true → wrote number x ≡ true)
+    → ((x : ℕ) → writes order number x ≡ true → HasAddress range x) → (x : ℕ) → writes order number x ≡ true → wrote number x ≡ true
+all_pieces_written order number range wrote once each inside x written =
+    let held = once.held x (inside x written) in
+    each (piece_of range x) (transfer_of range x) x held.piece held.listed held.first held.last held.holds written
+
+-- an atomic writes only where its word isn't bad
+atomic_fine : (faults : Faults) (q : WholeRequest) (address x : ℕ) (operation : Operation) → (reply_has_data operation && has_data operation) ≡ true → gives_byte faults q address operation x ≡ true → is_bad faults address ≡ false
+atomic_fine faults q address x (Atomic op) atomic gives = grind (arith, gives)
+atomic_fine faults q address x _ atomic gives = absurd (cc (atomic))
+
+-- an atomic that is done and only read found no old value, so it writes nothing
+failed_atomic : (order : Order) (config : Config) (request : BridgedRequest) (range : PlannedRange) (x : ℕ) → IsPlannedAt config order.regions request range → IsServed config order.regions request
+    → asked order request.flight.number ≡ Some (request_of request.message) → is_atomic request.flight ≡ true → request.flight.writing ≡ false → request.flight.done ≡ true
+    → FindsSerially order request range.address → writes order request.flight.number x ≡ true → ⊥
+failed_atomic order config request range x at served is_asked atomic isnt over finds written =
+    let q = request_of request.message in
+    let place = writes_is order request.flight.number q range.address x is_asked at.address in
+    let both = and_parts (is_good (standing_at order.faults range.address)) (gives_byte order.faults q range.address q.operation x) (sym place ∙ written) in
+    let is_number = ap (λ (o : Operation). reply_has_data o && has_data o) (sym served.flight.operation) ∙ atomic in
+    let found = finds.found both.0 (atomic_fine order.faults q range.address x q.operation is_number both.1) in
+    absurd (cc (found, served.failed atomic isnt over))
+
+-- a live request that is done has written all that it writes: its planned writes are all answered
+pub all_written_done : (order : Order) (config : Config) (bus_bytes : ℕ) (wrote : ℕ → ℕ → Bool) (request : BridgedRequest) → is_valid config ≡ true → IsPageMap order.regions
+    → IsServed config order.regions request → IsInOrder order bus_bytes wrote request → request.flight.done ≡ true
+    → (request.flight.writing ≡ false → reply_has_data request.flight.operation ≡ true)
+    → ((range : PlannedRange) → request.flight.plan ≡ Some range → is_atomic request.flight ≡ true → request.flight.writing ≡ false → FindsSerially order request range.address)
+    → (x : ℕ) → writes order request.flight.number x ≡ true → wrote request.flight.number x ≡ true
+all_written_done order config bus_bytes wrote request valid pages served of is_done reads finds x written = by_plan request.flight.plan refl
+  where
+    settled : length (planned request.flight) ≤ request.flight.answered
+    settled = leb-true (length (planned request.flight)) request.flight.answered (sym served.done ∙ is_done)
+
+    whole : (range : PlannedRange) → IsPlannedAt config order.regions request range → request.flight.writing ≡ true → write_pieces request.flight ≡ pieces range → wrote request.flight.number x ≡ true
+    whole range at writing all =
+        all_pieces_written order request.flight.number range wrote (holds_each_byte_once range at.plannable)
+        (λ k n y piece listed first last has there.
+        let burst = write_planned request.flight k piece writing (ap (λ (parts : List Piece). slice_get parts k) all ∙ listed) in
+        of.written k n y piece (omega (arith, slice_get_within (planned request.flight) k (true, piece) burst, settled)) burst first last has there)
+        (λ y there. (writes_in_range order config request range y at of.asked there).inside) x written
+
+    by_writes : (range : PlannedRange) → request.flight.plan ≡ Some range → IsPlannedAt config order.regions request range → (carried writing : Bool) → has_data request.flight.operation ≡ carried
+        → request.flight.writing ≡ writing → wrote request.flight.number x ≡ true
+    by_writes range plan at true true carries writing = whole range at writing (rw (carries, plan) refl)
+    by_writes range plan at true false carries isnt =
+        let atomic : is_atomic request.flight ≡ true = rw (reads isnt, carries) refl in
+        absurd (failed_atomic order config request range x at served of.asked atomic isnt is_done (finds range plan atomic isnt) written)
+    by_writes range plan at false writing none is =
+        absurd (cc (written, no_data_written order request.flight.number (request_of request.message) x of.asked (ap has_data (sym served.flight.operation) ∙ none)))
+
+    by_plan : (plan : Option PlannedRange) → request.flight.plan ≡ plan → wrote request.flight.number x ≡ true
+    by_plan None none = absurd (cc (written, nothing_written order config request x served of.asked none))
+    by_plan (Some range) plan =
+        by_writes range plan (planned_at config order.regions request range valid pages served plan) (has_data request.flight.operation) request.flight.writing refl refl
+
+-- ---- a planned write is a piece of the plan, at its place
+
+write_listed : (flight : LiveRequest) (range : PlannedRange) (k : ℕ) (piece : Piece) → flight.plan ≡ Some range → slice_get (planned flight) k ≡ Some (true, piece) → slice_get (pieces range) k ≡ Some piece
+write_listed flight range k piece plan there = ap (λ (p : Option PlannedRange). slice_get (pieces_planned p) k) (sym plan) ∙ piece_planned flight k true piece there
+
+-- ---- each byte is held by one of them
+
+pub same_transfer : (flight : LiveRequest) (range : PlannedRange) (k j n m x : ℕ) (piece other : Piece) → IsPlannable range → flight.plan ≡ Some range → slice_get (planned flight) k ≡ Some (true, piece)
+    → slice_get (planned flight) j ≡ Some (true, other) → 1 ≤ n → n ≤ piece.len + 1 → 1 ≤ m → m ≤ other.len + 1 → transfer_has piece.address piece.size n x ≡ true
+    → transfer_has other.address other.size m x ≡ true → (k ≡ j) × (n ≡ m)
+same_transfer flight range k j n m x piece other plannable plan there here first last first' last' has has' =
+    let once = holds_each_byte_once range plannable in
+    let one = once.back k n x piece (write_listed flight range k piece plan there) first last has in
+    let two = once.back j m x other (write_listed flight range j other plan here) first' last' has' in
+    (omega (arith, one.1, two.1), sym one.2 ∙ two.2)
+
+-- ---- the holder of an ID with open bursts
+
+-- a live request holds the ID, and the open bursts of the ID are its outstanding ones
+pub record HasOpen (order : Order) (state : WorldState) (wrote : ℕ → ℕ → Bool) (id : ℕ) : Type 0 where
+  pub request : BridgedRequest
+  pub known : IsHolder state.bridge.requests id request
+  pub are : AreBurstsOf order state.memory.bus_bytes wrote request.flight.number (filter (is_of_id id) state.memory.pending) (outstanding request.flight)
+
+pub has_open : (order : Order) (state : WorldState) (wrote : ℕ → ℕ → Bool) (id : ℕ) (test : Pending → Bool) (pending : Pending) → IsSoundWorld state
+    → AreOfHolder order state.memory.bus_bytes wrote (filter (is_of_id id) state.memory.pending) (holder id state.bridge.requests.live)
+    → find test (filter (is_of_id id) state.memory.pending) ≡ Some pending → HasOpen order state wrote id
+has_open order state wrote id test pending sound are found = by_holder (holder id state.bridge.requests.live) refl are
+  where
+    by_holder : (held : Option BridgedRequest) → holder id state.bridge.requests.live ≡ held → AreOfHolder order state.memory.bus_bytes wrote (filter (is_of_id id) state.memory.pending) held
+        → HasOpen order state wrote id
+    by_holder None is nothing =
+        let none : find test (filter (is_of_id id) state.memory.pending) ≡ None = ap (find test) nothing in
+        absurd (cc (none, found))
+    by_holder (Some request) is these = record { request = request; known = holder_known state.bridge.requests id request sound.bridge_laws.requests is; are = these }
+
+-- ---- a part of a list
+
+taken_at : {X : Type 0} (xs : List X) (to k : ℕ) (x : X) → slice_get (take to xs) k ≡ Some x → (slice_get xs k ≡ Some x) × (k < to)
+taken_at [] zero k x there = absurd (cc (there))
+taken_at [] (suc to) k x there = absurd (cc (there))
+taken_at (y ∷ ys) zero k x there = absurd (cc (there))
+taken_at (y ∷ ys) (suc to) zero x there = (there, omega arith)
+taken_at (y ∷ ys) (suc to) (suc k) x there =
+    let rest = taken_at ys to k x there in
+    (rest.0, omega (arith, rest.1))
+
+dropped_at : {X : Type 0} (xs : List X) (from k : ℕ) (x : X) → slice_get (drop from xs) k ≡ Some x → slice_get xs (k + from) ≡ Some x
+dropped_at [] zero k x there = absurd (cc (there))
+dropped_at [] (suc from) k x there = absurd (cc (there))
+dropped_at (y ∷ ys) zero k x there = let same : k + 0 ≡ k = omega arith in rw same there
+dropped_at (y ∷ ys) (suc from) k x there = let next : k + suc from ≡ suc (k + from) = omega arith in rw next (dropped_at ys from k x there)
+
+pub part_at : {X : Type 0} (xs : List X) (from to k : ℕ) (x : X) → slice_get (drop from (take to xs)) k ≡ Some x → (slice_get xs (k + from) ≡ Some x) × (k + from < to)
+part_at xs from to k x there = taken_at xs to (k + from) x (dropped_at (take to xs) from k x there)
+
+-- ---- a request with an outstanding burst
+
+pub record IsGoingOn (order : Order) (table : RequestTable) (request : BridgedRequest) (burst : Bool × Piece) : Type 0 where
+  pub place : ℕ
+  pub unanswered : request.flight.answered ≤ place
+  pub sent : place < request.flight.sent
+  pub planned : slice_get (planned request.flight) place ≡ Some burst
+  pub range : PlannedRange
+  pub plan : request.flight.plan ≡ Some range
+  pub listed : IsListed (pieces range) burst.1
+  pub at : IsPlannedAt table.config order.regions request range
+  pub pages : IsPageMap order.regions
+  pub served : IsServed table.config order.regions request
+  pub started : started table request.flight.number ≡ true
+  pub unfinished : finished table request.flight.number ≡ false
+
+record HasRange (flight : LiveRequest) : Type 0 where
+  range : PlannedRange
+  is : flight.plan ≡ Some range
+
+has_range : (flight : LiveRequest) → (flight.plan ≡ None → flight.done ≡ true) → flight.done ≡ false → HasRange flight
+has_range flight no_plan undone = by_plan flight.plan refl
+  where
+    by_plan : (plan : Option PlannedRange) → flight.plan ≡ plan → HasRange flight
+    by_plan None is = absurd (cc (no_plan is, undone))
+    by_plan (Some range) is = record { range = range; is = is }
+
+begun : (own : Option ℕ) (id : ℕ) (done : Bool) → own ≡ Some id → (is_some own || done) ≡ true
+begun own id done is = rw is refl
+
+pub going_on : (order : Order) (state : WorldState) (id : ℕ) (request : BridgedRequest) (k : ℕ) (burst : Bool × Piece) → IsSoundWorld state → state.bridge.requests.regions ≡ order.regions
+    → IsHolder state.bridge.requests id request → slice_get (outstanding request.flight) k ≡ Some burst → IsGoingOn order state.bridge.requests request burst
+going_on order state id request k burst sound regions known there =
+    let table = state.bridge.requests in
+    let (at_place, before) = part_at (planned request.flight) request.flight.answered request.flight.sent k burst there in
+    let plan = has_range request.flight known.sound.no_plan known.live in
+    let served = subst (λ (map : List Region). IsServed table.config map request) regions known.served in
+    let pages = subst IsPageMap regions known.served.pages in
+    record {
+      place = k + request.flight.answered;
+      unanswered = omega arith;
+      sent = before;
+      planned = at_place;
+      range = plan.range;
+      plan = plan.is;
+      listed = piece_of_planned request.flight plan.range (k + request.flight.answered) burst.0 burst.1 plan.is at_place;
+      at = planned_at table.config order.regions request plan.range sound.bridge_laws.requests.config pages served plan.is;
+      pages = pages;
+      served = served;
+      started = ap (λ (found : Option BridgedRequest). nat_lt request.flight.number table.accepted && has_begun found) by_number ∙ both known.sound.number (begun request.flight.id id request.flight.done known.has_id);
+      unfinished = ap (λ (found : Option BridgedRequest). nat_lt request.flight.number table.accepted && is_over found) by_number ∙ neither known.live;
+    }
+  where
+    by_number : find (is_numbered request.flight.number) state.bridge.requests.live ≡ Some request
+    by_number = found_by_number (holds id) state.bridge.requests.live request sound.bridge_laws.requests.flights.rising known.held
+
+    both : request.flight.number < state.bridge.requests.accepted → (is_some request.flight.id || request.flight.done) ≡ true
+        → (nat_lt request.flight.number state.bridge.requests.accepted && (is_some request.flight.id || request.flight.done)) ≡ true
+    both below has = rw (lt-ltb request.flight.number state.bridge.requests.accepted below, has) refl
+
+    neither : request.flight.done ≡ false → (nat_lt request.flight.number state.bridge.requests.accepted && request.flight.done) ≡ false
+    neither undone = grind (arith, undone)
+
+-- its place is counted through the bursts of its phase
+pub going_on-place : (order : Order) (state : WorldState) (id : ℕ) (request : BridgedRequest) (k : ℕ) (burst : Bool × Piece) (sound : IsSoundWorld state) (regions : state.bridge.requests.regions ≡ order.regions)
+    (known : IsHolder state.bridge.requests id request) (there : slice_get (outstanding request.flight) k ≡ Some burst) → (going_on order state id request k burst sound regions known there).place ≡ k + request.flight.answered
+unfolding going_on
+going_on-place order state id request k burst sound regions known there = refl
+
+-- the bytes of a burst's transfers are bytes that its request touches
+pub transfer_touches : (order : Order) (table : RequestTable) (request : BridgedRequest) (burst : Bool × Piece) (n x : ℕ) → IsGoingOn order table request burst
+    → asked order request.flight.number ≡ Some (request_of request.message) → 1 ≤ n → n ≤ burst.1.len + 1 → transfer_has burst.1.address burst.1.size n x ≡ true
+    → touches order request.flight.number x ≡ true
+transfer_touches order table request burst n x going is_asked first last has =
+    range_touched order table.config request going.range x going.served going.at is_asked going.plan
+    (transfer_inside table.config order.regions request going.range burst.1 n x going.at going.listed first last has)

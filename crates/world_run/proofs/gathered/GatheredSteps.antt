@@ -1,8 +1,7 @@
--- What a live request gathers stays what serial execution says: of a new one, of one that sent a burst, and of one whose burst was
--- answered. It knows one request and how its counts move; the answers themselves are hidden.
-use Rattle.std.proofs.Common.{◌≡◌, ℕ, zero, suc, ◌+◌, ◌<◌, ◌⊎◌, min, Bool, true, false, not, ◌&&◌, List, [], ◌∷◌, ◌++◌, length, Option, Some, None, is_some, if◌then◌else◌, refl, sym, subst, ◌∙◌, ap, arith, inl, inr, length-append}
-use Rattle.std.specs.Prelude.{slice_get}
+-- What a live request gathers stays what serial execution says: of a new one, of one that sent a burst, of one whose burst was answered, and of
+-- one that is settled after it. It knows one request and how its counts move; the answers themselves are hidden.
 use Rattle.std.specs.List.{enumerate_from}
+use Rattle.std.proofs.Common.{◌≡◌, ℕ, zero, suc, ◌+◌, ◌<◌, ◌⊎◌, min, Bool, true, false, not, ◌&&◌, List, [], ◌∷◌, ◌++◌, length, Option, Some, None, is_some, if◌then◌else◌, refl, sym, subst, ◌∙◌, ap, arith, inl, inr, length-append, ◌≤◌, slice_get}
 use Rattle.std.proofs.lemmas.List.Elements.{All-nil, All-push}
 use Rattle.std.proofs.lemmas.Bool.{and_parts}
 use Rattle.std.proofs.lemmas.Option.{same_Some}
@@ -11,22 +10,21 @@ use Rattle.tl_messages.specs.Requests.{HeldMessage, request_of}
 use Rattle.axi_beats.specs.Responses.{is_okay}
 use Rattle.axi_beats.specs.declared.RBeat.{RBeat}
 use Rattle.axi_beats.specs.declared.Resp.{Resp}
-use Rattle.flight_table.specs.LiveRequests.{finished, is_settled, with_answered, with_write}
+use Rattle.axi_beats.specs.Transfers.{transfer_has}
+use Rattle.burst_plan.specs.declared.Piece.{Piece}
 use Rattle.responses.specs.Answers.{after_reads, after_writes, gathering_after}
 use Rattle.responses.specs.Gathered.{Gathering, after_b, after_r, gathering_of, reads_of}
 use Rattle.responses.specs.declared.gather.Outline.{Outline}
+use Rattle.flight_table.specs.LiveRequests.{finished, is_settled, with_answered, with_write, planned}
 use Rattle.bridge_core.specs.Requests.{BridgedRequest, RequestTable, address_of, after_sending, newly_live, outline_in, settled, value_found}
 use Rattle.bridge_core.proofs.ResponseLinks.{not_so}
 use Rattle.bridge_core.proofs.ServedRequests.{atomic_first}
 use Rattle.subordinate.specs.Faults.{read_response, standing_at, write_response}
-use Rattle.world_run.specs.InOrder.{HasGathered, IsGathered, TellsAt}
-use Rattle.world_run.specs.Serial.{Order}
+use Rattle.world.proofs.Settled.{settled_has, settled_message, settled_number}
+use Rattle.world_run.specs.InOrder.{HasGathered, IsGathered, TellsAt, IsInOrder}
+use Rattle.world_run.specs.Serial.{Order, asked, writes}
 
 -- ---- a new request
-
-none_yet : (writing : Bool) → ◌≡◌ {A = ℕ} 0 (if writing then 0 else 0)
-none_yet true = refl
-none_yet false = refl
 
 nothing_told : (order : Order) (table : RequestTable) (bus_bytes : ℕ) (message : HeldMessage) (place : Option ℕ) → address_of table.regions (request_of message) ≡ place
     → IsGathered order bus_bytes (newly_live table message) place
@@ -37,7 +35,7 @@ nothing_told order table bus_bytes message (Some address) at =
       responses = [];
       gathered = rw at refl;
       came = refl;
-      answered = none_yet (not (reply_has_data message.operation));
+      answered = grind arith;
       tell = λ place r there. absurd (cc (there));
       responded = All-nil (λ (resp : Resp). resp ≡ write_response (standing_at order.faults address));
       readable = λ atomic writing. absurd (atomic_first (reply_has_data message.operation) (has_data message.operation) atomic writing);
@@ -223,4 +221,42 @@ response_told order bus_bytes request address resp writes is told =
       tell = λ place r there. let t = told.tell place r there in record { response = t.response; bytes = t.bytes };
       responded = All-push (λ (other : Resp). other ≡ write_response (standing_at order.faults address)) told.responses resp told.responded is;
       readable = told.readable;
+    }
+
+-- ---- it is in order
+
+-- what its answered writes put is written
+abbrev pub HasWritten : Order → (ℕ → ℕ → Bool) → BridgedRequest → Type 0
+HasWritten order wrote request =
+    (k n x : ℕ) (piece : Piece) → k < request.flight.answered → slice_get (planned request.flight) k ≡ Some (true, piece) → 1 ≤ n → n ≤ piece.len + 1
+    → transfer_has piece.address piece.size n x ≡ true → writes order request.flight.number x ≡ true → wrote request.flight.number x ≡ true
+
+abbrev pub IsUnwritten : (ℕ → ℕ → Bool) → BridgedRequest → Type 0
+IsUnwritten wrote request = request.flight.writing ≡ false → (x : ℕ) → wrote request.flight.number x ≡ false
+
+settled_written : (order : Order) (wrote : ℕ → ℕ → Bool) (request : BridgedRequest) → HasWritten order wrote request → HasWritten order wrote (settled request)
+settled_written order wrote request written = settled_has (HasWritten order wrote) request written (λ reads k n x piece below. absurd (omega (arith, below))) written
+
+settled_unwritten : (wrote : ℕ → ℕ → Bool) (request : BridgedRequest) → IsUnwritten wrote request → IsUnwritten wrote (settled request)
+settled_unwritten wrote request none = settled_has (IsUnwritten wrote) request none (λ reads isnt x. absurd (cc (isnt))) none
+
+-- of a write that isn't sent nothing is written
+abbrev pub IsUnsent : (ℕ → ℕ → Bool) → BridgedRequest → Type 0
+IsUnsent wrote request =
+    (k n x : ℕ) (piece : Piece) → request.flight.sent ≤ k → slice_get (planned request.flight) k ≡ Some (true, piece) → n ≤ piece.len
+    → transfer_has piece.address piece.size (n + 1) x ≡ true → wrote request.flight.number x ≡ false
+
+-- nor of one that an atomic plans now
+settled_unsent : (wrote : ℕ → ℕ → Bool) (request : BridgedRequest) → IsUnwritten wrote request → IsUnsent wrote request → IsUnsent wrote (settled request)
+settled_unsent wrote request none unsent = settled_has (IsUnsent wrote) request unsent (λ reads k n x piece past there within has. none reads x) unsent
+
+pub settled_in_order : (order : Order) (bus_bytes : ℕ) (wrote : ℕ → ℕ → Bool) (request : BridgedRequest) → asked order request.flight.number ≡ Some (request_of request.message) → IsUnwritten wrote request → IsUnsent wrote request → HasWritten order wrote request
+    → IsGathered order bus_bytes (settled request) (address_of order.regions (request_of request.message)) → IsInOrder order bus_bytes wrote (settled request)
+settled_in_order order bus_bytes wrote request is_asked none unsent written told =
+    record {
+      asked = ap (asked order) (settled_number request) ∙ is_asked ∙ ap (λ m. Some (request_of m)) (sym (settled_message request));
+      unwritten = settled_unwritten wrote request none;
+      unsent = settled_unsent wrote request none unsent;
+      written = settled_written order wrote request written;
+      gathered = subst (λ m. IsGathered order bus_bytes (settled request) (address_of order.regions (request_of m))) (sym (settled_message request)) told;
     }

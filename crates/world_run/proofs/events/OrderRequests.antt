@@ -1,0 +1,529 @@
+-- What the other events do keeps the order. A request that is accepted has sent, written and gathered nothing; one whose reply is taken is done,
+-- so that it has no open burst; a burst that is sent is one more of its request, under the ID that this holds; a beat that is performed stores
+-- what its request leaves, or captures what it finds. It knows the request that each is of; what bursts do to single bytes is hidden.
+use Rattle.std.specs.List.{filter, find, AllByRecursion, slice_get}
+use Rattle.std.proofs.Common.{◌≡◌, ◌≢◌, ℕ, ◌+◌, nat_lt, Bool, true, false, ◌&&◌, [], ◌∷◌, ◌++◌, Option, Some, refl, ap, sym, ◌∙◌, arith, inl, inr, ◌⊎◌, ◌==◌, ◌||◌, None, is_some, List, subst, ◌≤◌, unwrap_or, IfSome}
+use Rattle.std.proofs.lemmas.Bool.{cases_Bool, cases_eq, ne_eqb, and_parts, eq-eqb, eqb-true, and_right}
+use Rattle.std.proofs.lemmas.Bool.Decides.{nat_tests}
+use Rattle.std.proofs.lemmas.List.{append-nil}
+use Rattle.std.proofs.lemmas.List.Elements.{filter-append}
+use Rattle.bus_words.specs.Places.{change_first}
+use Rattle.bus_words.proofs.PlaceChanges.{all-append, all-without_first, all-find, find-passes}
+use Rattle.tl_messages.specs.Requests.{HeldMessage, request_of}
+use Rattle.tl_messages.specs.declared.ABeat.{ABeat}
+use Rattle.axi_beats.specs.Bursts.{Burst, ReadBurst, WriteBurst}
+use Rattle.axi_beats.specs.Transfers.{transfer_has}
+use Rattle.axi_checker.specs.Rules.{id_of}
+use Rattle.burst_plan.specs.Pieces.{PlannedRange}
+use Rattle.burst_plan.specs.declared.Piece.{Piece}
+use Rattle.burst_plan.specs.declared.Region.{Region}
+use Rattle.flight_table.specs.Laws.{IsSoundRequest}
+use Rattle.flight_table.specs.LiveRequests.{is_atomic, planned}
+use Rattle.flight_table.specs.Order.{is_id}
+use Rattle.flight_table.proofs.PhaseLaws.{write_at, read_at}
+use Rattle.bridge_core.specs.Requests.{BridgedRequest, RequestTable, holder, holds, is_numbered, newly_live, with_request, is_done_for, without_done, address_of, after_sending, may_send}
+use Rattle.bridge_core.specs.Bridge.{message_with, after_sent}
+use Rattle.bridge_core.specs.Configs.{table_limits_of}
+use Rattle.bridge_core.specs.Laws.{outstanding, outstanding_of, IsServed}
+use Rattle.bridge_core.specs.Sending.{Sending, burst_of_piece}
+use Rattle.bridge_core.proofs.SendingLinks.{find-append-fails, no_holder, find-without_first, sound_requests}
+use Rattle.bridge_core.proofs.NextSending.{IsNext}
+use Rattle.bridge_core.proofs.SentLinks.{find-changed, find-unchanged, found_by_number, holds_no_other, outstanding_sent, taken_by}
+use Rattle.bridge_core.proofs.ServedRequests.{all-change_found}
+use Rattle.subordinate.specs.FreeMemory.{Pending, newly_pending, FreeMemory, beat_after, beat_at, has_serial, memory_after, performed, with_beat, with_performed, reads_as, writes_as}
+use Rattle.subordinate.specs.Laws.{IsSoundPending}
+use Rattle.subordinate.specs.Pages.{byte_at_address}
+use Rattle.subordinate.specs.declared.BeatState.TheVariants.{Waiting}
+use Rattle.subordinate.proofs.PerformedBeats.{performs_done}
+use Rattle.world.specs.World.{WorldState, changed, taken}
+use Rattle.world.specs.declared.Answer.TheVariants.{Accepted, More, Done}
+use Rattle.world.specs.Laws.{IsSoundWorld}
+use Rattle.world.proofs.Events.{after_accepted, after_begun, sent_from}
+use Rattle.world_run.specs.InOrder.{IsHistory, IsInOrder, KeepsOrder, finished, is_of_id, is_over, memory_bytes, started, has_begun, AreBurstsOf, AreOfHolder, IsBurstOf, IsGathered}
+use Rattle.world_run.specs.Meaning.{Bytes}
+use Rattle.world_run.specs.Serial.{Order, asked, bytes_before, writes, byte_left, touches}
+use Rattle.world_run.proofs.gathered.GatheredSteps.{gathered-sent, gathered-start}
+use Rattle.world_run.proofs.HeldSteps.{HaveNumbers, HoldsBackIn, MovesOn, found_without, history_changed, numbered_once, unaccepted}
+use Rattle.world_run.proofs.History.{history_moves, found_here, history_stores, store_adds, store_keeps, with_written}
+use Rattle.world_run.proofs.bursts.PerformedBytes.{IsOneOf, LeavesBurst, LeavesOthers, PerformsSerially, beat_within, bursts_append, in_order_more, of_holder_same, of_one, of_same_holder, open_one, performs_serially, stores_by}
+use Rattle.world_run.proofs.bursts.BurstBytes.{HasOpen, IsGoingOn, burst_of_next, going_on, going_on-place, has_open, part_at, planned_at, same_transfer, transfer_touches, writes_in_range}
+use Rattle.world_run.proofs.BytesLeft.{FindsSerially, left_alone, message_touches}
+use Rattle.world_run.proofs.gathered.GatheredAnswers.{finds_writing}
+use Rattle.world_run.proofs.ListChanges.{all_both, filter-change-kept, filter-change-other, find-filter}
+use Rattle.subordinate.specs.declared.Performed.TheVariants as perform
+
+-- ---- an offered beat
+
+-- a beat that doesn't end a message
+pub begins_keeps : (order : Order) (state : WorldState) (client : ℕ) (beat : ABeat) → KeepsOrder order state → KeepsOrder order (changed (after_begun state.bridge client beat) state.memory More).state
+begins_keeps order state client beat keeps =
+    record { wrote = keeps.wrote; faults = keeps.faults; regions = keeps.regions; history = keeps.history; held = keeps.held; live = keeps.live; bursts = keeps.bursts }
+
+-- ---- a request is accepted
+
+-- it has written nothing
+unwritten_yet : (order : Order) (table : RequestTable) (wrote : ℕ → ℕ → Bool) (bytes : Bytes) (x : ℕ) → IsHistory (writes order) (bytes_before order) (started table) (finished table) wrote bytes
+    → wrote table.accepted x ≡ false
+unwritten_yet order table wrote bytes x history =
+    elim (cases_Bool (wrote table.accepted x)) [
+      | inl there ↦
+          let begun = history.began table.accepted x there in
+          let never = unaccepted table table.accepted (omega arith) in
+          absurd (cc (begun, never))
+      | inr none ↦ none
+    ]
+
+-- the others are finished where they were
+ended_before : (table : RequestTable) (message : HeldMessage) (n : ℕ) → table.accepted ≢ n → finished (with_request message table) n ≡ true → finished table n ≡ true
+ended_before table message n other over =
+    sym (ap (λ b. b && is_over (find (is_numbered n) (table.live ++ newly_live table message ∷ []))) counted
+    ∙ ap (λ (o : Option BridgedRequest). nat_lt n table.accepted && is_over o) (find-append-fails (is_numbered n) table.live (newly_live table message) (ne_eqb table.accepted n other)))
+    ∙ over
+  where
+    counted : nat_lt n (table.accepted + 1) ≡ nat_lt n table.accepted
+    counted = grind (arith, nat_tests, other)
+
+pub accept_keeps : (order : Order) (state : WorldState) (client : ℕ) (beat : ABeat) → asked order state.bridge.requests.accepted ≡ Some (request_of (message_with state.bridge client beat)) → (keeps : KeepsOrder order state)
+    → MovesOn order state.bridge.requests (after_accepted state.bridge client beat).requests → HoldsBackIn order (after_accepted state.bridge client beat).requests
+    → KeepsOrder order (changed (after_accepted state.bridge client beat) state.memory (Accepted state.bridge.requests.accepted)).state
+accept_keeps order state client beat foreseen keeps moves held =
+    record {
+      wrote = keeps.wrote;
+      faults = keeps.faults;
+      regions = keeps.regions;
+      history =
+          history_moves (writes order) (bytes_before order) (started state.bridge.requests) (finished state.bridge.requests) (started (with_request message state.bridge.requests))
+          (finished (with_request message state.bridge.requests)) keeps.wrote (memory_bytes state) keeps.history (λ n was. (moves.goes n).begun was) ends;
+      held = held;
+      live = all-append (IsInOrder order state.memory.bus_bytes keeps.wrote) state.bridge.requests.live (newly_live state.bridge.requests message) keeps.live in_order;
+      bursts = λ id.
+          of_same_holder order state.memory.bus_bytes keeps.wrote (filter (is_of_id id) state.memory.pending) (holder id state.bridge.requests.live)
+          (holder id (state.bridge.requests.live ++ newly_live state.bridge.requests message ∷ []))
+          (sym (find-append-fails (holds id) state.bridge.requests.live (newly_live state.bridge.requests message) (no_holder id (newly_live state.bridge.requests message) refl))) (keeps.bursts id);
+    }
+  where
+    message : HeldMessage
+    message = message_with state.bridge client beat
+
+    in_order : IsInOrder order state.memory.bus_bytes keeps.wrote (newly_live state.bridge.requests (message_with state.bridge client beat))
+    in_order =
+        record {
+          asked = foreseen;
+          unwritten = λ isnt x. unwritten_yet order state.bridge.requests keeps.wrote (memory_bytes state) x keeps.history;
+          unsent = λ k n x piece past there within has. unwritten_yet order state.bridge.requests keeps.wrote (memory_bytes state) x keeps.history;
+          written = λ k n x piece below there first last has writes_it. absurd (omega (arith, below));
+          gathered = gathered-start order state.bridge.requests state.memory.bus_bytes (message_with state.bridge client beat) keeps.regions;
+        }
+
+    ends : (n : ℕ) → finished (with_request (message_with state.bridge client beat) state.bridge.requests) n ≡ true
+        → (finished state.bridge.requests n ≡ true) ⊎ ((x : ℕ) → writes order n x ≡ true → keeps.wrote n x ≡ true)
+    ends n over =
+        elim (cases_eq state.bridge.requests.accepted n) [
+          | inl its ↦
+              elim ((moves.goes n).before over) [
+                | inl begun ↦
+                    let never = unaccepted state.bridge.requests n (omega (arith, its)) in
+                    absurd (cc (begun, never))
+                | inr idle ↦ inr (λ x writes_it. let none = (idle x).1 in absurd (cc (none, writes_it)))
+              ]
+          | inr other ↦ inl (ended_before state.bridge.requests (message_with state.bridge client beat) n other over)
+        ]
+
+-- ---- a reply is taken
+
+-- the one that left was done
+done_is : (client : ℕ) (request : BridgedRequest) → is_done_for client request ≡ true → request.flight.done ≡ true
+done_is client request is = (and_parts (request.flight.client == client) request.flight.done is).1
+
+-- a test of the request of a number, which has left where it was done
+same_test : (table : RequestTable) (client n : ℕ) (test : Option BridgedRequest → Bool) → HaveNumbers table.live → ((request : BridgedRequest) → request.flight.done ≡ true → test (Some request) ≡ true) → test None ≡ true
+    → test (find (is_numbered n) (without_done client table).live) ≡ test (find (is_numbered n) table.live)
+same_test table client n test sound done_passes none_passes =
+    elim (found_without (is_done_for client) n table.live sound) [
+      | inl same ↦ ap test same
+      | inr (request, was, done, now) ↦ ap test now ∙ none_passes ∙ sym (ap test was ∙ done_passes request (done_is client request done))
+    ]
+
+pub take_keeps : (order : Order) (state : WorldState) (client : ℕ) (request : BridgedRequest) → IsSoundWorld state → KeepsOrder order state → HoldsBackIn order (without_done client state.bridge.requests)
+    → KeepsOrder order (taken state client (Some request)).state
+take_keeps order state client request sound keeps held =
+    record {
+      wrote = keeps.wrote;
+      faults = keeps.faults;
+      regions = keeps.regions;
+      history =
+          history_moves (writes order) (bytes_before order) (started state.bridge.requests) (finished state.bridge.requests) (started (without_done client state.bridge.requests)) (finished (without_done client state.bridge.requests)) keeps.wrote (memory_bytes state) keeps.history
+          (λ n was. ap (λ b. nat_lt n state.bridge.requests.accepted && b) (same_test state.bridge.requests client n has_begun rising (λ r done. begun_last (is_some r.flight.id) r.flight.done done) refl) ∙ was)
+          (λ n over. inl (ap (λ b. nat_lt n state.bridge.requests.accepted && b) (sym (same_test state.bridge.requests client n is_over rising (λ r done. done) refl)) ∙ over));
+      held = held;
+      live = all-without_first (IsInOrder order state.memory.bus_bytes keeps.wrote) (is_done_for client) state.bridge.requests.live keeps.live;
+      bursts = λ id.
+          of_same_holder order state.memory.bus_bytes keeps.wrote (filter (is_of_id id) state.memory.pending) (holder id state.bridge.requests.live) (holder id (without_done client state.bridge.requests).live) (sym (same_holder id)) (keeps.bursts id);
+    }
+  where
+    rising : HaveNumbers state.bridge.requests.live
+    rising = sound.bridge_laws.requests.flights.rising
+
+    begun_last : (a b : Bool) → b ≡ true → (a || b) ≡ true
+    begun_last a b is = grind (arith, is)
+
+    same_holder : (id : ℕ) → holder id (without_done client state.bridge.requests).live ≡ holder id state.bridge.requests.live
+    same_holder id =
+        find-without_first (λ (r : BridgedRequest). IsSoundRequest (table_limits_of state.bridge.requests.config) state.bridge.requests.accepted r.flight) (holds id) (is_done_for client) state.bridge.requests.live
+        (λ r each done. no_holder id r (each.freed (done_is client r done))) (sound_requests state.bridge.requests sound.bridge_laws.requests)
+
+-- ---- the list of open bursts
+
+-- a burst just sent is of its ID alone
+sent_of_id : (id j serial : ℕ) (request : BridgedRequest) (range : PlannedRange) (burst : Bool × Piece) → is_of_id j (newly_pending serial (burst_of_piece id request range burst)) ≡ (id == j)
+sent_of_id id j serial request range (true, piece) = grind (arith, nat_tests)
+sent_of_id id j serial request range (false, piece) = refl
+
+filter_more : (test : Pending → Bool) (pending : List Pending) (one : Pending) → test one ≡ true → filter test (pending ++ one ∷ []) ≡ filter test pending ++ one ∷ []
+filter_more test pending one is = filter-append test pending (one ∷ []) ∙ rw is refl
+
+filter_no_more : (test : Pending → Bool) (pending : List Pending) (one : Pending) → test one ≡ false → filter test (pending ++ one ∷ []) ≡ filter test pending
+filter_no_more test pending one is = filter-append test pending (one ∷ []) ∙ rw is (append-nil (filter test pending))
+
+-- ---- a burst is sent
+
+module _ (order : Order) (state : WorldState) (sending : Sending) (sent : IsNext state.bridge.requests sending) (sound : IsSoundWorld state) (keeps : KeepsOrder order state) where
+  abbrev sent_table : RequestTable
+  sent_table = state.bridge.requests
+
+  abbrev request : BridgedRequest
+  request = sending.request
+
+  abbrev sent_number : ℕ
+  sent_number = request.flight.number
+
+  sent_of : IsInOrder order state.memory.bus_bytes keeps.wrote request
+  sent_of = all-find (IsInOrder order state.memory.bus_bytes keeps.wrote) (may_send sent_table) sent_table.live request keeps.live sent.found
+
+  served : IsServed sent_table.config order.regions request
+  served =
+      subst (λ (map : List Region). IsServed sent_table.config map request) keeps.regions
+      (all-find (IsServed sent_table.config sent_table.regions) (may_send sent_table) sent_table.live request sound.bridge_laws.requests.served sent.found)
+
+  each : IsSoundRequest (table_limits_of sent_table.config) sent_table.accepted request.flight
+  each =
+      all-find (λ (r : BridgedRequest). IsSoundRequest (table_limits_of sent_table.config) sent_table.accepted r.flight) (may_send sent_table) sent_table.live request (sound_requests sent_table sound.bridge_laws.requests) sent.found
+
+  -- an atomic that writes does so with the value that it finds
+  sent_finds : is_atomic request.flight ≡ true → sent.write ≡ true → FindsSerially order request sent.range.address
+  sent_finds atomic writes =
+      finds_writing order sent_table.config (table_limits_of sent_table.config) sent_table.accepted request sent.range.address sound.bridge_laws.requests.config served each sent.ready.undone atomic
+      (write_at request.flight request.flight.sent sent.piece (sent.next ∙ ap (λ (side : Bool). Some (side, sent.piece)) writes)).0
+      (planned_at sent_table.config order.regions request sent.range sound.bridge_laws.requests.config served.pages served sent.plan).address
+      (subst (λ bus. IsGathered order bus request (address_of order.regions (request_of request.message))) sound.bus sent_of.gathered)
+
+  abbrev sent_one : Pending
+  sent_one = newly_pending state.memory.sent sending.burst
+
+  -- so the burst puts what its request leaves
+  new_burst : IsBurstOf order state.memory.bus_bytes keeps.wrote sent_number sent_one (sent.write, sent.piece)
+  new_burst =
+      subst (λ (burst : Burst). IsBurstOf order state.memory.bus_bytes keeps.wrote sent_number (newly_pending state.memory.sent burst) (sent.write, sent.piece)) (sym sent.burst)
+      (subst (λ bus. IsBurstOf order bus keeps.wrote sent_number (newly_pending state.memory.sent (burst_of_piece sending.id request sent.range (sent.write, sent.piece))) (sent.write, sent.piece)) (sym sound.bus)
+      (burst_of_next order sent_table.config keeps.wrote state.memory.sent sending.id request sent.range sent.write sent.piece sound.bridge_laws.requests.config served.pages served sent_of.asked sent.ready.undone sent.plan
+      sent.next sent_finds (λ write n x within has. sent_of.unsent request.flight.sent n x sent.piece (omega arith) (sent.next ∙ ap (λ (side : Bool). Some (side, sent.piece)) write) within has)))
+
+  -- the request of the number has one burst more
+  by_number : find (is_numbered sent_number) sent_table.live ≡ Some request
+  by_number = found_by_number (may_send sent_table) sent_table.live request sound.bridge_laws.requests.flights.rising sent.found
+
+  abbrev after : List BridgedRequest
+  after = (after_sent state.bridge sending).requests.live
+
+  in_order : IsInOrder order state.memory.bus_bytes keeps.wrote (after_sending sending.id request)
+  in_order =
+      record {
+        asked = sent_of.asked;
+        unwritten = sent_of.unwritten;
+        unsent = λ k n x piece past there within has. sent_of.unsent k n x piece (omega (arith, past)) there within has;
+        written = sent_of.written;
+        gathered = gathered-sent order state.memory.bus_bytes sending.id request (address_of order.regions (request_of request.message)) sent_of.gathered;
+      }
+
+  -- the open bursts of its ID
+  one_of_id : (id : ℕ) → is_of_id id sent_one ≡ (sending.id == id)
+  one_of_id id =
+      ap (λ (burst : Burst). is_of_id id (newly_pending state.memory.sent burst)) sent.burst ∙ sent_of_id sending.id id state.memory.sent request sent.range (sent.write, sent.piece)
+
+  mine_before : (held : Option BridgedRequest) → holder sending.id sent_table.live ≡ held → (held ≡ None) ⊎ (held ≡ Some request) → outstanding_of held ≡ outstanding request.flight
+      → AreBurstsOf order state.memory.bus_bytes keeps.wrote sent_number (filter (is_of_id sending.id) state.memory.pending) (outstanding request.flight)
+  mine_before None is was none =
+      let nothing = of_same_holder order state.memory.bus_bytes keeps.wrote (filter (is_of_id sending.id) state.memory.pending) (holder sending.id sent_table.live) None is (keeps.bursts sending.id) in
+      rw (nothing, sym none) tt
+  mine_before (Some other) is (inl no_one) none = absurd (cc (no_one))
+  mine_before (Some other) is (inr its) none =
+      of_same_holder order state.memory.bus_bytes keeps.wrote (filter (is_of_id sending.id) state.memory.pending) (holder sending.id sent_table.live) (Some request) (is ∙ its) (keeps.bursts sending.id)
+
+  sent_own_bursts : AreOfHolder order state.memory.bus_bytes keeps.wrote (filter (is_of_id sending.id) (state.memory.pending ++ sent_one ∷ [])) (holder sending.id after)
+  sent_own_bursts =
+      let taken = taken_by sent_table sending sound.bridge_laws.requests sent in
+      let held = find-changed (holds sending.id) (is_numbered sent_number) (after_sending sending.id) sent_table.live request by_number (eq-eqb sending.id sending.id refl) taken.held in
+      let mine = filter (is_of_id sending.id) state.memory.pending in
+      of_same_holder order state.memory.bus_bytes keeps.wrote (filter (is_of_id sending.id) (state.memory.pending ++ sent_one ∷ [])) (Some (after_sending sending.id request)) (holder sending.id after) (sym held)
+      (subst (λ (ps : List Pending). AreBurstsOf order state.memory.bus_bytes keeps.wrote sent_number ps (outstanding (after_sending sending.id request).flight))
+      (sym (filter_more (is_of_id sending.id) state.memory.pending sent_one (one_of_id sending.id ∙ eq-eqb sending.id sending.id refl)))
+      (subst (λ (bs : List (Bool × Piece)). AreBurstsOf order state.memory.bus_bytes keeps.wrote sent_number (mine ++ sent_one ∷ []) bs)
+      (sym (outstanding_sent sending.id request (sent.write, sent.piece) each.answered sent.next))
+      (bursts_append order state.memory.bus_bytes keeps.wrote sent_number mine (outstanding request.flight) sent_one (sent.write, sent.piece) (mine_before (holder sending.id sent_table.live) refl taken.held taken.bursts) new_burst)))
+
+  -- and those of the others
+  sent_other_bursts : (id : ℕ) → (sending.id == id) ≡ false → AreOfHolder order state.memory.bus_bytes keeps.wrote (filter (is_of_id id) (state.memory.pending ++ sent_one ∷ [])) (holder id after)
+  sent_other_bursts id other =
+      subst (λ (ps : List Pending). AreOfHolder order state.memory.bus_bytes keeps.wrote ps (holder id after)) (sym (filter_no_more (is_of_id id) state.memory.pending sent_one (one_of_id id ∙ other)))
+      (of_same_holder order state.memory.bus_bytes keeps.wrote (filter (is_of_id id) state.memory.pending) (holder id sent_table.live) (holder id after)
+      (sym (find-unchanged (holds id) (is_numbered sent_number) (after_sending sending.id) sent_table.live request by_number (holds_no_other sent_table sending id sent other) other))
+      (keeps.bursts id))
+
+  all_bursts : (id : ℕ) (b : Bool) → (sending.id == id) ≡ b → AreOfHolder order state.memory.bus_bytes keeps.wrote (filter (is_of_id id) (state.memory.pending ++ sent_one ∷ [])) (holder id after)
+  all_bursts id true same =
+      subst (λ k. AreOfHolder order state.memory.bus_bytes keeps.wrote (filter (is_of_id k) (state.memory.pending ++ sent_one ∷ [])) (holder k after)) (eqb-true sending.id id same) sent_own_bursts
+  all_bursts id false other = sent_other_bursts id other
+
+  pub sent_keeps : MovesOn order sent_table (after_sent state.bridge sending).requests → HoldsBackIn order (after_sent state.bridge sending).requests
+      → KeepsOrder order (sent_from state sending.burst (after_sent state.bridge sending)).state
+  sent_keeps moves held =
+      record {
+        wrote = keeps.wrote;
+        faults = keeps.faults;
+        regions = keeps.regions;
+        history =
+            history_changed (writes order) (bytes_before order) keeps.wrote (memory_bytes state) sent_table (is_numbered sent_number) (after_sending sending.id) request
+            sound.bridge_laws.requests.flights.rising by_number refl (λ n was. (moves.goes n).begun was) (λ over. absurd (cc (over, sent.ready.undone))) keeps.history;
+        held = held;
+        live = all-change_found (IsInOrder order state.memory.bus_bytes keeps.wrote) (is_numbered sent_number) (after_sending sending.id) sent_table.live request by_number in_order keeps.live;
+        bursts = λ id. all_bursts id (sending.id == id) refl;
+      }
+
+-- ---- what its request hasn't written
+
+-- a request that reads has written nothing
+pub reader_unwritten : (order : Order) (table : RequestTable) (bus_bytes : ℕ) (wrote : ℕ → ℕ → Bool) (request : BridgedRequest) (piece : Piece) (x : ℕ) → IsGoingOn order table request (false, piece)
+    → IsInOrder order bus_bytes wrote request → wrote request.flight.number x ≡ false
+reader_unwritten order table bus_bytes wrote request piece x going of = of.unwritten (read_at request.flight going.place piece going.planned).0 x
+
+-- ---- the step
+
+own_id : (burst : Burst) → (writes_as (id_of burst) burst || reads_as (id_of burst) burst) ≡ true
+own_id (WriteBurst aw w_beats) = rw (eq-eqb aw.id aw.id refl) refl
+own_id (ReadBurst ar) = eq-eqb ar.id ar.id refl
+
+-- who isn't of this number wrote nothing more
+not_added : (number : ℕ) (P : ℕ → Bool) (wrote : ℕ → ℕ → Bool) (i x : ℕ) → ((i == number) && P x) ≡ false → with_written number P wrote i x ≡ wrote i x
+not_added number P wrote i x none = grind (arith, none)
+
+module _ (order : Order) (state : WorldState) (pending : Pending) (beat : ℕ) (sound : IsSoundWorld state) (keeps : KeepsOrder order state)
+    (found : find (has_serial pending.serial) state.memory.pending ≡ Some pending) (waits : beat_at pending beat ≡ Some Waiting) where
+  abbrev id : ℕ
+  id = id_of pending.burst
+
+  abbrev table : RequestTable
+  table = state.bridge.requests
+
+  abbrev mine : List Pending
+  mine = filter (is_of_id id) state.memory.pending
+
+  of_id : is_of_id id pending ≡ true
+  of_id = own_id pending.burst
+
+  found_mine : find (has_serial pending.serial) mine ≡ Some pending
+  found_mine = find-filter (has_serial pending.serial) (is_of_id id) state.memory.pending pending found of_id
+
+  abbrev has : HasOpen order state keeps.wrote id
+  has = has_open order state keeps.wrote id (has_serial pending.serial) pending sound (keeps.bursts id) found_mine
+
+  abbrev number : ℕ
+  number = has.request.flight.number
+
+  abbrev one : IsOneOf order state.memory.bus_bytes keeps.wrote number mine (outstanding has.request.flight) (has_serial pending.serial) pending
+  one = open_one order state.memory.bus_bytes keeps.wrote number mine (outstanding has.request.flight) (has_serial pending.serial) pending has.are found_mine
+
+  abbrev going : IsGoingOn order table has.request one.burst
+  going = going_on order state id has.request one.place one.burst sound keeps.regions has.known one.there
+
+  of : IsInOrder order state.memory.bus_bytes keeps.wrote has.request
+  of = all-find (IsInOrder order state.memory.bus_bytes keeps.wrote) (holds id) table.live has.request keeps.live has.known.held
+
+  sound_pending : IsSoundPending state.memory.bus_bytes pending
+  sound_pending = all-find (IsSoundPending state.memory.bus_bytes) (has_serial pending.serial) state.memory.pending pending sound.memory_laws.each found
+
+  within : beat + 1 ≤ one.burst.1.len + 1
+  within = beat_within order state.memory.bus_bytes keeps.wrote number pending one.burst beat Waiting sound_pending one.is waits
+
+  -- what a read takes is what its request finds
+  finds : (x : ℕ) → transfer_has one.burst.1.address one.burst.1.size (beat + 1) x ≡ true → one.burst.0 ≡ false → memory_bytes state x ≡ bytes_before order number x
+  finds x holds_it reads =
+      found_here (writes order) (touches order) (bytes_before order) (started table) (finished table) keeps.wrote (memory_bytes state) number x keeps.history keeps.held going.started going.unfinished
+      (transfer_touches order table has.request one.burst (beat + 1) x going of.asked (omega arith) within holds_it)
+      (reader_unwritten order table state.memory.bus_bytes keeps.wrote has.request one.burst.1 x (subst (λ (side : Bool). IsGoingOn order table has.request (side, one.burst.1)) reads going) of)
+
+  does : PerformsSerially order state.memory keeps.wrote number pending one.burst beat
+  does =
+      performs_serially order state.memory keeps.wrote number pending one.burst beat Waiting sound.memory_laws sound_pending keeps.faults one.is waits
+      (λ x written. (writes_in_range order table.config has.request going.range x going.at of.asked written).good)
+      (λ x holds_it page reads. finds x holds_it reads)
+
+  -- the bytes that are written by it
+  abbrev adds : ℕ → Bool
+  adds x = stores_by order number one.burst (beat + 1) x
+
+  abbrev more : ℕ → ℕ → Bool
+  more = with_written number adds keeps.wrote
+
+  stored_written : (burst : Bool × Piece) (n x : ℕ) → stores_by order number burst n x ≡ true → writes order number x ≡ true
+  stored_written (true, piece) n x there = (and_parts (transfer_has piece.address piece.size n x) (writes order number x) there).1
+  stored_written (false, piece) n x there = absurd (cc (there))
+
+  history : IsHistory (writes order) (bytes_before order) (started table) (finished table) more (λ x. unwrap_or (byte_at_address (memory_after state.memory pending.burst beat) x) 0)
+  history =
+      history_stores (writes order) (touches order) (bytes_before order) (started table) (finished table) keeps.wrote (memory_bytes state)
+      (λ x. unwrap_or (byte_at_address (memory_after state.memory pending.burst beat) x) 0) number adds (byte_left order number) keeps.history keeps.held (left_alone order) going.started going.unfinished
+      (λ x hit. stored_written one.burst (beat + 1) x hit)
+      (λ x hit. message_touches order number x has.request.message of.asked (stored_written one.burst (beat + 1) x hit))
+      (λ x hit. refl)
+      (λ x hit. ap (λ (o : Option ℕ). unwrap_or o 0) (does.set x hit))
+      (λ x out. ap (λ (o : Option ℕ). unwrap_or o 0) (does.kept x out))
+
+  kept : (i x : ℕ) → keeps.wrote i x ≡ true → more i x ≡ true
+  kept i x there = store_keeps number adds keeps.wrote i x there
+
+  -- a request that reads has written no more
+  same_unplanned : (burst : Bool × Piece) (x : ℕ) → IsGoingOn order table has.request burst → has.request.flight.writing ≡ false → stores_by order number burst (beat + 1) x ≡ false
+  same_unplanned (true, piece) x is_going isnt = absurd (cc ((write_at has.request.flight is_going.place piece is_going.planned).0, isnt))
+  same_unplanned (false, piece) x is_going isnt = refl
+
+  same_unwritten : (r : BridgedRequest) → (r.flight.number ≡ number → r ≡ has.request) → r.flight.writing ≡ false → (x : ℕ) → more r.flight.number x ≡ keeps.wrote r.flight.number x
+  same_unwritten r alone isnt x =
+      elim (cases_eq r.flight.number number) [
+        | inl its ↦
+            let same = alone its in
+            let none = same_unplanned one.burst x going (ap (λ (q : BridgedRequest). q.flight.writing) (sym same) ∙ isnt) in
+            not_added number adds keeps.wrote r.flight.number x (and_right (r.flight.number == number) (adds x) none)
+        | inr other ↦ not_added number adds keeps.wrote r.flight.number x (rw (ne_eqb r.flight.number number other) refl)
+      ]
+
+  -- nothing is added where another transfer of a planned write would put it
+  none_added : (burst : Bool × Piece) → one.burst ≡ burst → (k n x : ℕ) (piece : Piece) → slice_get (planned has.request.flight) k ≡ Some (true, piece) → n ≤ piece.len
+      → transfer_has piece.address piece.size (n + 1) x ≡ true → (k ≡ going.place → n ≡ beat → ⊥) → stores_by order number burst (beat + 1) x ≡ false
+  none_added (false, own) is k n x piece there fits has_it other = refl
+  none_added (true, own) is k n x piece there fits has_it other = by_store (stores_by order number (true, own) (beat + 1) x) refl
+    where
+      own_planned : slice_get (planned has.request.flight) going.place ≡ Some (true, own)
+      own_planned = going.planned ∙ ap (λ (burst : Bool × Piece). Some burst) is
+
+      own_within : beat + 1 ≤ own.len + 1
+      own_within = subst (λ (burst : Bool × Piece). beat + 1 ≤ burst.1.len + 1) is within
+
+      by_store : (b : Bool) → stores_by order number (true, own) (beat + 1) x ≡ b → b ≡ false
+      by_store false isnt = refl
+      by_store true stored =
+          let same =
+          same_transfer has.request.flight going.range k going.place (n + 1) (beat + 1) x piece own going.at.plannable going.plan there own_planned (omega arith) (omega (arith, fits)) (omega arith) own_within has_it
+          (and_parts (transfer_has own.address own.size (beat + 1) x) (writes order number x) stored).0 in
+          absurd (other same.0 (omega (arith, same.1)))
+
+  added_nowhere : (k n x : ℕ) (piece : Piece) → slice_get (planned has.request.flight) k ≡ Some (true, piece) → n ≤ piece.len → transfer_has piece.address piece.size (n + 1) x ≡ true
+      → (k ≡ going.place → n ≡ beat → ⊥) → keeps.wrote number x ≡ false → more number x ≡ false
+  added_nowhere k n x piece there fits has_it other none =
+      not_added number adds keeps.wrote number x (and_right (number == number) (adds x) (none_added one.burst refl k n x piece there fits has_it other)) ∙ none
+
+  -- the other beats of the burst, the other bursts, and what isn't sent
+  beats_left : (burst : Bool × Piece) → one.burst ≡ burst → LeavesOthers keeps.wrote more number beat burst
+  beats_left (false, piece) is = tt
+  beats_left (true, piece) is = λ k x other fits has_it none.
+      added_nowhere going.place k x piece (going.planned ∙ ap (λ (burst : Bool × Piece). Some burst) is) fits has_it (λ same at. other at) none
+
+  burst_left : (k : ℕ) (burst : Bool × Piece) → slice_get (planned has.request.flight) k ≡ Some burst → k ≢ going.place → LeavesBurst keeps.wrote more number burst
+  burst_left k (false, piece) there other = tt
+  burst_left k (true, piece) there other = λ n x fits has_it none. added_nowhere k n x piece there fits has_it (λ same at. other same) none
+
+  others_left : (i : ℕ) (burst : Bool × Piece) → slice_get (outstanding has.request.flight) i ≡ Some burst → i ≢ one.place → LeavesBurst keeps.wrote more number burst
+  others_left i burst there other =
+      let at_place = part_at (planned has.request.flight) has.request.flight.answered has.request.flight.sent i burst there in
+      let own : going.place ≡ one.place + has.request.flight.answered = going_on-place order state id has.request one.place one.burst sound keeps.regions has.known one.there in
+      burst_left (i + has.request.flight.answered) burst at_place.0 (λ same. other (omega (arith, same, own)))
+
+  unsent_left : (r : BridgedRequest) → (r.flight.number ≡ number → r ≡ has.request) → (k : ℕ) (burst : Bool × Piece) → r.flight.sent ≤ k → slice_get (planned r.flight) k ≡ Some burst
+      → LeavesBurst keeps.wrote more r.flight.number burst
+  unsent_left r alone k burst past there =
+      elim (cases_eq r.flight.number number) [
+        | inl its ↦
+            let same = alone its in
+            let own : LeavesBurst keeps.wrote more number burst =
+            burst_left k burst (ap (λ (q : BridgedRequest). slice_get (planned q.flight) k) (sym same) ∙ there)
+            (λ here. omega (arith, here, going.sent, past, ap (λ (q : BridgedRequest). q.flight.sent) same)) in
+            subst (λ i. LeavesBurst keeps.wrote more i burst) (sym its) own
+        | inr other ↦ left_alone_by burst (λ x. not_added number adds keeps.wrote r.flight.number x (rw (ne_eqb r.flight.number number other) refl))
+      ]
+    where
+      left_alone_by : (burst : Bool × Piece) → ((x : ℕ) → more r.flight.number x ≡ keeps.wrote r.flight.number x) → LeavesBurst keeps.wrote more r.flight.number burst
+      left_alone_by (true, piece) same = λ n x fits has_it none. same x ∙ none
+      left_alone_by (false, piece) same = tt
+
+  -- a request that holds another ID has written no more
+  another_same : (j : ℕ) → id ≢ j → (held : Option BridgedRequest) → holder j table.live ≡ held → IfSome held (λ r. (x : ℕ) → more r.flight.number x ≡ keeps.wrote r.flight.number x)
+  another_same j other None is = tt
+  another_same j other (Some r) is = λ x.
+      elim (cases_eq r.flight.number number) [
+        | inl its ↦
+            let alone = all-find (λ (q : BridgedRequest). q.flight.number ≡ number → q ≡ has.request) (holds j) table.live r
+            (numbered_once (holds id) table.live has.request sound.bridge_laws.requests.flights.rising has.known.held) is in
+            let same = alone its in
+            absurd (holds_one j other (subst (λ (q : BridgedRequest). holds j q ≡ true) same (find-passes (holds j) table.live r is)))
+        | inr apart ↦ not_added number adds keeps.wrote r.flight.number x (rw (ne_eqb r.flight.number number apart) refl)
+      ]
+    where
+      holds_one : (j : ℕ) → id ≢ j → holds j has.request ≡ true → ⊥
+      holds_one j apart held =
+          let its : (id == j) ≡ true = ap (λ (o : Option ℕ). is_id j o) (sym has.known.has_id) ∙ held in
+          apart (eqb-true id j its)
+
+  live_more : AllByRecursion (IsInOrder order state.memory.bus_bytes more) table.live
+  live_more = all_both (λ (r : BridgedRequest). r.flight.number ≡ number → r ≡ has.request) (IsInOrder order state.memory.bus_bytes keeps.wrote) (IsInOrder order state.memory.bus_bytes more) table.live
+      (λ r alone was. in_order_more order state.memory.bus_bytes keeps.wrote more r (kept r.flight.number) (same_unwritten r alone) (unsent_left r alone) was)
+      (numbered_once (holds id) table.live has.request sound.bridge_laws.requests.flights.rising has.known.held) keeps.live
+
+  abbrev change : Pending → Pending
+  change = with_beat beat (beat_after state.memory pending.burst beat)
+
+  own_bursts : AreOfHolder order state.memory.bus_bytes more (filter (is_of_id id) (change_first (has_serial pending.serial) change state.memory.pending)) (holder id table.live)
+  own_bursts =
+      subst (λ (ps : List Pending). AreOfHolder order state.memory.bus_bytes more ps (holder id table.live)) (sym (filter-change-kept (has_serial pending.serial) (is_of_id id) change state.memory.pending pending found of_id of_id))
+      (of_same_holder order state.memory.bus_bytes more (change_first (has_serial pending.serial) change mine) (Some has.request) (holder id table.live) (sym has.known.held)
+      (one.changed more change (kept number) others_left (does.still more (kept number) (λ x hit. store_adds number adds keeps.wrote x hit) (beats_left one.burst refl))))
+
+  other_bursts : (j : ℕ) → id ≢ j → AreOfHolder order state.memory.bus_bytes more (filter (is_of_id j) (change_first (has_serial pending.serial) change state.memory.pending)) (holder j table.live)
+  other_bursts j other =
+      let fails = of_one id j pending other of_id in
+      subst (λ (ps : List Pending). AreOfHolder order state.memory.bus_bytes more ps (holder j table.live)) (sym (filter-change-other (has_serial pending.serial) (is_of_id j) change state.memory.pending pending found fails fails))
+      (of_holder_same order state.memory.bus_bytes keeps.wrote more (filter (is_of_id j) state.memory.pending) (holder j table.live) (another_same j other (holder j table.live) refl) (keeps.bursts j))
+
+  pub keeps_performed : KeepsOrder order (changed state.bridge (with_performed state.memory pending beat) Done).state
+  keeps_performed =
+      record {
+        wrote = more;
+        faults = keeps.faults;
+        regions = keeps.regions;
+        history = history;
+        held = keeps.held;
+        live = live_more;
+        bursts = λ j.
+            elim (cases_eq id j) [
+              | inl same ↦
+                  subst (λ k. AreOfHolder order state.memory.bus_bytes more (filter (is_of_id k) (change_first (has_serial pending.serial) change state.memory.pending)) (holder k table.live)) same own_bursts
+              | inr other ↦ other_bursts j other
+            ];
+      }
+
+-- a beat that is performed
+pub performed_keeps : (order : Order) (state : WorldState) (serial beat : ℕ) (memory : FreeMemory) → performed state.memory serial beat ≡ (memory, perform.Done) → IsSoundWorld state → KeepsOrder order state
+    → KeepsOrder order (changed state.bridge memory Done).state
+performed_keeps order state serial beat memory is sound keeps =
+    let did = performs_done state.memory serial beat memory is in
+    let same : did.pending.serial ≡ serial = eqb-true did.pending.serial serial (find-passes (has_serial serial) state.memory.pending did.pending did.is_open) in
+    subst (λ (m : FreeMemory). KeepsOrder order (changed state.bridge m Done).state) (sym did.becomes)
+    (keeps_performed order state did.pending beat sound keeps (ap (λ s. find (has_serial s) state.memory.pending) same ∙ did.is_open) did.waits)
