@@ -1,5 +1,6 @@
 """Random beats for a TileLink port, an AXI port and a memory that is sent bursts, a million each, most of them illegal: the tests
-of `crates/world_tests/src/tests/beats`, which fail where an answer isn't that of a plain model of the rules. Here their counts are shown: each rule is the answer at least 1,000 times, and so is each kind of beat that is taken.
+of `crates/world_tests/src/tests/beats`, which fail where an answer isn't that of a plain model of the rules. Here their counts
+are shown: each rule is the answer at least 1,000 times, and so is each kind of beat that is taken.
 
     python3 tests/beats.py [PROGRAM]
 """
