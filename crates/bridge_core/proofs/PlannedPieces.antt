@@ -15,7 +15,7 @@ use Rattle.burst_plan.specs.PlannedTransfers.{burst_bytes}
 use Rattle.burst_plan.specs.declared.Region.{Region}
 use Rattle.burst_plan.proofs.PieceLaws.{divides_evenly, length-pieces}
 use Rattle.burst_plan.proofs.PlanLaws.{some_bursts}
-use Rattle.flight_table.specs.LiveRequests.{LiveRequest, is_atomic, plan_for, read_pieces, write_pieces}
+use Rattle.flight_table.specs.LiveRequests.{LiveRequest, reads_then_writes, plan_for, read_pieces, write_pieces}
 use Rattle.bridge_core.specs.Configs.{is_valid, port_of}
 use Rattle.bridge_core.specs.Laws.{IsOfMessage}
 use Rattle.bridge_core.specs.Requests.{BridgedRequest, range_of}
@@ -74,7 +74,7 @@ pub record IsAtomicPlan (flight : LiveRequest) : Type 0 where
   pub writes : length (write_pieces flight) ≡ 1
 
 pub atomic_plan : (config : Config) (regions : List Region) (request : BridgedRequest) → is_valid config ≡ true → IsSound (port_of config request.message.client) request.message
-    → IsOfMessage config regions request → HasPlan config request → is_atomic request.flight ≡ true → IsAtomicPlan request.flight
+    → IsOfMessage config regions request → HasPlan config request → reads_then_writes request.flight ≡ true → IsAtomicPlan request.flight
 atomic_plan config regions request valid sound of_message has atomic =
     let both = and_parts (reply_has_data request.flight.operation) (has_data request.flight.operation) atomic in
     let small : request.message.size ≤ 3 = atomic_small request.flight.operation request.message.size atomic (λ op is. sound.atomic_size op (sym of_message.operation ∙ is)) in

@@ -11,7 +11,7 @@ use Rattle.flight_table.specs.Tables.{has_number, is_done_of, FlightTable, Keyed
 use Rattle.flight_table.proofs.KeyLaws.{found_done, found_ready, some_found}
 use Rattle.bridge_core.specs.Bridge.{BridgeState, reply_taken, burst_to_send}
 use Rattle.bridge_core.specs.Laws.{IsSoundRequestTable}
-use Rattle.bridge_core.specs.Requests.{BridgedRequest, RequestTable, after_sending, first_done, flight_table_of, flights_of, is_numbered, with_sent_burst, may_send}
+use Rattle.bridge_core.specs.Requests.{BridgedRequest, RequestTable, after_sending, oldest_done, flight_table_of, flights_of, is_numbered, with_sent_burst, may_send}
 use Rattle.bridge_core.specs.Sending.{Sending, SendsSmallest, next_sending}
 use Rattle.bridge_core.specs.declared.Taken.{Taken}
 use Rattle.bridge_core.specs.declared.Taken.TheVariants.{Reply}
@@ -50,11 +50,11 @@ sends_smallest table new sending sound sent after =
 abbrev pub AnswersSmallest : BridgeState → ℕ → Taken → BridgedRequest → Type 0
 AnswersSmallest state client answer request = (answer ≡ Reply request.flight.number) × IsSmallestDone (flight_table_of state.requests) client request.flight
 
-pub takes_smallest : (state : BridgeState) (client number : ℕ) → IsSoundRequestTable state.requests → Some number ≡ option_map (λ (r : BridgedRequest). r.flight.number) (first_done state.requests.live client)
+pub takes_smallest : (state : BridgeState) (client number : ℕ) → IsSoundRequestTable state.requests → Some number ≡ option_map (λ (r : BridgedRequest). r.flight.number) (oldest_done state.requests.live client)
     → IfSome (reply_taken state client) (AnswersSmallest state client (Reply number))
 takes_smallest state client number sound is = by_test (nat_le state.requests.config.clients client)
   where
-    by_found : (found : Option BridgedRequest) → first_done state.requests.live client ≡ found → Some number ≡ option_map (λ (r : BridgedRequest). r.flight.number) found
+    by_found : (found : Option BridgedRequest) → oldest_done state.requests.live client ≡ found → Some number ≡ option_map (λ (r : BridgedRequest). r.flight.number) found
         → IfSome found (AnswersSmallest state client (Reply number))
     by_found None none is = tt
     by_found (Some request) found is = (
@@ -62,9 +62,9 @@ takes_smallest state client number sound is = by_test (nat_le state.requests.con
       found_done (flight_table_of state.requests) client request.flight sound.flights.rising (found_flight (is_done_of client) state.requests.live ∙ ap (option_map (λ (r : BridgedRequest). r.flight)) found),
     )
 
-    by_test : (b : Bool) → IfSome (if b then None else first_done state.requests.live client) (AnswersSmallest state client (Reply number))
+    by_test : (b : Bool) → IfSome (if b then None else oldest_done state.requests.live client) (AnswersSmallest state client (Reply number))
     by_test true = tt
-    by_test false = by_found (first_done state.requests.live client) refl is
+    by_test false = by_found (oldest_done state.requests.live client) refl is
 
 -- ---- whether a burst goes
 

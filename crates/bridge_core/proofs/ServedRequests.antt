@@ -17,7 +17,7 @@ use Rattle.burst_plan.specs.Pieces.{PlannedRange, pieces}
 use Rattle.burst_plan.specs.declared.Piece.{Piece}
 use Rattle.burst_plan.specs.declared.Region.{Region}
 use Rattle.flight_table.specs.Laws.{IsSoundRequest}
-use Rattle.flight_table.specs.LiveRequests.{LiveRequest, bursts_of, finished, is_atomic, is_settled, plan_for, planned, read_pieces, with_answered, with_write}
+use Rattle.flight_table.specs.LiveRequests.{LiveRequest, bursts_of, finished, reads_then_writes, is_settled, plan_for, planned, read_pieces, with_answered, with_write}
 use Rattle.flight_table.specs.declared.TableLimits.{TableLimits}
 use Rattle.flight_table.proofs.PhaseLaws.{length_bursts, length_reading, length_writing, read_at, write_at}
 use Rattle.responses.specs.Gathered.{Gathering, after_b, after_r, old_value, reads_of}
@@ -48,7 +48,7 @@ pub atomic_both : (operation : Operation) → gathered.is_atomic operation ≡ t
 atomic_both operation is = grind arith
 
 pub found_is_atomic : (config : Config) (regions : List Region) (request : BridgedRequest) (gathering : Gathering) → IsOfMessage config regions request
-    → is_some (old_value (outline_in request) gathering) ≡ true → is_atomic request.flight ≡ true
+    → is_some (old_value (outline_in request) gathering) ≡ true → reads_then_writes request.flight ≡ true
 found_is_atomic config regions request gathering of_message some =
     let atomic : gathered.is_atomic request.message.operation ≡ true = grind (arith, some) in
     rw of_message.operation (atomic_both request.message.operation atomic)
@@ -61,7 +61,7 @@ pub record IsCounted (config : Config) (regions : List Region) (request : Bridge
   pub message : IsSound (port_of config request.message.client) request.message
   pub flight : IsOfMessage config regions request
   pub live : request.flight.done ≡ false
-  pub found : is_atomic request.flight ≡ true → request.flight.writing ≡ true → is_settled request.flight ≡ false → IsSome (value_found request)
+  pub found : reads_then_writes request.flight ≡ true → request.flight.writing ≡ true → is_settled request.flight ≡ false → IsSome (value_found request)
   pub came : beats_in (answered_pieces request.flight) ≤ request.gathering.came
   pub next : IsPartWay (came_of_next request) (outstanding request.flight)
   pub answered : request.flight.answered ≤ length (planned request.flight)
@@ -77,7 +77,7 @@ module _ (config : Config) (regions : List Region) (request : BridgedRequest) (v
       let parts = and_parts (not request.flight.writing) (is_some (value_found request)) test in
       let after : BridgedRequest = record request { flight = with_write request.flight } in
       let isnt : request.flight.writing ≡ false = grind (arith, parts.0) in
-      let atomic : is_atomic request.flight ≡ true = found_is_atomic config regions request request.gathering counted.flight parts.1 in
+      let atomic : reads_then_writes request.flight ≡ true = found_is_atomic config regions request request.gathering counted.flight parts.1 in
       let plan = atomic_plan config regions request valid counted.message counted.flight counted.has atomic in
       let all = leb-true (length (planned request.flight)) request.flight.answered settles in
       let whole = reads_came request.flight isnt (omega (arith, all, length_reading request.flight isnt)) in
@@ -155,7 +155,7 @@ served_new table message valid pages sound =
     done_by (Some range) is =
         sym (lt-leb _ 0 (some_planned (reply_has_data message.operation) (has_data message.operation) (pieces range) (has_course message.operation (range_of table.config table.regions (request_of message)) range is) (some range is)))
 
-    failed_by : is_atomic fresh ≡ true → is_none plan ≡ true → (p : Option PlannedRange) → plan ≡ p → value_found (newly_live table message) ≡ None
+    failed_by : reads_then_writes fresh ≡ true → is_none plan ≡ true → (p : Option PlannedRange) → plan ≡ p → value_found (newly_live table message) ≡ None
     failed_by atomic over None is =
         let none : is_none (address_of table.regions (request_of message)) ≡ true = no_address _ _ (sym (atomic_planned message.operation (range_of table.config table.regions (request_of message)) atomic) ∙ is) in
         denied_value _ _ _ _ none

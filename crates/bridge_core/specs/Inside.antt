@@ -10,7 +10,7 @@ use Rattle.axi_beats.specs.declared.Resp.{Resp}
 use Rattle.burst_plan.specs.Pieces.{PlannedRange, pieces}
 use Rattle.burst_plan.specs.declared.Piece.{Piece}
 use Rattle.burst_plan.specs.declared.Region.{Region}
-use Rattle.flight_table.specs.LiveRequests.{LiveRequest, finished, is_atomic, is_settled, planned, with_answered, with_write}
+use Rattle.flight_table.specs.LiveRequests.{LiveRequest, finished, reads_then_writes, is_settled, planned, with_answered, with_write}
 use Rattle.flight_table.specs.Laws.{IsSound}
 use Rattle.flight_table.specs.Tables.{KeyedRequest, KeyedTable, has_room, is_busy, request_at}
 use Rattle.responses.specs.Gathered.{Gathering, after_b, after_r, old_value, outline_of, reads_of}
@@ -85,7 +85,7 @@ beat_held r held = record held { gathering = after_r held.bus_bytes (outline_of 
 -- a request that isn't done, and whose old value can be found only where it is an atomic
 pub record IsUndone (found : Bool) (flight : LiveRequest) : Type 0 where
   pub live : flight.done ≡ false
-  pub atomic : found ≡ true → is_atomic flight ≡ true
+  pub atomic : found ≡ true → reads_then_writes flight ≡ true
 
 -- where all planned answers came, by whether the old value of an atomic is found
 abbrev pub settled_flight : Bool → LiveRequest → LiveRequest

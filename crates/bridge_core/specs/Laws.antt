@@ -6,7 +6,7 @@ use Rattle.tl_checker.specs.Sound.{IsSound}
 use Rattle.axi_checker.specs.OpenBursts.{OpenBursts, OpenRead, OpenWrite, read_of_id, write_of_id, write_to_fill}
 use Rattle.burst_plan.specs.declared.Piece.{Piece}
 use Rattle.flight_table.specs.Laws.{IsSoundTable}
-use Rattle.flight_table.specs.LiveRequests.{LiveRequest, is_atomic, is_settled, plan_for, planned, read_pieces}
+use Rattle.flight_table.specs.LiveRequests.{LiveRequest, reads_then_writes, is_settled, plan_for, planned, read_pieces}
 use Rattle.burst_plan.specs.PageMap.{IsPageMap}
 use Rattle.burst_plan.specs.declared.Region.{Region}
 use Rattle.flight_table.specs.Tables.{is_busy}
@@ -52,8 +52,8 @@ pub record IsServed (config : Config) (regions : List Region) (request : Bridged
   pub message : IsSound (port_of config request.message.client) request.message
   pub flight : IsOfMessage config regions request
   pub done : request.flight.done ≡ is_settled request.flight
-  pub found : is_atomic request.flight ≡ true → request.flight.writing ≡ true → request.flight.done ≡ false → IsSome (value_found request)
-  pub failed : is_atomic request.flight ≡ true → request.flight.writing ≡ false → request.flight.done ≡ true → value_found request ≡ None
+  pub found : reads_then_writes request.flight ≡ true → request.flight.writing ≡ true → request.flight.done ≡ false → IsSome (value_found request)
+  pub failed : reads_then_writes request.flight ≡ true → request.flight.writing ≡ false → request.flight.done ≡ true → value_found request ≡ None
   pub came : beats_in (answered_pieces request.flight) ≤ request.gathering.came
   pub next : IsPartWay (came_of_next request) (outstanding request.flight)
 

@@ -87,8 +87,8 @@ abbrev pub holder : ℕ → List BridgedRequest → Option BridgedRequest
 holder id live = find (holds id) live
 
 -- a client's live request of the smallest number that is done
-abbrev pub first_done : List BridgedRequest → ℕ → Option BridgedRequest
-first_done live client = find (is_done_for client) live
+abbrev pub oldest_done : List BridgedRequest → ℕ → Option BridgedRequest
+oldest_done live client = find (is_done_for client) live
 
 -- ---- a burst is sent, or answered
 

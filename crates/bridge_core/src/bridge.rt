@@ -66,7 +66,7 @@ impl Bridge {
     ghost use Rattle.bridge_core.specs.Bridge.{after_b_beat, after_pump, after_r_beat, after_take, b_fault, boxes_of, burst_to_send, in_flight, offered, opening_bridge, r_fault, refuses_beat, reply_taken, taken, work_left};
     ghost use Rattle.bridge_core.specs.Configs.{axi_port_of, is_valid};
     ghost use Rattle.bridge_core.specs.Laws.{IsSoundBridge};
-    ghost use Rattle.bridge_core.specs.Requests.{first_done, flight_table_of, outline_in, reply_beats};
+    ghost use Rattle.bridge_core.specs.Requests.{oldest_done, flight_table_of, outline_in, reply_beats};
     ghost use Rattle.bridge_core.specs.Sending.{SendsSmallest, next_sending};
 
     /// A bridge with these limits and this page map, on which no beat has come, with a box for each burst that may be
@@ -238,7 +238,7 @@ impl Bridge {
 
     /// Whether a live request of a client is done.
     pub fn first_done(&self, client: u8) -> bool
-        ensures { result ≡ is_some (first_done self.now.state.requests.live client) }
+        ensures { result ≡ is_some (oldest_done self.now.state.requests.live client) }
     {
         self.requests.flight().first_done(client)
     }

@@ -15,7 +15,7 @@ ghost use Rattle.bridge_core.specs.Bridge.{opening_requests};
 ghost use Rattle.bridge_core.specs.Configs.{is_valid, port_of};
 ghost use Rattle.bridge_core.specs.Inside.{AwaitsAnswer, AwaitsBeat, IsFirstAt, IsUndone, answered_flight, settled_flight};
 ghost use Rattle.bridge_core.specs.Laws.{IsSoundRequestTable};
-ghost use Rattle.bridge_core.specs.Requests.{first_done, flight_table_of, holder, may_send, outline_in, range_of, reply_beats, with_read, with_request, with_response, with_sent_burst, without_done};
+ghost use Rattle.bridge_core.specs.Requests.{oldest_done, flight_table_of, holder, may_send, outline_in, range_of, reply_beats, with_read, with_request, with_response, with_sent_burst, without_done};
 ghost use Rattle.bridge_core.specs.Sending.{next_sending};
 
 use crate::Config;
@@ -169,9 +169,9 @@ impl RequestTable {
     /// Takes out the first live request of a client that is done: its reply's beats are put into a box, and its number is
     /// answered.
     pub(crate) fn take(&mut self, client: u8, reply: &mut ReplyBox) -> Option<u64>
-        ensures number { result ≡ option_map (λ request. request.flight.number) (first_done self.old.live client) }
-        ensures shown { IfSome (first_done self.old.live client) (λ request. reply.new ≡ reply_beats request) }
-        ensures right { IfSome (first_done self.old.live client) (λ request. ShowsReply (request_of request.message) (gathered (outline_in request) request.gathering) reply.new) }
+        ensures number { result ≡ option_map (λ request. request.flight.number) (oldest_done self.old.live client) }
+        ensures shown { IfSome (oldest_done self.old.live client) (λ request. reply.new ≡ reply_beats request) }
+        ensures right { IfSome (oldest_done self.old.live client) (λ request. ShowsReply (request_of request.message) (gathered (outline_in request) request.gathering) reply.new) }
         ensures table { IsSome result → self.new ≡ without_done client self.old }
         ensures kept { result ≡ None → (self.new ≡ self.old) × (reply.new ≡ reply.old) }
         ensures laws { IsSoundRequestTable self.new }

@@ -2,7 +2,7 @@
 -- the bridge and the memory do it is hidden.
 use Rattle.std.specs.Prelude.{ℕ, ◌+◌, ◌%◌, ◌==◌, ◌≡◌, ◌<◌, ◌≤◌, ◌⊎◌, ◌-◌, Bool, List, [], ◌∷◌, ◌++◌, length, Option, Some, None, is_some, slice_get, slice_index_or, if◌then◌else◌, nat_lt}
 use Rattle.tl_messages.specs.declared.ABeat.{ABeat}
-use Rattle.bridge_core.specs.Requests.{first_done}
+use Rattle.bridge_core.specs.Requests.{oldest_done}
 use Rattle.world.specs.World.{WorldState, enabled, next}
 use Rattle.tl_messages.specs.declared.DBeat.{DBeat}
 use Rattle.tl_checker.specs.declared.TlRule.TheVariants.{SourceBusy}
@@ -28,7 +28,7 @@ by_beat None received = if received then CountsOut else Waits
 
 abbrev pub client_move : SharedState → ℕ → Option ABeat → Bool → Move
 client_move shared client beat received =
-    if shared.stop then Ends else (if is_some (first_done shared.world.bridge.requests.live client) then Takes else by_beat beat received)
+    if shared.stop then Ends else (if is_some (oldest_done shared.world.bridge.requests.live client) then Takes else by_beat beat received)
 
 -- what a step makes of the shared value: nothing where the history is full, which is a fault
 abbrev pub MakesStep : SharedState → SharedState → Step → Turn → Type 0

@@ -53,8 +53,8 @@ pieces_planned None = []
 pieces_planned (Some range) = pieces range
 
 -- whether a request reads and then writes
-abbrev pub is_atomic : LiveRequest → Bool
-is_atomic request = reply_has_data request.operation && has_data request.operation
+abbrev pub reads_then_writes : LiveRequest → Bool
+reads_then_writes request = reply_has_data request.operation && has_data request.operation
 
 -- the pieces that it reads, as a Get and an atomic do
 abbrev pub read_pieces : LiveRequest → List Piece
@@ -94,7 +94,7 @@ is_settled request = nat_le (length (planned request)) request.answered
 
 -- whether an atomic's read was answered and its write isn't planned
 abbrev pub awaits_write : LiveRequest → Bool
-awaits_write request = is_atomic request && not request.done && not request.writing && is_settled request
+awaits_write request = reads_then_writes request && not request.done && not request.writing && is_settled request
 
 -- ---- what the calls change
 

@@ -1,6 +1,6 @@
 //! One live request.
 ghost use Rattle.std.specs.Prelude.{◌≡◌, ℕ, ◌↔◌, ◌&&◌, ◌+◌, ◌-◌, ◌*◌, ◌<◌, ◌≤◌, IfSome, IsTrue, Some, drop, if◌then◌else◌, is_some, length, slice_get, sum_by};
-ghost use Rattle.flight_table.specs.LiveRequests.{awaits_write, finished, flight_for, is_atomic, is_settled, next_burst, pieces_planned, plan_for, planned, read_pieces, unanswered, with_answered, with_sent, with_write, write_pieces};
+ghost use Rattle.flight_table.specs.LiveRequests.{awaits_write, finished, flight_for, reads_then_writes, is_settled, next_burst, pieces_planned, plan_for, planned, read_pieces, unanswered, with_answered, with_sent, with_write, write_pieces};
 ghost use Rattle.flight_table.specs.Inside.{is_open};
 ghost use Rattle.std.specs.List.{AllByRecursion};
 ghost use Rattle.burst_plan.specs.Pieces.{IsPlannable, range_end};
@@ -160,8 +160,8 @@ impl LiveRequest {
     }
 
     /// Whether the request reads and then writes.
-    pub(crate) fn is_atomic(&self) -> bool
-        ensures { result ≡ is_atomic self.now }
+    pub(crate) fn reads_then_writes(&self) -> bool
+        ensures { result ≡ reads_then_writes self.now }
     {
         self.operation.reply_has_data() && self.operation.has_data()
     }
@@ -196,7 +196,7 @@ impl LiveRequest {
     pub(crate) fn awaits_write(&self) -> bool
         ensures { result ≡ awaits_write self.now }
     {
-        self.is_atomic() && !self.done && !self.writing && self.is_settled()
+        self.reads_then_writes() && !self.done && !self.writing && self.is_settled()
     }
 
     /// Piece `place` of the plan, from 0.

@@ -8,11 +8,12 @@ use Rattle.std.proofs.lemmas.List.{drop_more, length-drop}
 use Rattle.std.proofs.lemmas.List.FromFn.{get_or-map-range_with_len, length-map-range_with_len}
 use Rattle.bus_words.specs.Lanes.{given_at, lane_byte, payload_of, word_address}
 use Rattle.bus_words.proofs.LaneLaws.{lane_byte-payload_of}
+use Rattle.tl_messages.specs.Lanes.{in_range}
 use Rattle.tl_messages.specs.Operations.{beats_of, reply_has_data}
 use Rattle.tl_messages.specs.Requests.{WholeRequest}
 use Rattle.tl_messages.specs.declared.DBeat.{DBeat}
 use Rattle.burst_plan.specs.declared.Region.{Region}
-use Rattle.responses.specs.Shown.{Reply, address_in_word, beat_of_word, beat_without_data, in_range, lacks_a_byte, shown}
+use Rattle.responses.specs.Shown.{Reply, address_in_word, beat_of_word, beat_without_data, lacks_a_byte, shown}
 use Rattle.subordinate.specs.Faults.{Faults}
 use Rattle.world_run.specs.Meaning.{Bytes, meaning}
 use Rattle.racing_board.specs.Orders.{reply_beats}
@@ -78,7 +79,7 @@ lacks_same : (hidden : ℕ → Bool) (m n : Bytes) (a : ℕ) (q : WholeRequest) 
     → lacks_a_byte q (reply_of hidden m a q) j ≡ lacks_a_byte q (reply_of hidden n a q) j
 lacks_same hidden m n a q j =
     ap (λ (test : ℕ → Bool). list_any test (range_with_len 0 8))
-    (fun_ext (λ lane. ap (λ (b : Bool). in_range q (address_in_word q j lane) && b)
+    (fun_ext (λ lane. ap (λ (b : Bool). in_range q.address q.size (address_in_word q j lane) && b)
     (told_none hidden m n a (2 ^ q.size) q.address (address_in_word q j lane))))
 
 place_in_word : (a address j lane : ℕ) → a % 8 ≡ address % 8 → address ≤ word_address address + 8 * j + lane

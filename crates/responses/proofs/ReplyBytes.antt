@@ -10,7 +10,7 @@ use Rattle.std.proofs.lemmas.Option.{slice_get_within, slice_get_past, none-some
 use Rattle.std.proofs.lemmas.Nat.{mod_below}
 use Rattle.bus_words.specs.Lanes.{given_at, lane_byte, payload_of}
 use Rattle.bus_words.proofs.LaneLaws.{lane_byte-payload_of}
-use Rattle.tl_messages.specs.Lanes.{lane_of}
+use Rattle.tl_messages.specs.Lanes.{in_range, lane_of}
 use Rattle.tl_messages.specs.Operations.{reply_has_data, beats_of}
 use Rattle.tl_messages.specs.Requests.{WholeRequest}
 use Rattle.tl_messages.specs.declared.DBeat.{DBeat}
@@ -18,7 +18,7 @@ use Rattle.data_unit.proofs.ByteLaws.{lane_byte-past, lane_byte-shr}
 use Rattle.responses.specs.Gathered.{Gathering, byte_gathered, gathered, outline_of}
 use Rattle.responses.specs.declared.gather.Outline.{Outline}
 use Rattle.responses.specs.RightReplies.{ShowsReply}
-use Rattle.responses.specs.Shown.{Reply, address_in_word, beat_of_word, beat_without_data, in_range, lacks_a_byte, shown}
+use Rattle.responses.specs.Shown.{Reply, address_in_word, beat_of_word, beat_without_data, lacks_a_byte, shown}
 use Rattle.responses.proofs.ReplyRules.{legal}
 
 -- the bytes of a reply: each below 256, as many as the range has at most, and none where the reply has no data
@@ -54,10 +54,10 @@ lane_of_zero : (lane : ℕ) → lane_byte 0 lane ≡ 0
 lane_of_zero lane = lane_byte-past 0 0 lane (lit< tt) (omega arith)
 
 -- no byte is given outside the range
-none_outside : (q : WholeRequest) (reply : Reply) (x : ℕ) → HasBytes q reply → in_range q x ≡ false → given_at reply.bytes q.address x ≡ None
+none_outside : (q : WholeRequest) (reply : Reply) (x : ℕ) → HasBytes q reply → in_range q.address q.size x ≡ false → given_at reply.bytes q.address x ≡ None
 none_outside q reply x has out = grind (arith, nat_tests, has.few, slice_get_past reply.bytes (x - q.address))
 
-outside_zero : (q : WholeRequest) (reply : Reply) (j lane : ℕ) → HasBytes q reply → lane < 8 → in_range q (address_in_word q j lane) ≡ false → lane_byte (beat_of_word q reply j).payload lane ≡ 0
+outside_zero : (q : WholeRequest) (reply : Reply) (j lane : ℕ) → HasBytes q reply → lane < 8 → in_range q.address q.size (address_in_word q j lane) ≡ false → lane_byte (beat_of_word q reply j).payload lane ≡ 0
 outside_zero q reply j lane has below out =
     elim (cases_Bool (beat_of_word q reply j).corrupt) [
       | inl bad ↦ ap (λ n. lane_byte n lane) (empty_where_corrupt q reply j bad) ∙ lane_of_zero lane

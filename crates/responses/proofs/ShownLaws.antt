@@ -12,7 +12,7 @@ use Rattle.bus_words.specs.Lanes.{given_at, has_lane, is_between, lane_byte, pay
 use Rattle.bus_words.proofs.BelowEight.{below_eight}
 use Rattle.bus_words.proofs.MaskLaws.{has_lane-mask_of}
 use Rattle.bus_words.proofs.LaneLaws.{word_of_lanes-same}
-use Rattle.tl_messages.specs.Lanes.{lane_of}
+use Rattle.tl_messages.specs.Lanes.{in_range, lane_of}
 use Rattle.tl_messages.specs.Operations.{reply_has_data, beats_of}
 use Rattle.tl_messages.specs.Requests.{WholeRequest}
 use Rattle.tl_messages.specs.declared.DBeat.{DBeat}
@@ -22,7 +22,7 @@ use Rattle.data_unit.proofs.ByteLaws.{lane_byte-past}
 use Rattle.responses.specs.Gathered.{Gathering, byte_gathered, gathered, outline_of, words_of}
 use Rattle.responses.specs.declared.gather.Outline.{Outline}
 use Rattle.responses.specs.Inside.{word_lanes, word_beat, word_beat_at}
-use Rattle.responses.specs.Shown.{Reply, address_in_word, beat_of_word, in_range, lacks_a_byte, shown}
+use Rattle.responses.specs.Shown.{Reply, address_in_word, beat_of_word, lacks_a_byte, shown}
 use Rattle.responses.proofs.ReadLaws.{eighths, narrow}
 
 -- ---- the lanes of a range in one of its words
@@ -39,7 +39,7 @@ every_lane : (lane : ℕ) → lane < 8 → has_lane 255 lane ≡ true
 every_lane lane below = below_eight (λ k. has_lane 255 k ≡ true) refl refl refl refl refl refl refl refl lane below
 
 -- the lanes of the range in one of its words
-lanes_in_word : (q : WholeRequest) (k lane : ℕ) → lane < 8 → k < beats_of q.size true → has_lane (word_lanes (outline_of q) k) lane ≡ in_range q (address_in_word q k lane)
+lanes_in_word : (q : WholeRequest) (k lane : ℕ) → lane < 8 → k < beats_of q.size true → has_lane (word_lanes (outline_of q) k) lane ≡ in_range q.address q.size (address_in_word q k lane)
 lanes_in_word q zero lane below inside =
     has_lane-mask_of (is_between (lane_of q.address) (min (lane_of q.address + 2 ^ q.size - 1) 7)) lane below ∙ grind (arith, nat_tests, pow_pos q.size)
 lanes_in_word q (suc k) lane below inside =
@@ -58,7 +58,7 @@ lanes_in_word q (suc k) lane below inside =
 
 -- the byte in a lane of a word, where the range has that lane
 abbrev byte_in_word : WholeRequest → ℕ → Option ℕ → ℕ → Option ℕ
-byte_in_word q k word lane = if in_range q (address_in_word q k lane) then option_map (λ w. lane_byte w lane) word else None
+byte_in_word q k word lane = if in_range q.address q.size (address_in_word q k lane) then option_map (λ w. lane_byte w lane) word else None
 
 bytes_of_reply : WholeRequest → List (Option ℕ) → List (Option ℕ)
 bytes_of_reply q words = map (byte_gathered (outline_of q) words) (range_with_len 0 (2 ^ q.size))
@@ -112,8 +112,8 @@ given_none held byte = grind arith
 -- a word that is given lacks no byte
 lacks_none : (q : WholeRequest) (words : List (Option ℕ)) (k word : ℕ) → slice_get words k ≡ Some (Some word) → lacks_a_byte q (reply_of q words) k ≡ false
 lacks_none q words k word there =
-    any_lane-same (λ lane. in_range q (address_in_word q k lane) && is_none (given_at (bytes_of_reply q words) q.address (address_in_word q k lane))) (λ lane. false)
-    (λ lane below. rw (given_in_word q words k lane (Some word) below there) (given_none (in_range q (address_in_word q k lane)) (lane_byte word lane)))
+    any_lane-same (λ lane. in_range q.address q.size (address_in_word q k lane) && is_none (given_at (bytes_of_reply q words) q.address (address_in_word q k lane))) (λ lane. false)
+    (λ lane below. rw (given_in_word q words k lane (Some word) below there) (given_none (in_range q.address q.size (address_in_word q k lane)) (lane_byte word lane)))
 
 none_held : (held : Bool) (byte : Option ℕ) → held ≡ true → byte ≡ None → (held && is_none (if held then byte else None)) ≡ true
 none_held held byte is none = grind arith
@@ -124,9 +124,9 @@ lacks_some q words k inside there =
     let from_zero : 0 + lane_of q.address ≡ lane_of q.address = omega arith in
     let below : lane_of q.address < 8 = omega arith in
     let first : address_in_word q k (lane_of q.address) ≡ q.address + 8 * k = omega arith in
-    let held : in_range q (address_in_word q k (lane_of q.address)) ≡ true = let fits = first_in_word q.size k inside in rw first (grind (arith, nat_tests)) in
-    any-range (λ lane. in_range q (address_in_word q k lane) && is_none (given_at (bytes_of_reply q words) q.address (address_in_word q k lane))) 0 8 (lane_of q.address) below
-    (rw (from_zero, given_in_word q words k (lane_of q.address) None below there) (none_held (in_range q (address_in_word q k (lane_of q.address))) None held refl))
+    let held : in_range q.address q.size (address_in_word q k (lane_of q.address)) ≡ true = let fits = first_in_word q.size k inside in rw first (grind (arith, nat_tests)) in
+    any-range (λ lane. in_range q.address q.size (address_in_word q k lane) && is_none (given_at (bytes_of_reply q words) q.address (address_in_word q k lane))) 0 8 (lane_of q.address) below
+    (rw (from_zero, given_in_word q words k (lane_of q.address) None below there) (none_held (in_range q.address q.size (address_in_word q k (lane_of q.address))) None held refl))
 
 shown_or_zero : (held : Bool) (byte zero_byte : ℕ) → zero_byte ≡ 0 → (if held then byte else zero_byte) ≡ unwrap_or (if held then Some byte else None) 0
 shown_or_zero held byte zero_byte none = grind arith
@@ -139,7 +139,7 @@ payload_shown q words k word inside there =
     (λ lane. unwrap_or (given_at (bytes_of_reply q words) q.address (address_in_word q k lane)) 0)
     (λ lane below.
     ap (λ b. if b then lane_byte word lane else lane_byte 0 lane) (lanes_in_word q k lane below inside)
-    ∙ shown_or_zero (in_range q (address_in_word q k lane)) (lane_byte word lane) (lane_byte 0 lane) (lane_byte-past 0 0 lane (lit< tt) (omega arith))
+    ∙ shown_or_zero (in_range q.address q.size (address_in_word q k lane)) (lane_byte word lane) (lane_byte 0 lane) (lane_byte-past 0 0 lane (lit< tt) (omega arith))
     ∙ ap (λ (o : Option ℕ). unwrap_or o 0) (sym (given_in_word q words k lane (Some word) below there)))
 
 -- the beat of one word

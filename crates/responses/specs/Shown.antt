@@ -1,8 +1,9 @@
 -- Replies, and the beats on channel D that show them (TileLink 1.8, channel D, byte lanes; this project's profile: a beat whose bytes
 -- aren't all given is corrupt, a denied reply with data is corrupt on each beat, and a payload that says nothing is zero).
-use Rattle.std.specs.Prelude.{ℕ, ◌+◌, ◌*◌, ◌^◌, Bool, true, false, ◌&&◌, ◌||◌, List, [], ◌∷◌, map, Option, is_none, if◌then◌else◌, nat_lt, nat_le}
+use Rattle.std.specs.Prelude.{ℕ, ◌+◌, ◌*◌, Bool, true, false, ◌&&◌, ◌||◌, List, [], ◌∷◌, map, Option, is_none, if◌then◌else◌}
 use Rattle.std.specs.List.{range_with_len, list_any}
 use Rattle.bus_words.specs.Lanes.{word_address, payload_of, given_at}
+use Rattle.tl_messages.specs.Lanes.{in_range}
 use Rattle.tl_messages.specs.Operations.{reply_opcode, reply_has_data, beats_of}
 use Rattle.tl_messages.specs.Requests.{WholeRequest}
 use Rattle.tl_messages.specs.declared.DBeat.{DBeat}
@@ -12,10 +13,6 @@ pub record Reply : Type 0 where
   pub denied : Bool
   pub bytes : List (Option ℕ)
 
--- whether an address is in the range of a request
-abbrev pub in_range : WholeRequest → ℕ → Bool
-in_range q x = nat_le q.address x && nat_lt x (q.address + 2 ^ q.size)
-
 -- the address of a lane's byte in word j of a request's range
 abbrev pub address_in_word : WholeRequest → ℕ → ℕ → ℕ
 address_in_word q j lane = word_address q.address + 8 * j + lane
@@ -23,7 +20,7 @@ address_in_word q j lane = word_address q.address + 8 * j + lane
 -- whether a byte of word j isn't given
 abbrev pub lacks_a_byte : WholeRequest → Reply → ℕ → Bool
 lacks_a_byte q reply j =
-    list_any (λ lane. in_range q (address_in_word q j lane) && is_none (given_at reply.bytes q.address (address_in_word q j lane))) (range_with_len 0 8)
+    list_any (λ lane. in_range q.address q.size (address_in_word q j lane) && is_none (given_at reply.bytes q.address (address_in_word q j lane))) (range_with_len 0 8)
 
 -- the beat of a reply without data
 abbrev pub beat_without_data : WholeRequest → Reply → DBeat

@@ -29,7 +29,7 @@ use Rattle.responses.specs.Shown.{Reply as ReplyGiven, shown}
 use Rattle.bridge_core.specs.Bridge.{BridgeState, after_b_beat, after_r_beat, after_sent, after_take, b_fault, front_of, message_with, r_fault}
 use Rattle.bridge_core.specs.Configs.{axi_port_of, port_of}
 use Rattle.bridge_core.specs.Laws.{IsFreeFront, IsServed}
-use Rattle.bridge_core.specs.Requests.{BridgedRequest, after_read, after_response, after_sending, first_done, holds, is_done_for, is_numbered, newly_live, outline_in, reply_beats}
+use Rattle.bridge_core.specs.Requests.{BridgedRequest, after_read, after_response, after_sending, oldest_done, holds, is_done_for, is_numbered, newly_live, outline_in, reply_beats}
 use Rattle.bridge_core.specs.Sending.{Sending, next_sending}
 use Rattle.bridge_core.specs.declared.Config.{Config}
 use Rattle.bridge_core.proofs.HolderChanges.{length-filter-map}
@@ -383,7 +383,7 @@ module _ (setup : SetupLists) (requests past : List WholeRequest) (before : List
 
   -- ---- the beats of a reply
 
-  takes_seen : (client : ℕ) (request : BridgedRequest) → nat_le state.bridge.requests.config.clients client ≡ false → first_done state.bridge.requests.live client ≡ Some request
+  takes_seen : (client : ℕ) (request : BridgedRequest) → nat_le state.bridge.requests.config.clients client ≡ false → oldest_done state.bridge.requests.live client ≡ Some request
       → Goes (step.Take client) (taken state client (Some request))
   takes_seen client request known_client first = goes_by (step.Take client) (taken state client (Some request)) refl shows
     where

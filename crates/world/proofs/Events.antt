@@ -12,7 +12,7 @@ use Rattle.tl_checker.specs.declared.Progress.TheVariants.{More as Begins, Whole
 use Rattle.tl_checker.specs.declared.TlRule.{TlRule}
 use Rattle.flight_table.specs.Tables.{has_room}
 use Rattle.bridge_core.specs.Bridge.{BridgeState, after_pump_of, after_sent, completed, message_with, offered_after, reply_taken, verdict_on, with_front}
-use Rattle.bridge_core.specs.Requests.{BridgedRequest, flight_table_of, first_done, with_request}
+use Rattle.bridge_core.specs.Requests.{BridgedRequest, flight_table_of, oldest_done, with_request}
 use Rattle.bridge_core.specs.Sending.{Sending, next_sending}
 use Rattle.subordinate.specs.FreeMemory.{FreeMemory, performed, b_of, r_of, with_burst}
 use Rattle.subordinate.specs.declared.Performed.{Performed}
@@ -73,7 +73,7 @@ pub record EachWay (P : Step → Outcome → Type 0) (state : WorldState) : Type
   pub gives_r : (id : ℕ) (r : RBeat) → r_of state.memory id ≡ Some r → P (AnswerR id) (answered_r state id (Some r))
   pub hands_out :
       (client : ℕ) (request : BridgedRequest) → nat_le state.bridge.requests.config.clients client ≡ false
-      → first_done state.bridge.requests.live client ≡ Some request → P (Take client) (taken state client (Some request))
+      → oldest_done state.bridge.requests.live client ≡ Some request → P (Take client) (taken state client (Some request))
 
 module _ (P : Step → Outcome → Type 0) (state : WorldState) (ways : EachWay P state) where
   -- a whole message, by its client's room and by the numbers that are left
@@ -123,7 +123,7 @@ module _ (P : Step → Outcome → Type 0) (state : WorldState) (ways : EachWay 
   -- a Take of a client that there is, by its request that is done
   take_has :
       (client : ℕ) (request : Option BridgedRequest) → nat_le state.bridge.requests.config.clients client ≡ false
-      → first_done state.bridge.requests.live client ≡ request → P (Take client) (taken state client request)
+      → oldest_done state.bridge.requests.live client ≡ request → P (Take client) (taken state client request)
   take_has client None known is = ways.quiet (Take client) _ refl
   take_has client (Some request) known is = ways.hands_out client request known is
 
@@ -139,7 +139,7 @@ module _ (P : Step → Outcome → Type 0) (state : WorldState) (ways : EachWay 
   each_way (AnswerR id) = r_has id (r_of state.memory id) refl
   each_way (Take client) =
       cond_both (nat_le state.bridge.requests.config.clients client) _ _ (P (Take client)) (λ outside. ways.quiet (Take client) _ refl)
-      (λ known. subst (λ request. P (Take client) (taken state client request)) (sym (if_known known)) (take_has client (first_done state.bridge.requests.live client) known refl))
+      (λ known. subst (λ request. P (Take client) (taken state client request)) (sym (if_known known)) (take_has client (oldest_done state.bridge.requests.live client) known refl))
     where
-      if_known : nat_le state.bridge.requests.config.clients client ≡ false → reply_taken state.bridge client ≡ first_done state.bridge.requests.live client
+      if_known : nat_le state.bridge.requests.config.clients client ≡ false → reply_taken state.bridge client ≡ oldest_done state.bridge.requests.live client
       if_known known = rw known refl

@@ -49,7 +49,7 @@ impl Drop for World {
 }
 
 impl World {
-    ghost use Rattle.bridge_core.specs.Requests.{first_done};
+    ghost use Rattle.bridge_core.specs.Requests.{oldest_done};
     ghost use Rattle.std.specs.Prelude.{is_some};
     ghost use Rattle.bridge_core.specs.Bridge as bridges;
     ghost use Rattle.subordinate.specs.FreeMemory.{performed_waiting};
@@ -122,7 +122,7 @@ impl World {
 
     /// Whether a client could take a reply.
     pub fn first_done(&self, client: u8) -> bool
-        ensures { result ≡ is_some (first_done self.now.bridge.requests.live client) }
+        ensures { result ≡ is_some (oldest_done self.now.bridge.requests.live client) }
     {
         self.bridge.first_done(client)
     }

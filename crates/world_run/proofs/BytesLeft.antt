@@ -8,6 +8,7 @@ use Rattle.std.proofs.lemmas.List.{length-map}
 use Rattle.std.proofs.lemmas.List.FromFn.{length-map-range_with_len}
 use Rattle.std.proofs.lemmas.Option.{slice_get_past}
 use Rattle.bus_words.specs.Lanes.{given_at}
+use Rattle.tl_messages.specs.Lanes.{in_range}
 use Rattle.tl_messages.specs.Requests.{HeldMessage, WholeRequest, byte_given, request_of}
 use Rattle.tl_messages.specs.Operations.{has_data}
 use Rattle.tl_messages.specs.declared.AtomicOp.{AtomicOp}
@@ -25,7 +26,7 @@ use Rattle.bridge_core.specs.Requests.{address_of, BridgedRequest, value_found}
 use Rattle.bridge_core.specs.Sending.{bytes_written, operand_of}
 use Rattle.subordinate.specs.Faults.{Faults, Standing, IsGood, standing_at, is_bad, is_good, lists_page, standing_of_listed}
 use Rattle.world_run.specs.Meaning.{Bytes, atomic_bytes, bytes_after_all, bytes_at, denied, effect, effect_at, meaning, replies_in_order, zeros}
-use Rattle.world_run.specs.Serial.{Order, after_one, asked, bytes_before, covers, gives_byte, is_intent, touches, touches_byte, touches_from, writes, writes_byte, writes_from, byte_left}
+use Rattle.world_run.specs.Serial.{Order, after_one, asked, bytes_before, gives_byte, is_intent, touches, touches_byte, touches_from, writes, writes_byte, writes_from, byte_left}
 
 -- ---- bytes of a list
 
@@ -42,7 +43,7 @@ not_given None d none = refl
 not_given (Some byte) d none = absurd (cc)
 
 -- a byte outside the range
-outside : (bytes : List (Option ℕ)) (address size x : ℕ) → length bytes ≤ 2 ^ size → covers address size x ≡ false → given_at bytes address x ≡ None
+outside : (bytes : List (Option ℕ)) (address size x : ℕ) → length bytes ≤ 2 ^ size → in_range address size x ≡ false → given_at bytes address x ≡ None
 outside bytes address size x within out = elim (cases_lt x address) [
   | inl below ↦ given_before bytes address x below
   | inr above ↦ given_past bytes address x (let past : address + 2 ^ size ≤ x = grind (arith, nat_tests) in omega (arith, past, within))
@@ -56,7 +57,7 @@ effect_alone faults q m address PutFull IsGood bad x is none = not_given (given_
 effect_alone faults q m address PutPartial IsGood bad x is none = not_given (given_at q.bytes address x) (m x) none
 effect_alone faults q m address Get IsGood bad x is none = refl
 effect_alone faults q m address (Atomic op) IsGood false x is none =
-    ap (λ (o : Option ℕ). unwrap_or o (m x)) (outside (atomic_bytes op m address (2 ^ q.size) q.bytes) address q.size x (atomic_size op m address q) (not_covered (is_bad faults address) (covers address q.size x) is none))
+    ap (λ (o : Option ℕ). unwrap_or o (m x)) (outside (atomic_bytes op m address (2 ^ q.size) q.bytes) address q.size x (atomic_size op m address q) (not_covered (is_bad faults address) (in_range address q.size x) is none))
   where
     atomic_size : (op : AtomicOp) (m : Bytes) (address : ℕ) (q : WholeRequest) → length (atomic_bytes op m address (2 ^ q.size) q.bytes) ≤ 2 ^ q.size
     atomic_size op m address q =
@@ -89,17 +90,17 @@ left_alone order n x none = one_alone order (asked order n) (bytes_before order 
 
 -- ---- who writes a byte touches it
 
-given_within : (bytes : List (Option ℕ)) (address size x : ℕ) → length bytes ≤ 2 ^ size → is_some (given_at bytes address x) ≡ true → covers address size x ≡ true
-given_within bytes address size x within given = elim (cases_Bool (covers address size x)) [
+given_within : (bytes : List (Option ℕ)) (address size x : ℕ) → length bytes ≤ 2 ^ size → is_some (given_at bytes address x) ≡ true → in_range address size x ≡ true
+given_within bytes address size x within given = elim (cases_Bool (in_range address size x)) [
   | inl covered ↦ covered
   | inr out ↦ (let none = outside bytes address size x within out in let nothing : is_some {T = ℕ} None ≡ true = rw none at given in absurd (cc (nothing)))
 ]
 
 touches_there : (faults : Faults) (q : WholeRequest) (address : ℕ) (operation : Operation) (x : ℕ) → length q.bytes ≤ 2 ^ q.size
-    → gives_byte faults q address operation x ≡ true → (not (is_intent operation) && covers address q.size x) ≡ true
+    → gives_byte faults q address operation x ≡ true → (not (is_intent operation) && in_range address q.size x) ≡ true
 touches_there faults q address PutFull x within gives = given_within q.bytes address q.size x within gives
 touches_there faults q address PutPartial x within gives = given_within q.bytes address q.size x within gives
-touches_there faults q address (Atomic op) x within gives = (and_parts (not (is_bad faults address)) (covers address q.size x) gives).1
+touches_there faults q address (Atomic op) x within gives = (and_parts (not (is_bad faults address)) (in_range address q.size x) gives).1
 touches_there faults q address _ x within gives = absurd (cc)
 
 touches_where : (faults : Faults) (q : WholeRequest) (place : Option ℕ) (x : ℕ) → length q.bytes ≤ 2 ^ q.size → writes_from faults q place x ≡ true → touches_from q place x ≡ true
@@ -225,7 +226,7 @@ gives_where_written faults q (Atomic op) address x old fine =
     let number = atomic_result op (2 ^ q.size) old (operand_of q) in
     given_of_bytes (bytes_of (2 ^ q.size) number) address x
     ∙ ap (λ n. nat_le address x && nat_lt x (address + n)) (length-bytes_of (2 ^ q.size) number)
-    ∙ ap (λ b. not b && covers address q.size x) (sym (fine op refl))
+    ∙ ap (λ b. not b && in_range address q.size x) (sym (fine op refl))
 gives_where_written faults q Get address x old fine = none_given address x
 gives_where_written faults q (Intent write) address x old fine = none_given address x
 
@@ -265,7 +266,7 @@ given_inside bytes address x there = from (nat_le address x) refl there
         (under, omega arith)
     from false low there = absurd (cc (there))
 
-covered_within : (address size x : ℕ) → covers address size x ≡ true → (address ≤ x) × (x < address + 2 ^ size)
+covered_within : (address size x : ℕ) → in_range address size x ≡ true → (address ≤ x) × (x < address + 2 ^ size)
 covered_within address size x is =
     let both = and_parts (nat_le address x) (nat_lt x (address + 2 ^ size)) is in
     (leb-true address x both.0, ltb-true x (address + 2 ^ size) both.1)
@@ -283,7 +284,7 @@ gives_within faults message operation address x is = by_operation operation is
     by_operation : (operation : Operation) → gives_byte faults (request_of message) address operation x ≡ true → (address ≤ x) × (x < address + 2 ^ message.size)
     by_operation PutFull is = put is
     by_operation PutPartial is = put is
-    by_operation (Atomic op) is = covered_within address message.size x (and_parts (not (is_bad faults address)) (covers address message.size x) is).1
+    by_operation (Atomic op) is = covered_within address message.size x (and_parts (not (is_bad faults address)) (in_range address message.size x) is).1
     by_operation _ is = absurd (cc (is))
 
 -- all bytes of a range are in the page of its first

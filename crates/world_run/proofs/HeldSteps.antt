@@ -10,6 +10,7 @@ use Rattle.std.proofs.lemmas.List.Folds.{find-append}
 use Rattle.std.proofs.lemmas.Option.{same_Some}
 use Rattle.bus_words.specs.Places.{change_first, without_first}
 use Rattle.bus_words.proofs.PlaceChanges.{all-find, find-passes, all-append, all-change_first, all-without_first}
+use Rattle.tl_messages.specs.Lanes.{in_range}
 use Rattle.tl_messages.specs.Requests.{HeldMessage, WholeRequest, request_of}
 use Rattle.tl_messages.specs.declared.Operation.{Operation}
 use Rattle.tl_messages.specs.declared.Operation.TheVariants.{Get, Intent}
@@ -35,8 +36,8 @@ use Rattle.world.specs.Setups.{SetupLists}
 use Rattle.world.specs.World.{Outcome, WorldState, next, opening_world}
 use Rattle.world.specs.declared.Step.{Step}
 use Rattle.world.proofs.Events.{each_way}
-use Rattle.world_run.specs.InOrder.{HoldsBack, finished, has_begun, is_over, started, IsForeseen, IsForeseenBy, IsInOrder, KeepsOrder, IsHistory}
-use Rattle.world_run.specs.Serial.{Order, asked, covers, gives_byte, is_intent, touches, touches_byte, touches_from, writes, writes_byte, writes_from}
+use Rattle.world_run.specs.InOrder.{HoldsBack, is_finished, has_begun, is_over, started, IsForeseen, IsForeseenBy, IsInOrder, KeepsOrder, IsHistory}
+use Rattle.world_run.specs.Serial.{Order, asked, gives_byte, is_intent, touches, touches_byte, touches_from, writes, writes_byte, writes_from}
 use Rattle.world_run.specs.Meaning.{Bytes}
 use Rattle.world_run.proofs.BytesLeft.{message_touches}
 use Rattle.world_run.proofs.History.{history_moves}
@@ -60,9 +61,9 @@ done_begun (Some request) over = grind (arith, over)
 -- a plan's range has the byte at x
 abbrev pub HasByte : Option PlannedRange → ℕ → Type 0
 HasByte None x = ⊥
-HasByte (Some range) x = covers range.address range.size x ≡ true
+HasByte (Some range) x = in_range range.address range.size x ≡ true
 
-planned_there : (config : Config) (q : WholeRequest) (address : ℕ) (operation : Operation) (x : ℕ) → (not (is_intent operation) && covers address q.size x) ≡ true
+planned_there : (config : Config) (q : WholeRequest) (address : ℕ) (operation : Operation) (x : ℕ) → (not (is_intent operation) && in_range address q.size x) ≡ true
     → HasByte (plan_for operation (Some (range_at config q address))) x
 planned_there config q address (Intent write) x there = absurd (cc)
 planned_there config q address _ x there = there
@@ -165,7 +166,7 @@ found_asked order table k request sound regions all found = record {
 -- where one sends that isn't done, whatever it conflicts with is done
 module _ (order : Order) (table : RequestTable) (sound : IsSoundRequestTable table) (regions : table.regions ≡ order.regions) (all : AreAsked order table.live) where
   waits : (i j x : ℕ) (b : BridgedRequest) → i < j → j < table.accepted → DoConflict order i j x → find (is_numbered j) table.live ≡ Some b → has_begun (Some b) ≡ true → b.flight.done ≡ false
-      → finished table i ≡ true
+      → is_finished table i ≡ true
   waits i j x b before below both there begun undone = given (find (is_numbered i) table.live) refl
     where
       unheld : is_held (flights_of table.live) b.flight ≡ false
@@ -201,8 +202,8 @@ IsIdle order j = (x : ℕ) → (touches order j x ≡ false) × (writes order j 
 -- who has started or is finished stays so, and who is finished had started, but for one that touches nothing
 pub record Goes (order : Order) (old new : RequestTable) (j : ℕ) : Type 0 where
   pub begun : started old j ≡ true → started new j ≡ true
-  pub over : finished old j ≡ true → finished new j ≡ true
-  pub before : finished new j ≡ true → (started old j ≡ true) ⊎ IsIdle order j
+  pub over : is_finished old j ≡ true → is_finished new j ≡ true
+  pub before : is_finished new j ≡ true → (started old j ≡ true) ⊎ IsIdle order j
 
 pub record MovesOn (order : Order) (old new : RequestTable) : Type 0 where
   pub regions : new.regions ≡ old.regions
@@ -211,7 +212,7 @@ pub record MovesOn (order : Order) (old new : RequestTable) : Type 0 where
 
 -- so the later still wait
 pub held_next : (order : Order) (old new : RequestTable) → IsSoundRequestTable new → old.regions ≡ order.regions → MovesOn order old new
-    → HoldsBack (writes order) (touches order) (started old) (finished old) → HoldsBack (writes order) (touches order) (started new) (finished new)
+    → HoldsBack (writes order) (touches order) (started old) (is_finished old) → HoldsBack (writes order) (touches order) (started new) (is_finished new)
 held_next order old new sound regions moves held = record {
   earlier = λ i j x before begun writes_it touches_it. by_number i j x before begun (inl (writes_it, touches_it))
       (λ was. held.earlier i j x before was writes_it touches_it) (λ idle. let none = (idle x).0 in absurd (cc));
@@ -222,7 +223,7 @@ held_next order old new sound regions moves held = record {
     here : new.regions ≡ order.regions
     here = moves.regions ∙ regions
 
-    by_number : (i j x : ℕ) → i < j → started new j ≡ true → DoConflict order i j x → (started old j ≡ true → finished old i ≡ true) → (IsIdle order j → ⊥) → finished new i ≡ true
+    by_number : (i j x : ℕ) → i < j → started new j ≡ true → DoConflict order i j x → (started old j ≡ true → is_finished old i ≡ true) → (IsIdle order j → ⊥) → is_finished new i ≡ true
     by_number i j x before begun both earlier busy = found (find (is_numbered j) new.live) refl
       where
         counted : nat_lt j new.accepted ≡ true
@@ -231,13 +232,13 @@ held_next order old new sound regions moves held = record {
         has : has_begun (find (is_numbered j) new.live) ≡ true
         has = (and_parts (nat_lt j new.accepted) (has_begun (find (is_numbered j) new.live)) begun).1
 
-        ended : is_over (find (is_numbered j) new.live) ≡ true → finished new i ≡ true
+        ended : is_over (find (is_numbered j) new.live) ≡ true → is_finished new i ≡ true
         ended over = elim ((moves.goes j).before (rw (counted, over) refl)) [
           | inl was ↦ (moves.goes i).over (earlier was)
           | inr idle ↦ absurd (busy idle)
         ]
 
-        found : (o : Option BridgedRequest) → find (is_numbered j) new.live ≡ o → finished new i ≡ true
+        found : (o : Option BridgedRequest) → find (is_numbered j) new.live ≡ o → is_finished new i ≡ true
         found None is = ended (rw is refl)
         found (Some b) is = elim (cases_Bool b.flight.done) [
           | inl done ↦ ended (rw (is, done) refl)
@@ -323,7 +324,7 @@ follows_answered old middle new id still same done held = record {
     held_some None held = absurd (cc (held))
     held_some (Some own) held = refl
 
-over_begun : (table : RequestTable) (j : ℕ) → finished table j ≡ true → started table j ≡ true
+over_begun : (table : RequestTable) (j : ℕ) → is_finished table j ≡ true → started table j ≡ true
 over_begun table j over = rw (and_parts (nat_lt j table.accepted) (is_over (find (is_numbered j) table.live)) over).0 (done_begun (find (is_numbered j) table.live) (and_parts (nat_lt j table.accepted) (is_over (find (is_numbered j) table.live)) over).1)
 
 or_none : {X : Type 0} (o : Option X) → option_or o None ≡ o
@@ -530,14 +531,14 @@ module _ (order : Order) (state : WorldState) (sound : IsSoundWorld state) (regi
 
 -- so the later ones still wait
 pub held_kept : (order : Order) (state : WorldState) (step : Step) → IsSoundWorld state → IsSoundWorld (next state step).state → IsForeseen order state step → KeepsOrder order state
-    → HoldsBack (writes order) (touches order) (started (next state step).state.bridge.requests) (finished (next state step).state.bridge.requests)
+    → HoldsBack (writes order) (touches order) (started (next state step).state.bridge.requests) (is_finished (next state step).state.bridge.requests)
 held_kept order state step sound new foreseen keeps =
     held_next order state.bridge.requests (next state step).state.bridge.requests new.bridge_laws.requests keeps.regions
     (moves_on order state sound keeps.regions (are_asked order state keeps) step new foreseen) keeps.held
 
 -- before the first event none has started
 pub held_opening : (order : Order) (setup : SetupLists)
-    → HoldsBack (writes order) (touches order) (started (opening_world setup).bridge.requests) (finished (opening_world setup).bridge.requests)
+    → HoldsBack (writes order) (touches order) (started (opening_world setup).bridge.requests) (is_finished (opening_world setup).bridge.requests)
 held_opening order setup = record {
   earlier = λ i j x before begun writes_it touches_it. (let none = unaccepted (opening_world setup).bridge.requests j (omega arith) in absurd (cc));
   later = λ i j x before begun touches_it writes_it. (let none = unaccepted (opening_world setup).bridge.requests j (omega arith) in absurd (cc));
@@ -547,7 +548,7 @@ held_opening order setup = record {
 
 -- of two of its requests that touch a byte which one of them writes, the later waits for the earlier
 abbrev pub HoldsBackIn : Order → RequestTable → Type 0
-HoldsBackIn order table = HoldsBack (writes order) (touches order) (started table) (finished table)
+HoldsBackIn order table = HoldsBack (writes order) (touches order) (started table) (is_finished table)
 
 -- ---- a number names one
 
@@ -597,14 +598,14 @@ with_found accepted n test o p same = ap (λ (found : Option BridgedRequest). na
 
 pub ends_changed : (table : RequestTable) (test : BridgedRequest → Bool) (change : BridgedRequest → BridgedRequest) (request : BridgedRequest) → HaveNumbers table.live → find test table.live ≡ Some request
     → (change request).flight.number ≡ request.flight.number
-    → (n : ℕ) → finished (changed_table test change table) n ≡ true → (finished table n ≡ true) ⊎ ((request.flight.number ≡ n) × ((change request).flight.done ≡ true))
+    → (n : ℕ) → is_finished (changed_table test change table) n ≡ true → (is_finished table n ≡ true) ⊎ ((request.flight.number ≡ n) × ((change request).flight.done ≡ true))
 ends_changed table test change request rising found same n now =
     elim (cases_eq request.flight.number n) [
-      | inl its ↦ inr (its, own (subst (λ k. finished (changed_table test change table) k ≡ true) (sym its) now))
+      | inl its ↦ inr (its, own (subst (λ k. is_finished (changed_table test change table) k ≡ true) (sym its) now))
       | inr other ↦ inl (with_found table.accepted n is_over _ _ (sym (found_others table.live test change request n found same other)) ∙ now)
     ]
   where
-    own : finished (changed_table test change table) request.flight.number ≡ true → (change request).flight.done ≡ true
+    own : is_finished (changed_table test change table) request.flight.number ≡ true → (change request).flight.done ≡ true
     own now =
         (and_parts (nat_lt request.flight.number table.accepted) (change request).flight.done
         (with_found table.accepted request.flight.number is_over _ _ (sym (found_changed table.live test change request rising found same)) ∙ now)).1
@@ -614,10 +615,10 @@ pub history_changed : (writing : ℕ → ℕ → Bool) (before : ℕ → Bytes) 
     → HaveNumbers table.live → find test table.live ≡ Some request → (change request).flight.number ≡ request.flight.number
     → ((n : ℕ) → started table n ≡ true → started (changed_table test change table) n ≡ true)
     → ((change request).flight.done ≡ true → (x : ℕ) → writing request.flight.number x ≡ true → wrote request.flight.number x ≡ true)
-    → IsHistory writing before (started table) (finished table) wrote bytes
-    → IsHistory writing before (started (changed_table test change table)) (finished (changed_table test change table)) wrote bytes
+    → IsHistory writing before (started table) (is_finished table) wrote bytes
+    → IsHistory writing before (started (changed_table test change table)) (is_finished (changed_table test change table)) wrote bytes
 history_changed writing before wrote bytes table test change request rising found same starts all history =
-    history_moves writing before (started table) (finished table) (started (changed_table test change table)) (finished (changed_table test change table)) wrote bytes history
+    history_moves writing before (started table) (is_finished table) (started (changed_table test change table)) (is_finished (changed_table test change table)) wrote bytes history
     starts
     (λ n over.
     elim (ends_changed table test change request rising found same n over) [

@@ -6,7 +6,7 @@ use Rattle.bus_words.specs.Lanes.{lane_byte}
 use Rattle.bus_words.proofs.PlaceChanges.{all-find}
 use Rattle.subordinate.specs.Pages.{GoodPage, byte_at_address, holds_address, is_listed_good, opening_memory, word_place, zero_page, zero_words}
 use Rattle.subordinate.specs.declared.PageKind.{PageKind}
-use Rattle.world_run.specs.InOrder.{KeepsOrder, finished, memory_bytes, started}
+use Rattle.world_run.specs.InOrder.{KeepsOrder, is_finished, memory_bytes, started}
 use Rattle.world_run.specs.Serial.{Order, bytes_before, writes}
 use Rattle.world.specs.Setups.{SetupLists, faults_of}
 use Rattle.world.specs.World.{opening_world}
@@ -52,7 +52,7 @@ keeps_opening order setup faults regions =
       wrote = λ i x. false;
       faults = sym faults;
       regions = sym regions;
-      history = history_opens (writes order) (bytes_before order) (started (opening_world setup).bridge.requests) (finished (opening_world setup).bridge.requests) (memory_bytes (opening_world setup)) (left_alone order)
+      history = history_opens (writes order) (bytes_before order) (started (opening_world setup).bridge.requests) (is_finished (opening_world setup).bridge.requests) (memory_bytes (opening_world setup)) (left_alone order)
           (λ j. let none : nat_lt j 0 ≡ false = grind (arith, nat_tests) in rw none refl) (zero_byte setup.pages);
       held = held_opening order setup;
       live = tt;

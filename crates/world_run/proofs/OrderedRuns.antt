@@ -15,11 +15,11 @@ use Rattle.responses.specs.Shown.{Reply as ReplyGiven, shown}
 use Rattle.bridge_core.specs.Bridge.{message_with, reply_taken}
 use Rattle.bridge_core.specs.Configs.{table_limits_of}
 use Rattle.bridge_core.specs.Laws.{IsServed}
-use Rattle.bridge_core.specs.Requests.{BridgedRequest, address_of, first_done, flights_of, is_done_for, is_numbered, reply_beats}
+use Rattle.bridge_core.specs.Requests.{BridgedRequest, address_of, oldest_done, flights_of, is_done_for, is_numbered, reply_beats}
 use Rattle.bridge_core.proofs.HolderChanges.{all-mapped}
 use Rattle.subordinate.specs.Faults.{Faults, is_good, standing_at}
 use Rattle.world_run.specs.Headline.{IsReplyTo, byte_shown, bytes_of_all, replies_of}
-use Rattle.world_run.specs.InOrder.{IsGathered, IsForeseen, IsForeseenBy, IsInOrder, IsOrdered, KeepsOrder, finished, is_over, memory_bytes, order_of, started}
+use Rattle.world_run.specs.InOrder.{IsGathered, IsForeseen, IsForeseenBy, IsInOrder, IsOrdered, KeepsOrder, is_finished, is_over, memory_bytes, order_of, started}
 use Rattle.world.specs.Laws.{AreSoundAlong, IsSoundWorld}
 use Rattle.world_run.specs.Meaning.{Bytes, bytes_after_all, meaning, replies_in_order, zeros}
 use Rattle.world_run.specs.Runs.{AcceptedMessage, HandedReply, answers_of, handed_at, handed_in, messages_in, requests_of}
@@ -79,7 +79,7 @@ replies_in order = replies_in_order order.faults order.regions order.requests ze
 
 -- the reply to a request that is done, where its beats are those of serial execution
 reply_is : (order : Order) (state : WorldState) (client : ℕ) (request : BridgedRequest) → IsSoundWorld state → KeepsOrder order state
-    → first_done state.bridge.requests.live client ≡ Some request
+    → oldest_done state.bridge.requests.live client ≡ Some request
     → reply_beats request ≡ shown (request_of request.message) (meaning order.faults order.regions (request_of request.message) (bytes_before order request.flight.number)).reply
     → IsReplyTo order.requests (replies_in order) (record { client = client; number = request.flight.number; beats = reply_beats request })
 reply_is order state client request sound keeps first beats = record {
@@ -112,8 +112,8 @@ reply_served order state client request sound keeps taken =
     first_of : (none : Bool) (o : Option BridgedRequest) → (if none then None else o) ≡ Some request → o ≡ Some request
     first_of none o is = grind (arith, is)
 
-    first : first_done state.bridge.requests.live client ≡ Some request
-    first = first_of (nat_le state.bridge.requests.config.clients client) (first_done state.bridge.requests.live client) taken
+    first : oldest_done state.bridge.requests.live client ≡ Some request
+    first = first_of (nat_le state.bridge.requests.config.clients client) (oldest_done state.bridge.requests.live client) taken
 
 -- ---- once it is quiet
 
@@ -123,7 +123,7 @@ all_done : (p : BridgedRequest → Bool) (live : List BridgedRequest) (request :
 all_done p [] request none found = absurd (cc)
 all_done p (r ∷ live) request none found = grind (arith, all_done p live request)
 
-all_finished : (state : WorldState) → IsQuiet state → (j : ℕ) → j < state.bridge.requests.accepted → finished state.bridge.requests j ≡ true
+all_finished : (state : WorldState) → IsQuiet state → (j : ℕ) → j < state.bridge.requests.accepted → is_finished state.bridge.requests j ≡ true
 all_finished state quiet j below =
     let given : nat_lt j state.bridge.requests.accepted ≡ true = grind (arith, nat_tests) in
     rw given (over (find (is_numbered j) state.bridge.requests.live) refl)
@@ -136,7 +136,7 @@ all_finished state quiet j below =
 quiet_bytes : (order : Order) (state : WorldState) → KeepsOrder order state → IsQuiet state → state.bridge.requests.accepted ≡ length order.requests → (x : ℕ)
     → memory_bytes state x ≡ bytes_after_all order.faults order.regions order.requests zeros x
 quiet_bytes order state keeps quiet count x =
-    quiet_memory (writes order) (bytes_before order) (started state.bridge.requests) (finished state.bridge.requests) keeps.wrote (memory_bytes state) state.bridge.requests.accepted keeps.history
+    quiet_memory (writes order) (bytes_before order) (started state.bridge.requests) (is_finished state.bridge.requests) keeps.wrote (memory_bytes state) state.bridge.requests.accepted keeps.history
     (all_finished state quiet) (λ j past. unaccepted state.bridge.requests j past) x
     ∙ ap (λ (n : ℕ). bytes_before order n x) count
     ∙ sym (ap (λ (bytes : Bytes). bytes x) (all_carried_out order))

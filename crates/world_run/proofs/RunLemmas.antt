@@ -6,7 +6,7 @@ use Rattle.std.proofs.lemmas.List.{append_assoc, length-drop, take-append-le, dr
 use Rattle.std.proofs.Math.Seq.{drop-append_seam, take-length}
 use Rattle.tl_messages.specs.declared.DBeat.{DBeat}
 use Rattle.axi_beats.specs.Bursts.{Burst}
-use Rattle.world_run.specs.Runs.{HandedReply, handed_at, handed_in, piece_of, handed_of, AreCutFrom, bursts_in, sent_beats, sent_in, answers_of}
+use Rattle.world_run.specs.Runs.{HandedReply, handed_at, handed_in, piece_of, handed_of, AreCutFrom, bursts_in, recorded_beats, sent_in, answers_of}
 use Rattle.world.specs.World.{WorldState, Outcome, next, after, outcomes}
 use Rattle.world_run.specs.declared.Handed.{Handed}
 use Rattle.world.specs.declared.Step.{Step}
@@ -45,16 +45,16 @@ bursts_in-append : (earlier : List Outcome) (outcome : Outcome) → bursts_in (e
 bursts_in-append [] outcome = cons_option-nil outcome.burst
 bursts_in-append (first ∷ earlier) outcome = ap (cons_option first.burst) (bursts_in-append earlier outcome) ∙ cons_option-append first.burst _ _
 
-flat_map-append : (xs ys : List Burst) → flat_map sent_beats (xs ++ ys) ≡ flat_map sent_beats xs ++ flat_map sent_beats ys
+flat_map-append : (xs ys : List Burst) → flat_map recorded_beats (xs ++ ys) ≡ flat_map recorded_beats xs ++ flat_map recorded_beats ys
 flat_map-append [] ys = refl
-flat_map-append (x ∷ xs) ys = ap (λ rest. sent_beats x ++ rest) (flat_map-append xs ys) ∙ sym (append_assoc (sent_beats x) _ _)
+flat_map-append (x ∷ xs) ys = ap (λ rest. recorded_beats x ++ rest) (flat_map-append xs ys) ∙ sym (append_assoc (recorded_beats x) _ _)
 
 -- the beats that one event more sent
 pub sent_in-append : (state : WorldState) (steps : List Step) (step : Step)
-    → sent_in state (steps ++ step ∷ []) ≡ sent_in state steps ++ flat_map sent_beats (option_to_list (next (after state steps) step).burst)
+    → sent_in state (steps ++ step ∷ []) ≡ sent_in state steps ++ flat_map recorded_beats (option_to_list (next (after state steps) step).burst)
 sent_in-append state steps step =
-    ap (λ all. flat_map sent_beats (bursts_in all)) (outcomes-append state steps step)
-    ∙ ap (flat_map sent_beats) (bursts_in-append (outcomes state steps) (next (after state steps) step))
+    ap (λ all. flat_map recorded_beats (bursts_in all)) (outcomes-append state steps step)
+    ∙ ap (flat_map recorded_beats) (bursts_in-append (outcomes state steps) (next (after state steps) step))
     ∙ flat_map-append (bursts_in (outcomes state steps)) (option_to_list (next (after state steps) step).burst)
 
 -- one piece more at the end

@@ -5,7 +5,7 @@ use Rattle.std.proofs.lemmas.List.{append-nil, append_assoc, map-append, take_al
 use Rattle.tl_messages.specs.declared.DBeat.{DBeat}
 use Rattle.axi_beats.specs.declared.WBeat.{WBeat}
 use Rattle.world.specs.Laws.{IsSoundWorld, AreSoundAlong}
-use Rattle.world_run.specs.Runs.{handed_at, piece_of, handed_of, AreCutFrom, sent_beats, IsRunOf}
+use Rattle.world_run.specs.Runs.{handed_at, piece_of, handed_of, AreCutFrom, recorded_beats, IsRunOf}
 use Rattle.world.specs.Setups.{SetupLists}
 use Rattle.world.specs.World.{WorldState, Outcome, next, after, opening_world, leaves_all, is_reply}
 use Rattle.world.specs.declared.Answer.{Answer}
@@ -78,7 +78,7 @@ module _ {setup : SetupLists} {before : List Step} {answers : List Answer} {repl
   grows : {new_answers : List Answer} {new_replies : List Handed} {new_d_beats : List DBeat} {new_sent : List SentBeat} {state : WorldState}
       → new_answers ≡ answers ++ (next world step).answer ∷ [] → AreCutFrom 0 new_replies (length new_d_beats)
       → handed_of new_replies new_d_beats ≡ handed_of replies d_beats ++ option_to_list (handed_at step (next world step).answer (next world step).reply)
-      → new_sent ≡ sent ++ flat_map sent_beats (option_to_list (next world step).burst) → state ≡ (next world step).state
+      → new_sent ≡ sent ++ flat_map recorded_beats (option_to_list (next world step).burst) → state ≡ (next world step).state
       → IsRunOf setup (before ++ step ∷ []) new_answers new_replies new_d_beats new_sent state
   grows told cut handed sends becomes =
       let start = opening_world setup in
@@ -93,7 +93,7 @@ module _ {setup : SetupLists} {before : List Step} {answers : List Answer} {repl
   -- an event that sent a burst
   pub grows_sent : {answer : Answer} {new_answers : List Answer} {new_sent : List SentBeat} {state : WorldState} (serial : ℕ)
       → answer ≡ (next world step).answer → answer ≡ Sent serial → new_answers ≡ answers ++ answer ∷ [] → state ≡ (next world step).state
-      → new_sent ≡ sent ++ flat_map sent_beats (option_to_list state.last_sent)
+      → new_sent ≡ sent ++ flat_map recorded_beats (option_to_list state.last_sent)
       → IsRunOf setup (before ++ step ∷ []) new_answers replies d_beats new_sent state
   grows_sent serial gives is told becomes sends =
       let burst = (tells_burst world step).sends serial (sym gives ∙ is) in

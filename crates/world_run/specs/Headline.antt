@@ -13,7 +13,7 @@ use Rattle.responses.specs.Shown.{Reply, shown}
 use Rattle.bridge_core.specs.Configs.{axi_port_of, port_of}
 use Rattle.subordinate.specs.Faults.{standing_at, is_good}
 use Rattle.world_run.specs.Meaning.{Bytes, zeros, replies_in_order, bytes_after_all}
-use Rattle.world_run.specs.Runs.{AcceptedMessage, HandedReply, messages_in, accepted_in, accepted_numbers, whose, replies_told, sent_beats, pumps_told, axi_history}
+use Rattle.world_run.specs.Runs.{AcceptedMessage, HandedReply, messages_in, accepted_in, accepted_numbers, whose, replies_told, recorded_beats, pumps_told, axi_history}
 use Rattle.world.specs.Setups.{SetupLists, faults_of}
 use Rattle.world.specs.declared.Answer.{Answer}
 use Rattle.world_run.specs.declared.SentBeat.{SentBeat}
@@ -49,7 +49,7 @@ byte_shown setup bytes address = if is_good (standing_at (faults_of setup) addre
 -- keep AXI4's order
 pub record IsLegalTraffic (setup : SetupLists) (answers : List Answer) (sent : List SentBeat) : Type 0 where
   pub bursts : List Burst
-  pub whole : sent ≡ flat_map sent_beats bursts
+  pub whole : sent ≡ flat_map recorded_beats bursts
   pub paired : length bursts ≡ pumps_told answers
   pub legal : IsTrue (list_all (is_legal setup.config.axi_bytes) bursts)
   pub in_place : first_axi_fault (axi_port_of setup.config) nothing_open (axi_history answers bursts) ≡ None

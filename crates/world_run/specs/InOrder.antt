@@ -14,7 +14,7 @@ use Rattle.axi_beats.specs.declared.RBeat.{RBeat}
 use Rattle.axi_beats.specs.declared.Resp.{Resp}
 use Rattle.axi_beats.specs.declared.WBeat.{WBeat}
 use Rattle.burst_plan.specs.declared.Piece.{Piece}
-use Rattle.flight_table.specs.LiveRequests.{is_atomic, planned}
+use Rattle.flight_table.specs.LiveRequests.{reads_then_writes, planned}
 use Rattle.responses.specs.Answers.{IsReadAt, gathering_after}
 use Rattle.responses.specs.Gathered.{gathering_of}
 use Rattle.bridge_core.specs.Bridge.{BridgeState, message_with}
@@ -79,8 +79,8 @@ abbrev pub started : RequestTable → ℕ → Bool
 started table number = nat_lt number table.accepted && has_begun (find (is_numbered number) table.live)
 
 -- a number that is accepted, and done or live no more
-abbrev pub finished : RequestTable → ℕ → Bool
-finished table number = nat_lt number table.accepted && is_over (find (is_numbered number) table.live)
+abbrev pub is_finished : RequestTable → ℕ → Bool
+is_finished table number = nat_lt number table.accepted && is_over (find (is_numbered number) table.live)
 
 -- ---- the open bursts
 
@@ -182,7 +182,7 @@ pub record HasGathered (order : Order) (bus_bytes : ℕ) (request : BridgedReque
   pub tell : (place : ℕ) (r : RBeat) → slice_get reads place ≡ Some r → TellsAt order bus_bytes request address place r
   pub responded : All (λ resp. resp ≡ write_response (standing_at order.faults address)) responses
   -- an atomic that writes could read: neither an error page nor a bad word
-  pub readable : is_atomic request.flight ≡ true → request.flight.writing ≡ true → is_okay (read_response order.faults address) ≡ true
+  pub readable : reads_then_writes request.flight ≡ true → request.flight.writing ≡ true → is_okay (read_response order.faults address) ≡ true
 
 -- what a request has gathered, at its AXI address; one without an address is denied and gathers nothing
 abbrev pub IsGathered : Order → ℕ → BridgedRequest → Option ℕ → Type 0
@@ -222,9 +222,9 @@ pub record KeepsOrder (order : Order) (state : WorldState) : Type 0 where
   pub regions : state.bridge.requests.regions ≡ order.regions
   -- the memory shows the requests one at a time, at each cut
   pub history :
-      IsHistory (writes order) (bytes_before order) (started state.bridge.requests) (finished state.bridge.requests) wrote (memory_bytes state)
+      IsHistory (writes order) (bytes_before order) (started state.bridge.requests) (is_finished state.bridge.requests) wrote (memory_bytes state)
   -- conflicting requests start in the order of acceptance
-  pub held : HoldsBack (writes order) (touches order) (started state.bridge.requests) (finished state.bridge.requests)
+  pub held : HoldsBack (writes order) (touches order) (started state.bridge.requests) (is_finished state.bridge.requests)
   -- each live request has gathered what it finds
   pub live : AllByRecursion (IsInOrder order state.memory.bus_bytes wrote) state.bridge.requests.live
   -- the open bursts of each ID are those of its holder

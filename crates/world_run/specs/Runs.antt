@@ -119,12 +119,12 @@ bursts_in [] = []
 bursts_in (outcome ∷ rest) = cons_option outcome.burst (bursts_in rest)
 
 -- the beats of a burst as they are sent
-abbrev pub sent_beats : Burst → List SentBeat
-sent_beats (WriteBurst aw data_beats) = Aw aw ∷ map W data_beats
-sent_beats (ReadBurst ar) = Ar ar ∷ []
+abbrev pub recorded_beats : Burst → List SentBeat
+recorded_beats (WriteBurst aw data_beats) = Aw aw ∷ map W data_beats
+recorded_beats (ReadBurst ar) = Ar ar ∷ []
 
 abbrev pub sent_in : WorldState → List Step → List SentBeat
-sent_in state steps = flat_map sent_beats (bursts_in (outcomes state steps))
+sent_in state steps = flat_map recorded_beats (bursts_in (outcomes state steps))
 
 -- how many answers tell that a burst was sent
 abbrev pub pumps_told : List Answer → ℕ

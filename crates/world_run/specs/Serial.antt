@@ -1,7 +1,8 @@
 -- The accepted requests one at a time, by number: which bytes each writes, and the bytes that it finds. It knows what one request means; no
 -- state of a bridge or a memory plays a part.
-use Rattle.std.specs.Prelude.{ℕ, ◌+◌, ◌^◌, zero, suc, Bool, true, false, ◌&&◌, not, List, Option, Some, None, is_some, nat_le, nat_lt, slice_get}
+use Rattle.std.specs.Prelude.{ℕ, zero, suc, Bool, true, false, ◌&&◌, not, List, Option, Some, None, is_some, slice_get}
 use Rattle.bus_words.specs.Lanes.{given_at}
+use Rattle.tl_messages.specs.Lanes.{in_range}
 use Rattle.tl_messages.specs.Requests.{WholeRequest}
 use Rattle.tl_messages.specs.declared.Operation.{Operation}
 use Rattle.tl_messages.specs.declared.Operation.TheVariants.{PutFull, PutPartial, Atomic, Get, Intent}
@@ -30,15 +31,11 @@ abbrev pub bytes_before : Order → ℕ → Bytes
 bytes_before order zero = zeros
 bytes_before order (suc n) = after_one order (asked order n) (bytes_before order n)
 
--- whether a range of 2^size bytes from an address on has the byte at x
-abbrev pub covers : ℕ → ℕ → ℕ → Bool
-covers address size x = nat_le address x && nat_lt x (address + 2 ^ size)
-
 -- whether an operation at an address gives a byte to be put at x
 abbrev pub gives_byte : Faults → WholeRequest → ℕ → Operation → ℕ → Bool
 gives_byte faults q address PutFull x = is_some (given_at q.bytes address x)
 gives_byte faults q address PutPartial x = is_some (given_at q.bytes address x)
-gives_byte faults q address (Atomic op) x = not (is_bad faults address) && covers address q.size x
+gives_byte faults q address (Atomic op) x = not (is_bad faults address) && in_range address q.size x
 gives_byte faults q address Get x = false
 gives_byte faults q address (Intent write) x = false
 
@@ -71,7 +68,7 @@ is_intent (Intent write) = true
 -- whether a request at an AXI address reads or writes a range with the byte at x
 abbrev pub touches_from : WholeRequest → Option ℕ → ℕ → Bool
 touches_from q None x = false
-touches_from q (Some address) x = not (is_intent q.operation) && covers address q.size x
+touches_from q (Some address) x = not (is_intent q.operation) && in_range address q.size x
 
 -- of a request that may be there
 abbrev pub touches_byte : Order → Option WholeRequest → ℕ → Bool

@@ -4,7 +4,7 @@ ghost use Rattle.axi_beats.specs.Boxes.{w_beats_of};
 ghost use Rattle.world_run.specs.Headline.{IsOneAtATime};
 ghost use Rattle.world_run.specs.InOrder.{IsOrdered, order_of};
 ghost use Rattle.world.specs.Laws.{AreSoundAlong, IsSoundWorld};
-ghost use Rattle.world_run.specs.Runs.{handed_of, sent_beats, IsRunOf};
+ghost use Rattle.world_run.specs.Runs.{handed_of, recorded_beats, IsRunOf};
 ghost use Rattle.world.specs.Setups.{SetupLists, lists_of, setup_fault};
 ghost use Rattle.world.specs.World.{byte_of, in_flight, opening_world};
 ghost use Rattle.world_run.specs.declared.SentBeat.TheVariants.{W};
@@ -57,7 +57,7 @@ fn keep_data(sent: &mut Vec<SentBeat>, burst: &BurstBox) -> Result<(), SetupFaul
 /// Appends the beats of a burst as they are sent: AW and then W, or AR.
 fn keep_burst(sent: &mut Vec<SentBeat>, burst: &BurstBox) -> Result<(), SetupFault>
     ensures want { IfErr result (λ fault. fault ≡ NoMemory) }
-    ensures beats { OnOk result (sent.new.items ≡ sent.old.items ++ flat_map sent_beats (option_to_list burst.now)) }
+    ensures beats { OnOk result (sent.new.items ≡ sent.old.items ++ flat_map recorded_beats (option_to_list burst.now)) }
 {
     if burst.is_empty() {
         return Ok(());

@@ -7,6 +7,7 @@ use Rattle.std.proofs.lemmas.Bool.{and_from, and_parts, le-leb, lt-ltb, and_righ
 use Rattle.std.proofs.lemmas.List.FromFn.{length-map-range_with_len, get_or-map-range_with_len}
 use Rattle.std.proofs.lemmas.Option.{get_or_from_slice_get, slice_get_within}
 use Rattle.bus_words.specs.Lanes.{given_at}
+use Rattle.tl_messages.specs.Lanes.{in_range}
 use Rattle.tl_messages.specs.Operations.{has_data, reply_has_data}
 use Rattle.tl_messages.specs.Requests.{WholeRequest, request_of}
 use Rattle.tl_messages.specs.declared.AtomicOp.{AtomicOp}
@@ -24,7 +25,7 @@ use Rattle.burst_plan.specs.declared.Piece.{Piece}
 use Rattle.burst_plan.specs.declared.Region.{Region}
 use Rattle.burst_plan.proofs.TransferPlaces.{holds_each_byte_once}
 use Rattle.burst_plan.proofs.WriteLaws.{puts_given_bytes}
-use Rattle.flight_table.specs.LiveRequests.{LiveRequest, is_atomic, next_burst, plan_for, planned, write_pieces, pieces_planned}
+use Rattle.flight_table.specs.LiveRequests.{LiveRequest, reads_then_writes, next_burst, plan_for, planned, write_pieces, pieces_planned}
 use Rattle.flight_table.proofs.PhaseLaws.{write_at, write_planned, piece_planned}
 use Rattle.bridge_core.specs.Configs.{is_valid}
 use Rattle.bridge_core.specs.Laws.{IsServed, outstanding}
@@ -43,9 +44,9 @@ use Rattle.subordinate.specs.declared.BeatState.{BeatState}
 use Rattle.subordinate.specs.declared.BeatState.TheVariants.{Captured, Waiting}
 use Rattle.world.specs.Laws.{IsSoundWorld}
 use Rattle.world.specs.World.{WorldState}
-use Rattle.world_run.specs.InOrder.{IsBurstOf, IsReadOf, IsWriteOf, PutsSerially, IsInOrder, AreBurstsOf, AreOfHolder, finished, has_begun, is_of_id, is_over, started}
+use Rattle.world_run.specs.InOrder.{IsBurstOf, IsReadOf, IsWriteOf, PutsSerially, IsInOrder, AreBurstsOf, AreOfHolder, is_finished, has_begun, is_of_id, is_over, started}
 use Rattle.world_run.specs.Meaning.{bytes_at}
-use Rattle.world_run.specs.Serial.{Order, asked, byte_left, bytes_before, covers, gives_byte, is_intent, touches, touches_byte, touches_from, writes, writes_byte, writes_from}
+use Rattle.world_run.specs.Serial.{Order, asked, byte_left, bytes_before, gives_byte, is_intent, touches, touches_byte, touches_from, writes, writes_byte, writes_from}
 use Rattle.world_run.proofs.BytesLeft.{FindsSerially, byte_left_is, gives_what_is_left, gives_where_written, gives_within, same_standing, writes_is, writes_nowhere}
 
 -- ---- the range of a live request
@@ -111,12 +112,12 @@ range_touched order config request range x served at is_asked plan inside =
     let bytes : 2 ^ range.size ≡ 2 ^ request.message.size = ap (λ n. 2 ^ n) at.size in
     let high : x < range.address + 2 ^ request.message.size = omega (arith, inside.last) in
     ap (λ (o : Option WholeRequest). touches_byte order o x) is_asked ∙ ap (λ (place : Option ℕ). touches_from q place x) at.address
-    ∙ and_from (not (is_intent q.operation)) (covers range.address q.size x) (not_intent request.message.operation (range_of config order.regions q) range (sym served.flight.plan ∙ plan))
+    ∙ and_from (not (is_intent q.operation)) (in_range range.address q.size x) (not_intent request.message.operation (range_of config order.regions q) range (sym served.flight.plan ∙ plan))
     (and_from (nat_le range.address x) (nat_lt x (range.address + 2 ^ q.size)) (le-leb range.address x inside.first) (lt-ltb x (range.address + 2 ^ q.size) high))
 
 -- ---- its writes
 
-pub atomic_is : (config : Config) (regions : List Region) (request : BridgedRequest) (op : AtomicOp) → IsServed config regions request → request.message.operation ≡ Atomic op → is_atomic request.flight ≡ true
+pub atomic_is : (config : Config) (regions : List Region) (request : BridgedRequest) (op : AtomicOp) → IsServed config regions request → request.message.operation ≡ Atomic op → reads_then_writes request.flight ≡ true
 atomic_is config regions request op served is = ap (λ (o : Operation). reply_has_data o && has_data o) (served.flight.operation ∙ is) ∙ atomic_both (Atomic op) refl
 
 is_some_value : (o : Option ℕ) (v : ℕ) → o ≡ Some v → unwrap_or o 0 ≡ v
@@ -148,7 +149,7 @@ transfer_is config regions request range piece n w at listed there =
 
 -- an atomic that writes found the number that it finds one at a time, and its word isn't bad
 atomic_found : (order : Order) (config : Config) (request : BridgedRequest) (range : PlannedRange) (piece : Piece) → IsServed config order.regions request → request.flight.done ≡ false
-    → next_burst request.flight ≡ Some (true, piece) → (is_atomic request.flight ≡ true → FindsSerially order request range.address) → (op : AtomicOp) → request.message.operation ≡ Atomic op
+    → next_burst request.flight ≡ Some (true, piece) → (reads_then_writes request.flight ≡ true → FindsSerially order request range.address) → (op : AtomicOp) → request.message.operation ≡ Atomic op
     → (is_bad order.faults range.address ≡ false) × (unwrap_or (value_found request) 0 ≡ value (bytes_at (bytes_before order request.flight.number) range.address (2 ^ request.message.size)))
 atomic_found order config request range piece served live next finds op is =
     let atomic = atomic_is config order.regions request op served is in
@@ -161,7 +162,7 @@ atomic_found order config request range piece served live next finds op is =
 -- the writes of a request put what it leaves; of an atomic, where its read found what it finds one at a time
 pub puts_serially : (order : Order) (config : Config) (request : BridgedRequest) (range : PlannedRange) (piece : Piece) (n : ℕ) (w : WBeat) → is_valid config ≡ true → IsPageMap order.regions
     → IsServed config order.regions request → asked order request.flight.number ≡ Some (request_of request.message) → request.flight.done ≡ false → request.flight.plan ≡ Some range
-    → next_burst request.flight ≡ Some (true, piece) → (is_atomic request.flight ≡ true → FindsSerially order request range.address)
+    → next_burst request.flight ≡ Some (true, piece) → (reads_then_writes request.flight ≡ true → FindsSerially order request range.address)
     → slice_get (map (w_beat range.bus_bytes (given_at (bytes_to_write request) range.address) piece) (range_with_len 1 (piece.len + 1))) n ≡ Some w
     → PutsSerially order request.flight.number range.bus_bytes piece (n + 1) w
 puts_serially order config request range piece n w valid pages served is_asked live plan next finds there =
@@ -169,8 +170,8 @@ puts_serially order config request range piece n w valid pages served is_asked l
     record {
       strobes = λ x has good. is.puts.strobes x has ∙ where_written x ∙ sym (written_there x (is.inside x has) good);
       bytes = λ x has written.
-          let in_range = writes_in_range order config request range x at is_asked written in
-          is.puts.payload x (byte_left order request.flight.number x) has (what_is_left x in_range.page (where_written x ∙ sym (written_there x in_range.inside in_range.good) ∙ written));
+          let written_to = writes_in_range order config request range x at is_asked written in
+          is.puts.payload x (byte_left order request.flight.number x) has (what_is_left x written_to.page (where_written x ∙ sym (written_there x written_to.inside written_to.good) ∙ written));
     }
   where
     q : WholeRequest
@@ -212,7 +213,7 @@ no_capture count n payload resp there = absurd (cc (still_waiting count n (Captu
 -- a write just sent
 pub burst_of_write : (order : Order) (config : Config) (wrote : ℕ → ℕ → Bool) (serial id : ℕ) (request : BridgedRequest) (range : PlannedRange) (piece : Piece) → is_valid config ≡ true → IsPageMap order.regions
     → IsServed config order.regions request → asked order request.flight.number ≡ Some (request_of request.message) → request.flight.done ≡ false → request.flight.plan ≡ Some range
-    → next_burst request.flight ≡ Some (true, piece) → (is_atomic request.flight ≡ true → FindsSerially order request range.address)
+    → next_burst request.flight ≡ Some (true, piece) → (reads_then_writes request.flight ≡ true → FindsSerially order request range.address)
     → ((n x : ℕ) → n ≤ piece.len → transfer_has piece.address piece.size (n + 1) x ≡ true → wrote request.flight.number x ≡ false)
     → IsWriteOf order range.bus_bytes wrote request.flight.number (newly_pending serial (burst_of_piece id request range (true, piece))) piece
 burst_of_write order config wrote serial id request range piece valid pages served is_asked live plan next finds none =
@@ -244,7 +245,7 @@ burst_of_read order bus_bytes number serial id request range piece =
 -- the next burst of a live request, just sent
 pub burst_of_next : (order : Order) (config : Config) (wrote : ℕ → ℕ → Bool) (serial id : ℕ) (request : BridgedRequest) (range : PlannedRange) (write : Bool) (piece : Piece) → is_valid config ≡ true → IsPageMap order.regions
     → IsServed config order.regions request → asked order request.flight.number ≡ Some (request_of request.message) → request.flight.done ≡ false → request.flight.plan ≡ Some range
-    → next_burst request.flight ≡ Some (write, piece) → (is_atomic request.flight ≡ true → write ≡ true → FindsSerially order request range.address)
+    → next_burst request.flight ≡ Some (write, piece) → (reads_then_writes request.flight ≡ true → write ≡ true → FindsSerially order request range.address)
     → (write ≡ true → (n x : ℕ) → n ≤ piece.len → transfer_has piece.address piece.size (n + 1) x ≡ true → wrote request.flight.number x ≡ false)
     → IsBurstOf order config.axi_bytes wrote request.flight.number (newly_pending serial (burst_of_piece id request range (write, piece))) (write, piece)
 burst_of_next order config wrote serial id request range true piece valid pages served is_asked live plan next finds none =
@@ -305,7 +306,7 @@ atomic_fine faults q address x _ atomic gives = absurd (cc (atomic))
 
 -- an atomic that is done and only read found no old value, so it writes nothing
 failed_atomic : (order : Order) (config : Config) (request : BridgedRequest) (range : PlannedRange) (x : ℕ) → IsPlannedAt config order.regions request range → IsServed config order.regions request
-    → asked order request.flight.number ≡ Some (request_of request.message) → is_atomic request.flight ≡ true → request.flight.writing ≡ false → request.flight.done ≡ true
+    → asked order request.flight.number ≡ Some (request_of request.message) → reads_then_writes request.flight ≡ true → request.flight.writing ≡ false → request.flight.done ≡ true
     → FindsSerially order request range.address → writes order request.flight.number x ≡ true → ⊥
 failed_atomic order config request range x at served is_asked atomic isnt over finds written =
     let q = request_of request.message in
@@ -319,7 +320,7 @@ failed_atomic order config request range x at served is_asked atomic isnt over f
 pub all_written_done : (order : Order) (config : Config) (bus_bytes : ℕ) (wrote : ℕ → ℕ → Bool) (request : BridgedRequest) → is_valid config ≡ true → IsPageMap order.regions
     → IsServed config order.regions request → IsInOrder order bus_bytes wrote request → request.flight.done ≡ true
     → (request.flight.writing ≡ false → reply_has_data request.flight.operation ≡ true)
-    → ((range : PlannedRange) → request.flight.plan ≡ Some range → is_atomic request.flight ≡ true → request.flight.writing ≡ false → FindsSerially order request range.address)
+    → ((range : PlannedRange) → request.flight.plan ≡ Some range → reads_then_writes request.flight ≡ true → request.flight.writing ≡ false → FindsSerially order request range.address)
     → (x : ℕ) → writes order request.flight.number x ≡ true → wrote request.flight.number x ≡ true
 all_written_done order config bus_bytes wrote request valid pages served of is_done reads finds x written = by_plan request.flight.plan refl
   where
@@ -338,7 +339,7 @@ all_written_done order config bus_bytes wrote request valid pages served of is_d
         → request.flight.writing ≡ writing → wrote request.flight.number x ≡ true
     by_writes range plan at true true carries writing = whole range at writing (rw (carries, plan) refl)
     by_writes range plan at true false carries isnt =
-        let atomic : is_atomic request.flight ≡ true = rw (reads isnt, carries) refl in
+        let atomic : reads_then_writes request.flight ≡ true = rw (reads isnt, carries) refl in
         absurd (failed_atomic order config request range x at served of.asked atomic isnt is_done (finds range plan atomic isnt) written)
     by_writes range plan at false writing none is =
         absurd (cc (written, no_data_written order request.flight.number (request_of request.message) x of.asked (ap has_data (sym served.flight.operation) ∙ none)))
@@ -418,7 +419,7 @@ pub record IsGoingOn (order : Order) (table : RequestTable) (request : BridgedRe
   pub pages : IsPageMap order.regions
   pub served : IsServed table.config order.regions request
   pub started : started table request.flight.number ≡ true
-  pub unfinished : finished table request.flight.number ≡ false
+  pub unfinished : is_finished table request.flight.number ≡ false
 
 record HasRange (flight : LiveRequest) : Type 0 where
   range : PlannedRange

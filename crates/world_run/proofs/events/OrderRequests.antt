@@ -18,7 +18,7 @@ use Rattle.burst_plan.specs.Pieces.{PlannedRange}
 use Rattle.burst_plan.specs.declared.Piece.{Piece}
 use Rattle.burst_plan.specs.declared.Region.{Region}
 use Rattle.flight_table.specs.Laws.{IsSoundRequest}
-use Rattle.flight_table.specs.LiveRequests.{is_atomic, planned}
+use Rattle.flight_table.specs.LiveRequests.{reads_then_writes, planned}
 use Rattle.flight_table.specs.Order.{is_id}
 use Rattle.flight_table.proofs.PhaseLaws.{write_at, read_at}
 use Rattle.bridge_core.specs.Requests.{BridgedRequest, RequestTable, holder, holds, is_numbered, newly_live, with_request, is_done_for, without_done, address_of, after_sending, may_send}
@@ -39,7 +39,7 @@ use Rattle.world.specs.World.{WorldState, changed, taken}
 use Rattle.world.specs.declared.Answer.TheVariants.{Accepted, More, Done}
 use Rattle.world.specs.Laws.{IsSoundWorld}
 use Rattle.world.proofs.Events.{after_accepted, after_begun, sent_from}
-use Rattle.world_run.specs.InOrder.{IsHistory, IsInOrder, KeepsOrder, finished, is_of_id, is_over, memory_bytes, started, has_begun, AreBurstsOf, AreOfHolder, IsBurstOf, IsGathered}
+use Rattle.world_run.specs.InOrder.{IsHistory, IsInOrder, KeepsOrder, is_finished, is_of_id, is_over, memory_bytes, started, has_begun, AreBurstsOf, AreOfHolder, IsBurstOf, IsGathered}
 use Rattle.world_run.specs.Meaning.{Bytes}
 use Rattle.world_run.specs.Serial.{Order, asked, bytes_before, writes, byte_left, touches}
 use Rattle.world_run.proofs.gathered.GatheredSteps.{gathered-sent, gathered-start}
@@ -62,7 +62,7 @@ begins_keeps order state client beat keeps =
 -- ---- a request is accepted
 
 -- it has written nothing
-unwritten_yet : (order : Order) (table : RequestTable) (wrote : ℕ → ℕ → Bool) (bytes : Bytes) (x : ℕ) → IsHistory (writes order) (bytes_before order) (started table) (finished table) wrote bytes
+unwritten_yet : (order : Order) (table : RequestTable) (wrote : ℕ → ℕ → Bool) (bytes : Bytes) (x : ℕ) → IsHistory (writes order) (bytes_before order) (started table) (is_finished table) wrote bytes
     → wrote table.accepted x ≡ false
 unwritten_yet order table wrote bytes x history =
     elim (cases_Bool (wrote table.accepted x)) [
@@ -74,7 +74,7 @@ unwritten_yet order table wrote bytes x history =
     ]
 
 -- the others are finished where they were
-ended_before : (table : RequestTable) (message : HeldMessage) (n : ℕ) → table.accepted ≢ n → finished (with_request message table) n ≡ true → finished table n ≡ true
+ended_before : (table : RequestTable) (message : HeldMessage) (n : ℕ) → table.accepted ≢ n → is_finished (with_request message table) n ≡ true → is_finished table n ≡ true
 ended_before table message n other over =
     sym (ap (λ b. b && is_over (find (is_numbered n) (table.live ++ newly_live table message ∷ []))) counted
     ∙ ap (λ (o : Option BridgedRequest). nat_lt n table.accepted && is_over o) (find-append-fails (is_numbered n) table.live (newly_live table message) (ne_eqb table.accepted n other)))
@@ -92,8 +92,8 @@ accept_keeps order state client beat foreseen keeps moves held =
       faults = keeps.faults;
       regions = keeps.regions;
       history =
-          history_moves (writes order) (bytes_before order) (started state.bridge.requests) (finished state.bridge.requests) (started (with_request message state.bridge.requests))
-          (finished (with_request message state.bridge.requests)) keeps.wrote (memory_bytes state) keeps.history (λ n was. (moves.goes n).begun was) ends;
+          history_moves (writes order) (bytes_before order) (started state.bridge.requests) (is_finished state.bridge.requests) (started (with_request message state.bridge.requests))
+          (is_finished (with_request message state.bridge.requests)) keeps.wrote (memory_bytes state) keeps.history (λ n was. (moves.goes n).begun was) ends;
       held = held;
       live = all-append (IsInOrder order state.memory.bus_bytes keeps.wrote) state.bridge.requests.live (newly_live state.bridge.requests message) keeps.live in_order;
       bursts = λ id.
@@ -115,8 +115,8 @@ accept_keeps order state client beat foreseen keeps moves held =
           gathered = gathered-start order state.bridge.requests state.memory.bus_bytes (message_with state.bridge client beat) keeps.regions;
         }
 
-    ends : (n : ℕ) → finished (with_request (message_with state.bridge client beat) state.bridge.requests) n ≡ true
-        → (finished state.bridge.requests n ≡ true) ⊎ ((x : ℕ) → writes order n x ≡ true → keeps.wrote n x ≡ true)
+    ends : (n : ℕ) → is_finished (with_request (message_with state.bridge client beat) state.bridge.requests) n ≡ true
+        → (is_finished state.bridge.requests n ≡ true) ⊎ ((x : ℕ) → writes order n x ≡ true → keeps.wrote n x ≡ true)
     ends n over =
         elim (cases_eq state.bridge.requests.accepted n) [
           | inl its ↦
@@ -152,7 +152,7 @@ take_keeps order state client request sound keeps held =
       faults = keeps.faults;
       regions = keeps.regions;
       history =
-          history_moves (writes order) (bytes_before order) (started state.bridge.requests) (finished state.bridge.requests) (started (without_done client state.bridge.requests)) (finished (without_done client state.bridge.requests)) keeps.wrote (memory_bytes state) keeps.history
+          history_moves (writes order) (bytes_before order) (started state.bridge.requests) (is_finished state.bridge.requests) (started (without_done client state.bridge.requests)) (is_finished (without_done client state.bridge.requests)) keeps.wrote (memory_bytes state) keeps.history
           (λ n was. ap (λ b. nat_lt n state.bridge.requests.accepted && b) (same_test state.bridge.requests client n has_begun rising (λ r done. begun_last (is_some r.flight.id) r.flight.done done) refl) ∙ was)
           (λ n over. inl (ap (λ b. nat_lt n state.bridge.requests.accepted && b) (sym (same_test state.bridge.requests client n is_over rising (λ r done. done) refl)) ∙ over));
       held = held;
@@ -210,7 +210,7 @@ module _ (order : Order) (state : WorldState) (sending : Sending) (sent : IsNext
       all-find (λ (r : BridgedRequest). IsSoundRequest (table_limits_of sent_table.config) sent_table.accepted r.flight) (may_send sent_table) sent_table.live request (sound_requests sent_table sound.bridge_laws.requests) sent.found
 
   -- an atomic that writes does so with the value that it finds
-  sent_finds : is_atomic request.flight ≡ true → sent.write ≡ true → FindsSerially order request sent.range.address
+  sent_finds : reads_then_writes request.flight ≡ true → sent.write ≡ true → FindsSerially order request sent.range.address
   sent_finds atomic writes =
       finds_writing order sent_table.config (table_limits_of sent_table.config) sent_table.accepted request sent.range.address sound.bridge_laws.requests.config served each sent.ready.undone atomic
       (write_at request.flight request.flight.sent sent.piece (sent.next ∙ ap (λ (side : Bool). Some (side, sent.piece)) writes)).0
@@ -357,7 +357,7 @@ module _ (order : Order) (state : WorldState) (pending : Pending) (beat : ℕ) (
   -- what a read takes is what its request finds
   finds : (x : ℕ) → transfer_has one.burst.1.address one.burst.1.size (beat + 1) x ≡ true → one.burst.0 ≡ false → memory_bytes state x ≡ bytes_before order number x
   finds x holds_it reads =
-      found_here (writes order) (touches order) (bytes_before order) (started table) (finished table) keeps.wrote (memory_bytes state) number x keeps.history keeps.held going.started going.unfinished
+      found_here (writes order) (touches order) (bytes_before order) (started table) (is_finished table) keeps.wrote (memory_bytes state) number x keeps.history keeps.held going.started going.unfinished
       (transfer_touches order table has.request one.burst (beat + 1) x going of.asked (omega arith) within holds_it)
       (reader_unwritten order table state.memory.bus_bytes keeps.wrote has.request one.burst.1 x (subst (λ (side : Bool). IsGoingOn order table has.request (side, one.burst.1)) reads going) of)
 
@@ -378,9 +378,9 @@ module _ (order : Order) (state : WorldState) (pending : Pending) (beat : ℕ) (
   stored_written (true, piece) n x there = (and_parts (transfer_has piece.address piece.size n x) (writes order number x) there).1
   stored_written (false, piece) n x there = absurd (cc (there))
 
-  history : IsHistory (writes order) (bytes_before order) (started table) (finished table) more (λ x. unwrap_or (byte_at_address (memory_after state.memory pending.burst beat) x) 0)
+  history : IsHistory (writes order) (bytes_before order) (started table) (is_finished table) more (λ x. unwrap_or (byte_at_address (memory_after state.memory pending.burst beat) x) 0)
   history =
-      history_stores (writes order) (touches order) (bytes_before order) (started table) (finished table) keeps.wrote (memory_bytes state)
+      history_stores (writes order) (touches order) (bytes_before order) (started table) (is_finished table) keeps.wrote (memory_bytes state)
       (λ x. unwrap_or (byte_at_address (memory_after state.memory pending.burst beat) x) 0) number adds (byte_left order number) keeps.history keeps.held (left_alone order) going.started going.unfinished
       (λ x hit. stored_written one.burst (beat + 1) x hit)
       (λ x hit. message_touches order number x has.request.message of.asked (stored_written one.burst (beat + 1) x hit))

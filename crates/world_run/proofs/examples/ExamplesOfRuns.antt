@@ -27,7 +27,7 @@ use Rattle.world.specs.declared.Answer.TheVariants.{More, Accepted, Refused, Sen
 use Rattle.world.specs.declared.Step.{Step}
 use Rattle.world.specs.declared.Step.TheVariants.{Offer, Pump, Perform, AnswerB, AnswerR, Take}
 use Rattle.world.proofs.Examples.{a, config, end, plain, read, region, start, write_of_one}
-use Rattle.world_run.specs.Runs.{accepted_in, answers_of, bursts_in, handed_in, messages_in, sent_in, HandedReply, axi_history, sent_beats}
+use Rattle.world_run.specs.Runs.{accepted_in, answers_of, bursts_in, handed_in, messages_in, sent_in, HandedReply, axi_history, recorded_beats}
 use Rattle.world_run.specs.declared.SentBeat.TheVariants.{Aw, W, Ar}
 use Rattle.world_run.specs.Headline.{IsLegalTraffic, IsOneAtATime, IsReplyTo, byte_shown, bytes_of_all, replies_of}
 use Rattle.world_run.specs.declared.SentBeat.{SentBeat}
@@ -619,7 +619,7 @@ get_before_put it = payloads it.replies.0
         absurd (omega (arith, payload))
 
 -- no burst
-some_beat : (bursts : List Burst) → [] ≡ flat_map sent_beats bursts → length bursts ≡ 2 → ⊥
+some_beat : (bursts : List Burst) → [] ≡ flat_map recorded_beats bursts → length bursts ≡ 2 → ⊥
 some_beat [] whole paired = absurd (omega (arith, paired))
 some_beat (WriteBurst aw beats ∷ bursts) whole paired = absurd (cc (whole))
 some_beat (ReadBurst ar ∷ bursts) whole paired = absurd (cc (whole))

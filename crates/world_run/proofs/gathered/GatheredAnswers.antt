@@ -205,9 +205,9 @@ all_came order config limits accepted request address valid served sound done at
         (plan_known config order.regions request.message (range_at config (request_of request.message) address) valid served.pages served.message (sym served.flight.plan ∙ plan))
 
     by_flag : (writing : Bool) → request.flight.writing ≡ writing → is_put request.flight.operation ≡ false → is_good (standing_at order.faults address) ≡ false → told.responses ≡ []
-    by_flag true writes isnt failed = by_kind (live.is_atomic request.flight) refl
+    by_flag true writes isnt failed = by_kind (live.reads_then_writes request.flight) refl
       where
-        by_kind : (b : Bool) → live.is_atomic request.flight ≡ b → told.responses ≡ []
+        by_kind : (b : Bool) → live.reads_then_writes request.flight ≡ b → told.responses ≡ []
         by_kind true atomic =
             let good = okay_is_good (standing_at order.faults address) (is_bad order.faults address) (told.readable atomic writes) in
             absurd (cc (good, failed))
@@ -279,7 +279,7 @@ old_value_served order config request address valid served at atomic whole none 
 
 -- an atomic that isn't done and writes has had no response: its one write isn't answered
 pub writes_unanswered : (order : Order) (config : Config) (limits : TableLimits) (accepted : ℕ) (request : BridgedRequest) → is_valid config ≡ true → IsServed config order.regions request
-    → IsSoundRequest limits accepted request.flight → request.flight.done ≡ false → live.is_atomic request.flight ≡ true → request.flight.writing ≡ true → request.flight.answered ≡ 0
+    → IsSoundRequest limits accepted request.flight → request.flight.done ≡ false → live.reads_then_writes request.flight ≡ true → request.flight.writing ≡ true → request.flight.answered ≡ 0
 writes_unanswered order config limits accepted request valid served sound undone atomic writing =
     let has = live_plan config order.regions request valid served.pages served.message served.flight sound.no_plan undone in
     let plan = atomic_plan config order.regions request valid served.message served.flight has atomic in
@@ -338,7 +338,7 @@ gathered_at : (order : Order) (bus_bytes : ℕ) (request : BridgedRequest) (plac
 gathered_at order bus_bytes request place address at told = subst (IsGathered order bus_bytes request) at told
 
 pub finds_old_value : (order : Order) (config : Config) (request : BridgedRequest) (address : ℕ) → is_valid config ≡ true → IsServed config order.regions request
-    → address_of order.regions (request_of request.message) ≡ Some address → live.is_atomic request.flight ≡ true → answered_pieces request.flight ≡ read_pieces request.flight
+    → address_of order.regions (request_of request.message) ≡ Some address → live.reads_then_writes request.flight ≡ true → answered_pieces request.flight ≡ read_pieces request.flight
     → (if request.flight.writing then request.flight.answered else 0) ≡ 0
     → IsGathered order config.axi_bytes request (address_of order.regions (request_of request.message)) → FindsSerially order request address
 finds_old_value order config request address valid served at atomic whole none told =
@@ -349,7 +349,7 @@ finds_old_value order config request address valid served at atomic whole none t
 
 -- an atomic that isn't done and writes
 pub finds_writing : (order : Order) (config : Config) (limits : TableLimits) (accepted : ℕ) (request : BridgedRequest) (address : ℕ) → is_valid config ≡ true → IsServed config order.regions request
-    → IsSoundRequest limits accepted request.flight → request.flight.done ≡ false → live.is_atomic request.flight ≡ true → request.flight.writing ≡ true
+    → IsSoundRequest limits accepted request.flight → request.flight.done ≡ false → live.reads_then_writes request.flight ≡ true → request.flight.writing ≡ true
     → address_of order.regions (request_of request.message) ≡ Some address → IsGathered order config.axi_bytes request (address_of order.regions (request_of request.message))
     → FindsSerially order request address
 finds_writing order config limits accepted request address valid served sound live atomic writing at told =
@@ -357,7 +357,7 @@ finds_writing order config limits accepted request address valid served sound li
 
 -- an atomic that is done and only read
 pub finds_unplanned : (order : Order) (config : Config) (limits : TableLimits) (accepted : ℕ) (request : BridgedRequest) (address : ℕ) → is_valid config ≡ true → IsServed config order.regions request
-    → IsSoundRequest limits accepted request.flight → request.flight.done ≡ true → live.is_atomic request.flight ≡ true → request.flight.writing ≡ false
+    → IsSoundRequest limits accepted request.flight → request.flight.done ≡ true → live.reads_then_writes request.flight ≡ true → request.flight.writing ≡ false
     → address_of order.regions (request_of request.message) ≡ Some address → IsGathered order config.axi_bytes request (address_of order.regions (request_of request.message))
     → FindsSerially order request address
 finds_unplanned order config limits accepted request address valid served sound done atomic isnt at told =

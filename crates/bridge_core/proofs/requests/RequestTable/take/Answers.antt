@@ -2,12 +2,12 @@
 use Rattle.std.proofs.Common.{◌≡◌, None, Some, ◌∙◌, ap, sym, refl, subst}
 use Rattle.flight_table.specs.Tables.{is_done_of}
 use Rattle.bridge_core.specs.Inside.{IsFirstAt, bridged, held_in, kept_table}
-use Rattle.bridge_core.specs.Requests.{RequestTable, first_done, without_done}
+use Rattle.bridge_core.specs.Requests.{RequestTable, oldest_done, without_done}
 use Rattle.bridge_core.proofs.TableSteps.{none_joined, first_at, held_at, shown_at}
 use Rattle.bridge_core.proofs.JoinedRequests.{IsTakenOut, taken_out}
 use Rattle.bridge_core.proofs.requests.RequestTable.take.Goals as goal
 
-none_done : (c : goal.After-from_residual) → first_done c.args.self.now.live c.args.client ≡ None
+none_done : (c : goal.After-from_residual) → oldest_done c.args.self.now.live c.args.client ≡ None
 none_done c = rw (← c.self.view_is) (none_joined (is_done_of c.args.client) c.self.inside.held.items c.self.inside.flight.entries (sym c.in_err-key.ensures.request))
 
 pub returns-in_err-key-clause-number : goal.returns-in_err-key-clause-number
@@ -31,10 +31,10 @@ taken c =
 pub invariant_of-self : goal.invariant_of-self
 invariant_of-self c = ((taken c).sound, (taken c).kept)
 
-found : (c : goal.After-release) → first_done c.args.self.now.live c.args.client ≡ Some (bridged (first c).request (held_in c.self.inside.held.items c.in_ok-key.key))
+found : (c : goal.After-release) → oldest_done c.args.self.now.live c.args.client ≡ Some (bridged (first c).request (held_in c.self.inside.held.items c.in_ok-key.key))
 found c =
     let i = c.self.inside in
-    subst (λ (t : RequestTable). first_done t.live c.args.client ≡ Some (bridged (first c).request (held_in i.held.items c.in_ok-key.key))) c.self.view_is
+    subst (λ (t : RequestTable). oldest_done t.live c.args.client ≡ Some (bridged (first c).request (held_in i.held.items c.in_ok-key.key))) c.self.view_is
     (shown_at (is_done_of c.args.client) (kept_table i.config i.map i.flight i.held.items) c.in_ok-key.key (first c))
 
 pub returns-clause-number : goal.returns-clause-number
