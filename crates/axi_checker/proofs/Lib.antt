@@ -2,6 +2,7 @@ mod Examples
 pub mod DataBeats
 pub mod Few
 pub mod Histories
+pub mod IdCounts
 pub mod IdLists
 pub mod InOrder
 pub mod Judging

@@ -1,5 +1,5 @@
 -- What a monitor knows, and what stays true of it: an accepted beat leaves no ID with more outstanding bursts than the port allows.
-use Rattle.std.specs.Prelude.{◌≡◌, ℕ, ◌+◌, ◌*◌, ◌<◌, ◌≤◌, ◌==◌, true, List, [], ◌∷◌, length, filter, Option, Some, None, if◌then◌else◌}
+use Rattle.std.specs.Prelude.{◌≡◌, ℕ, ◌+◌, ◌*◌, ◌<◌, ◌≤◌, ◌==◌, true, List, [], ◌∷◌, length, filter, slice_index, Option, Some, None, if◌then◌else◌}
 use Rattle.std.specs.Option.{option_or}
 use Rattle.std.specs.List.{AllByRecursion}
 use Rattle.axi_beats.specs.Transfers.{IsBusWidth, fits_bus}
@@ -23,6 +23,10 @@ pub record OpenSide (X : Type 0) : Type 0 where
 pub record HasFewOfEach {X : Type 0} (id_of : X → ℕ) (ids depth : ℕ) (xs : List X) : Type 0 where
   pub known : AllByRecursion (λ x. id_of x < ids) xs
   pub few : (id : ℕ) → length (filter (λ x. id_of x == id) xs) ≤ depth
+
+-- how often each number below 256 stands in a list
+pub record AreCounts (counts numbers : List ℕ) : Type 0 where
+  pub each : (n : ℕ) → n < 256 → slice_index counts n ≡ length (filter (λ other. other == n) numbers)
 
 abbrev pub id_of_write : OpenWrite → ℕ
 id_of_write write = write.aw.id

@@ -7,6 +7,7 @@
 ghost use Rattle.std.specs.Prelude.{◌≡◌};
 ghost use Rattle.axi_checker.specs.Names.{rule_name, rule_number};
 
+mod id_list;
 mod limits;
 mod monitor;
 mod outstanding;

@@ -3,8 +3,8 @@ ghost use Rattle.std.specs.Prelude.{◌≡◌, ◌+◌, ◌<◌, ◌≤◌, [], 
 ghost use Rattle.bus_words.specs.Places.{change_first, without_first};
 ghost use Rattle.axi_checker.specs.OpenBursts.{lacks_data, read_of_id, reads_after, write_of_id};
 
+use crate::id_list::IdList;
 use axi_beats::{ArBeat, AwBeat};
-use memchr::memchr;
 use std::alloc::{AllocError, Global};
 use std::marker::Model;
 
@@ -64,7 +64,7 @@ impl OpenRead {
 #[derive(Drop)]
 pub(crate) struct Writes {
     entries: Vec<OpenWrite>,
-    ids: Vec<u8>,
+    ids: IdList,
 }
 
 impl Model for Writes {
@@ -77,14 +77,14 @@ impl Model for Writes {
 
     ghost view = { λ w. record { items = w.entries.items; room = vec_capacity w.entries } };
 
-    ghost invariant = { λ w. (w.ids.items ≡ map id_of_write w.entries.items) × (vec_capacity w.entries ≤ vec_capacity w.ids) };
+    ghost invariant = { λ w. (w.ids.items ≡ map id_of_write w.entries.items) × (vec_capacity w.entries ≤ w.ids.room) };
 }
 
 /// The outstanding reads, the oldest first, and beside them their IDs.
 #[derive(Drop)]
 pub(crate) struct Reads {
     entries: Vec<OpenRead>,
-    ids: Vec<u8>,
+    ids: IdList,
 }
 
 impl Model for Reads {
@@ -97,21 +97,7 @@ impl Model for Reads {
 
     ghost view = { λ r. record { items = r.entries.items; room = vec_capacity r.entries } };
 
-    ghost invariant = { λ r. (r.ids.items ≡ map id_of_read r.entries.items) × (vec_capacity r.entries ≤ vec_capacity r.ids) };
-}
-
-/// The first place of an ID.
-fn place_of(ids: &[u8], id: u8) -> Option<usize>
-    ensures { result ≡ position (λ other. other == id) ids.now }
-{
-    memchr(id, ids)
-}
-
-/// How many times an ID stands there.
-fn count_of(ids: &[u8], id: u8) -> usize
-    ensures { result ≡ length (filter (λ other. other == id) ids.now) }
-{
-    ids.iter().filter(|other| **other == id).count()
+    ghost invariant = { λ r. (r.ids.items ≡ map id_of_read r.entries.items) × (vec_capacity r.entries ≤ r.ids.room) };
 }
 
 fn place_to_fill(writes: &[OpenWrite]) -> Option<usize>
@@ -145,12 +131,13 @@ fn beats_came(reads: &[OpenRead]) -> u64
 }
 
 impl Writes {
-    /// None, with room for so many.
+    /// None, with room for so many, at most 255.
     pub(crate) fn new(alloc: Global, room: usize) -> Result<Self, AllocError>
+        requires { room ≤ 255 }
         ensures { IfOk result (λ writes. (writes.items ≡ []) × (room ≤ writes.room)) }
     {
         let entries = Vec::with_capacity(alloc, room)?;
-        let ids = Vec::with_capacity(alloc, room)?;
+        let ids = IdList::new(alloc, room)?;
         Ok(Writes { entries, ids })
     }
 
@@ -158,7 +145,7 @@ impl Writes {
     pub(crate) fn of_id(&self, id: u8) -> usize
         ensures { result ≡ length (filter (write_of_id id) self.now.items) }
     {
-        count_of(&self.ids, id)
+        self.ids.count(id)
     }
 
     /// The oldest that lacks data, and its place.
@@ -174,7 +161,7 @@ impl Writes {
         ensures place { option_map (λ found. found.0) result ≡ position (write_of_id id) self.now.items }
         ensures write { option_map (λ found. found.1) result ≡ find (write_of_id id) self.now.items }
     {
-        entry_at(&self.entries, place_of(&self.ids, id))
+        entry_at(&self.entries, self.ids.first(id))
     }
 
     /// Appends a write of which so many beats came, for which there is room.
@@ -184,7 +171,7 @@ impl Writes {
         ensures room { self.new.room ≡ self.old.room }
     {
         self.entries.push_reserved(OpenWrite { aw, came });
-        self.ids.push_reserved(aw.id);
+        self.ids.push(aw.id);
     }
 
     /// Appends a write, for which there is room.
@@ -239,12 +226,13 @@ impl Writes {
 }
 
 impl Reads {
-    /// None, with room for so many.
+    /// None, with room for so many, at most 255.
     pub(crate) fn new(alloc: Global, room: usize) -> Result<Self, AllocError>
+        requires { room ≤ 255 }
         ensures { IfOk result (λ reads. (reads.items ≡ []) × (room ≤ reads.room)) }
     {
         let entries = Vec::with_capacity(alloc, room)?;
-        let ids = Vec::with_capacity(alloc, room)?;
+        let ids = IdList::new(alloc, room)?;
         Ok(Reads { entries, ids })
     }
 
@@ -252,7 +240,7 @@ impl Reads {
     pub(crate) fn of_id(&self, id: u8) -> usize
         ensures { result ≡ length (filter (read_of_id id) self.now.items) }
     {
-        count_of(&self.ids, id)
+        self.ids.count(id)
     }
 
     /// The oldest of an ID, and its place.
@@ -260,7 +248,7 @@ impl Reads {
         ensures place { option_map (λ found. found.0) result ≡ position (read_of_id id) self.now.items }
         ensures read { option_map (λ found. found.1) result ≡ find (read_of_id id) self.now.items }
     {
-        entry_at(&self.entries, place_of(&self.ids, id))
+        entry_at(&self.entries, self.ids.first(id))
     }
 
     /// How many R beats came of them, of which there are at most 64.
@@ -278,7 +266,7 @@ impl Reads {
         ensures room { self.new.room ≡ self.old.room }
     {
         self.entries.push_reserved(OpenRead { ar, came: 0 });
-        self.ids.push_reserved(ar.id);
+        self.ids.push(ar.id);
     }
 
     /// Counts an R beat of the oldest read of an ID, which is at `place`; the last one closes it.

@@ -24,7 +24,7 @@ pub invariant_of-self-else-read-from : goal.invariant_of-self-else-read-from
 invariant_of-self-else-read-from c = (
   c.remove-else-read-from.ensures.items ∙ ap (λ (l : List ℕ). remove l c.args.place) c.self.invariant.0
       ∙ sym (map-remove id_of_read c.self.inside.entries.items c.args.place) ∙ ap (map id_of_read) (sym c.remove.ensures.items),
-  omega (arith, c.self.invariant.1, c.remove.ensures.capacity, c.remove-else-read-from.ensures.capacity),
+  omega (arith, c.self.invariant.1, c.remove.ensures.capacity, c.remove-else-read-from.ensures.room),
 )
 
 pub returns-then-read-from-clause-items : goal.returns-then-read-from-clause-items

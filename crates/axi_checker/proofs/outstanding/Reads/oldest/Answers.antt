@@ -9,11 +9,11 @@ use Rattle.axi_checker.proofs.outstanding.Reads.oldest.Goals as goal
 
 pub entry_at-requires : goal.entry_at-requires
 entry_at-requires c =
-    let placed = c.place_of.ensures ∙ same_place id_of_read c.self.inside.entries.items c.deref-2.result.now c.args.id (c.deref-2.ensures.value ∙ c.self.invariant.0) in
-    rw c.deref.ensures.value (found_within (read_of_id c.args.id) c.self.inside.entries.items c.place_of.result placed)
+    let placed = c.first.ensures ∙ same_place id_of_read c.self.inside.entries.items c.self.inside.ids.items c.args.id c.self.invariant.0 in
+    rw c.deref.ensures.value (found_within (read_of_id c.args.id) c.self.inside.entries.items c.first.result placed)
 
-placed : (c : goal.After-entry_at) → c.place_of.result ≡ position (read_of_id c.args.id) c.self.inside.entries.items
-placed c = c.place_of.ensures ∙ same_place id_of_read c.self.inside.entries.items c.deref-2.result.now c.args.id (c.deref-2.ensures.value ∙ c.self.invariant.0)
+placed : (c : goal.After-entry_at) → c.first.result ≡ position (read_of_id c.args.id) c.self.inside.entries.items
+placed c = c.first.ensures ∙ same_place id_of_read c.self.inside.entries.items c.self.inside.ids.items c.args.id c.self.invariant.0
 
 pub returns-clause-place : goal.returns-clause-place
 returns-clause-place c = c.entry_at.ensures.place ∙ placed c ∙ ap (λ (side : OpenSide OpenRead). position (read_of_id c.args.id) side.items) c.self.view_is

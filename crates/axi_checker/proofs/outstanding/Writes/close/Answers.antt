@@ -20,7 +20,7 @@ remove-requires c =
 pub invariant_of-self : goal.invariant_of-self
 invariant_of-self c = (
   c.remove-2.ensures.items ∙ ap (λ (l : List ℕ). remove l c.args.place) c.self.invariant.0 ∙ sym (map-remove id_of_write c.self.inside.entries.items c.args.place) ∙ ap (map id_of_write) (sym c.remove.ensures.items),
-  omega (arith, c.self.invariant.1, c.remove.ensures.capacity, c.remove-2.ensures.capacity),
+  omega (arith, c.self.invariant.1, c.remove.ensures.capacity, c.remove-2.ensures.room),
 )
 
 pub returns-clause-items : goal.returns-clause-items

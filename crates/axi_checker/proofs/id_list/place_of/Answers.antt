@@ -3,7 +3,7 @@ use Rattle.std.proofs.Common.{◌≡◌, ◌==◌, ℕ, Bool, true, false, List,
 use Rattle.std.proofs.lemmas.Bool.{lt-ltb}
 use Rattle.std.proofs.lemmas.List.Sums.{position_or_len_is}
 use Rattle.memchr.specs.Find.{IsFirstByte, is_byte}
-use Rattle.axi_checker.proofs.outstanding.place_of.Goals as goal
+use Rattle.axi_checker.proofs.id_list.place_of.Goals as goal
 
 fails : (b : Bool) → (b ≡ true → ⊥) → b ≡ false
 fails b never = grind (arith, never)
