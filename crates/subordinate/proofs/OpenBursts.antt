@@ -65,6 +65,12 @@ position-serial low top (p ∷ ps) zero rises within = rw (eq-eqb p.serial p.ser
 position-serial low top (p ∷ ps) (suc k) rises within =
     grind (arith, nat_tests, rises-at (p.serial + 1) top ps k rises.1 (omega (arith, within)), position-serial (p.serial + 1) top ps k rises.1 (omega (arith, within)))
 
+-- a burst that has a serial is the first that does
+pub place_here : (low top : ℕ) (pending : List Pending) (serial k : ℕ) → RisesWithin low top pending → k < length pending → serial_at pending k ≡ serial → position (has_serial serial) pending ≡ Some k
+place_here low top pending serial k rises within same =
+    let place : position_or_len (has_serial serial) pending ≡ k = subst (λ s. position_or_len (has_serial s) pending ≡ k) same (position-serial low top pending k rises within) in
+    rw (place, lt-ltb k (length pending) within) refl
+
 position-missing : (pending : List Pending) (serial : ℕ) → ((k : ℕ) → k < length pending → serial_at pending k ≡ serial → ⊥) → position_or_len (has_serial serial) pending ≡ length pending
 position-missing [] serial missing = refl
 position-missing (p ∷ ps) serial missing = grind (arith, nat_tests, missing 0 (omega arith), position-missing ps serial (λ k within. missing (suc k) (omega (arith, within))))
@@ -74,8 +80,7 @@ pub place_of_serial : (low top : ℕ) (pending : List Pending) (serial : ℕ) (r
     → IsBinarySearchResult (λ p. nat_cmp p.serial serial) pending r → result_ok r ≡ position (has_serial serial) pending
 place_of_serial low top pending serial (Ok k) rises within here =
     let same : serial_at pending k ≡ serial = ranked _ serial _ (sym (here (newly_pending 0 no_burst))) in
-    let place : position_or_len (has_serial serial) pending ≡ k = subst (λ s. position_or_len (has_serial s) pending ≡ k) same (position-serial low top pending k rises within) in
-    rw (place, lt-ltb k (length pending) within) refl
+    sym (place_here low top pending serial k rises within same)
 place_of_serial low top pending serial (Err gap) rises within parted =
     let place : position_or_len (has_serial serial) pending ≡ length pending = position-missing pending serial missing in
     rw (place, le-ltb (length pending) (length pending) (omega arith)) refl

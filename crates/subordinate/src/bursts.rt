@@ -227,14 +227,34 @@ fn moved(first: usize, place: usize) -> usize
     if place < first { first - 1 } else { first }
 }
 
-/// The place of the burst with this serial.
-fn place_of(bursts: &[OpenBurst], serial: u64) -> Option<usize>
+/// Where the burst with this serial stands, if all sent since the oldest are open. What is found doesn't rest on it.
+fn guess(bursts: &[OpenBurst], serial: u64) -> usize {
+    match bursts.first() {
+        Some(first) => serial.saturating_sub(first.serial()) as usize,
+        None => 0,
+    }
+}
+
+/// The place of the burst with this serial, found by halving.
+fn searched(bursts: &[OpenBurst], serial: u64) -> Option<usize>
     requires { Rise bursts.now }
     ensures { result ≡ position (has_serial serial) bursts.now }
 {
     bursts
         .binary_search_by_key(&serial, |burst| burst.serial())
         .ok()
+}
+
+/// The place of the burst with this serial; where it stands as the serials rise by one, no other burst is looked at.
+fn place_of(bursts: &[OpenBurst], serial: u64) -> Option<usize>
+    requires { Rise bursts.now }
+    ensures { result ≡ position (has_serial serial) bursts.now }
+{
+    let guess = guess(bursts, serial);
+    if guess < bursts.len() && bursts[guess].serial() == serial {
+        return Some(guess);
+    }
+    searched(bursts, serial)
 }
 
 /// Whether the burst with a queue's first serial may be answered.

@@ -31,7 +31,8 @@ const DEPTH: u8 = 4;
 /// them as AXI4's ordering allows (AXI4, A5). A box moves in with `send_box`, and out with `take_closed` when its burst is
 /// answered. All room is taken by `new`; no other call takes memory.
 ///
-/// A burst is found by its serial in the order of serials, and the oldest of an ID by the serials of that ID's.
+/// A burst is found by its serial, first looked at where it stands as the serials rise by one, else in their order; the
+/// oldest of an ID is found by the serials of that ID's.
 pub struct Device {
     bus_bytes: u8,
     pages: Pages,
