@@ -3,7 +3,7 @@ use Rattle.std.specs.Prelude.{◌≡◌, ℕ, ◌%◌, ◌/◌, ◌<◌, ◌≤�
 use Rattle.std.specs.List.{AllByRecursion, list_any}
 use Rattle.std.specs.Int.{bit_at}
 use Rattle.axi_beats.specs.Bursts.{Burst, ReadBurst, WriteBurst}
-use Rattle.subordinate.specs.FreeMemory.{Pending, beat_at, is_waiting}
+use Rattle.subordinate.specs.FreeMemory.{Pending, answers_left, beat_at, is_waiting}
 use Rattle.subordinate.specs.Inside.{captured_at, count_waiting}
 use Rattle.subordinate.specs.Laws.{RisesWithin, queue_of}
 use Rattle.subordinate.specs.declared.answers.Answers.{Answers}
@@ -50,10 +50,22 @@ pub record AreIndexed (bursts : List Pending) (queues : List (List ℕ)) (answer
   pub row : (queue : ℕ) → slice_index_or queues queue [] ≡ serials_in bursts queue
   pub marks : (queue : ℕ) → queue < 32 → is_marked answers queue ≡ is_queue_ready bursts queue
 
--- how many beats wait, and a place before which no burst has one that does
-pub record AreCounted (bursts : List Pending) (waiting first : ℕ) : Type 0 where
-  pub sum : waiting ≡ sum_by (λ pending. count_waiting pending.beats) bursts
-  pub each : AllByRecursion (λ pending. count_waiting pending.beats ≤ 256) bursts
+-- how many beats of an open burst wait, and how many answers it has still to give
+abbrev pub waiting_of : Pending → ℕ
+waiting_of pending = count_waiting pending.beats
+
+abbrev pub owed_by : Pending → ℕ
+owed_by pending = answers_left pending.answered pending.burst
+
+-- the sum over the open bursts of a count, which is at most 256 for each
+pub record IsSum (count : Pending → ℕ) (bursts : List Pending) (total : ℕ) : Type 0 where
+  pub sum : total ≡ sum_by count bursts
+  pub each : AllByRecursion (λ pending. count pending ≤ 256) bursts
+
+-- how many beats wait, how many answers are to come, and a place before which no burst has a beat that waits
+pub record AreCounted (bursts : List Pending) (waiting owed first : ℕ) : Type 0 where
+  pub waits : IsSum waiting_of bursts waiting
+  pub owes : IsSum owed_by bursts owed
   pub within : first ≤ length bursts
   pub before : AllByRecursion (λ pending. count_waiting pending.beats ≡ 0) (take first bursts)
 

@@ -1,8 +1,8 @@
 //! The open bursts of a device, in the order sent, with what is kept so that none is looked for among them.
-ghost use Rattle.std.specs.Prelude.{◌≡◌, ◌≢◌, ℕ, ◌+◌, ◌-◌, ◌^◌, ◌<◌, ◌==◌, ◌&&◌, nat_lt, flat_map, sum_by, ◌++◌, ◌*◌, [], ◌∷◌, false, IfOk, IfSome, IsSome, Some, filter, find, if◌then◌else◌, length, position, slice_get, slice_index_or, slice_set};
+ghost use Rattle.std.specs.Prelude.{◌≡◌, ◌≢◌, ℕ, ◌+◌, ◌-◌, ◌^◌, ◌<◌, ◌≤◌, ◌==◌, ◌&&◌, nat_lt, flat_map, sum_by, ◌++◌, ◌*◌, [], ◌∷◌, false, IfOk, IfSome, IsSome, Some, filter, find, if◌then◌else◌, length, position, slice_get, slice_index_or, slice_set};
 ghost use Rattle.std.specs.List.{range_with_len, remove};
 ghost use Rattle.subordinate.specs.Bursts.{Rise, is_first, is_in, is_marked, is_queue_ready, is_ready, serials_in};
-ghost use Rattle.subordinate.specs.FreeMemory.{Pending, beat_at, has_serial, is_waiting, waiting_in, with_beat};
+ghost use Rattle.subordinate.specs.FreeMemory.{Pending, beat_at, has_serial, is_waiting, waiting_in, with_beat, work_in};
 ghost use Rattle.subordinate.specs.Inside.{captured_at, count_waiting, with_answer};
 ghost use Rattle.subordinate.specs.Laws.{queue_of};
 ghost use Rattle.subordinate.specs.declared.BeatState.TheVariants.{Waiting};
@@ -26,6 +26,8 @@ pub(crate) struct Bursts {
     answers: Answers,
     /// How many beats wait.
     waiting: u32,
+    /// How many answers are to come.
+    owed: u32,
     /// No burst before this place has a beat that waits.
     first: usize,
 }
@@ -40,7 +42,7 @@ impl Model for Bursts {
 
     ghost view = { λ b. b.items.items };
 
-    ghost invariant = { λ b. AreIndexed b.items.items b.queues b.answers × AreCounted b.items.items b.waiting b.first × (128 ≤ vec_capacity b.items) };
+    ghost invariant = { λ b. AreIndexed b.items.items b.queues b.answers × AreCounted b.items.items b.waiting b.owed b.first × (128 ≤ vec_capacity b.items) };
 }
 
 impl Bursts {
@@ -55,6 +57,7 @@ impl Bursts {
             queues,
             answers: Answers::new(),
             waiting: 0,
+            owed: 0,
             first: 0,
         })
     }
@@ -137,6 +140,14 @@ impl Bursts {
         self.waiting
     }
 
+    /// The work left: the beats that wait, and the answers to come.
+    pub(crate) fn work_left(&self) -> u64
+        ensures work { result ≡ sum_by work_in self.now }
+        ensures most { result ≤ 512 * length self.now }
+    {
+        u64::from(self.waiting) + u64::from(self.owed)
+    }
+
     /// Serial and beat of the first beat that waits, by rising serial and beat.
     pub(crate) fn first_waiting(&self) -> Option<(u64, u16)>
         ensures { result ≡ slice_get (flat_map waiting_in self.now) 0 }
@@ -159,6 +170,7 @@ impl Bursts {
     {
         self.queues.push(burst.queue(), burst.serial());
         self.waiting += u32::from(burst.waiting());
+        self.owed += u32::from(burst.answers_left());
         self.items.push_reserved(burst);
     }
 
@@ -186,8 +198,11 @@ impl Bursts {
         requires known { IfSome (slice_get self.old place) (λ p. queue_of p < 32) }
         ensures { (p : Pending) → slice_get self.old place ≡ Some p → self.new ≡ slice_set self.old place (with_answer p) }
     {
+        let before = self.items[place].answers_left();
         self.items[place].count_answer();
-        self.answers = noted(self.answers, &self.queues, &self.items[place]);
+        let burst = &self.items[place];
+        self.answers = noted(self.answers, &self.queues, burst);
+        self.owed -= u32::from(before - burst.answers_left());
     }
 
     /// Takes the oldest burst of a queue out, by its place.
@@ -200,6 +215,7 @@ impl Bursts {
     {
         let burst = self.items.remove(place);
         self.waiting -= u32::from(burst.waiting());
+        self.owed -= u32::from(burst.answers_left());
         self.first = moved(self.first, place);
         self.queues.pop(queue);
         let ready = is_ready_at(&self.items, self.queues.first(queue));

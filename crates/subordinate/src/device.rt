@@ -179,11 +179,7 @@ impl Device {
         ensures work { result ≡ work_open self.now.memory }
         ensures most { result ≤ 65536 }
     {
-        let mut work = 0;
-        for burst in self.open.as_slice() {
-            work += u64::from(burst.work_left());
-        }
-        work
+        self.open.work_left()
     }
 
     /// Serial and beat of a beat that isn't performed, counted among these from 0 by rising serial and beat.

@@ -1,7 +1,7 @@
 //! A burst that is open: sent, and not answered whole.
 ghost use Rattle.std.specs.Prelude.{◌≡◌, ◌+◌, ◌<◌, ◌≤◌, false, IsSome, Some, length, not, slice_get, take};
 ghost use Rattle.std.specs.List.{AllByRecursion, list_any};
-ghost use Rattle.subordinate.specs.FreeMemory.{answers_left, beat_at, gives_last, is_waiting, newly_pending, performed_waiting_in, start_of, transfers_in, with_beat, work_in};
+ghost use Rattle.subordinate.specs.FreeMemory.{answers_left, beat_at, gives_last, is_waiting, newly_pending, performed_waiting_in, start_of, transfers_in, with_beat};
 ghost use Rattle.subordinate.specs.Inside.{burst_in, captured_at, count_waiting, waiting_places, with_answer};
 ghost use Rattle.subordinate.specs.Bursts.{is_ready};
 ghost use Rattle.subordinate.specs.Laws.{IsPerformed, queue_of, queue_of_burst};
@@ -160,7 +160,7 @@ impl OpenBurst {
     }
 
     /// How many answers are to come: the B of a write, or an R for each beat of a read that has none.
-    fn answers_left(&self) -> u16
+    pub(crate) fn answers_left(&self) -> u16
         ensures count { result ≡ answers_left self.now.answered self.now.burst }
         ensures most { result ≤ 256 }
     {
@@ -169,14 +169,6 @@ impl OpenBurst {
         } else {
             transfers(&self.burst).saturating_sub(self.answered)
         }
-    }
-
-    /// The work left: its beats that aren't performed, and its answers to come.
-    pub(crate) fn work_left(&self) -> u16
-        ensures count { result ≡ work_in self.now }
-        ensures most { result ≤ 512 }
-    {
-        self.beats.waiting() + self.answers_left()
     }
 
     /// What the next R beat of a read captured, where that beat is performed.

@@ -1,10 +1,10 @@
 -- The mark of its queue changes where it is the oldest.
-use Rattle.std.proofs.Common.{List, arith, ap, subst, ◌∙◌}
+use Rattle.std.proofs.Common.{List, ap, subst, ◌∙◌}
 use Rattle.std.specs.Prelude.{IfSome, IsSome, Option, slice_set}
 use Rattle.subordinate.specs.FreeMemory.{Pending, beat_at}
 use Rattle.subordinate.specs.Inside.{captured_at, with_answer}
 use Rattle.subordinate.specs.Laws.{queue_of}
-use Rattle.subordinate.proofs.BurstCounts.{count_in, counted_change}
+use Rattle.subordinate.proofs.BurstCounts.{counted_answer}
 use Rattle.subordinate.proofs.BurstIndex.{here_now, noted, read_at, seen_known}
 use Rattle.subordinate.proofs.OpenQueues.{captured_within}
 use Rattle.subordinate.proofs.bursts.Bursts.count_answer.Goals as goal
@@ -17,16 +17,18 @@ count_answer-requires c =
 
 pub noted-self-inside-requires : goal.noted-self-inside-requires
 noted-self-inside-requires c =
-    seen_known c.self.inside.items.items c.args.self.now c.args.place c.index_mut.result.now c.count_answer.new.self c.index.result.now c.self.view_is c.requires.here c.requires.known c.index_mut.ensures.value (ap queue_of c.count_answer.ensures)
-    c.index.ensures
+    seen_known c.self.inside.items.items c.args.self.now c.args.place c.index_mut.result.now c.count_answer.new.self c.index-burst.result.now c.self.view_is c.requires.here c.requires.known c.index_mut.ensures.value
+    (ap queue_of c.count_answer.ensures) c.index-burst.ensures
 
 pub invariant_of-self : goal.invariant_of-self
 invariant_of-self c =
     let inside = c.self.inside in (
-      noted inside.items.items c.args.self.now c.args.place c.index_mut.result.now c.count_answer.new.self c.index.result.now inside.queues inside.answers c.noted-self-inside.result c.self.view_is c.requires.rising c.self.invariant.0
-          c.requires.here c.requires.known c.index_mut.ensures.value (ap (λ (p : Pending). p.serial) c.count_answer.ensures) (ap queue_of c.count_answer.ensures) c.index.ensures c.noted-self-inside.ensures.here c.noted-self-inside.ensures.others,
-      counted_change inside.items.items c.args.self.now c.args.place c.index_mut.result.now c.count_answer.new.self inside.waiting inside.waiting inside.first c.self.view_is c.requires.here c.index_mut.ensures.value c.self.invariant.1
-          (omega (arith, ap count_in c.count_answer.ensures)) (omega (arith, ap count_in c.count_answer.ensures)),
+      noted inside.items.items c.args.self.now c.args.place c.index_mut.result.now c.count_answer.new.self c.index-burst.result.now inside.queues inside.answers c.noted-self-inside.result c.self.view_is c.requires.rising
+          c.self.invariant.0 c.requires.here c.requires.known c.index_mut.ensures.value (ap (λ (p : Pending). p.serial) c.count_answer.ensures) (ap queue_of c.count_answer.ensures) c.index-burst.ensures
+          c.noted-self-inside.ensures.here c.noted-self-inside.ensures.others,
+      rw c.from.ensures
+          (counted_answer inside.items.items c.args.self.now c.args.place c.index.result.now c.index_mut.result.now c.count_answer.new.self c.index-burst.result.now inside.waiting inside.owed inside.first c.answers_left-before.result
+          c.answers_left.result c.self.view_is c.requires.here c.index.ensures c.index_mut.ensures.value c.self.invariant.1 c.count_answer.ensures c.index-burst.ensures c.answers_left-before.ensures.count c.answers_left.ensures.count).2,
       c.self.invariant.2,
     )
 

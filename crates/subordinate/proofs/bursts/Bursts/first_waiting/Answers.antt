@@ -16,7 +16,7 @@ returns-then-waiting-gt0 c =
     let inside : 0 < count_waiting c.burst-item.result.beats = omega (arith, c.if-waiting-gt0.true, c.waiting.ensures.count) in
     ap (λ (n : ℕ). Some (n, c.nth_waiting.result)) c.serial.ensures
     ∙ sym (sym c.loop-burst.invariant ∙ waiting-here items c.loop-burst.burst-index 0 c.burst-item.result c.nth_waiting.result c.loop-burst-test.true c.burst-item.is inside c.nth_waiting.ensures)
-    ∙ ap (λ (beats : List (ℕ × ℕ)). slice_get beats 0) (waiting_from c.self.inside.items.items read c.args.self.now c.self.inside.waiting first c.deref.ensures.value c.self.view_is c.self.invariant.1)
+    ∙ ap (λ (beats : List (ℕ × ℕ)). slice_get beats 0) (waiting_from c.self.inside.items.items read c.args.self.now c.self.inside.waiting c.self.inside.owed first c.deref.ensures.value c.self.view_is c.self.invariant.1)
 
 pub loop-burst-preserved : goal.loop-burst-preserved
 loop-burst-preserved c =
@@ -34,4 +34,4 @@ returns c =
     let none : slice_get (flat_map waiting_in items) 0 ≡ None =
     sym c.loop-burst.invariant ∙ ap (λ (ps : List Pending). slice_get (flat_map waiting_in ps) 0) (drop_of_length-le items c.loop-burst-test.false)
     in
-    sym none ∙ ap (λ (beats : List (ℕ × ℕ)). slice_get beats 0) (waiting_from c.self.inside.items.items read c.args.self.now c.self.inside.waiting first c.deref.ensures.value c.self.view_is c.self.invariant.1)
+    sym none ∙ ap (λ (beats : List (ℕ × ℕ)). slice_get beats 0) (waiting_from c.self.inside.items.items read c.args.self.now c.self.inside.waiting c.self.inside.owed first c.deref.ensures.value c.self.view_is c.self.invariant.1)

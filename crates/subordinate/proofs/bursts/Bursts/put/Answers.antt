@@ -10,7 +10,7 @@ use Rattle.subordinate.proofs.bursts.Bursts.put.Goals as goal
 pub overflow_sub-self : goal.overflow_sub-self
 overflow_sub-self c =
     let inside = c.self.inside in
-    (counted_put inside.items.items c.args.self.now c.args.place c.index_mut.result.now c.put.new.self c.index-burst.result.now inside.waiting inside.first c.waiting.result c.args.beat c.args.state c.self.view_is c.requires.here
+    (counted_put inside.items.items c.args.self.now c.args.place c.index_mut.result.now c.put.new.self c.index-burst.result.now inside.waiting inside.owed inside.first c.waiting.result c.args.beat c.args.state c.self.view_is c.requires.here
     c.index_mut.ensures.value c.self.invariant.1 c.requires.waits c.requires.performed c.put.ensures c.index-burst.ensures c.waiting.ensures.count).0
 
 pub past-self-inside-requires : goal.past-self-inside-requires
@@ -22,7 +22,7 @@ invariant_of-self c =
       noted inside.items.items c.args.self.now c.args.place c.index_mut.result.now c.put.new.self c.index-burst.result.now inside.queues inside.answers c.noted-self-inside.result c.self.view_is c.requires.rising c.self.invariant.0
           c.requires.here c.requires.known c.index_mut.ensures.value (ap (λ (p : Pending). p.serial) c.put.ensures) (ap queue_of c.put.ensures) c.index-burst.ensures c.noted-self-inside.ensures.here c.noted-self-inside.ensures.others,
       rw c.past-self-inside.ensures
-          (counted_put inside.items.items c.args.self.now c.args.place c.index_mut.result.now c.put.new.self c.index-burst.result.now inside.waiting inside.first c.waiting.result c.args.beat c.args.state c.self.view_is c.requires.here
+          (counted_put inside.items.items c.args.self.now c.args.place c.index_mut.result.now c.put.new.self c.index-burst.result.now inside.waiting inside.owed inside.first c.waiting.result c.args.beat c.args.state c.self.view_is c.requires.here
           c.index_mut.ensures.value c.self.invariant.1 c.requires.waits c.requires.performed c.put.ensures c.index-burst.ensures c.waiting.ensures.count).1,
       c.self.invariant.2,
     )

@@ -1,13 +1,13 @@
 -- The next burst of the queue, if there is one, is its oldest.
-use Rattle.std.proofs.Common.{◌≡◌, ◌-◌, ◌<◌, List, ℕ, Some, [], arith, sym, ap, subst, ◌∙◌}
+use Rattle.std.proofs.Common.{◌≡◌, ◌<◌, List, ℕ, Some, [], arith, sym, ap, subst, ◌∙◌}
 use Rattle.std.specs.List.{remove}
 use Rattle.std.specs.Prelude.{position, slice_get, slice_index_or}
 use Rattle.std.proofs.lemmas.Option.{slice_get-get_or}
 use Rattle.bus_words.proofs.FirstPlaces.{position_is_first}
-use Rattle.subordinate.specs.Bursts.{AreIndexed, Rise, is_in, is_queue_ready, serials_in}
+use Rattle.subordinate.specs.Bursts.{AreIndexed, Rise, is_in, is_queue_ready, owed_by, serials_in, waiting_of}
 use Rattle.subordinate.specs.FreeMemory.{Pending}
 use Rattle.subordinate.specs.declared.answers.Answers.{Answers}
-use Rattle.subordinate.proofs.BurstCounts.{counted_close, was_waiting}
+use Rattle.subordinate.proofs.BurstCounts.{counted_close, was_summed}
 use Rattle.subordinate.proofs.BurstIndex.{IsTaken, closed, taken}
 use Rattle.subordinate.proofs.bursts.Bursts.take_oldest.Goals as goal
 
@@ -19,12 +19,23 @@ known items now queues answers queue place view rise indexed small oldest =
 pub overflow_sub-self : goal.overflow_sub-self
 overflow_sub-self c =
     let inside = c.self.inside in
+    let within = (position_is_first (is_in c.args.queue) c.args.self.now c.args.place c.requires.oldest).within in
     omega (
       arith,
       c.from.ensures,
       c.waiting.ensures.count,
-      was_waiting inside.items.items c.args.self.now c.args.place c.remove-burst.result inside.waiting inside.first c.self.view_is
-          (position_is_first (is_in c.args.queue) c.args.self.now c.args.place c.requires.oldest).within c.remove-burst.ensures.value c.self.invariant.1,
+      was_summed waiting_of inside.items.items c.args.self.now c.args.place c.remove-burst.result inside.waiting c.self.view_is within c.remove-burst.ensures.value c.self.invariant.1.waits,
+    )
+
+pub overflow_sub-self-2 : goal.overflow_sub-self-2
+overflow_sub-self-2 c =
+    let inside = c.self.inside in
+    let within = (position_is_first (is_in c.args.queue) c.args.self.now c.args.place c.requires.oldest).within in
+    omega (
+      arith,
+      c.from-2.ensures,
+      c.answers_left.ensures.count,
+      was_summed owed_by inside.items.items c.args.self.now c.args.place c.remove-burst.result inside.owed c.self.view_is within c.remove-burst.ensures.value c.self.invariant.1.owes,
     )
 
 pub pop-requires-clause-some : goal.pop-requires-clause-some
@@ -48,15 +59,9 @@ invariant_of-self c =
           (closed inside.items.items inside.queues inside.answers c.with-self-inside.result c.args.queue c.args.place (subst Rise (sym c.self.view_is) c.requires.rising) c.self.invariant.0 c.requires.queue
           (ap (λ (bursts : List Pending). position (is_in c.args.queue) bursts) c.self.view_is ∙ c.requires.oldest) (c.with-self-inside.ensures.here ∙ ready) c.with-self-inside.ensures.others),
       rw (c.remove-burst.ensures.items, c.moved-self-inside.ensures)
-          (counted_close inside.items.items c.args.self.now c.args.place c.remove-burst.result inside.waiting (inside.waiting - c.from.result) inside.first c.self.view_is
-          (position_is_first (is_in c.args.queue) c.args.self.now c.args.place c.requires.oldest).within c.remove-burst.ensures.value c.self.invariant.1
-          (omega (
-            arith,
-            c.from.ensures,
-            c.waiting.ensures.count,
-            was_waiting inside.items.items c.args.self.now c.args.place c.remove-burst.result inside.waiting inside.first c.self.view_is
-                (position_is_first (is_in c.args.queue) c.args.self.now c.args.place c.requires.oldest).within c.remove-burst.ensures.value c.self.invariant.1,
-          ))),
+          (counted_close inside.items.items c.args.self.now c.args.place c.remove-burst.result inside.waiting inside.owed inside.first c.from.result c.from-2.result c.self.view_is
+          (position_is_first (is_in c.args.queue) c.args.self.now c.args.place c.requires.oldest).within c.remove-burst.ensures.value c.self.invariant.1 (c.from.ensures ∙ c.waiting.ensures.count)
+          (c.from-2.ensures ∙ c.answers_left.ensures.count)),
       omega (arith, c.self.invariant.2, c.remove-burst.ensures.capacity),
     )
 
