@@ -1,5 +1,5 @@
 -- Marks at places as the bits of a number: what a change of one is of the other.
-use Rattle.std.proofs.Common.{◌≡◌, ℕ, zero, suc, ◌+◌, ◌-◌, ◌*◌, ◌/◌, ◌%◌, ◌^◌, ◌==◌, ◌<◌, ◌≤◌, Bool, false, ◌&&◌, min, List, [], ◌∷◌, ◌++◌, length, get_or, set, refl, ap, sym, ◌∙◌, arith}
+use Rattle.std.proofs.Common.{◌≡◌, ℕ, zero, suc, ◌+◌, ◌-◌, ◌*◌, ◌/◌, ◌%◌, ◌^◌, ◌==◌, ◌<◌, ◌≤◌, Bool, true, false, ◌&&◌, min, List, [], ◌∷◌, ◌++◌, length, get_or, set, refl, ap, sym, ◌∙◌, arith}
 use Rattle.std.specs.Prelude.{if◌then◌else◌}
 use Rattle.std.specs.List.{position, position_or_len, remove}
 use Rattle.std.proofs.Common.{map, Some, None}
@@ -7,11 +7,12 @@ use Rattle.std.proofs.lemmas.Bool.{lt-ltb, le-ltb}
 use Rattle.std.proofs.lemmas.Simd.{trailing_mask_l}
 use lib.Lanes.{mask_l}
 use lib.Count.{count_trailing_zeros}
-use native.Mathlib.Nat.{two-pow-succ, zero-div, div-one, div-div-eq-div-mul, div-add-mod', mul_assoc, mul_comm, one-mul, pow-suc}
+use native.Mathlib.Nat.{two-pow-succ, zero-div, div-one, div-div-eq-div-mul, div-add-mod', mul_assoc, mul_comm, one-mul, pow-suc, min-zero}
 use lib.Pow.{pow_mono}
 use mir.Val.{bool_byte}
 use Rattle.std.proofs.lemmas.Nat.{shl_whole}
-use lib.Bits.{bit_and, and_step, and_zero_l, and_zero_r}
+use lib.Bits.{bit_and, and_self, and_step, and_zero_l, and_zero_r}
+use Rattle.bus_words.proofs.FirstPlaces.{position_is_first}
 use Rattle.flight_table.specs.Marks.{both, marks_of, number_of, without_bit}
 use Rattle.std.proofs.lemmas.Bool.Decides.{nat_tests}
 
@@ -171,6 +172,37 @@ first_some marks some few =
     let place : count_trailing_zeros 64 (number_of marks) ≡ position_or_len is_set marks =
     ap (count_trailing_zeros 64) (sym (mask marks)) ∙ trailing_mask_l is_set 64 marks few (rw (mask marks) some) in
     rw (place, lt-ltb (position_or_len is_set marks) (length marks) (some_set marks some)) refl
+
+-- a number and the one below it share all bits but the lowest that is set
+abbrev without_lowest : ℕ → ℕ
+without_lowest n = bit_and n (n - 1)
+
+lowest_is_set : (n : ℕ) → without_lowest (1 + 2 * n) ≡ 2 * n
+lowest_is_set n =
+    let half : (1 + 2 * n) / 2 ≡ n = omega arith in
+    let half_below : (1 + 2 * n - 1) / 2 ≡ n = omega arith in
+    let even : (1 + 2 * n - 1) % 2 ≡ 0 = omega arith in
+    and_step (1 + 2 * n) (1 + 2 * n - 1) ∙ rw (half, half_below, even, and_self n, min-zero ((1 + 2 * n) % 2)) (omega arith)
+
+lowest_is_unset : (n : ℕ) → without_lowest (0 + 2 * n) ≡ 2 * without_lowest n
+lowest_is_unset zero = refl
+lowest_is_unset (suc n) =
+    let half : (0 + 2 * suc n) / 2 ≡ suc n = omega arith in
+    let half_below : (0 + 2 * suc n - 1) / 2 ≡ suc n - 1 = omega arith in
+    let even : (0 + 2 * suc n) % 2 ≡ 0 = omega arith in
+    and_step (0 + 2 * suc n) (0 + 2 * suc n - 1) ∙ rw (half, half_below, even) (omega arith)
+
+-- the marks without the first of them
+first_cleared : (marks : List Bool) → without_lowest (number_of marks) ≡ number_of (set marks (position_or_len is_set marks) false)
+first_cleared [] = refl
+first_cleared (true ∷ marks) = lowest_is_set (number_of marks) ∙ omega arith
+first_cleared (false ∷ marks) =
+    let next : 1 + position_or_len is_set marks ≡ suc (position_or_len is_set marks) = omega arith in
+    lowest_is_unset (number_of marks) ∙ rw (next, first_cleared marks) (omega arith)
+
+pub first_taken : (marks : List Bool) (place : ℕ) → position is_set marks ≡ Some place
+    → bit_and (number_of marks) (number_of marks - 1) ≡ number_of (set marks place false)
+first_taken marks place at = first_cleared marks ∙ ap (λ k. number_of (set marks k false)) (position_is_first is_set marks place at).first
 
 -- a bit above all others
 pub unit_is : (place : ℕ) → place < 64 → 1 * 2 ^ place % 18446744073709551616 ≡ 2 ^ place

@@ -85,7 +85,7 @@ impl Marks {
         let Some(place) = first_bit(self.bits) else {
             return None;
         };
-        self.bits -= 1u64 << place;
+        self.bits &= self.bits - 1;
         Some(place)
     }
 
