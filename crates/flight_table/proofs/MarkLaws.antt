@@ -7,11 +7,11 @@ use Rattle.std.proofs.lemmas.Bool.{lt-ltb, le-ltb}
 use Rattle.std.proofs.lemmas.Simd.{trailing_mask_l}
 use lib.Lanes.{mask_l}
 use lib.Count.{count_trailing_zeros}
-use native.Mathlib.Nat.{two-pow-succ, zero-div, div-one, div-div-eq-div-mul, div-add-mod', mul_assoc, mul_comm, one-mul, pow-suc, min-zero}
+use native.Mathlib.Nat.{two-pow-succ, zero-div, div-one, div-div-eq-div-mul, div-add-mod', mul_assoc, mul_comm, one-mul, pow-suc, min-zero, mod-lt}
 use lib.Pow.{pow_mono}
 use mir.Val.{bool_byte}
-use Rattle.std.proofs.lemmas.Nat.{shl_whole}
-use lib.Bits.{bit_and, and_self, and_step, and_zero_l, and_zero_r}
+use Rattle.std.proofs.lemmas.Nat.{and-not, and_comm, and_mask, or_comm, or_shifted, pow_pos, shl_whole}
+use lib.Bits.{bit_and, bit_or, and_self, and_step, and_zero_l, and_zero_r}
 use Rattle.bus_words.proofs.FirstPlaces.{position_is_first}
 use Rattle.flight_table.specs.Marks.{both, marks_of, number_of, without_bit}
 use Rattle.std.proofs.lemmas.Bool.Decides.{nat_tests}
@@ -215,3 +215,22 @@ pub length-both : (marks others : List Bool) → length (both marks others) ≤ 
 length-both [] others = omega arith
 length-both (m ∷ marks) [] = omega arith
 length-both (m ∷ marks) (o ∷ others) = omega (arith, length-both marks others)
+
+-- ---- a bit taken out, by masks
+
+-- what a mask of so many lowest bits leaves
+above : (n place : ℕ) → n < 18446744073709551616 → place < 64 → bit_and n (18446744073709551615 - (2 ^ place - 1)) ≡ n / 2 ^ place * 2 ^ place
+above n place fits within =
+    let low : bit_and (2 ^ place - 1) n ≡ n % 2 ^ place = and_comm (2 ^ place - 1) n ∙ and_mask n place in
+    let mask_small : 2 ^ place - 1 < 2 ^ 64 = omega (arith, pow_mono {i = place} {j = 64} (omega (arith, within))) in
+    let parts : bit_and (18446744073709551615 - (2 ^ place - 1)) n + bit_and (2 ^ place - 1) n ≡ n = and-not 64 (2 ^ place - 1) n mask_small fits in
+    and_comm n (18446744073709551615 - (2 ^ place - 1)) ∙ omega (arith, rw low at parts, div-add-mod' n (2 ^ place))
+
+pub masked_out : (bits place : ℕ) → place < 64 → bits < 18446744073709551616
+    → bit_or (bit_and bits (2 ^ place - 1)) (bit_and (bits / 2) (18446744073709551615 - (2 ^ place - 1))) ≡ without_bit place bits
+masked_out bits place within fits =
+    let half : bits / 2 / 2 ^ place ≡ bits / 2 ^ place / 2 =
+    div-div-eq-div-mul bits 2 (2 ^ place) ∙ ap (λ d. bits / d) (mul_comm 2 (2 ^ place)) ∙ sym (div-div-eq-div-mul bits (2 ^ place) 2) in
+    rw (and_mask bits place, above (bits / 2) place (omega (arith, fits)) within, half)
+    (or_comm (bits % 2 ^ place) (bits / 2 ^ place / 2 * 2 ^ place)
+    ∙ or_shifted (bits / 2 ^ place / 2) place (bits % 2 ^ place) (mod-lt bits (pow_pos place)) ∙ omega arith)

@@ -103,9 +103,8 @@ pub(crate) fn without_bit(bits: u64, place: usize) -> u64
     requires { place < 64 }
     ensures { result ≡ without_bit place bits }
 {
-    let low = bits % (1u64 << place);
-    let high = (bits >> place) / 2;
-    low + (high << place)
+    let below = (1u64 << place) - 1;
+    (bits & below) | ((bits >> 1) & !below)
 }
 
 /// The place of the first bit that is set.
