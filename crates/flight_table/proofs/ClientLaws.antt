@@ -4,14 +4,15 @@ use Rattle.std.specs.Prelude.{if◌then◌else◌, option_map}
 use Rattle.std.specs.List.{AllByRecursion, filter, find, list_any, position, range_with_len}
 use Rattle.std.proofs.lemmas.Bool.{cases_lt}
 use Rattle.std.proofs.lemmas.List.{get_or-map, get_or_past, map_push}
-use Rattle.bus_words.proofs.FirstPlaces.{find-none}
+use Rattle.bus_words.proofs.FirstPlaces.{IsFirst, find-none, position_is_first}
 use Rattle.bus_words.specs.Places.{change_first, without_first}
 use Rattle.flight_table.specs.Clients.{AreOwned, has_own_key, has_own_source, own_done, own_finished, own_part, own_requests, requests_of_clients}
 use Rattle.flight_table.specs.LiveRequests.{LiveRequest, finished}
 use Rattle.flight_table.specs.Tables.{KeyedRequest, change_entry, has_key, has_source, is_done_of, is_of, key_in, request_in, requests_of}
 use Rattle.flight_table.specs.declared.clients.OwnRequest.{OwnRequest}
 use Rattle.flight_table.proofs.HeldIds.{range_set}
-use Rattle.bus_words.proofs.MappedPlaces.{length_map, map_same}
+use Rattle.flight_table.proofs.MarkLaws.{is_set}
+use Rattle.bus_words.proofs.MappedPlaces.{length_map, map_same, position_map}
 use Rattle.std.proofs.lemmas.List.FromFn.{length-range_with_len, get_or-range_with_len}
 use Rattle.bus_words.proofs.PlaceChanges.{all-append}
 
@@ -224,3 +225,16 @@ is_listed clients client key entries kept r owned found whose = rw (whose, own_l
 -- how many its client has
 pub are_fewer : (clients client own most : ℕ) (entries : List KeyedRequest) (kept : List (List OwnRequest)) → AreOwned clients entries kept → client ≡ own → length (filter (is_of own) (requests_of entries)) < most → length (get_or kept client []) < most
 are_fewer clients client own most entries kept owned whose fewer = rw (whose, own_list clients own entries kept owned, count_own own entries) fewer
+
+-- ---- the first that is done, by the marks of them
+
+marked_place : (own : List OwnRequest) (marks : List Bool) (found : Option ℕ) → marks ≡ map own_done own → found ≡ position is_set marks
+    → position own_done own ≡ found
+marked_place own marks found are at = sym (position_map own_done is_set own) ∙ ap (position is_set) (sym are) ∙ sym at
+
+pub first_marked : (own : List OwnRequest) (marks : List Bool) (place : ℕ) → marks ≡ map own_done own → Some place ≡ position is_set marks
+    → IsFirst own_done own place
+first_marked own marks place are at = position_is_first own_done own place (marked_place own marks (Some place) are at)
+
+pub none_done : (own : List OwnRequest) (marks : List Bool) → marks ≡ map own_done own → None ≡ position is_set marks → position own_done own ≡ None
+none_done own marks are at = marked_place own marks None are at

@@ -5,6 +5,7 @@ ghost use Rattle.std.specs.Vec.{vec_len, vec_capacity};
 ghost use Rattle.bus_words.specs.Places.{change_first, without_first};
 ghost use Rattle.flight_table.specs.Clients.{has_own_key, has_own_source, own_done, own_finished};
 
+use crate::marks::Marks;
 use crate::slots::Key;
 use std::alloc::{AllocError, Global};
 use std::marker::Model;
@@ -23,22 +24,24 @@ pub(crate) struct OwnRequest {
     pub(crate) done: bool,
 }
 
-/// A client's live requests, in the order of acceptance.
+/// A client's live requests, in the order of acceptance, and marks of those that are done.
 #[derive(Drop)]
 pub(crate) struct Client {
     requests: Vec<OwnRequest>,
+    done: Marks,
 }
 
 impl Model for Client {
-    ghost use Rattle.std.specs.Prelude.{List, ◌≤◌};
+    ghost use Rattle.std.specs.Prelude.{List, ◌≡◌, ◌≤◌, map};
     ghost use Rattle.std.specs.Vec.{vec_capacity};
+    ghost use Rattle.flight_table.specs.Clients.{own_done};
     ghost use Rattle.flight_table.specs.declared.clients.OwnRequest.{OwnRequest};
 
     ghost Value = { List OwnRequest };
 
     ghost view = { λ c. c.requests.items };
 
-    ghost invariant = { λ c. 8 ≤ vec_capacity c.requests };
+    ghost invariant = { λ c. (8 ≤ vec_capacity c.requests) × (c.done ≡ map own_done c.requests.items) };
 }
 
 /// The place of a key.
@@ -54,7 +57,10 @@ impl Client {
         ensures { IfOk result (λ client. client ≡ []) }
     {
         let requests = Vec::with_capacity(alloc, QUOTA)?;
-        Ok(Client { requests })
+        Ok(Client {
+            requests,
+            done: Marks::new(),
+        })
     }
 
     /// Adds the client's latest request.
@@ -62,6 +68,7 @@ impl Client {
         requires { length self.old < 8 }
         ensures { self.new ≡ self.old ++ request ∷ [] }
     {
+        self.done.push(request.done);
         self.requests.push_reserved(request);
     }
 
@@ -72,6 +79,7 @@ impl Client {
     {
         let place = place_of(&self.requests, key).unwrap();
         self.requests[place].done = true;
+        self.done.put(place, true);
     }
 
     /// Takes the request of a key out.
@@ -81,6 +89,7 @@ impl Client {
     {
         let place = place_of(&self.requests, key).unwrap();
         self.requests.remove(place);
+        self.done.remove(place);
     }
 
     /// How many requests the client has.
@@ -101,10 +110,8 @@ impl Client {
     fn first_done(&self) -> Option<Key>
         ensures { result ≡ option_map (λ own. own.key) (find own_done self.now) }
     {
-        match self.requests.iter().find(|own| own.done) {
-            Some(own) => Some(own.key),
-            None => None,
-        }
+        let place = self.done.first()?;
+        Some(self.requests[place].key)
     }
 }
 
