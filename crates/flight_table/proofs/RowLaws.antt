@@ -1,8 +1,9 @@
 -- The rows of the pages, through each change of the live requests.
-use Rattle.std.proofs.Common.{◌≡◌, ◌≢◌, ℕ, zero, suc, ◌+◌, ◌*◌, ◌/◌, ◌^◌, ◌==◌, ◌<◌, ◌≤◌, Bool, true, false, ◌&&◌, not, nat_lt, add-one, List, [], ◌∷◌, ◌++◌, map, length, get_or, set, Option, Some, None, refl, ap, sym, ◌∙◌, arith}
+use Rattle.std.proofs.Common.{◌≡◌, ◌≢◌, ℕ, zero, suc, ◌+◌, ◌*◌, ◌/◌, ◌^◌, ◌==◌, ◌<◌, ◌≤◌, Bool, true, false, ◌&&◌, not, nat_lt, add-one, List, [], ◌∷◌, ◌++◌, map, length, get_or, set, take, drop, Option, Some, None, refl, ap, sym, ◌∙◌, arith}
 use Rattle.std.specs.Prelude.{IfSome, if◌then◌else◌}
 use Rattle.std.specs.List.{AllByRecursion, filter, find, list_any, position, remove}
 use Rattle.std.proofs.lemmas.Bool.{and_parts, eq-eqb, ltb-true}
+use Rattle.std.proofs.Math.Seq.{take-append_seam}
 use Rattle.std.proofs.lemmas.List.{map-set, map_push, set-get_or}
 use native.Mathlib.Nat.{zero-div}
 use Rattle.bus_words.proofs.FirstPlaces.{find-first, find-none, position_is_first}
@@ -152,14 +153,15 @@ cut_to zero place rows = rows
 cut_to (suc n) place [] = []
 cut_to (suc n) place (row ∷ rows) = cut place row ∷ cut_to n place rows
 
-cut_one : (n place : ℕ) (rows : List Row) (row : Row) → n < length rows → row ≡ get_or (cut_to n place rows) n row → set (cut_to n place rows) n (cut place row) ≡ cut_to (suc n) place rows
-cut_one n place [] row within is = absurd (omega (arith, within))
-cut_one zero place (x ∷ rows) row within is = ap (λ (o : Row). cut place o ∷ rows) is
-cut_one (suc n) place (x ∷ rows) row within is = ap (λ (os : List Row). cut place x ∷ os) (cut_one n place rows row (omega (arith, within)) is)
+cut_one : (n place : ℕ) (rows : List Row) (d : Row) → n < length rows
+    → set (cut_to n place rows) n (cut place (get_or (cut_to n place rows) n d)) ≡ cut_to (suc n) place rows
+cut_one n place [] d within = absurd (omega (arith, within))
+cut_one zero place (row ∷ rows) d within = refl
+cut_one (suc n) place (row ∷ rows) d within = ap (λ (os : List Row). cut place row ∷ os) (cut_one n place rows d (omega (arith, within)))
 
-pub cut_next : (n place : ℕ) (rows now : List Row) (row : Row) → now ≡ cut_to n place rows → n < length rows → row ≡ get_or now n row → set now n (cut place row) ≡ cut_to (n + 1) place rows
-cut_next n place rows now row so_far within is =
-    rw (so_far, add-one n) (cut_one n place rows row within (rw so_far at is))
+pub cut_next : (n place : ℕ) (rows now : List Row) (d : Row) → now ≡ cut_to n place rows → n < length rows
+    → set now n (cut place (get_or now n d)) ≡ cut_to (n + 1) place rows
+cut_next n place rows now d so_far within = rw (so_far, add-one n) (cut_one n place rows d within)
 
 pub cut_all : (n place : ℕ) (rows : List Row) → length rows ≤ n → cut_to n place rows ≡ map (cut place) rows
 cut_all zero place [] all = refl
@@ -177,6 +179,15 @@ rows_remove live place rows kept within =
 pub pages_cut : (place : ℕ) (rows : List Row) → pages_of (map (cut place) rows) ≡ pages_of rows
 pages_cut place [] = refl
 pages_cut place (row ∷ rows) = ap (λ pages. row.page ∷ pages) (pages_cut place rows)
+
+-- the rows of a list, each of which was cut, written back where they stand
+pub pages_kept : (many place : ℕ) (rows after : List Row) → many ≡ length rows → after ≡ map (cut place) rows → AreDistinct (pages_of rows)
+    → AreDistinct (pages_of (take many (after ++ drop (length after) rows)))
+pages_kept many place rows after all is distinct =
+    let as_many : many ≡ length after = all ∙ sym (ap length is ∙ length_map (cut place) rows) in
+    let old = drop (length after) rows in
+    let back : take many (after ++ old) ≡ map (cut place) rows = ap (λ n. take n (after ++ old)) as_many ∙ take-append_seam after old ∙ is in
+    rw (back, pages_cut place rows) distinct
 
 -- ---- another row in its place
 

@@ -72,6 +72,16 @@ fn first_vacant(rows: &[Row]) -> Option<usize>
     rows.iter().position(|row| row.places == 0)
 }
 
+/// Takes the request at a place out of all rows; the later ones move up.
+fn take_out(rows: &mut [Row], place: usize)
+    requires { place < 64 }
+    ensures { rows.new ≡ map (cut place) rows.old }
+{
+    for row in rows.iter_mut() {
+        row.places = without_bit(row.places, place);
+    }
+}
+
 impl Rows {
     /// No rows, with room for 64.
     pub(crate) fn new(alloc: Global) -> Result<Self, AllocError>
@@ -144,12 +154,6 @@ impl Rows {
         requires { place < 64 }
         ensures { self.new ≡ map (cut place) self.old }
     {
-        for k in 0..self.rows.len() {
-            let row = self.rows[k];
-            self.rows[k] = Row {
-                places: without_bit(row.places, place),
-                ..row
-            };
-        }
+        take_out(&mut self.rows, place);
     }
 }
