@@ -1,4 +1,5 @@
 mod Examples
+pub mod BeatsCame
 pub mod DataBeats
 pub mod Few
 pub mod Histories

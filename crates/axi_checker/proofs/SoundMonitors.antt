@@ -1,13 +1,12 @@
 -- A monitor's parts after an accepted beat.
-use Rattle.std.proofs.Common.{◌≡◌, ℕ, ◌*◌, ◌<◌, ◌≤◌, List, length, mul-le-mul, sym, subst, arith}
+use Rattle.std.proofs.Common.{◌≡◌, ℕ, ◌<◌, ◌≤◌, List, length, sym, subst, arith}
 use Rattle.std.specs.Prelude.{None}
 use Rattle.axi_beats.specs.Bursts.{Burst}
 use Rattle.axi_beats.specs.declared.AwBeat.{AwBeat}
 use Rattle.axi_beats.specs.declared.ArBeat.{ArBeat}
-use Rattle.axi_checker.specs.Monitors.{IsSoundMonitor, IsWithinLimits, MonitorState, id_of_read, monitor_state}
+use Rattle.axi_checker.specs.Monitors.{IsSoundMonitor, IsWithinLimits, MonitorState, monitor_state}
 use Rattle.axi_checker.specs.OpenBursts.{AxiBeat, OnAr, OnAw, OpenBursts, OpenRead, OpenWrite, open_after, write_to_fill}
 use Rattle.axi_checker.specs.Rules.{axi_fault, burst_fault, open_with_burst}
-use Rattle.axi_checker.proofs.Few.{length-few}
 use Rattle.axi_checker.proofs.Taking.{within-open_with_burst}
 use Rattle.axi_checker.proofs.WithinLimits.{room_for_read, room_for_write, within-open_after}
 
@@ -52,10 +51,3 @@ sound-open_with_burst old now burst writes reads old_writes old_reads new_writes
     let accepted = subst (λ (m : MonitorState). burst_fault m.port m.open_bursts burst ≡ None) (sym same) none in
     let within = within-open_with_burst old.port old.open_bursts burst filled accepted sound.within in
     kept_sound old (open_with_burst old.open_bursts burst) writes reads old_writes old_reads new_writes new_reads sound within
-
--- its limits bound how many reads are outstanding
-pub few_reads : (state : MonitorState) (room_of_writes room_of_reads : ℕ) → IsSoundMonitor state room_of_writes room_of_reads → length state.open_bursts.reads ≤ 64
-few_reads state room_of_writes room_of_reads sound =
-    let few = length-few id_of_read state.port.ids state.port.depth state.open_bursts.reads sound.within.reads in
-    let limits : state.port.ids * state.port.depth ≤ 16 * 4 = mul-le-mul sound.most_ids sound.most_depth in
-    omega (arith, few, limits)

@@ -1,5 +1,5 @@
 -- What a monitor knows, and what stays true of it: an accepted beat leaves no ID with more outstanding bursts than the port allows.
-use Rattle.std.specs.Prelude.{◌≡◌, ℕ, ◌+◌, ◌*◌, ◌<◌, ◌≤◌, ◌==◌, true, List, [], ◌∷◌, length, filter, slice_index, Option, Some, None, if◌then◌else◌}
+use Rattle.std.specs.Prelude.{◌≡◌, ℕ, ◌+◌, ◌*◌, ◌<◌, ◌≤◌, ◌==◌, true, List, [], ◌∷◌, length, filter, slice_index, sum_by, Option, Some, None, if◌then◌else◌}
 use Rattle.std.specs.Option.{option_or}
 use Rattle.std.specs.List.{AllByRecursion}
 use Rattle.axi_beats.specs.Transfers.{IsBusWidth, fits_bus}
@@ -27,6 +27,11 @@ pub record HasFewOfEach {X : Type 0} (id_of : X → ℕ) (ids depth : ℕ) (xs :
 -- how often each number below 256 stands in a list
 pub record AreCounts (counts numbers : List ℕ) : Type 0 where
   pub each : (n : ℕ) → n < 256 → slice_index counts n ≡ length (filter (λ other. other == n) numbers)
+
+-- so many R beats came of reads in all, and of each fewer than 2^16
+pub record HaveCame (reads : List OpenRead) (beats : ℕ) : Type 0 where
+  pub sum : beats ≡ sum_by (λ read. read.came) reads
+  pub each : AllByRecursion (λ read. read.came < 65536) reads
 
 abbrev pub id_of_write : OpenWrite → ℕ
 id_of_write write = write.aw.id

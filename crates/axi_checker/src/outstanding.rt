@@ -80,24 +80,26 @@ impl Model for Writes {
     ghost invariant = { λ w. (w.ids.items ≡ map id_of_write w.entries.items) × (vec_capacity w.entries ≤ w.ids.room) };
 }
 
-/// The outstanding reads, the oldest first, and beside them their IDs.
+/// The outstanding reads, the oldest first, and beside them their IDs, and how many R beats came of all.
 #[derive(Drop)]
 pub(crate) struct Reads {
     entries: Vec<OpenRead>,
     ids: IdList,
+    came: u64,
 }
 
 impl Model for Reads {
     ghost use Rattle.std.specs.Prelude.{◌≡◌, ◌≤◌, map};
     ghost use Rattle.std.specs.Vec.{vec_capacity};
-    ghost use Rattle.axi_checker.specs.Monitors.{OpenSide, id_of_read};
+    ghost use Rattle.axi_checker.specs.Monitors.{HaveCame, OpenSide, id_of_read};
     ghost use Rattle.axi_checker.specs.OpenBursts.{OpenRead};
 
     ghost Value = { OpenSide OpenRead };
 
     ghost view = { λ r. record { items = r.entries.items; room = vec_capacity r.entries } };
 
-    ghost invariant = { λ r. (r.ids.items ≡ map id_of_read r.entries.items) × (vec_capacity r.entries ≤ r.ids.room) };
+    ghost invariant = { λ r. (r.ids.items ≡ map id_of_read r.entries.items) × (vec_capacity r.entries ≤ r.ids.room)
+        × (vec_capacity r.entries ≤ 255) × (HaveCame r.entries.items r.came) };
 }
 
 fn place_to_fill(writes: &[OpenWrite]) -> Option<usize>
@@ -116,18 +118,6 @@ fn entry_at<T: Copy>(items: &[T], place: Option<usize>) -> Option<(usize, T)>
         Some(place) => Some((place, items[place])),
         None => None,
     }
-}
-
-/// How many R beats came of some reads, of which there are at most 64.
-fn beats_came(reads: &[OpenRead]) -> u64
-    requires { length reads.now ≤ 64 }
-    ensures { result ≡ sum_by (λ read. read.came) reads.now }
-{
-    let mut came = 0;
-    for read in reads {
-        came += u64::from(read.came);
-    }
-    came
 }
 
 impl Writes {
@@ -233,7 +223,11 @@ impl Reads {
     {
         let entries = Vec::with_capacity(alloc, room)?;
         let ids = IdList::new(alloc, room)?;
-        Ok(Reads { entries, ids })
+        Ok(Reads {
+            entries,
+            ids,
+            came: 0,
+        })
     }
 
     /// How many have this ID.
@@ -251,12 +245,11 @@ impl Reads {
         entry_at(&self.entries, self.ids.first(id))
     }
 
-    /// How many R beats came of them, of which there are at most 64.
+    /// How many R beats came of them.
     pub(crate) fn beats_came(&self) -> u64
-        requires { length self.now.items ≤ 64 }
         ensures { result ≡ sum_by (λ read. read.came) self.now.items }
     {
-        beats_came(&self.entries)
+        self.came
     }
 
     /// Appends a read, for which there is room.
@@ -282,9 +275,11 @@ impl Reads {
                 came: read.came + 1,
                 ..read
             };
+            self.came += 1;
         } else {
             self.entries.remove(place);
             self.ids.remove(place);
+            self.came -= u64::from(read.came);
         }
     }
 
@@ -294,5 +289,6 @@ impl Reads {
     {
         self.entries.clear();
         self.ids.clear();
+        self.came = 0;
     }
 }
