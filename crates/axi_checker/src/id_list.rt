@@ -2,6 +2,7 @@
 ghost use Rattle.std.specs.Prelude.{◌≡◌, ◌<◌, ◌≤◌, ◌==◌, [], ◌∷◌, ◌++◌, IfOk, filter, length, position};
 ghost use Rattle.std.specs.List.{remove};
 
+use crate::queue::Queue;
 use memchr::memchr;
 use std::alloc::{AllocError, Global};
 use std::marker::Model;
@@ -9,26 +10,28 @@ use std::marker::Model;
 /// The IDs of outstanding bursts, the oldest first, and beside them how many there are of each.
 #[derive(Drop)]
 pub(crate) struct IdList {
-    ids: Vec<u8>,
+    ids: Queue<u8>,
     counts: [u8; 256],
 }
 
 impl Model for IdList {
     ghost use Rattle.std.specs.Prelude.{ℕ, ◌≤◌};
-    ghost use Rattle.std.specs.Vec.{vec_capacity};
     ghost use Rattle.axi_checker.specs.Monitors.{AreCounts, OpenSide};
 
     ghost Value = { OpenSide ℕ };
 
-    ghost view = { λ l. record { items = l.ids.items; room = vec_capacity l.ids } };
+    ghost view = { λ l. record { items = l.ids.items; room = l.ids.room } };
 
-    ghost invariant = { λ l. (AreCounts l.counts l.ids.items) × (vec_capacity l.ids ≤ 255) };
+    ghost invariant = { λ l. (AreCounts l.counts l.ids.items) × (l.ids.room ≤ 255) };
 }
 
-/// The first place of an ID.
+/// The first place of an ID. It is most often the very first, for which nothing else is looked at.
 fn place_of(ids: &[u8], id: u8) -> Option<usize>
     ensures { result ≡ position (λ other. other == id) ids.now }
 {
+    if ids.first() == Some(&id) {
+        return Some(0);
+    }
     memchr(id, ids)
 }
 
@@ -38,7 +41,7 @@ impl IdList {
         requires { room ≤ 255 }
         ensures { IfOk result (λ list. (list.items ≡ []) × (list.room ≡ room)) }
     {
-        let ids = Vec::with_capacity(alloc, room)?;
+        let ids = Queue::new(alloc, room)?;
         let counts = [0; 256];
         Ok(IdList { ids, counts })
     }
@@ -57,7 +60,7 @@ impl IdList {
         if self.count(id) == 0 {
             return None;
         }
-        place_of(&self.ids, id)
+        place_of(self.ids.as_slice(), id)
     }
 
     /// Appends an ID, for which there is room.
@@ -66,7 +69,7 @@ impl IdList {
         ensures items { self.new.items ≡ self.old.items ++ id ∷ [] }
         ensures room { self.new.room ≡ self.old.room }
     {
-        self.ids.push_reserved(id);
+        self.ids.push(id);
         self.counts[usize::from(id)] += 1;
     }
 

@@ -11,6 +11,7 @@ mod id_list;
 mod limits;
 mod monitor;
 mod outstanding;
+mod queue;
 
 pub use limits::PortLimits;
 pub use monitor::Monitor;

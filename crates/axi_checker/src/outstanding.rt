@@ -4,6 +4,7 @@ ghost use Rattle.bus_words.specs.Places.{change_first, without_first};
 ghost use Rattle.axi_checker.specs.OpenBursts.{lacks_data, read_of_id, reads_after, write_of_id};
 
 use crate::id_list::IdList;
+use crate::queue::Queue;
 use axi_beats::{ArBeat, AwBeat};
 use std::alloc::{AllocError, Global};
 use std::marker::Model;
@@ -63,43 +64,41 @@ impl OpenRead {
 /// The outstanding writes, the oldest first, and beside them their IDs, so that one is found without touching the others.
 #[derive(Drop)]
 pub(crate) struct Writes {
-    entries: Vec<OpenWrite>,
+    entries: Queue<OpenWrite>,
     ids: IdList,
 }
 
 impl Model for Writes {
     ghost use Rattle.std.specs.Prelude.{◌≡◌, ◌≤◌, map};
-    ghost use Rattle.std.specs.Vec.{vec_capacity};
     ghost use Rattle.axi_checker.specs.Monitors.{OpenSide, id_of_write};
     ghost use Rattle.axi_checker.specs.OpenBursts.{OpenWrite};
 
     ghost Value = { OpenSide OpenWrite };
 
-    ghost view = { λ w. record { items = w.entries.items; room = vec_capacity w.entries } };
+    ghost view = { λ w. record { items = w.entries.items; room = w.entries.room } };
 
-    ghost invariant = { λ w. (w.ids.items ≡ map id_of_write w.entries.items) × (vec_capacity w.entries ≤ w.ids.room) };
+    ghost invariant = { λ w. (w.ids.items ≡ map id_of_write w.entries.items) × (w.entries.room ≤ w.ids.room) };
 }
 
 /// The outstanding reads, the oldest first, and beside them their IDs, and how many R beats came of all.
 #[derive(Drop)]
 pub(crate) struct Reads {
-    entries: Vec<OpenRead>,
+    entries: Queue<OpenRead>,
     ids: IdList,
     came: u64,
 }
 
 impl Model for Reads {
     ghost use Rattle.std.specs.Prelude.{◌≡◌, ◌≤◌, map};
-    ghost use Rattle.std.specs.Vec.{vec_capacity};
     ghost use Rattle.axi_checker.specs.Monitors.{HaveCame, OpenSide, id_of_read};
     ghost use Rattle.axi_checker.specs.OpenBursts.{OpenRead};
 
     ghost Value = { OpenSide OpenRead };
 
-    ghost view = { λ r. record { items = r.entries.items; room = vec_capacity r.entries } };
+    ghost view = { λ r. record { items = r.entries.items; room = r.entries.room } };
 
-    ghost invariant = { λ r. (r.ids.items ≡ map id_of_read r.entries.items) × (vec_capacity r.entries ≤ r.ids.room)
-        × (vec_capacity r.entries ≤ 255) × (HaveCame r.entries.items r.came) };
+    ghost invariant = { λ r. (r.ids.items ≡ map id_of_read r.entries.items) × (r.entries.room ≤ r.ids.room)
+        × (r.entries.room ≤ 255) × (HaveCame r.entries.items r.came) };
 }
 
 fn place_to_fill(writes: &[OpenWrite]) -> Option<usize>
@@ -126,7 +125,7 @@ impl Writes {
         requires { room ≤ 255 }
         ensures { IfOk result (λ writes. (writes.items ≡ []) × (room ≤ writes.room)) }
     {
-        let entries = Vec::with_capacity(alloc, room)?;
+        let entries = Queue::new(alloc, room)?;
         let ids = IdList::new(alloc, room)?;
         Ok(Writes { entries, ids })
     }
@@ -143,7 +142,8 @@ impl Writes {
         ensures place { option_map (λ found. found.0) result ≡ position lacks_data self.now.items }
         ensures write { option_map (λ found. found.1) result ≡ find lacks_data self.now.items }
     {
-        entry_at(&self.entries, place_to_fill(&self.entries))
+        let writes = self.entries.as_slice();
+        entry_at(writes, place_to_fill(writes))
     }
 
     /// The oldest of an ID, and its place.
@@ -151,7 +151,7 @@ impl Writes {
         ensures place { option_map (λ found. found.0) result ≡ position (write_of_id id) self.now.items }
         ensures write { option_map (λ found. found.1) result ≡ find (write_of_id id) self.now.items }
     {
-        entry_at(&self.entries, self.ids.first(id))
+        entry_at(self.entries.as_slice(), self.ids.first(id))
     }
 
     /// Appends a write of which so many beats came, for which there is room.
@@ -160,7 +160,7 @@ impl Writes {
         ensures items { self.new.items ≡ self.old.items ++ record { aw = aw; came = came } ∷ [] }
         ensures room { self.new.room ≡ self.old.room }
     {
-        self.entries.push_reserved(OpenWrite { aw, came });
+        self.entries.push(OpenWrite { aw, came });
         self.ids.push(aw.id);
     }
 
@@ -188,11 +188,14 @@ impl Writes {
         ensures items { self.new.items ≡ change_first lacks_data (λ write. record write { came = write.came + 1 }) self.old.items }
         ensures room { self.new.room ≡ self.old.room }
     {
-        let write = self.entries[place];
-        self.entries[place] = OpenWrite {
-            came: write.came + 1,
-            ..write
-        };
+        let write = self.entries.get(place);
+        self.entries.put(
+            place,
+            OpenWrite {
+                came: write.came + 1,
+                ..write
+            },
+        );
     }
 
     /// Closes the oldest write of an ID, which is at `place`.
@@ -221,7 +224,7 @@ impl Reads {
         requires { room ≤ 255 }
         ensures { IfOk result (λ reads. (reads.items ≡ []) × (room ≤ reads.room)) }
     {
-        let entries = Vec::with_capacity(alloc, room)?;
+        let entries = Queue::new(alloc, room)?;
         let ids = IdList::new(alloc, room)?;
         Ok(Reads {
             entries,
@@ -242,7 +245,7 @@ impl Reads {
         ensures place { option_map (λ found. found.0) result ≡ position (read_of_id id) self.now.items }
         ensures read { option_map (λ found. found.1) result ≡ find (read_of_id id) self.now.items }
     {
-        entry_at(&self.entries, self.ids.first(id))
+        entry_at(self.entries.as_slice(), self.ids.first(id))
     }
 
     /// How many R beats came of them.
@@ -258,7 +261,7 @@ impl Reads {
         ensures items { self.new.items ≡ self.old.items ++ record { ar = ar; came = 0 } ∷ [] }
         ensures room { self.new.room ≡ self.old.room }
     {
-        self.entries.push_reserved(OpenRead { ar, came: 0 });
+        self.entries.push(OpenRead { ar, came: 0 });
         self.ids.push(ar.id);
     }
 
@@ -269,12 +272,15 @@ impl Reads {
         ensures room { self.new.room ≡ self.old.room }
     {
         let _ = id;
-        let read = self.entries[place];
+        let read = self.entries.get(place);
         if read.came < u16::from(read.ar.len) {
-            self.entries[place] = OpenRead {
-                came: read.came + 1,
-                ..read
-            };
+            self.entries.put(
+                place,
+                OpenRead {
+                    came: read.came + 1,
+                    ..read
+                },
+            );
             self.came += 1;
         } else {
             self.entries.remove(place);

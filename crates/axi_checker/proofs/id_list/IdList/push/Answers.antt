@@ -15,4 +15,4 @@ invariant_of-self c =
     let inside = c.self.inside in
     let small : c.args.id < 256 = c.ranges.id.fits in
     let after = counted-append inside.counts inside.ids.items c.args.id c.self.invariant.0 (omega (arith, small, c.self.told)) small in
-    (rw (c.from.ensures, c.push_reserved.ensures.items) after, omega (arith, c.self.invariant.1, c.push_reserved.ensures.capacity))
+    (rw (c.from.ensures, c.push.ensures.items) after, omega (arith, c.self.invariant.1, c.push.ensures.room))

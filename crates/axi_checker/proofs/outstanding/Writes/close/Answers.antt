@@ -15,12 +15,12 @@ at id place entries side is found = position_is_first (write_of_id id) entries p
 pub remove-requires : goal.remove-requires
 remove-requires c =
     let first = at c.args.id c.args.place c.self.inside.entries.items c.args.self.now (ap (λ (side : OpenSide OpenWrite). side.items) c.self.view_is) c.requires in
-    omega (arith, first.within, c.self.inside.entries.ok.0)
+    first.within
 
 pub invariant_of-self : goal.invariant_of-self
 invariant_of-self c = (
   c.remove-2.ensures.items ∙ ap (λ (l : List ℕ). remove l c.args.place) c.self.invariant.0 ∙ sym (map-remove id_of_write c.self.inside.entries.items c.args.place) ∙ ap (map id_of_write) (sym c.remove.ensures.items),
-  omega (arith, c.self.invariant.1, c.remove.ensures.capacity, c.remove-2.ensures.room),
+  omega (arith, c.self.invariant.1, c.remove.ensures.room, c.remove-2.ensures.room),
 )
 
 pub returns-clause-items : goal.returns-clause-items

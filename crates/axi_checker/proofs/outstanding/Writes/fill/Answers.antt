@@ -19,24 +19,25 @@ at place entries side is found = position_is_first lacks_data entries place (rw 
 pub overflow_add-write-inside : goal.overflow_add-write-inside
 overflow_add-write-inside c =
     let entries = c.self.inside.entries.items in
-    let write = c.index-write.result.now in
+    let write = c.get-write.result in
     let first = at c.args.place entries c.args.self.now (ap (λ (side : OpenSide OpenWrite). side.items) c.self.view_is) c.requires in
-    let lacks : lacks_data write ≡ true = ap lacks_data c.index-write.ensures ∙ first-passes lacks_data entries c.args.place write first in
+    let lacks : lacks_data write ≡ true = ap lacks_data c.get-write.ensures.value ∙ first-passes lacks_data entries c.args.place write first in
     let few : c.write.inside.came ≤ c.write.inside.aw.len = leb-true _ _ (ap lacks_data c.write.view_is ∙ lacks) in
     omega (arith, few)
 
 pub invariant_of-self : goal.invariant_of-self
 invariant_of-self c = (
   c.self.invariant.0
-      ∙ sym (kept_set id_of_write c.self.inside.entries.items c.args.place c.index-write.result.now (one_more c.index-write.result.now) (ap id_of_write c.index-write.ensures))
-      ∙ ap (λ (write : OpenWrite). map id_of_write (set c.self.inside.entries.items c.args.place (one_more write))) (sym c.write.view_is),
-  c.self.invariant.1,
+      ∙ sym (kept_set id_of_write c.self.inside.entries.items c.args.place c.get-write.result (one_more c.get-write.result) (ap id_of_write c.get-write.ensures.value))
+      ∙ ap (λ (write : OpenWrite). map id_of_write (set c.self.inside.entries.items c.args.place (one_more write))) (sym c.write.view_is)
+      ∙ ap (map id_of_write) (sym c.put.ensures.items),
+  omega (arith, c.self.invariant.1, c.put.ensures.room),
 )
 
 pub returns-clause-items : goal.returns-clause-items
 returns-clause-items c =
     let entries = c.self.inside.entries.items in
     let first = at c.args.place entries c.args.self.now (ap (λ (side : OpenSide OpenWrite). side.items) c.self.view_is) c.requires in
-    ap (λ (write : OpenWrite). set entries c.args.place (one_more write)) (c.write.view_is ∙ c.index-write.ensures)
-    ∙ sym (change_first-first lacks_data one_more entries c.args.place c.index-write.result.now first)
+    c.put.ensures.items ∙ ap (λ (write : OpenWrite). set entries c.args.place (one_more write)) (c.write.view_is ∙ c.get-write.ensures.value)
+    ∙ sym (change_first-first lacks_data one_more entries c.args.place c.get-write.result first)
     ∙ ap (λ (side : OpenSide OpenWrite). change_first lacks_data one_more side.items) c.self.view_is
