@@ -6,8 +6,11 @@ mod calls;
 mod rounds;
 mod worlds;
 
-use beats::{monitor, port};
-use calls::{ask_byte, ask_choices, ask_in_flight, ask_work, offer_again, pump_idle, take_nothing};
+use beats::{monitor, port, writes};
+use calls::{
+    ask_byte, ask_choice, ask_choices, ask_in_flight, ask_work, offer_again, pump_idle,
+    take_nothing,
+};
 use rounds::{drains, reads, requests};
 use std::env;
 use std::process::ExitCode;
@@ -46,11 +49,13 @@ fn counted(alloc: std::alloc::Global, name: &str, load: Load) -> Option<u64> {
         b"in_flight" => ask_in_flight(alloc, load),
         b"work" => ask_work(alloc, load),
         b"choices" => ask_choices(alloc, load),
+        b"choose" => ask_choice(alloc, load),
         b"byte" => ask_byte(alloc, load),
         b"requests" => requests(alloc, load),
         b"reads" => reads(alloc, load),
         b"drains" => drains(alloc, load),
         b"monitor" => monitor(alloc, load),
+        b"writes" => writes(alloc, load),
         b"port" => port(alloc, load),
         _ => None,
     }
