@@ -1,7 +1,7 @@
 -- A list of IDs, and how often each stands in it: after an ID was appended, or taken out.
 use Rattle.std.proofs.Common.{◌≡◌, ◌==◌, ◌<◌, ◌≤◌, ℕ, zero, suc, ◌+◌, ◌-◌, Bool, true, false, cond, List, [], ◌∷◌, ◌++◌, length, get_or, replicate, set, refl, subst, ◌∙◌, arith}
-use Rattle.std.specs.Prelude.{filter, None}
-use Rattle.std.specs.List.{position, remove}
+use Rattle.std.specs.Prelude.{filter}
+use Rattle.std.specs.List.{remove}
 use Rattle.std.proofs.lemmas.Bool.{eqb-true}
 use Rattle.std.proofs.lemmas.List.{get_or-replicate, get_or-set_other, get_or-set_same}
 use Rattle.std.proofs.lemmas.List.Sums.{count_by-le-length, length-filter}
@@ -13,11 +13,6 @@ count_of id ids = length (filter (λ other. other == id) ids)
 -- no more have an ID than there are
 pub count_within : (id : ℕ) (ids : List ℕ) → count_of id ids ≤ length ids
 count_within id ids = rw (length-filter (λ other. other == id) ids) (count_by-le-length (λ other. other == id) ids)
-
--- an ID of which there are none stands at no place
-pub none_placed : (id : ℕ) (ids : List ℕ) → count_of id ids ≡ 0 → position (λ other. other == id) ids ≡ None
-none_placed id [] none = refl
-none_placed id (x ∷ xs) none = grind (arith, none, none_placed id xs)
 
 -- each count after an ID was appended
 count-append : (id new : ℕ) (ids : List ℕ) → count_of id (ids ++ new ∷ []) ≡ count_of id ids + cond (new == id) 1 0

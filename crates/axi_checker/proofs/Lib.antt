@@ -10,6 +10,7 @@ pub mod Judging
 pub mod Lasts
 pub mod LegalBursts
 pub mod ReadsAfter
+pub mod RowPlaces
 pub mod SoundMonitors
 pub mod Taking
 pub mod WithinLimits

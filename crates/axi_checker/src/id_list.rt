@@ -1,49 +1,37 @@
 //! The IDs of outstanding bursts, of which each is counted and found fast.
-ghost use Rattle.std.specs.Prelude.{◌≡◌, ◌<◌, ◌≤◌, ◌==◌, [], ◌∷◌, ◌++◌, IfOk, filter, length, position};
+ghost use Rattle.std.specs.Prelude.{◌≡◌, ◌<◌, ◌==◌, [], ◌∷◌, ◌++◌, filter, length, position};
 ghost use Rattle.std.specs.List.{remove};
 
-use crate::queue::Queue;
-use memchr::memchr;
-use std::alloc::{AllocError, Global};
+use crate::id_row::IdRow;
 use std::marker::Model;
 
-/// The IDs of outstanding bursts, the oldest first, and beside them how many there are of each.
+/// The IDs of outstanding bursts, at most 64, the oldest first, and beside them how many there are of each.
 #[derive(Drop)]
 pub(crate) struct IdList {
-    ids: Queue<u8>,
+    ids: IdRow,
     counts: [u8; 256],
 }
 
 impl Model for IdList {
-    ghost use Rattle.std.specs.Prelude.{ℕ, ◌≤◌};
+    ghost use Rattle.std.specs.Prelude.{ℕ};
     ghost use Rattle.axi_checker.specs.Monitors.{AreCounts, OpenSide};
 
     ghost Value = { OpenSide ℕ };
 
-    ghost view = { λ l. record { items = l.ids.items; room = l.ids.room } };
+    ghost view = { λ l. record { items = l.ids; room = 64 } };
 
-    ghost invariant = { λ l. (AreCounts l.counts l.ids.items) × (l.ids.room ≤ 255) };
-}
-
-/// The first place of an ID. It is most often the very first, for which nothing else is looked at.
-fn place_of(ids: &[u8], id: u8) -> Option<usize>
-    ensures { result ≡ position (λ other. other == id) ids.now }
-{
-    if ids.first() == Some(&id) {
-        return Some(0);
-    }
-    memchr(id, ids)
+    ghost invariant = { λ l. AreCounts l.counts l.ids };
 }
 
 impl IdList {
-    /// None, with room for so many, at most 255.
-    pub(crate) fn new(alloc: Global, room: usize) -> Result<Self, AllocError>
-        requires { room ≤ 255 }
-        ensures { IfOk result (λ list. (list.items ≡ []) × (list.room ≡ room)) }
+    /// None, with room for 64.
+    pub(crate) fn new() -> Self
+        ensures { result ≡ record { items = []; room = 64 } }
     {
-        let ids = Queue::new(alloc, room)?;
-        let counts = [0; 256];
-        Ok(IdList { ids, counts })
+        IdList {
+            ids: IdRow::new(),
+            counts: [0; 256],
+        }
     }
 
     /// How many times an ID stands there.
@@ -57,10 +45,7 @@ impl IdList {
     pub(crate) fn first(&self, id: u8) -> Option<usize>
         ensures { result ≡ position (λ other. other == id) self.now.items }
     {
-        if self.count(id) == 0 {
-            return None;
-        }
-        place_of(self.ids.as_slice(), id)
+        self.ids.first(id)
     }
 
     /// Appends an ID, for which there is room.

@@ -8,6 +8,7 @@ ghost use Rattle.std.specs.Prelude.{◌≡◌};
 ghost use Rattle.axi_checker.specs.Names.{rule_name, rule_number};
 
 mod id_list;
+mod id_row;
 mod limits;
 mod monitor;
 mod outstanding;

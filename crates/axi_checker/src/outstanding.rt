@@ -120,13 +120,13 @@ fn entry_at<T: Copy>(items: &[T], place: Option<usize>) -> Option<(usize, T)>
 }
 
 impl Writes {
-    /// None, with room for so many, at most 255.
+    /// None, with room for so many, at most 64.
     pub(crate) fn new(alloc: Global, room: usize) -> Result<Self, AllocError>
-        requires { room ≤ 255 }
+        requires { room ≤ 64 }
         ensures { IfOk result (λ writes. (writes.items ≡ []) × (room ≤ writes.room)) }
     {
         let entries = Queue::new(alloc, room)?;
-        let ids = IdList::new(alloc, room)?;
+        let ids = IdList::new();
         Ok(Writes { entries, ids })
     }
 
@@ -219,13 +219,13 @@ impl Writes {
 }
 
 impl Reads {
-    /// None, with room for so many, at most 255.
+    /// None, with room for so many, at most 64.
     pub(crate) fn new(alloc: Global, room: usize) -> Result<Self, AllocError>
-        requires { room ≤ 255 }
+        requires { room ≤ 64 }
         ensures { IfOk result (λ reads. (reads.items ≡ []) × (room ≤ reads.room)) }
     {
         let entries = Queue::new(alloc, room)?;
-        let ids = IdList::new(alloc, room)?;
+        let ids = IdList::new();
         Ok(Reads {
             entries,
             ids,
