@@ -1,5 +1,6 @@
 mod Examples
 pub mod BeatsCame
+pub mod CompleteWrites
 pub mod DataBeats
 pub mod Few
 pub mod Histories

@@ -1,5 +1,5 @@
 -- What a monitor knows, and what stays true of it: an accepted beat leaves no ID with more outstanding bursts than the port allows.
-use Rattle.std.specs.Prelude.{◌≡◌, ℕ, ◌+◌, ◌*◌, ◌<◌, ◌≤◌, ◌==◌, true, List, [], ◌∷◌, length, filter, slice_index, sum_by, Option, Some, None, if◌then◌else◌}
+use Rattle.std.specs.Prelude.{◌≡◌, ℕ, ◌+◌, ◌*◌, ◌<◌, ◌≤◌, ◌==◌, true, false, List, [], ◌∷◌, length, filter, slice_index, sum_by, take, Option, Some, None, if◌then◌else◌}
 use Rattle.std.specs.Option.{option_or}
 use Rattle.std.specs.List.{AllByRecursion}
 use Rattle.axi_beats.specs.Transfers.{IsBusWidth, fits_bus}
@@ -32,6 +32,11 @@ pub record AreCounts (counts numbers : List ℕ) : Type 0 where
 pub record HaveCame (reads : List OpenRead) (beats : ℕ) : Type 0 where
   pub sum : beats ≡ sum_by (λ read. read.came) reads
   pub each : AllByRecursion (λ read. read.came < 65536) reads
+
+-- a place before which no write lacks data
+pub record AreComplete (writes : List OpenWrite) (place : ℕ) : Type 0 where
+  pub within : place ≤ length writes
+  pub before : AllByRecursion (λ write. lacks_data write ≡ false) (take place writes)
 
 abbrev pub id_of_write : OpenWrite → ℕ
 id_of_write write = write.aw.id

@@ -1,6 +1,7 @@
 //! The outstanding bursts of a port, the oldest first (AXI4, A5, transaction ordering).
-ghost use Rattle.std.specs.Prelude.{◌≡◌, ◌+◌, ◌<◌, ◌≤◌, [], ◌∷◌, ◌++◌, ◌==◌, Bool, IfOk, IfSome, Some, filter, find, length, option_map, position, sum_by};
+ghost use Rattle.std.specs.Prelude.{◌≡◌, ◌+◌, ◌<◌, ◌≤◌, [], ◌∷◌, ◌++◌, ◌-◌, ◌^◌, ◌==◌, Bool, IfOk, IfSome, Some, filter, find, if◌then◌else◌, length, nat_lt, option_map, position, sum_by};
 ghost use Rattle.bus_words.specs.Places.{change_first, without_first};
+ghost use Rattle.axi_checker.specs.Monitors.{AreComplete};
 ghost use Rattle.axi_checker.specs.OpenBursts.{lacks_data, read_of_id, reads_after, write_of_id};
 
 use crate::id_list::IdList;
@@ -66,18 +67,21 @@ impl OpenRead {
 pub(crate) struct Writes {
     entries: Queue<OpenWrite>,
     ids: IdList,
+    /// No write before this place lacks data.
+    complete: usize,
 }
 
 impl Model for Writes {
     ghost use Rattle.std.specs.Prelude.{◌≡◌, ◌≤◌, map};
-    ghost use Rattle.axi_checker.specs.Monitors.{OpenSide, id_of_write};
+    ghost use Rattle.axi_checker.specs.Monitors.{AreComplete, OpenSide, id_of_write};
     ghost use Rattle.axi_checker.specs.OpenBursts.{OpenWrite};
 
     ghost Value = { OpenSide OpenWrite };
 
     ghost view = { λ w. record { items = w.entries.items; room = w.entries.room } };
 
-    ghost invariant = { λ w. (w.ids.items ≡ map id_of_write w.entries.items) × (w.entries.room ≤ w.ids.room) };
+    ghost invariant = { λ w. (w.ids.items ≡ map id_of_write w.entries.items) × (w.entries.room ≤ w.ids.room)
+        × (w.entries.room ≤ 255) × (AreComplete w.entries.items w.complete) };
 }
 
 /// The outstanding reads, the oldest first, and beside them their IDs, and how many R beats came of all.
@@ -101,10 +105,44 @@ impl Model for Reads {
         × (r.entries.room ≤ 255) × (HaveCame r.entries.items r.came) };
 }
 
-fn place_to_fill(writes: &[OpenWrite]) -> Option<usize>
+fn first_to_fill(writes: &[OpenWrite]) -> Option<usize>
     ensures { result ≡ position lacks_data writes.now }
 {
     writes.iter().position(|write| write.lacks_data())
+}
+
+/// The place of the oldest write that lacks data, where none before `complete` does: those are not looked at.
+fn place_to_fill(writes: &[OpenWrite], complete: usize) -> Option<usize>
+    requires { AreComplete writes.now complete }
+    ensures { result ≡ position lacks_data writes.now }
+{
+    match first_to_fill(&writes[complete..]) {
+        Some(place) => Some(complete + place),
+        None => None,
+    }
+}
+
+/// The place before which no write lacks data, so far `complete`, once the one at `place` lacks none.
+fn past(complete: usize, place: usize) -> usize
+    requires { complete < 2 ^ 63 }
+    ensures { result ≡ (if place == complete then complete + 1 else complete) }
+{
+    if place == complete {
+        complete + 1
+    } else {
+        complete
+    }
+}
+
+/// The place before which no write lacks data, so far `complete`, once the one at `place` is gone.
+fn moved(complete: usize, place: usize) -> usize
+    ensures { result ≡ (if nat_lt place complete then complete - 1 else complete) }
+{
+    if place < complete {
+        complete - 1
+    } else {
+        complete
+    }
 }
 
 /// The entry at a place, with its place, where there is one.
@@ -127,7 +165,11 @@ impl Writes {
     {
         let entries = Queue::new(alloc, room)?;
         let ids = IdList::new();
-        Ok(Writes { entries, ids })
+        Ok(Writes {
+            entries,
+            ids,
+            complete: 0,
+        })
     }
 
     /// How many have this ID.
@@ -143,7 +185,7 @@ impl Writes {
         ensures write { option_map (λ found. found.1) result ≡ find lacks_data self.now.items }
     {
         let writes = self.entries.as_slice();
-        entry_at(writes, place_to_fill(writes))
+        entry_at(writes, place_to_fill(writes, self.complete))
     }
 
     /// The oldest of an ID, and its place.
@@ -179,7 +221,9 @@ impl Writes {
         ensures items { self.new.items ≡ self.old.items ++ record { aw = aw; came = aw.len + 1 } ∷ [] }
         ensures room { self.new.room ≡ self.old.room }
     {
+        let place = self.entries.as_slice().len();
         self.push(aw, u16::from(aw.len) + 1);
+        self.complete = past(self.complete, place);
     }
 
     /// Counts a W beat of the oldest write that lacks data, which is at `place`.
@@ -189,13 +233,15 @@ impl Writes {
         ensures room { self.new.room ≡ self.old.room }
     {
         let write = self.entries.get(place);
-        self.entries.put(
-            place,
-            OpenWrite {
-                came: write.came + 1,
-                ..write
-            },
-        );
+        let filled = OpenWrite {
+            came: write.came + 1,
+            ..write
+        };
+        self.entries.put(place, filled);
+        if filled.lacks_data() {
+            return;
+        }
+        self.complete = past(self.complete, place);
     }
 
     /// Closes the oldest write of an ID, which is at `place`.
@@ -207,6 +253,7 @@ impl Writes {
         let _ = id;
         self.entries.remove(place);
         self.ids.remove(place);
+        self.complete = moved(self.complete, place);
     }
 
     /// None any more.
@@ -215,6 +262,7 @@ impl Writes {
     {
         self.entries.clear();
         self.ids.clear();
+        self.complete = 0;
     }
 }
 
