@@ -30,23 +30,25 @@ pub(crate) fn take_nothing(alloc: Global, load: Load) -> Option<u64> {
     repeated(alloc, load, Step::Take(0))
 }
 
-/// Asks how many requests are in flight.
+/// Pumps where no request is ready, and asks how many requests are in flight.
 pub(crate) fn ask_in_flight(alloc: Global, load: Load) -> Option<u64> {
     let mut reply = ReplyBox::new(alloc).ok()?;
-    let world = busy_world(alloc, &mut reply, load.size)?;
+    let mut world = busy_world(alloc, &mut reply, load.size)?;
     let mut sum = 0u64;
     for _ in 0..load.times {
+        made(&mut world, &mut reply, Step::Pump);
         sum = sum.wrapping_add(u64::from(world.in_flight()));
     }
     Some(sum)
 }
 
-/// Asks for the work that is left.
+/// Pumps where no request is ready, and asks for the work that is left.
 pub(crate) fn ask_work(alloc: Global, load: Load) -> Option<u64> {
     let mut reply = ReplyBox::new(alloc).ok()?;
-    let world = busy_world(alloc, &mut reply, load.size)?;
+    let mut world = busy_world(alloc, &mut reply, load.size)?;
     let mut sum = 0u64;
     for _ in 0..load.times {
+        made(&mut world, &mut reply, Step::Pump);
         sum = sum.wrapping_add(world.work_left());
     }
     Some(sum)
@@ -76,13 +78,14 @@ pub(crate) fn ask_choice(alloc: Global, load: Load) -> Option<u64> {
     Some(found)
 }
 
-/// Asks for a byte of the last page.
+/// Asks for bytes of the last page.
 pub(crate) fn ask_byte(alloc: Global, load: Load) -> Option<u64> {
     let world = world_of(alloc, load.size)?;
     let address = (63 + load.size.min(64)) * 4096;
-    let mut found = 0u64;
-    for _ in 0..load.times {
-        found = found.wrapping_add(u64::from(world.byte(address).is_some()));
+    let mut sum = 0u64;
+    for k in 0..load.times {
+        let byte = world.byte(address + k % 4096);
+        sum = sum.wrapping_add(u64::from(byte.unwrap_or(1)));
     }
-    Some(found)
+    Some(sum)
 }
