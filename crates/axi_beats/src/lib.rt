@@ -30,14 +30,14 @@ pub enum Resp {
 pub struct AwBeat {
     /// The transaction's ID.
     pub id: u8,
-    /// The address of the first byte.
-    pub address: u32,
     /// The number of transfers, less one.
     pub len: u8,
     /// The bytes of a transfer, as a power of two.
     pub size: u8,
     /// The burst's type: FIXED 0, INCR 1, WRAP 2.
     pub burst: u8,
+    /// The address of the first byte.
+    pub address: u32,
 }
 
 /// A beat on the read address channel: a read burst's start (AXI4, A3.4.1).
@@ -45,14 +45,14 @@ pub struct AwBeat {
 pub struct ArBeat {
     /// The transaction's ID.
     pub id: u8,
-    /// The address of the first byte.
-    pub address: u32,
     /// The number of transfers, less one.
     pub len: u8,
     /// The bytes of a transfer, as a power of two.
     pub size: u8,
     /// The burst's type: FIXED 0, INCR 1, WRAP 2.
     pub burst: u8,
+    /// The address of the first byte.
+    pub address: u32,
 }
 
 /// A beat on the write data channel: one transfer of a write burst (AXI4, A3.4.3).
@@ -80,10 +80,10 @@ pub struct BBeat {
 pub struct RBeat {
     /// The ID of the read that it answers.
     pub id: u8,
-    /// The data, lane 0 in the least significant byte.
-    pub payload: u64,
     /// How this transfer went.
     pub resp: Resp,
     /// Whether this is the burst's last transfer.
     pub last: bool,
+    /// The data, lane 0 in the least significant byte.
+    pub payload: u64,
 }

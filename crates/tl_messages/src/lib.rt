@@ -33,10 +33,10 @@ pub struct ABeat {
     pub address: u32,
     /// The lanes that are asked for, bit k for lane k.
     pub mask: u8,
-    /// The data, lane 0 in the least significant byte.
-    pub payload: u64,
     /// Whether the data of this beat are known to be wrong.
     pub corrupt: bool,
+    /// The data, lane 0 in the least significant byte.
+    pub payload: u64,
 }
 
 /// One beat of a reply, on channel D.
@@ -52,10 +52,10 @@ pub struct DBeat {
     pub source: u8,
     /// Whether the request was not carried out.
     pub denied: bool,
-    /// The data, lane 0 in the least significant byte.
-    pub payload: u64,
     /// Whether the data of this beat are not to be used.
     pub corrupt: bool,
+    /// The data, lane 0 in the least significant byte.
+    pub payload: u64,
 }
 
 /// What an atomic leaves in memory, from the old value and its operand: ArithmeticData has Min to Add, LogicalData has
