@@ -1,5 +1,6 @@
 //! The input as it is read: by blocks, and of these by lines. A read that fails, an interrupted one too, is a fault.
 ghost use Rattle.std.specs.Prelude.{◌≡◌, ◌≢◌, ◌≤◌, ◌<◌, [], true, false, length, take, slice_index_or, IfOk, IfSome};
+ghost use Rattle.std.specs.Vec.{vec_capacity, vec_len};
 ghost use Rattle.std.specs.Io.KnownBytes.{Keeps};
 ghost use Rattle.arrayvec.specs.ArrayVec.{array_vec_len};
 ghost use Rattle.script_text.specs.Reads.{Fills, IsPart, IsSmall, ReadsLine, Refills, TakesByte, TakesPart, TakesWhole};
@@ -14,6 +15,9 @@ use std::marker::Model;
 
 /// The most bytes of a block.
 const BLOCK_BYTES: usize = 65_536;
+
+/// The bytes that are read until all of them are filled by one read: what a short input doesn't need isn't cleared.
+const FIRST_BYTES: usize = 4_096;
 
 /// A line's bytes without its line feed: at most 128 and a carriage return.
 type Line = ArrayVec<u8, 129>;
@@ -53,8 +57,18 @@ fn part_of(ahead: &[u8], room: usize) -> (usize, Option<Ending>)
     (most, None)
 }
 
-/// The block of the input that was read last, at most 65,536 bytes, and the line that was read last, which stands in the block
-/// or, where it doesn't lie whole in one, apart.
+/// Fills up with zeros to so many bytes, for which there is room.
+fn pad(bytes: &mut Vec<u8>, count: usize)
+    requires fewer { vec_len bytes.old ≤ count }
+    requires room { count ≤ vec_capacity bytes.old }
+    ensures len { vec_len bytes.new ≡ count }
+    ensures capacity { vec_capacity bytes.old ≤ vec_capacity bytes.new }
+{
+    bytes.resize(count, 0).unwrap();
+}
+
+/// The block of the input that was read last, at most 4,096 bytes until one has so many and at most 65,536 from then on, and the
+/// line that was read last, which stands in the block or, where it doesn't lie whole in one, apart.
 #[derive(Drop)]
 pub struct Block {
     bytes: Vec<u8>,
@@ -68,7 +82,8 @@ pub struct Block {
 }
 
 impl Model for Block {
-    ghost use Rattle.std.specs.Prelude.{◌≡◌, ◌≤◌, true, false, drop, take, length, slice_range, if◌then◌else◌};
+    ghost use Rattle.std.specs.Prelude.{◌≡◌, ◌≤◌, ◌<◌, true, false, drop, take, length, slice_range, if◌then◌else◌};
+    ghost use Rattle.std.specs.Vec.{vec_capacity};
     ghost use Rattle.script_text.specs.Reads.{BlockState};
     ghost use Rattle.line_text.specs.Words.{is_plain_line};
 
@@ -76,7 +91,8 @@ impl Model for Block {
 
     ghost view = { λ b. record { ahead = drop b.taken (take b.filled b.bytes.items); taken = b.taken; has_text = b.has_text; line = if b.is_apart then b.apart.items else slice_range b.bytes.items b.start b.end } };
 
-    ghost invariant = { λ b. (b.taken ≤ b.filled) × (b.filled ≤ 65536) × (length b.bytes.items ≡ 65536) × (b.start ≤ b.end) × (b.end ≤ 65536)
+    ghost invariant = { λ b. (b.taken ≤ b.filled) × (b.filled ≤ length b.bytes.items) × (0 < length b.bytes.items) × (length b.bytes.items ≤ 65536)
+        × (65536 ≤ vec_capacity b.bytes) × (b.start ≤ b.end) × (b.end ≤ length b.bytes.items)
         × (b.is_apart ≡ false → is_plain_line (slice_range b.bytes.items b.start b.end) ≡ true) };
 }
 
@@ -85,8 +101,8 @@ impl Block {
     pub fn new(alloc: Global) -> Result<Block, AllocError>
         ensures { IfOk result (λ block. block ≡ record { ahead = []; taken = 0; has_text = false; line = [] }) }
     {
-        let mut bytes = Vec::new(alloc);
-        bytes.resize(BLOCK_BYTES, 0)?;
+        let mut bytes = Vec::with_capacity(alloc, BLOCK_BYTES)?;
+        pad(&mut bytes, FIRST_BYTES);
         Ok(Block {
             bytes,
             filled: 0,
@@ -137,9 +153,12 @@ impl Block {
             }
             self.has_text = false;
         }
+        self.is_apart = true;
+        if self.filled == self.bytes.len() {
+            pad(&mut self.bytes, BLOCK_BYTES);
+        }
         self.taken = 0;
         self.filled = 0;
-        self.is_apart = true;
         match reader.read(self.bytes.as_mut_slice()) {
             Ok(count) => {
                 self.filled = count;
