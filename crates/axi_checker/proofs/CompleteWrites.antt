@@ -1,12 +1,12 @@
 -- A place before which no write lacks data: what is looked for from there on, and the place after a change of the writes.
-use Rattle.std.proofs.Common.{◌≡◌, ℕ, zero, suc, ◌+◌, ◌-◌, ◌<◌, ◌≤◌, ◌==◌, nat_lt, Bool, true, false, cond, inl, inr, List, [], ◌∷◌, drop, length, get_or, refl, sym, ◌∙◌, ap, arith}
+use Rattle.std.proofs.Common.{◌≡◌, ℕ, zero, suc, ◌+◌, ◌-◌, ◌<◌, ◌≤◌, ◌==◌, nat_lt, true, false, inl, inr, List, [], ◌∷◌, drop, length, get_or, refl, ◌∙◌, ap, arith}
 use Rattle.std.proofs.Math.ListN.{set}
 use Rattle.std.proofs.lemmas.Bool.{le-ltb, lt-ltb, cases_lt}
 use Rattle.std.proofs.lemmas.Bool.Decides.{nat_tests}
-use Rattle.std.proofs.lemmas.List.{get_or-set_same, length-drop, length-set, take-set-le, take_more}
+use Rattle.std.proofs.lemmas.List.{get_or-set_same, length-set, take-set-le, take_more}
 use Rattle.std.proofs.lemmas.List.Edits.{length-remove}
 use Rattle.std.specs.List.{AllByRecursion, position, position_or_len, remove}
-use Rattle.std.specs.Prelude.{Some, None, if◌then◌else◌, option_map, take}
+use Rattle.std.specs.Prelude.{Some, None, if◌then◌else◌, take}
 use Rattle.bus_words.proofs.FirstPlaces.{IsFirst}
 use Rattle.bus_words.proofs.PlaceChanges.{all-append}
 use Rattle.axi_checker.specs.Monitors.{AreComplete}
@@ -25,23 +25,29 @@ first_past (w ∷ ws) (suc k) within before =
     let next : 1 + (k + position_or_len lacks_data (drop k ws)) ≡ suc k + position_or_len lacks_data (drop k ws) = omega arith in
     rw before.0 (ap (λ (n : ℕ). 1 + n) (first_past ws k (omega (arith, within)) before.1) ∙ next)
 
-same_test : (k m n : ℕ) → nat_lt (k + m) (k + n) ≡ nat_lt m n
-same_test k m n =
-    elim (cases_lt m n) [
-      | inl less ↦ (lt-ltb (k + m) (k + n) (omega (arith, less)) ∙ sym (lt-ltb m n less))
-      | inr more ↦ (le-ltb (k + m) (k + n) (omega (arith, more)) ∙ sym (le-ltb m n more))
-    ]
+-- it is there where a write that lacks data stands there
+here : (writes : List OpenWrite) (k : ℕ) (d : OpenWrite) → k < length writes → AllByRecursion IsFull (take k writes) → lacks_data (get_or writes k d) ≡ true
+    → position_or_len lacks_data writes ≡ k
+here [] k d within before lacks = absurd (omega (arith, within))
+here (w ∷ ws) zero d within before lacks = rw lacks refl
+here (w ∷ ws) (suc k) d within before lacks =
+    let next : 1 + k ≡ suc k = omega arith in
+    rw before.0 (ap (λ (n : ℕ). 1 + n) (here ws k d (omega (arith, within)) before.1 lacks) ∙ next)
 
--- it is the first from that place on
-pub place_past : (writes : List OpenWrite) (k : ℕ) → AreComplete writes k → position lacks_data writes ≡ option_map (λ n. k + n) (position lacks_data (drop k writes))
-place_past writes k complete =
-    let first = position_or_len lacks_data (drop k writes) in
-    let many : length writes ≡ k + length (drop k writes) = omega (arith, length-drop k writes, complete.within) in
-    rw (first_past writes k complete.within complete.before, many, same_test k first (length (drop k writes))) (by_test (nat_lt first (length (drop k writes))) first)
-  where
-    by_test : (b : Bool) (n : ℕ) → cond b (Some (k + n)) None ≡ option_map (λ n. k + n) (cond b (Some n) None)
-    by_test true n = refl
-    by_test false n = refl
+pub place_here : (writes : List OpenWrite) (k : ℕ) (d : OpenWrite) → AreComplete writes k → k < length writes → lacks_data (get_or writes k d) ≡ true
+    → position lacks_data writes ≡ Some k
+place_here writes k d complete within lacks =
+    rw (here writes k d within complete.before lacks, lt-ltb k (length writes) within) refl
+
+-- and nowhere where it is past the last write
+nowhere : (writes : List OpenWrite) (k : ℕ) → length writes ≤ k → AllByRecursion IsFull (take k writes) → length writes ≤ position_or_len lacks_data writes
+nowhere [] k past before = omega arith
+nowhere (w ∷ ws) zero past before = absurd (omega (arith, past))
+nowhere (w ∷ ws) (suc k) past before = rw before.0 (omega (arith, nowhere ws k (omega (arith, past)) before.1))
+
+pub place_nowhere : (writes : List OpenWrite) (k : ℕ) → AreComplete writes k → length writes ≤ k → position lacks_data writes ≡ None
+place_nowhere writes k complete past =
+    rw (le-ltb (position_or_len lacks_data writes) (length writes) (nowhere writes k past complete.before)) refl
 
 -- and not before it
 pub not_before : (writes : List OpenWrite) (k place : ℕ) → AreComplete writes k → IsFirst lacks_data writes place → k ≤ place

@@ -12,6 +12,7 @@ pub mod Lasts
 pub mod LegalBursts
 pub mod ReadsAfter
 pub mod RowPlaces
+pub mod Slots
 pub mod SoundMonitors
 pub mod Taking
 pub mod WithinLimits

@@ -39,7 +39,7 @@ module _ {X : Type 0} (p : X → Bool) where
     pub none_of_more : n ≤ position_or_len p (take m xs) → None ≡ position p (take n xs)
     none_of_more beyond = grind (arith, nat_tests, length-take-le n xs there, past n m xs few there beyond)
 
-take_of_taken : {X : Type 0} (k n : ℕ) (xs : List X) → k ≤ n → take k xs ≡ take k (take n xs)
+pub take_of_taken : {X : Type 0} (k n : ℕ) (xs : List X) → k ≤ n → take k xs ≡ take k (take n xs)
 take_of_taken zero n xs few = refl
 take_of_taken (suc k) zero xs few = absurd (omega (arith, few))
 take_of_taken (suc k) (suc n) [] few = refl

@@ -1,7 +1,8 @@
 //! IDs in a row, of which as many as there is room for are looked at together, and moved together.
-ghost use Rattle.std.specs.Prelude.{◌≡◌, ◌+◌, ◌<◌, ◌≤◌, ◌==◌, [], ◌∷◌, ◌++◌, drop, length, position, slice_index_or, take};
+ghost use Rattle.std.specs.Prelude.{◌≡◌, ◌<◌, ◌≤◌, ◌==◌, [], ◌∷◌, ◌++◌, length, position, slice_index_or, take};
 ghost use Rattle.std.specs.List.{position_or_len, remove};
 
+use crate::row::close_gap;
 use std::marker::Model;
 use std::simd::prelude::*;
 
@@ -31,16 +32,6 @@ fn bytes_before(bytes: &[u8], byte: u8) -> usize
 {
     let same = u8x64::from_slice(bytes).simd_eq(u8x64::splat(byte));
     same.to_bitmask().trailing_zeros() as usize
-}
-
-/// Moves the 64 bytes behind a place over it.
-#[inline(always)]
-fn close_gap(bytes: &mut [u8], place: usize)
-    requires { place + 65 ≤ length bytes.old }
-    ensures { take (place + 64) bytes.new ≡ take place bytes.old ++ take 64 (drop (place + 1) bytes.old) }
-{
-    let behind = u8x64::from_slice(&bytes[place + 1..]);
-    behind.copy_to_slice(&mut bytes[place..]);
 }
 
 impl IdRow {

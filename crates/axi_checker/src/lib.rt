@@ -13,6 +13,7 @@ mod limits;
 mod monitor;
 mod outstanding;
 mod queue;
+mod row;
 
 pub use limits::PortLimits;
 pub use monitor::Monitor;

@@ -105,21 +105,45 @@ impl Model for Reads {
         × (r.entries.room ≤ 255) × (HaveCame r.entries.items r.came) };
 }
 
-fn first_to_fill(writes: &[OpenWrite]) -> Option<usize>
-    ensures { result ≡ position lacks_data writes.now }
-{
-    writes.iter().position(|write| write.lacks_data())
+/// What stands where no write was yet.
+fn no_write() -> OpenWrite {
+    OpenWrite {
+        aw: AwBeat {
+            id: 0,
+            len: 0,
+            size: 0,
+            burst: 0,
+            address: 0,
+        },
+        came: 0,
+    }
+}
+
+/// What stands where no read was yet.
+fn no_read() -> OpenRead {
+    OpenRead {
+        ar: ArBeat {
+            id: 0,
+            len: 0,
+            size: 0,
+            burst: 0,
+            address: 0,
+        },
+        came: 0,
+    }
 }
 
 /// The place of the oldest write that lacks data, where none before `complete` does: those are not looked at.
-fn place_to_fill(writes: &[OpenWrite], complete: usize) -> Option<usize>
-    requires { AreComplete writes.now complete }
-    ensures { result ≡ position lacks_data writes.now }
+fn place_to_fill(writes: &Queue<OpenWrite>, complete: usize) -> Option<usize>
+    requires { AreComplete writes.now.items complete }
+    ensures { result ≡ position lacks_data writes.now.items }
 {
-    match first_to_fill(&writes[complete..]) {
-        Some(place) => Some(complete + place),
-        None => None,
+    for place in complete..writes.len() {
+        if writes.get(place).lacks_data() {
+            return Some(place);
+        }
     }
+    None
 }
 
 /// The place before which no write lacks data, so far `complete`, once the one at `place` lacks none.
@@ -146,13 +170,13 @@ fn moved(complete: usize, place: usize) -> usize
 }
 
 /// The entry at a place, with its place, where there is one.
-fn entry_at<T: Copy>(items: &[T], place: Option<usize>) -> Option<(usize, T)>
-    requires { IfSome place (λ k. k < length items.now) }
+fn entry_at<T: Copy>(queue: &Queue<T>, place: Option<usize>) -> Option<(usize, T)>
+    requires { IfSome place (λ k. k < length queue.now.items) }
     ensures place { option_map (λ found. found.0) result ≡ place }
-    ensures entry { (test : T → Bool) → place ≡ position test items.now → option_map (λ found. found.1) result ≡ find test items.now }
+    ensures entry { (test : T → Bool) → place ≡ position test queue.now.items → option_map (λ found. found.1) result ≡ find test queue.now.items }
 {
     match place {
-        Some(place) => Some((place, items[place])),
+        Some(place) => Some((place, queue.get(place))),
         None => None,
     }
 }
@@ -163,7 +187,7 @@ impl Writes {
         requires { room ≤ 64 }
         ensures { IfOk result (λ writes. (writes.items ≡ []) × (room ≤ writes.room)) }
     {
-        let entries = Queue::new(alloc, room)?;
+        let entries = Queue::new(alloc, room, no_write())?;
         let ids = IdList::new();
         Ok(Writes {
             entries,
@@ -184,8 +208,7 @@ impl Writes {
         ensures place { option_map (λ found. found.0) result ≡ position lacks_data self.now.items }
         ensures write { option_map (λ found. found.1) result ≡ find lacks_data self.now.items }
     {
-        let writes = self.entries.as_slice();
-        entry_at(writes, place_to_fill(writes, self.complete))
+        entry_at(&self.entries, place_to_fill(&self.entries, self.complete))
     }
 
     /// The oldest of an ID, and its place.
@@ -193,7 +216,7 @@ impl Writes {
         ensures place { option_map (λ found. found.0) result ≡ position (write_of_id id) self.now.items }
         ensures write { option_map (λ found. found.1) result ≡ find (write_of_id id) self.now.items }
     {
-        entry_at(self.entries.as_slice(), self.ids.first(id))
+        entry_at(&self.entries, self.ids.first(id))
     }
 
     /// Appends a write of which so many beats came, for which there is room.
@@ -221,7 +244,7 @@ impl Writes {
         ensures items { self.new.items ≡ self.old.items ++ record { aw = aw; came = aw.len + 1 } ∷ [] }
         ensures room { self.new.room ≡ self.old.room }
     {
-        let place = self.entries.as_slice().len();
+        let place = self.entries.len();
         self.push(aw, u16::from(aw.len) + 1);
         self.complete = past(self.complete, place);
     }
@@ -272,7 +295,7 @@ impl Reads {
         requires { room ≤ 64 }
         ensures { IfOk result (λ reads. (reads.items ≡ []) × (room ≤ reads.room)) }
     {
-        let entries = Queue::new(alloc, room)?;
+        let entries = Queue::new(alloc, room, no_read())?;
         let ids = IdList::new();
         Ok(Reads {
             entries,
@@ -293,7 +316,7 @@ impl Reads {
         ensures place { option_map (λ found. found.0) result ≡ position (read_of_id id) self.now.items }
         ensures read { option_map (λ found. found.1) result ≡ find (read_of_id id) self.now.items }
     {
-        entry_at(self.entries.as_slice(), self.ids.first(id))
+        entry_at(&self.entries, self.ids.first(id))
     }
 
     /// How many R beats came of them.

@@ -1,65 +1,71 @@
-//! Entries in order, of which the oldest leaves without moving the others.
-ghost use Rattle.std.specs.Prelude.{◌≡◌, ◌+◌, ◌*◌, ◌<◌, ◌≤◌, [], ◌∷◌, ◌++◌, IfOk, drop, length, slice_index_or, slice_set};
+//! Entries in order, of which one leaves without moving the others.
+ghost use Rattle.std.specs.Prelude.{◌≡◌, ◌<◌, ◌≤◌, [], ◌∷◌, ◌++◌, IfOk, length, slice_index_or, slice_set, take};
 ghost use Rattle.std.specs.List.{remove};
-ghost use Rattle.std.specs.Vec.{vec_capacity, vec_len};
+ghost use Rattle.axi_checker.specs.Slots.{AreSlots};
 
+use crate::row::close_gap;
 use std::alloc::{AllocError, Global};
 use std::marker::Model;
 
-/// Entries in order, the oldest first. The oldest leaves without moving the others, save once in as many calls as there
-/// is room for entries. All room is taken by `new`.
+/// Entries in order, the oldest first, at most 64. Each stays where it stands; what moves, where one leaves, are the slots of
+/// those behind it, by the same steps wherever it stood. All room is taken by `new`.
 #[derive(Drop)]
 pub(crate) struct Queue<T> {
-    /// Those before `start` have left.
     entries: Vec<T>,
-    start: usize,
+    /// The slots of the entries in order, and behind them those that are free: 64, each once. Twice the room is taken, so that
+    /// there are 64 bytes behind each of them.
+    slots: [u8; 128],
+    len: usize,
     room: usize,
+    /// What stands in a slot before its first entry.
+    filler: T,
 }
 
 impl<T> Model for Queue<T> {
-    ghost use Rattle.std.specs.Prelude.{◌+◌, ◌*◌, ◌≤◌, drop};
-    ghost use Rattle.std.specs.Vec.{vec_capacity, vec_len};
+    ghost use Rattle.std.specs.Prelude.{◌≡◌, ◌≤◌, take};
+    ghost use Rattle.std.specs.Vec.{vec_len};
     ghost use Rattle.axi_checker.specs.Monitors.{OpenSide};
+    ghost use Rattle.axi_checker.specs.Slots.{AreSlots, at_slots};
 
     ghost Value = { OpenSide T };
 
-    ghost view = { λ q. record { items = drop q.start q.entries.items; room = q.room } };
+    ghost view = { λ q. record { items = at_slots q.entries.items q.filler (take q.len q.slots); room = q.room } };
 
-    ghost invariant = { λ q. (q.start ≤ vec_len q.entries) × (vec_len q.entries ≤ q.start + q.room)
-        × (q.start ≤ q.room) × (2 * q.room ≤ vec_capacity q.entries) };
+    ghost invariant = { λ q. (q.len ≤ q.room) × (q.room ≤ 64) × (vec_len q.entries ≡ 64) × (AreSlots 64 (take 64 q.slots)) };
 }
 
-/// Takes out the first `count`.
-fn take_out_first<T: Copy>(entries: &mut Vec<T>, count: usize)
-    requires { count ≤ vec_len entries.old }
-    ensures items { entries.new.items ≡ drop count entries.old.items }
-    ensures len { vec_len entries.new + count ≡ vec_len entries.old }
-    ensures capacity { vec_capacity entries.new ≡ vec_capacity entries.old }
+/// The 64 slots, in order.
+fn all_slots() -> [u8; 128]
+    ensures { AreSlots 64 (take 64 result) }
 {
-    let len = entries.len();
-    entries.copy_within(count..len, 0);
-    entries.truncate(len - count);
+    let mut slots = [0; 128];
+    for slot in 0..64 {
+        slots[usize::from(slot)] = slot;
+    }
+    slots
 }
 
 impl<T: Copy> Queue<T> {
-    /// None, with room for so many, at most 255. Twice that is taken, so that they seldom move to the front.
-    pub(crate) fn new(alloc: Global, room: usize) -> Result<Self, AllocError>
-        requires { room ≤ 255 }
+    /// None, with room for so many, at most 64. The filler is never seen.
+    pub(crate) fn new(alloc: Global, room: usize, filler: T) -> Result<Self, AllocError>
+        requires { room ≤ 64 }
         ensures { IfOk result (λ queue. (queue.items ≡ []) × (queue.room ≡ room)) }
     {
-        let entries = Vec::with_capacity(alloc, 2 * room)?;
+        let entries = vec![in alloc; filler; 64]?;
         Ok(Queue {
             entries,
-            start: 0,
+            slots: all_slots(),
+            len: 0,
             room,
+            filler,
         })
     }
 
-    /// All of them.
-    pub(crate) fn as_slice(&self) -> &[T]
-        ensures { result.now ≡ self.now.items }
+    /// How many there are.
+    pub(crate) fn len(&self) -> usize
+        ensures { result ≡ length self.now.items }
     {
-        &self.entries[self.start..]
+        self.len
     }
 
     /// The one at a place.
@@ -68,8 +74,7 @@ impl<T: Copy> Queue<T> {
         ensures value { result ≡ slice_index_or self.now.items place result }
         ensures few { length self.now.items ≤ self.now.room }
     {
-        let left = &self.entries[self.start..];
-        left[place]
+        self.entries[usize::from(self.slots[place])]
     }
 
     /// Appends one, for which there is room.
@@ -78,7 +83,8 @@ impl<T: Copy> Queue<T> {
         ensures items { self.new.items ≡ self.old.items ++ entry ∷ [] }
         ensures room { self.new.room ≡ self.old.room }
     {
-        self.entries.push_reserved(entry);
+        self.entries[usize::from(self.slots[self.len])] = entry;
+        self.len += 1;
     }
 
     /// Puts another in the place of one.
@@ -87,47 +93,25 @@ impl<T: Copy> Queue<T> {
         ensures items { self.new.items ≡ slice_set self.old.items place entry }
         ensures room { self.new.room ≡ self.old.room }
     {
-        self.entries[self.start + place] = entry;
+        self.entries[usize::from(self.slots[place])] = entry;
     }
 
-    /// Takes out the one at a place.
-    pub(crate) fn remove(&mut self, place: usize) -> T
+    /// Takes out the one at a place, whose slot is the last of the free ones then.
+    pub(crate) fn remove(&mut self, place: usize)
         requires { place < length self.old.items }
-        ensures value { result ≡ slice_index_or self.old.items place result }
         ensures items { self.new.items ≡ remove self.old.items place }
         ensures room { self.new.room ≡ self.old.room }
     {
-        if place > 0 {
-            return self.entries.remove(self.start + place);
-        }
-        if self.start == self.room {
-            return self.take_and_move();
-        }
-        let oldest = self.entries[self.start];
-        self.start += 1;
-        oldest
-    }
-
-    /// Takes out the oldest, and moves the others to the front.
-    #[cold]
-    #[inline(never)]
-    fn take_and_move(&mut self) -> T
-        requires { 0 < length self.old.items }
-        ensures value { result ≡ slice_index_or self.old.items 0 result }
-        ensures items { self.new.items ≡ remove self.old.items 0 }
-        ensures room { self.new.room ≡ self.old.room }
-    {
-        let oldest = self.entries[self.start];
-        take_out_first(&mut self.entries, self.start + 1);
-        self.start = 0;
-        oldest
+        let slot = self.slots[place];
+        close_gap(&mut self.slots, place);
+        self.slots[63] = slot;
+        self.len -= 1;
     }
 
     /// None any more.
     pub(crate) fn clear(&mut self)
         ensures { self.new ≡ record self.old { items = [] } }
     {
-        self.entries.clear();
-        self.start = 0;
+        self.len = 0;
     }
 }

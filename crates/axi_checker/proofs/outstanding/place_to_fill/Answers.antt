@@ -1,21 +1,18 @@
--- Those before the place lack no data.
-use Rattle.std.proofs.Common.{◌≡◌, ◌-◌, ℕ, List, Option, drop, length, ◌+◌, sym, ap, ◌∙◌, arith}
-use Rattle.std.proofs.lemmas.List.{length-drop, take_all}
-use Rattle.std.specs.List.{position}
-use Rattle.std.specs.Prelude.{option_map, take}
-use Rattle.axi_checker.specs.Monitors.{AreComplete}
-use Rattle.axi_checker.specs.OpenBursts.{OpenWrite, lacks_data}
-use Rattle.axi_checker.proofs.CompleteWrites.{place_past}
+-- The first that is found to lack data is the oldest that does.
+use Rattle.std.proofs.Common.{◌<◌, ◌≤◌, length, sym, ap, ◌∙◌, arith}
+use Rattle.axi_checker.specs.OpenBursts.{lacks_data}
+use Rattle.axi_checker.proofs.CompleteWrites.{place_here, place_nowhere}
 use Rattle.axi_checker.proofs.outstanding.place_to_fill.Goals as goal
 
-found_later : (writes : List OpenWrite) (k : ℕ) (later found : Option ℕ) → AreComplete writes k → later ≡ position lacks_data (take (length writes - k) (drop k writes)) → later ≡ found
-    → option_map (λ n. k + n) found ≡ position lacks_data writes
-found_later writes k later found complete is same =
-    let all = take_all (length writes - k) (drop k writes) (omega (arith, length-drop k writes)) in
-    ap (option_map (λ n. k + n)) (sym same ∙ is ∙ ap (λ (ws : List OpenWrite). position lacks_data ws) all) ∙ sym (place_past writes k complete)
+pub returns-then-lacks_data : goal.returns-then-lacks_data
+returns-then-lacks_data c =
+    let writes = c.args.writes.now.items in
+    let place = c.loop-place.place in
+    let within : place < length writes = omega (arith, c.loop-place-test.true, c.len-place-end.ensures, c.loop-place.auto.place-end) in
+    sym (place_here writes place c.get.result c.loop-place.invariant within (ap lacks_data (sym c.get.ensures.value) ∙ sym c.lacks_data.ensures ∙ c.if-lacks_data.true))
 
-pub returns-in-Some : goal.returns-in-Some
-returns-in-Some c = found_later c.args.writes.now c.args.complete c.first_to_fill.result _ c.requires c.first_to_fill.ensures c.in-Some.is
-
-pub returns-in-None : goal.returns-in-None
-returns-in-None c = found_later c.args.writes.now c.args.complete c.first_to_fill.result _ c.requires c.first_to_fill.ensures c.in-None.is
+pub returns : goal.returns
+returns c =
+    let writes = c.args.writes.now.items in
+    let past : length writes ≤ c.loop-place.place = omega (arith, c.loop-place-test.false, c.len-place-end.ensures, c.loop-place.auto.place-end) in
+    sym (place_nowhere writes c.loop-place.place c.loop-place.invariant past)

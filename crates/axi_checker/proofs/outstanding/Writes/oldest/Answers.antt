@@ -1,5 +1,5 @@
 -- The ID is looked for in the place of the write.
-use Rattle.std.proofs.Common.{◌≡◌, ◌∙◌, sym, ap}
+use Rattle.std.proofs.Common.{◌≡◌, ◌∙◌, ap}
 use Rattle.std.specs.Prelude.{find}
 use Rattle.std.specs.List.{position}
 use Rattle.axi_checker.specs.Monitors.{OpenSide, id_of_write}
@@ -10,7 +10,7 @@ use Rattle.axi_checker.proofs.outstanding.Writes.oldest.Goals as goal
 pub entry_at-requires : goal.entry_at-requires
 entry_at-requires c =
     let placed = c.first.ensures ∙ same_place id_of_write c.self.inside.entries.items c.self.inside.ids.items c.args.id c.self.invariant.0 in
-    rw c.as_slice.ensures (found_within (write_of_id c.args.id) c.self.inside.entries.items c.first.result placed)
+    found_within (write_of_id c.args.id) c.self.inside.entries.items c.first.result placed
 
 placed : (c : goal.After-entry_at) → c.first.result ≡ position (write_of_id c.args.id) c.self.inside.entries.items
 placed c = c.first.ensures ∙ same_place id_of_write c.self.inside.entries.items c.self.inside.ids.items c.args.id c.self.invariant.0
@@ -20,6 +20,5 @@ returns-clause-place c = c.entry_at.ensures.place ∙ placed c ∙ ap (λ (side 
 
 pub returns-clause-write : goal.returns-clause-write
 returns-clause-write c =
-    c.entry_at.ensures.entry (write_of_id c.args.id) (placed c ∙ ap (position (write_of_id c.args.id)) (sym c.as_slice.ensures))
-    ∙ ap (find (write_of_id c.args.id)) c.as_slice.ensures
+    c.entry_at.ensures.entry (write_of_id c.args.id) (placed c)
     ∙ ap (λ (side : OpenSide OpenWrite). find (write_of_id c.args.id) side.items) c.self.view_is

@@ -1,23 +1,31 @@
--- Those that have left stand before the place.
-use Rattle.std.proofs.Common.{◌≡◌, ◌+◌, ℕ, zero, suc, List, [], ◌∷◌, drop, refl, sym, ap, ◌∙◌, arith}
+-- The slot at the place goes behind the others, each of which keeps its entry.
+use Rattle.std.proofs.Common.{◌≡◌, ◌∙◌, ◌<◌, ◌≤◌, length, ap, arith}
 use Rattle.std.specs.List.{remove}
 use Rattle.axi_checker.specs.Monitors.{OpenSide}
+use Rattle.axi_checker.proofs.Slots.{many_at, removed, slots_left}
 use Rattle.axi_checker.proofs.queue.Queue.remove.Goals as goal
 
-remove-none : {X : Type 0} (place : ℕ) → remove {X = X} [] place ≡ []
-remove-none zero = refl
-remove-none (suc place) = refl
+pub invariant_of-self : goal.invariant_of-self
+invariant_of-self g c =
+    let q = c.self.inside in
+    let long : length q.entries.items ≡ 64 = omega (arith, c.self.invariant.2) in
+    let few : q.len ≤ 64 = omega (arith, c.self.invariant.0, c.self.invariant.1) in
+    let many = many_at q.entries.items q.filler q.slots q.len few long c.self.invariant.3 in
+    let within : c.args.place < q.len = omega (arith, c.requires, many, ap (λ (side : OpenSide g.row.T.Denot). length side.items) c.self.view_is) in (
+      omega (arith, c.self.invariant.0),
+      c.self.invariant.1,
+      c.self.invariant.2,
+      slots_left q.entries.items q.filler q.slots q.len few long c.self.invariant.3 c.close_gap.new.bytes c.args.place within
+          (omega (arith, c.self.told)) (omega (arith, c.self.told, c.close_gap.auto.bytes)) c.close_gap.ensures,
+    )
 
-drop-remove-add : {X : Type 0} (n : ℕ) (xs : List X) (place : ℕ) → drop n (remove xs (n + place)) ≡ remove (drop n xs) place
-drop-remove-add zero xs place = ap (remove xs) (omega arith)
-drop-remove-add (suc n) [] place = ap (drop (suc n)) (remove-none (suc n + place)) ∙ sym (remove-none place)
-drop-remove-add (suc n) (x ∷ xs) place =
-    let next : suc n + place ≡ suc (n + place) = omega arith in
-    ap (λ k. drop (suc n) (remove (x ∷ xs) k)) next ∙ drop-remove-add n xs place
-
-pub returns-then-place-gt0-clause-items : goal.returns-then-place-gt0-clause-items
-returns-then-place-gt0-clause-items g c =
-    let inside = c.self.inside in
-    ap (drop inside.start) c.remove.ensures.items
-    ∙ drop-remove-add inside.start inside.entries.items c.args.place
+pub returns-clause-items : goal.returns-clause-items
+returns-clause-items g c =
+    let q = c.self.inside in
+    let long : length q.entries.items ≡ 64 = omega (arith, c.self.invariant.2) in
+    let few : q.len ≤ 64 = omega (arith, c.self.invariant.0, c.self.invariant.1) in
+    let many = many_at q.entries.items q.filler q.slots q.len few long c.self.invariant.3 in
+    let within : c.args.place < q.len = omega (arith, c.requires, many, ap (λ (side : OpenSide g.row.T.Denot). length side.items) c.self.view_is) in
+    removed q.entries.items q.filler q.slots q.len few long c.self.invariant.3 c.close_gap.new.bytes c.args.place within
+    (omega (arith, c.self.told)) (omega (arith, c.self.told, c.close_gap.auto.bytes)) c.close_gap.ensures
     ∙ ap (λ (side : OpenSide g.row.T.Denot). remove side.items c.args.place) c.self.view_is

@@ -2,7 +2,7 @@
 use Rattle.std.proofs.Common.{◌+◌, arith}
 use Rattle.std.proofs.lemmas.Simd.{length-chunk, take_more_put_chunk}
 use lib.Lanes.{chunk}
-use Rattle.axi_checker.proofs.id_row.close_gap.Goals as goal
+use Rattle.axi_checker.proofs.row.close_gap.Goals as goal
 
 pub returns : goal.returns
 returns c =

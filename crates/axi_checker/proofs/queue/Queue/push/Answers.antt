@@ -1,0 +1,28 @@
+-- The first of the free slots is another than those in use.
+use Rattle.std.proofs.Common.{◌≡◌, ◌∙◌, ◌<◌, ◌≤◌, ◌+◌, [], ◌∷◌, ◌++◌, set, take, length, ap, arith}
+use Rattle.axi_checker.specs.Monitors.{OpenSide}
+use Rattle.axi_checker.specs.Slots.{at_slots}
+use Rattle.axi_checker.proofs.Slots.{many_at, pushed, slot_within}
+use Rattle.axi_checker.proofs.queue.Queue.push.Goals as goal
+
+pub index_mut-requires : goal.index_mut-requires
+index_mut-requires g c =
+    let q = c.self.inside in
+    let long : length q.entries.items ≡ 64 = omega (arith, c.self.invariant.2) in
+    let few : q.len ≤ 64 = omega (arith, c.self.invariant.0, c.self.invariant.1) in
+    let many = many_at q.entries.items q.filler q.slots q.len few long c.self.invariant.3 in
+    let is = c.self.view_is in
+    let within : q.len < 64 = omega (arith, c.requires, many, c.self.invariant.1, ap (λ (side : OpenSide g.row.T.Denot). length side.items) is, ap (λ (side : OpenSide g.row.T.Denot). side.room) is) in
+    omega (arith, c.from.ensures, c.self.invariant.2, slot_within q.entries.items q.filler q.slots q.len few long c.self.invariant.3 q.len within)
+
+pub returns-clause-items : goal.returns-clause-items
+returns-clause-items g c =
+    let q = c.self.inside in
+    let long : length q.entries.items ≡ 64 = omega (arith, c.self.invariant.2) in
+    let few : q.len ≤ 64 = omega (arith, c.self.invariant.0, c.self.invariant.1) in
+    let many = many_at q.entries.items q.filler q.slots q.len few long c.self.invariant.3 in
+    let is = c.self.view_is in
+    let within : q.len < 64 = omega (arith, c.requires, many, c.self.invariant.1, ap (λ (side : OpenSide g.row.T.Denot). length side.items) is, ap (λ (side : OpenSide g.row.T.Denot). side.room) is) in
+    ap (λ slot. at_slots (set q.entries.items slot c.args.entry) q.filler (take (q.len + 1) q.slots)) c.from.ensures
+    ∙ pushed q.entries.items q.filler q.slots q.len few long c.self.invariant.3 c.args.entry within
+    ∙ ap (λ (side : OpenSide g.row.T.Denot). side.items ++ c.args.entry ∷ []) is
