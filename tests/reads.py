@@ -14,22 +14,35 @@ from shim import Shim, told
 # fronts, beyond which one in so many is tried.
 PIECE, DENSE, STRIDE = 64, 400, 97
 
+# How many bytes the program has room for until a read fills all of it, and from then on.
+FIRST_ROOM, ROOM = 4096, 65536
+
 
 def whole_lines(script, length):
     """How many lines end in the first bytes of a script."""
     return script.given[:length].count(b"\n")
 
 
+def starts_of_reads(length, piece):
+    """Where the reads of so many bytes begin, if none moves more than a piece; the last finds the input's end."""
+    starts, room = [0], FIRST_ROOM
+    while starts[-1] < length:
+        moved = min(piece, room, length - starts[-1])
+        starts.append(starts[-1] + moved)
+        room = ROOM if moved == room else room
+    return starts
+
+
 def failed_reads(shim, script, piece, error):
-    """The last read is the one that would find the input's end."""
+    starts = starts_of_reads(len(script.given), piece)
     free = shim.run([script.word], script.given, most=piece)
     reads = free.counts["read"]
     yield f"{reads} reads", None if (free.status, free.text) == (script.status, script.text) else f"status {free.status}"
-    if reads != -(-len(script.given) // piece) + 1:
-        yield "its reads", f"{reads} of at most {piece} bytes for {len(script.given)}"
-    for at in range(1, reads + 1):
+    if reads != len(starts):
+        yield "its reads", f"{reads}, not {len(starts)}, of at most {piece} bytes for {len(script.given)}"
+    for at, start in enumerate(starts, 1):
         ran = shim.run([script.word], script.given, "read", at, error=error, most=piece)
-        text = script.text_of(whole_lines(script, (at - 1) * piece))
+        text = script.text_of(whole_lines(script, start))
         yield f"read {at} of {reads} failed with {errno.errorcode[error]}", wrong(ran, text)
     print(f"{script.name}: {reads} reads of at most {piece} bytes failed in turn with {errno.errorcode[error]}")
 
@@ -82,7 +95,7 @@ def cases(program):
     shim = Shim(program)
     for script in SCRIPTS:
         is_long = len(script.steps) > 100
-        for piece, error in ((PIECE, errno.EIO), (8 * PIECE, errno.EINTR), (65536, errno.EIO)) if is_long else ((1, errno.EIO), (1, errno.EINTR)):
+        for piece, error in ((PIECE, errno.EIO), (8 * PIECE, errno.EINTR), (ROOM, errno.EIO)) if is_long else ((1, errno.EIO), (1, errno.EINTR)):
             for name, why in failed_reads(shim, script, piece, error):
                 yield f"{script.name}: {name}", why
         lengths = range(len(script.given) + 1)
