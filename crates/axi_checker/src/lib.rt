@@ -9,13 +9,13 @@ ghost use Rattle.axi_checker.specs.Names.{rule_name, rule_number};
 
 mod id_list;
 mod id_row;
-mod limits;
+mod rules;
 mod monitor;
 mod outstanding;
 mod queue;
 mod row;
 
-pub use limits::PortLimits;
+pub use rules::PortLimits;
 pub use monitor::Monitor;
 
 /// The rules on AXI4 beats, 1 to 12.

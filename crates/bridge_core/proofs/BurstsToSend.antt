@@ -16,7 +16,7 @@ use Rattle.flight_table.specs.Order.{id_for, is_ready}
 use Rattle.flight_table.specs.Tables.{FlightTable, KeyedRequest, KeyedTable, change_key, has_number, request_at, requests_of, table_of}
 use Rattle.bridge_core.specs.Inside.{CanFill, HeldRequest, IsFirstAt, IsKept, KeptTable, bridged, held_in, nothing_held, shown_table}
 use Rattle.bridge_core.specs.Laws.{IsServed, IsSoundRequestTable}
-use Rattle.bridge_core.specs.Requests.{BridgedRequest, RequestTable, after_sending, may_send, with_sent_burst}
+use Rattle.bridge_core.specs.HeldRequests.{BridgedRequest, RequestTable, after_sending, may_send, with_sent_burst}
 use Rattle.bridge_core.specs.Sending.{burst_of_piece, next_sending}
 use Rattle.bridge_core.proofs.TableSteps.{none_joined, IsChanged, Shows, changed_table, numbered, shown_at, table_seen}
 use Rattle.bridge_core.proofs.NextSending.{next_sending-none, sends}

@@ -9,7 +9,7 @@ use Rattle.std.proofs.lemmas.Bool.Decides.{nat_tests}
 use Rattle.tl_messages.specs.Requests.{HeldMessage}
 use Rattle.tl_messages.specs.declared.ABeat.{ABeat}
 use Rattle.tl_checker.specs.Ports.{PortState, joined, judged, judged_by, progress_of, opening_port, port_after}
-use Rattle.tl_checker.specs.Requests.{TlPortLimits, first_fault}
+use Rattle.tl_checker.specs.RequestRules.{TlPortLimits, first_fault}
 use Rattle.tl_checker.specs.declared.Progress.{Progress}
 use Rattle.tl_checker.specs.declared.Progress.TheVariants.{More, Whole}
 use Rattle.tl_checker.specs.declared.TlRule.{TlRule}
@@ -19,7 +19,7 @@ use Rattle.flight_table.specs.Tables.{has_room, is_busy, FlightTable}
 use Rattle.bridge_core.specs.Bridge.{BridgeState, StockedBridge, completed, front_of, message_with, offered, offered_after, refuses_beat, verdict_on, with_front}
 use Rattle.bridge_core.specs.Inside.{held_back, ArePorts, CanAccept, bridge_kept, no_place}
 use Rattle.bridge_core.specs.Laws.{IsFreeFront, IsSoundBridge, IsSoundRequestTable}
-use Rattle.bridge_core.specs.Requests.{RequestTable, flight_table_of, newly_live, with_request}
+use Rattle.bridge_core.specs.HeldRequests.{RequestTable, flight_table_of, newly_live, with_request}
 use Rattle.bridge_core.specs.declared.Offered.{Offered}
 use Rattle.bridge_core.specs.declared.Offered.TheVariants as offer
 use Rattle.bridge_core.proofs.BridgeSteps.{state_in, free_accepted}

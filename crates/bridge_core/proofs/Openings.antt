@@ -12,7 +12,7 @@ use Rattle.bridge_core.specs.Bridge.{boxes_of, opening_bridge, opening_requests,
 use Rattle.bridge_core.specs.Configs.{is_valid, port_of}
 use Rattle.bridge_core.specs.Inside.{ArePorts, ArePortsFrom, bridge_kept, ports_from}
 use Rattle.bridge_core.specs.Laws.{IsSoundBridge}
-use Rattle.bridge_core.specs.Requests.{RequestTable}
+use Rattle.bridge_core.specs.HeldRequests.{RequestTable}
 use Rattle.bridge_core.specs.declared.Config.{Config}
 
 pub are_ports_from : (config : Config) (first count : ℕ) → ArePortsFrom config first (ports_from config first count)

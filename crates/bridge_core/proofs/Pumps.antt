@@ -11,7 +11,7 @@ use Rattle.flight_table.specs.Tables.{has_number, is_done_of, FlightTable, Keyed
 use Rattle.flight_table.proofs.KeyLaws.{found_done, found_ready, some_found}
 use Rattle.bridge_core.specs.Bridge.{BridgeState, reply_taken, burst_to_send}
 use Rattle.bridge_core.specs.Laws.{IsSoundRequestTable}
-use Rattle.bridge_core.specs.Requests.{BridgedRequest, RequestTable, after_sending, oldest_done, flight_table_of, flights_of, is_numbered, with_sent_burst, may_send}
+use Rattle.bridge_core.specs.HeldRequests.{BridgedRequest, RequestTable, after_sending, oldest_done, flight_table_of, flights_of, is_numbered, with_sent_burst, may_send}
 use Rattle.bridge_core.specs.Sending.{Sending, SendsSmallest, next_sending}
 use Rattle.bridge_core.specs.declared.Taken.{Taken}
 use Rattle.bridge_core.specs.declared.Taken.TheVariants.{Reply}

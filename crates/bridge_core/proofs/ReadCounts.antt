@@ -23,7 +23,7 @@ use Rattle.responses.specs.Gathered.{reads_of}
 use Rattle.bridge_core.specs.Bridge.{boxes_of}
 use Rattle.bridge_core.specs.Configs.{is_valid, port_of, table_limits_of}
 use Rattle.bridge_core.specs.Laws.{IsServed, beats_in}
-use Rattle.bridge_core.specs.Requests.{BridgedRequest, address_of, outline_in, range_at, range_of}
+use Rattle.bridge_core.specs.HeldRequests.{BridgedRequest, address_of, outline_in, range_at, range_of}
 use Rattle.bridge_core.specs.declared.Config.{Config}
 use Rattle.bridge_core.proofs.NextSending.{map_some}
 

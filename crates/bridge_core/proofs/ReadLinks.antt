@@ -13,7 +13,7 @@ use Rattle.flight_table.specs.LiveRequests.{planned, with_answered}
 use Rattle.responses.specs.Gathered.{after_r}
 use Rattle.bridge_core.specs.Bridge.{BridgeState, after_r_beat, r_fault}
 use Rattle.bridge_core.specs.Laws.{AreLinked, IsLinked, IsSoundBridge, came_of_next, open_read, open_reads, outstanding}
-use Rattle.bridge_core.specs.Requests.{BridgedRequest, after_read, holder, holds, outline_in, settled}
+use Rattle.bridge_core.specs.HeldRequests.{BridgedRequest, after_read, holder, holds, outline_in, settled}
 use Rattle.bridge_core.proofs.AnswerLinks.{IsReader, finds_reader, open_writes-reads}
 use Rattle.bridge_core.proofs.HolderChanges.{filter-changed, filter-changed-other, filter-without, filter-without-other}
 use Rattle.bridge_core.proofs.ResponseLinks.{IsLeft, holder-other, left_after, one_holder}

@@ -15,7 +15,7 @@ use Rattle.flight_table.specs.Order.{holds_id, is_id}
 use Rattle.responses.specs.Gathered.{after_b}
 use Rattle.bridge_core.specs.Bridge.{BridgeState, after_b_beat, b_fault}
 use Rattle.bridge_core.specs.Laws.{AreLinked, IsLinked, IsPartWay, IsSoundBridge, came_of, came_of_next, open_reads, open_writes, outstanding, outstanding_of}
-use Rattle.bridge_core.specs.Requests.{BridgedRequest, after_response, holder, holds, settled}
+use Rattle.bridge_core.specs.HeldRequests.{BridgedRequest, after_response, holder, holds, settled}
 use Rattle.bridge_core.proofs.AnswerLinks.{FindsWriter, finds_writer, open_reads-writes}
 use Rattle.bridge_core.proofs.HolderChanges.{filter-without, filter-without-other, find-changed, find-changed-gone, find-changed-other, length-filter-map, part-empty, part-next}
 

@@ -6,7 +6,7 @@ use Rattle.bus_words.specs.Places.{without_first}
 use Rattle.flight_table.specs.Laws.{IsSoundRequest}
 use Rattle.axi_checker.specs.OpenBursts.{OpenBursts}
 use Rattle.bridge_core.specs.Laws.{AreLinked, IsLinked, IsSoundRequestTable}
-use Rattle.bridge_core.specs.Requests.{BridgedRequest, RequestTable, flight_table_of, holder, holds, is_done_for, without_done}
+use Rattle.bridge_core.specs.HeldRequests.{BridgedRequest, RequestTable, flight_table_of, holder, holds, is_done_for, without_done}
 use Rattle.bridge_core.proofs.HolderChanges.{all-mapped}
 
 -- ---- who holds an ID

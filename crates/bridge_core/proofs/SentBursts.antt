@@ -28,7 +28,7 @@ use Rattle.flight_table.proofs.Steps.{takes_id}
 use Rattle.bridge_core.specs.Bridge.{BridgeState}
 use Rattle.bridge_core.specs.Configs.{axi_port_of, is_valid, table_limits_of}
 use Rattle.bridge_core.specs.Laws.{IsLinked, IsServed, IsSoundBridge, IsSoundRequestTable, came_of, open_reads, open_writes, outstanding, outstanding_of}
-use Rattle.bridge_core.specs.Requests.{BridgedRequest, RequestTable, flights_of, holder}
+use Rattle.bridge_core.specs.HeldRequests.{BridgedRequest, RequestTable, flights_of, holder}
 use Rattle.bridge_core.specs.Sending.{Sending, burst_of_piece, bytes_to_write, bytes_written, next_sending, operand_of}
 use Rattle.bridge_core.specs.declared.Config.{Config}
 use Rattle.bridge_core.proofs.NextSending.{next_found, next_served, next_sound}

@@ -24,7 +24,7 @@ use Rattle.responses.specs.Gathered.{Gathering, after_b, after_r, old_value, rea
 use Rattle.responses.specs.Gathered as gathered
 use Rattle.bridge_core.specs.Configs.{is_valid, port_of}
 use Rattle.bridge_core.specs.Laws.{IsOfMessage, IsPartWay, IsServed, answered_pieces, beats_in, came_of_next, outstanding}
-use Rattle.bridge_core.specs.Requests.{BridgedRequest, RequestTable, address_of, after_read, after_response, after_sending, newly_live, outline_in, range_of, settled, value_found}
+use Rattle.bridge_core.specs.HeldRequests.{BridgedRequest, RequestTable, address_of, after_read, after_response, after_sending, newly_live, outline_in, range_of, settled, value_found}
 use Rattle.bridge_core.specs.declared.Config.{Config}
 use Rattle.bridge_core.proofs.AnswerLinks.{answered_next}
 use Rattle.bridge_core.proofs.HolderChanges.{part-empty, part-next}

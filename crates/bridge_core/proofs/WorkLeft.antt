@@ -16,7 +16,7 @@ use Rattle.axi_checker.specs.OpenBursts.{OpenBursts, OpenRead, OpenWrite, read_o
 use Rattle.bridge_core.specs.Bridge.{BridgeState, answered_reads}
 use Rattle.bridge_core.specs.Configs.{table_limits_of}
 use Rattle.bridge_core.specs.Laws.{AreLinked, IsPartWay, IsServed, IsSoundBridge, came_of, came_of_next, open_read, open_reads, open_write, open_writes, outstanding, outstanding_of}
-use Rattle.bridge_core.specs.Requests.{BridgedRequest, flight_table_of, flights_of, holder, holds}
+use Rattle.bridge_core.specs.HeldRequests.{BridgedRequest, flight_table_of, flights_of, holder, holds}
 use Rattle.bridge_core.specs.declared.Config.{Config}
 use Rattle.burst_plan.specs.declared.Region.{Region}
 use Rattle.bridge_core.proofs.HolderChanges.{find-none-kept}

@@ -1,7 +1,7 @@
 -- The limits of a bridge, and what they mean for its parts (this project's profile).
 use Rattle.std.specs.Prelude.{ℕ, ◌==◌, Bool, ◌&&◌, ◌||◌, nat_le, slice_get, unwrap_or}
 use Rattle.bus_words.specs.Lanes.{is_between}
-use Rattle.tl_checker.specs.Requests.{TlPortLimits}
+use Rattle.tl_checker.specs.RequestRules.{TlPortLimits}
 use Rattle.tl_checker.specs.declared.Level.TheVariants.{Ul}
 use Rattle.axi_checker.specs.Rules.{AxiPortLimits}
 use Rattle.burst_plan.specs.Pieces.{is_max_len}

@@ -1,5 +1,5 @@
 pub mod Configs
-pub mod Requests
+pub mod HeldRequests
 pub mod Sending
 pub mod Bridge
 pub mod Laws

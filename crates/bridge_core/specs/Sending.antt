@@ -13,7 +13,7 @@ use Rattle.flight_table.specs.LiveRequests.{next_burst, with_sent}
 use Rattle.flight_table.specs.Order.{IsSmallestReady, id_for, next_ready}
 use Rattle.flight_table.specs.Tables.{change_number}
 use Rattle.bridge_core.specs.Configs.{table_limits_of}
-use Rattle.bridge_core.specs.Requests.{BridgedRequest, RequestTable, flight_table_of, flights_of, may_send, value_found}
+use Rattle.bridge_core.specs.HeldRequests.{BridgedRequest, RequestTable, flight_table_of, flights_of, may_send, value_found}
 
 -- the number of a request's bytes, where those that aren't given count as zero
 abbrev pub operand_of : WholeRequest → ℕ

@@ -8,7 +8,7 @@ ghost use Rattle.tl_messages.specs.Requests.{request_of};
 ghost use Rattle.bridge_core.specs.Inside.{held_back, no_place};
 
 use crate::ports::{accept, judge, opening_ports, take_told};
-use crate::requests::RequestTable;
+use crate::request_table::RequestTable;
 use crate::{BridgeFault, Config, Offered, Taken};
 use axi_beats::{BBeat, BurstBox, RBeat};
 use axi_checker::{AxiRule, Monitor};
@@ -66,7 +66,7 @@ impl Bridge {
     ghost use Rattle.bridge_core.specs.Bridge.{after_b_beat, after_pump, after_r_beat, after_take, b_fault, boxes_of, burst_to_send, in_flight, offered, opening_bridge, r_fault, refuses_beat, reply_taken, taken, work_left};
     ghost use Rattle.bridge_core.specs.Configs.{axi_port_of, is_valid};
     ghost use Rattle.bridge_core.specs.Laws.{IsSoundBridge};
-    ghost use Rattle.bridge_core.specs.Requests.{oldest_done, flight_table_of, outline_in, reply_beats};
+    ghost use Rattle.bridge_core.specs.HeldRequests.{oldest_done, flight_table_of, outline_in, reply_beats};
     ghost use Rattle.bridge_core.specs.Sending.{SendsSmallest, next_sending};
 
     /// A bridge with these limits and this page map, on which no beat has come, with a box for each burst that may be

@@ -11,7 +11,7 @@ mod bridge;
 mod bursts;
 mod held;
 mod ports;
-mod requests;
+mod request_table;
 
 pub use bridge::Bridge;
 pub use bursts::atomic_number;

@@ -4,10 +4,10 @@ ghost use Rattle.tl_checker.specs.Ports.{judged, opening_port, port_after};
 ghost use Rattle.bridge_core.specs.Configs.{is_valid};
 ghost use Rattle.bridge_core.specs.Inside.{CanAccept, ports_from};
 ghost use Rattle.bridge_core.specs.Laws.{IsSoundRequestTable};
-ghost use Rattle.bridge_core.specs.Requests.{with_request};
+ghost use Rattle.bridge_core.specs.HeldRequests.{with_request};
 
 use crate::Config;
-use crate::requests::RequestTable;
+use crate::request_table::RequestTable;
 use std::alloc::{AllocError, Global};
 use tl_checker::{Port, Progress, TlRule};
 use tl_messages::ABeat;

@@ -9,7 +9,7 @@ use Rattle.bus_words.specs.Tables.{first_broken}
 use Rattle.tl_messages.specs.Requests.{HeldMessage}
 use Rattle.tl_messages.specs.declared.ABeat.{ABeat}
 use Rattle.tl_checker.specs.Ports.{judged_by}
-use Rattle.tl_checker.specs.Requests.{TlPortLimits, first_beat_rules, first_fault, later_beat_rules}
+use Rattle.tl_checker.specs.RequestRules.{TlPortLimits, first_beat_rules, first_fault, later_beat_rules}
 use Rattle.tl_checker.specs.declared.Progress.{Progress}
 use Rattle.tl_checker.specs.declared.TlRule.{TlRule}
 use Rattle.tl_checker.specs.declared.TlRule.TheVariants.{SourceBusy}

@@ -4,7 +4,7 @@ use Rattle.std.specs.Prelude.{option_map, slice_get, slice_set}
 use Rattle.std.proofs.lemmas.List.FromFn.{get_or-map-range_with_len, length-map-range_with_len}
 use Rattle.std.proofs.lemmas.Option.{get_or_from_slice_get, same_Some, slice_get-map, slice_get_within}
 use Rattle.tl_checker.specs.Ports.{PortState}
-use Rattle.tl_checker.specs.Requests.{TlPortLimits}
+use Rattle.tl_checker.specs.RequestRules.{TlPortLimits}
 use Rattle.bridge_core.specs.Configs.{port_of}
 use Rattle.bridge_core.specs.declared.Config.{Config}
 use Rattle.bridge_threads.specs.RefusedBeats.{client_limits, limits_of_ports}

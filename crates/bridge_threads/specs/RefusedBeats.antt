@@ -4,7 +4,7 @@ use Rattle.std.specs.List.{range_with_len}
 use Rattle.tl_messages.specs.Requests.{HeldMessage, is_whole}
 use Rattle.tl_messages.specs.declared.ABeat.{ABeat}
 use Rattle.tl_checker.specs.Ports.{PortState, joined}
-use Rattle.tl_checker.specs.Requests.{TlPortLimits, first_fault}
+use Rattle.tl_checker.specs.RequestRules.{TlPortLimits, first_fault}
 use Rattle.tl_checker.specs.declared.TlRule.{TlRule}
 use Rattle.bridge_core.specs.Configs.{port_of}
 use Rattle.bridge_core.specs.declared.Config.{Config}

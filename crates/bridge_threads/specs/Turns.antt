@@ -2,7 +2,7 @@
 -- the bridge and the memory do it is hidden.
 use Rattle.std.specs.Prelude.{ℕ, ◌+◌, ◌%◌, ◌==◌, ◌≡◌, ◌<◌, ◌≤◌, ◌⊎◌, ◌-◌, Bool, List, [], ◌∷◌, ◌++◌, length, Option, Some, None, is_some, slice_get, slice_index_or, if◌then◌else◌, nat_lt}
 use Rattle.tl_messages.specs.declared.ABeat.{ABeat}
-use Rattle.bridge_core.specs.Requests.{oldest_done}
+use Rattle.bridge_core.specs.HeldRequests.{oldest_done}
 use Rattle.world.specs.World.{WorldState, enabled, next}
 use Rattle.tl_messages.specs.declared.DBeat.{DBeat}
 use Rattle.tl_checker.specs.declared.TlRule.TheVariants.{SourceBusy}

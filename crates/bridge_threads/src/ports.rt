@@ -1,7 +1,7 @@
 //! What a client's script is on a port of its own.
 ghost use Rattle.std.specs.Prelude.{◌≡◌, None, true, false, IfSome};
 ghost use Rattle.tl_checker.specs.Ports.{opening_port};
-ghost use Rattle.tl_checker.specs.Requests.{first_fault};
+ghost use Rattle.tl_checker.specs.RequestRules.{first_fault};
 ghost use Rattle.bridge_threads.specs.RefusedBeats.{BreaksRule, front_with};
 
 use std::alloc::{AllocError, Global};

@@ -9,7 +9,7 @@ ghost use Rattle.flight_table.specs.Work.{unsent, work};
 
 use crate::TableLimits;
 use crate::live::Live;
-use crate::request::LiveRequest;
+use crate::live_request::LiveRequest;
 use crate::slots::Key;
 use burst_plan::{Piece, Plan};
 use std::alloc::{AllocError, Global};

@@ -10,7 +10,7 @@ mod flight;
 mod ids;
 mod live;
 mod marks;
-mod request;
+mod live_request;
 mod rows;
 mod scans;
 mod slots;

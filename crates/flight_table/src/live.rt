@@ -14,7 +14,7 @@ use crate::TableLimits;
 use crate::clients::{Clients, OwnRequest};
 use crate::ids::Ids;
 use crate::marks::Marks;
-use crate::request::LiveRequest;
+use crate::live_request::LiveRequest;
 use crate::rows::Rows;
 use crate::slots::{Key, ROOM, Slots};
 use crate::spans::{Span, count_in, lower};

@@ -3,7 +3,7 @@ ghost use Rattle.std.specs.Prelude.{◌≡◌, ℕ, ◌<◌, Bool, IfSome, posit
 ghost use Rattle.flight_table.specs.Inside.{stored};
 ghost use Rattle.flight_table.specs.Tables.{has_number};
 
-use crate::request::LiveRequest;
+use crate::live_request::LiveRequest;
 use crate::slots::Key;
 use slab::Slab;
 use tl_messages::Operation;

@@ -6,7 +6,7 @@ ghost use Rattle.bus_words.specs.Places.{AreDistinct, change_first, without_firs
 ghost use Rattle.flight_table.specs.Tables.{change_entry, has_key, has_number, key_in, request_in, requests_of};
 ghost use Rattle.flight_table.specs.Laws.{HaveOwnKeys};
 
-use crate::request::LiveRequest;
+use crate::live_request::LiveRequest;
 use crate::scans::{key_at, of_number, stored};
 use slab::Slab;
 use std::alloc::{AllocError, Global};

@@ -3,7 +3,7 @@ ghost use Rattle.std.specs.Prelude.{◌≡◌};
 ghost use Rattle.flight_table.specs.Inside.{IsProgress};
 ghost use Rattle.flight_table.specs.Sums.{ArePart, AreSmall, IsSmall, no_sums, with_sums};
 
-use crate::request::LiveRequest;
+use crate::live_request::LiveRequest;
 
 /// The work of a request, and of that the work of its unsent bursts.
 #[derive(Clone, Copy)]

@@ -9,7 +9,7 @@ use Rattle.tl_messages.specs.Requests.{HeldMessage, WholeRequest, request_of}
 use Rattle.tl_messages.specs.declared.DBeat.{DBeat}
 use Rattle.burst_plan.specs.declared.Region.{Region}
 use Rattle.responses.specs.Shown.{shown}
-use Rattle.bridge_core.specs.Requests.{address_of}
+use Rattle.bridge_core.specs.HeldRequests.{address_of}
 use Rattle.subordinate.specs.Faults.{Faults}
 use Rattle.world_run.specs.Meaning.{Bytes, meaning, zeros}
 use Rattle.scoreboard.specs.Boards.{ClientBoard, DueBoard, due_of, none_left, with_due}

@@ -15,7 +15,7 @@ use Rattle.tl_messages.specs.declared.AtomicOp.TheVariants.{Min, Max, MinU, MaxU
 use Rattle.tl_messages.specs.declared.MaskedWord.{MaskedWord}
 use Rattle.tl_messages.specs.declared.Operation.TheVariants.{PutPartial, Atomic}
 use Rattle.tl_checker.specs.Ports.{IsFrontOf, joined, judged}
-use Rattle.tl_checker.specs.Requests.{TlPortLimits}
+use Rattle.tl_checker.specs.RequestRules.{TlPortLimits}
 use Rattle.tl_checker.specs.Sound.{IsSound}
 use Rattle.tl_checker.specs.declared.Progress.{Progress}
 use Rattle.tl_checker.specs.declared.Progress.TheVariants.{More, Whole}

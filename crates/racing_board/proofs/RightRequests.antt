@@ -9,7 +9,7 @@ use Rattle.tl_messages.specs.Requests.{HeldMessage, WholeRequest, held_of, reque
 use Rattle.tl_messages.specs.declared.ABeat.{ABeat}
 use Rattle.tl_messages.specs.declared.DBeat.{DBeat}
 use Rattle.tl_checker.specs.Ports.{joined, judged}
-use Rattle.tl_checker.specs.Requests.{Spells, TlPortLimits}
+use Rattle.tl_checker.specs.RequestRules.{Spells, TlPortLimits}
 use Rattle.tl_checker.specs.declared.Progress.{Progress}
 use Rattle.tl_checker.specs.declared.Progress.TheVariants.{More, Whole}
 use Rattle.tl_checker.specs.declared.TlRule.{TlRule}

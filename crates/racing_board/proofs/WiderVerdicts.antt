@@ -7,7 +7,7 @@ use Rattle.tl_messages.specs.Requests.{HeldMessage}
 use Rattle.tl_messages.specs.declared.ABeat.{ABeat}
 use Rattle.tl_messages.specs.declared.DBeat.{DBeat}
 use Rattle.tl_checker.specs.Ports.{joined, judged, judged_by, progress_of}
-use Rattle.tl_checker.specs.Requests.{TlPortLimits, first_beat_rules, first_fault}
+use Rattle.tl_checker.specs.RequestRules.{TlPortLimits, first_beat_rules, first_fault}
 use Rattle.tl_checker.specs.declared.Progress.{Progress}
 use Rattle.tl_checker.specs.declared.TlRule.{TlRule}
 use Rattle.tl_checker.specs.declared.TlRule.TheVariants.{SourceBusy}

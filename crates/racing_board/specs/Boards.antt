@@ -16,7 +16,7 @@ use Rattle.tl_checker.specs.declared.TlRule.{TlRule}
 use Rattle.axi_checker.specs.OpenBursts.{AxiBeat, OnAr, OnAw, OnB, OnR, OnW}
 use Rattle.burst_plan.specs.declared.Region.{Region}
 use Rattle.responses.specs.Shown.{shown}
-use Rattle.bridge_core.specs.Requests.{address_of}
+use Rattle.bridge_core.specs.HeldRequests.{address_of}
 use Rattle.subordinate.specs.Faults.{Faults, is_good, standing_at}
 use Rattle.world_run.specs.Meaning.{Bytes, Effect, meaning}
 use Rattle.world.specs.Setups.{SetupLists}

@@ -8,7 +8,7 @@ use Rattle.tl_messages.specs.Requests.{WholeRequest}
 use Rattle.tl_messages.specs.declared.DBeat.{DBeat}
 use Rattle.tl_messages.specs.declared.Operation.{Operation}
 use Rattle.tl_messages.specs.declared.Operation.TheVariants.{Atomic, Get}
-use Rattle.tl_checker.specs.Replies.{reply_fault, wrong_corrupt}
+use Rattle.tl_checker.specs.ReplyRules.{reply_fault, wrong_corrupt}
 use Rattle.responses.specs.Shown.{Reply, beat_of_word, beat_without_data, lacks_a_byte, shown}
 
 same_number : (n : ℕ) → (n == n) ≡ true

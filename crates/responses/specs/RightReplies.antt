@@ -5,7 +5,7 @@ use Rattle.tl_messages.specs.Lanes.{in_range, lane_of}
 use Rattle.tl_messages.specs.Operations.{reply_has_data}
 use Rattle.tl_messages.specs.Requests.{WholeRequest}
 use Rattle.tl_messages.specs.declared.DBeat.{DBeat}
-use Rattle.tl_checker.specs.Replies.{reply_fault}
+use Rattle.tl_checker.specs.ReplyRules.{reply_fault}
 use Rattle.responses.specs.Shown.{Reply, address_in_word, lacks_a_byte}
 
 -- the beats break no rule on replies; a beat is corrupt just where the reply has data, and is denied or lacks a byte of that word; a byte that

@@ -13,7 +13,7 @@ use Rattle.axi_beats.specs.declared.Resp.{Resp}
 use Rattle.flight_table.specs.LiveRequests.{finished, is_settled, with_answered, with_write}
 use Rattle.flight_table.specs.Tables.{has_source}
 use Rattle.responses.specs.Gathered.{after_b, after_r}
-use Rattle.bridge_core.specs.Requests.{BridgedRequest, after_read, after_response, after_sending, flights_of, outline_in, settled, value_found}
+use Rattle.bridge_core.specs.HeldRequests.{BridgedRequest, after_read, after_response, after_sending, flights_of, outline_in, settled, value_found}
 use Rattle.bridge_core.proofs.HolderChanges.{find-none-kept, length-filter-map}
 use Rattle.bridge_core.proofs.SendingLinks.{find-append-fails}
 

@@ -3,7 +3,7 @@ use Rattle.std.proofs.Common.{◌≡◌, ℕ, Bool, true, false, List, Option, S
 use Rattle.tl_messages.specs.Requests.{WholeRequest}
 use Rattle.burst_plan.specs.PageMap.{translated_address}
 use Rattle.burst_plan.specs.declared.Region.{Region}
-use Rattle.bridge_core.specs.Requests.{address_of}
+use Rattle.bridge_core.specs.HeldRequests.{address_of}
 use Rattle.subordinate.specs.Faults.{Faults, is_bad, standing_at}
 use Rattle.world_run.specs.Meaning.{Bytes, Effect, denied, effect, effect_at, meaning}
 

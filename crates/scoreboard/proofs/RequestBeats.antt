@@ -6,7 +6,7 @@ use Rattle.tl_messages.specs.Requests.{WholeRequest, held_of, request_of}
 use Rattle.tl_messages.specs.Operations.{beats_of, opcode_has_data}
 use Rattle.tl_messages.specs.declared.ABeat.{ABeat}
 use Rattle.tl_checker.specs.Ports.{is_free, joined, judged}
-use Rattle.tl_checker.specs.Requests.{IsFront, Spells, TlPortLimits}
+use Rattle.tl_checker.specs.RequestRules.{IsFront, Spells, TlPortLimits}
 use Rattle.tl_checker.specs.declared.Progress.{Progress}
 use Rattle.tl_checker.specs.declared.Progress.TheVariants.{More, Whole}
 use Rattle.tl_checker.specs.declared.TlRule.{TlRule}

@@ -10,7 +10,7 @@ use Rattle.bus_words.proofs.PlaceChanges.{all-append}
 use Rattle.tl_messages.specs.Requests.{HeldMessage, WholeRequest, held_of, message_of, request_of}
 use Rattle.tl_messages.specs.declared.ABeat.{ABeat}
 use Rattle.tl_checker.specs.Ports.{joined, judged}
-use Rattle.tl_checker.specs.Requests.{IsFront, Spells, TlPortLimits}
+use Rattle.tl_checker.specs.RequestRules.{IsFront, Spells, TlPortLimits}
 use Rattle.tl_checker.specs.declared.Progress.{Progress}
 use Rattle.tl_checker.specs.declared.Progress.TheVariants.{More, Whole}
 use Rattle.tl_checker.specs.declared.TlRule.{TlRule}

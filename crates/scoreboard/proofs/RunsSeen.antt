@@ -12,7 +12,7 @@ use Rattle.bus_words.proofs.PlaceChanges.{all-find, find-passes}
 use Rattle.tl_messages.specs.Requests.{HeldMessage, WholeRequest, held_of, message_of, request_of}
 use Rattle.tl_messages.specs.declared.ABeat.{ABeat}
 use Rattle.tl_messages.specs.declared.DBeat.{DBeat}
-use Rattle.tl_checker.specs.Requests.{IsFront}
+use Rattle.tl_checker.specs.RequestRules.{IsFront}
 use Rattle.tl_checker.specs.declared.Progress.TheVariants.{More as Begins}
 use Rattle.tl_checker.proofs.Taken.{front_exact}
 use Rattle.axi_beats.specs.declared.BBeat.{BBeat}
@@ -29,7 +29,7 @@ use Rattle.responses.specs.Shown.{Reply as ReplyGiven, shown}
 use Rattle.bridge_core.specs.Bridge.{BridgeState, after_b_beat, after_r_beat, after_sent, after_take, b_fault, front_of, message_with, r_fault}
 use Rattle.bridge_core.specs.Configs.{axi_port_of, port_of}
 use Rattle.bridge_core.specs.Laws.{IsFreeFront, IsServed}
-use Rattle.bridge_core.specs.Requests.{BridgedRequest, after_read, after_response, after_sending, oldest_done, holds, is_done_for, is_numbered, newly_live, outline_in, reply_beats}
+use Rattle.bridge_core.specs.HeldRequests.{BridgedRequest, after_read, after_response, after_sending, oldest_done, holds, is_done_for, is_numbered, newly_live, outline_in, reply_beats}
 use Rattle.bridge_core.specs.Sending.{Sending, next_sending}
 use Rattle.bridge_core.specs.declared.Config.{Config}
 use Rattle.bridge_core.proofs.HolderChanges.{length-filter-map}

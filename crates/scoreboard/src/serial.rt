@@ -5,7 +5,7 @@ ghost use Rattle.tl_messages.specs.Operations.{has_data};
 ghost use Rattle.tl_messages.specs.Requests.{bytes_given, request_of};
 ghost use Rattle.tl_messages.specs.declared.Operation.TheVariants.{Atomic};
 ghost use Rattle.data_unit.specs.Atomics.{atomic_result, modulus};
-ghost use Rattle.bridge_core.specs.Requests.{address_of};
+ghost use Rattle.bridge_core.specs.HeldRequests.{address_of};
 ghost use Rattle.bridge_core.specs.Sending.{operand_of};
 ghost use Rattle.responses.specs.Answers.{after_reads};
 ghost use Rattle.responses.specs.Gathered.{after_b, gathered, outline_of, reads_of};

@@ -7,7 +7,7 @@ use Rattle.bus_words.specs.Tables.{first_broken}
 use Rattle.tl_messages.specs.Operations.{named_operation, operation_of, opcode_of, param_of}
 use Rattle.tl_messages.specs.Requests.{HeldMessage, begun}
 use Rattle.tl_messages.specs.declared.ABeat.{ABeat}
-use Rattle.tl_checker.specs.Requests.{TlPortLimits, beyond_level, is_atomic_size, largest_param, wrong_mask, same_control, first_beat_rules, later_beat_rules, first_fault}
+use Rattle.tl_checker.specs.RequestRules.{TlPortLimits, beyond_level, is_atomic_size, largest_param, wrong_mask, same_control, first_beat_rules, later_beat_rules, first_fault}
 use Rattle.tl_checker.specs.declared.TlRule.{TlRule}
 
 -- a table of which no rule is broken, row by row

@@ -6,8 +6,8 @@ use Rattle.tl_messages.specs.declared.DBeat.{DBeat}
 use Rattle.tl_messages.specs.declared.Operation.TheVariants.{Get}
 use Rattle.tl_checker.specs.Names.{number_of}
 use Rattle.tl_checker.specs.Ports.{judged}
-use Rattle.tl_checker.specs.Replies.{reply_fault, reply_rules}
-use Rattle.tl_checker.specs.Requests.{TlPortLimits, first_beat_rules, later_beat_rules, first_fault, Spells}
+use Rattle.tl_checker.specs.ReplyRules.{reply_fault, reply_rules}
+use Rattle.tl_checker.specs.RequestRules.{TlPortLimits, first_beat_rules, later_beat_rules, first_fault, Spells}
 use Rattle.tl_checker.specs.declared.Level.TheVariants.{Ul, Uh}
 use Rattle.tl_checker.specs.declared.Progress.TheVariants.{More, Whole}
 use Rattle.tl_checker.specs.declared.TlRule.{TlRule}

@@ -9,7 +9,7 @@ use Rattle.std.specs.List.{list_all}
 use Rattle.tl_messages.specs.Operations.{opcode_has_data, beats_of}
 use Rattle.tl_messages.specs.Requests.{WholeRequest, begun, message_of, request_of, is_whole, masked_word}
 use Rattle.tl_messages.specs.declared.ABeat.{ABeat}
-use Rattle.tl_checker.specs.Requests.{TlPortLimits, first_fault, Spells, IsFront}
+use Rattle.tl_checker.specs.RequestRules.{TlPortLimits, first_fault, Spells, IsFront}
 use Rattle.tl_checker.specs.declared.Level.TheVariants.{Ul, Uh}
 use Rattle.tl_checker.proofs.BeatRules.{first_none, right_named, is_right_later, right_again}
 

@@ -7,7 +7,7 @@ use Rattle.tl_messages.specs.Requests.{HeldMessage, begun, with_beat, held_of, m
 use Rattle.tl_messages.specs.declared.ABeat.{ABeat}
 use Rattle.tl_checker.specs.Inside.{CanJoin, front_at, whole_at, limits_of, port_state, stage_after}
 use Rattle.tl_checker.specs.Ports.{PortState, joined, progress_of, judged_by, judged, port_after, opening_port, is_free, ReadsAs, IsFrontOf, CameOfBeats}
-use Rattle.tl_checker.specs.Requests.{TlPortLimits, first_fault}
+use Rattle.tl_checker.specs.RequestRules.{TlPortLimits, first_fault}
 use Rattle.tl_checker.specs.declared.Level.{Level}
 use Rattle.tl_checker.specs.declared.Progress.{Progress}
 use Rattle.tl_checker.specs.declared.Progress.TheVariants.{More, Whole}

@@ -8,7 +8,7 @@ use Rattle.std.specs.Prelude.{◌&&◌, ◌||◌, ◌↔◌}
 use Rattle.tl_messages.specs.Operations.{reply_opcode, reply_has_data, beats_of}
 use Rattle.tl_messages.specs.Requests.{WholeRequest}
 use Rattle.tl_messages.specs.declared.DBeat.{DBeat}
-use Rattle.tl_checker.specs.Replies.{wrong_corrupt, reply_rules, reply_fault, IsReplyBeat, IsReplyTo}
+use Rattle.tl_checker.specs.ReplyRules.{wrong_corrupt, reply_rules, reply_fault, IsReplyBeat, IsReplyTo}
 use Rattle.tl_checker.proofs.BeatRules.{NoneBroken, none_broken}
 
 -- ---- tests on a list

@@ -18,7 +18,7 @@ use Rattle.data_unit.specs.Words.{full_mask}
 use Rattle.data_unit.proofs.FullMask.{has_lane-full_mask}
 use Rattle.tl_checker.specs.Inside.{whole_at}
 use Rattle.tl_checker.specs.Ports.{HasSpelling}
-use Rattle.tl_checker.specs.Requests.{TlPortLimits, beyond_level, is_atomic_size, wrong_mask}
+use Rattle.tl_checker.specs.RequestRules.{TlPortLimits, beyond_level, is_atomic_size, wrong_mask}
 use Rattle.tl_checker.specs.Sound.{IsRightMask, IsSound}
 use Rattle.tl_checker.specs.declared.Level.{Level}
 use Rattle.tl_checker.specs.declared.Level.TheVariants.{Ul, Uh}

@@ -12,7 +12,7 @@ use Rattle.tl_messages.specs.declared.ABeat.{ABeat}
 use Rattle.tl_messages.specs.declared.MaskedWord.{MaskedWord}
 use Rattle.tl_messages.specs.declared.Operation.TheVariants.{PutPartial}
 use Rattle.data_unit.proofs.FullMask.{has_lane-full_mask}
-use Rattle.tl_checker.specs.Requests.{TlPortLimits, Spells}
+use Rattle.tl_checker.specs.RequestRules.{TlPortLimits, Spells}
 use Rattle.tl_checker.specs.Sound.{IsRightMask, IsSound}
 use Rattle.tl_checker.proofs.BeatRules.{IsRightFirst, first_none, right_named, is_right_later, later_parts}
 

@@ -7,7 +7,7 @@ use Rattle.std.specs.Prelude.{◌↔◌, option_map}
 use Rattle.tl_messages.specs.Requests.{HeldMessage, WholeRequest, begun, with_beat, message_of, held_of, request_of}
 use Rattle.tl_messages.specs.declared.ABeat.{ABeat}
 use Rattle.tl_checker.specs.Ports.{joined}
-use Rattle.tl_checker.specs.Requests.{TlPortLimits, first_fault, Spells, IsFront}
+use Rattle.tl_checker.specs.RequestRules.{TlPortLimits, first_fault, Spells, IsFront}
 use Rattle.tl_checker.proofs.BeatRules.{is_right_later, later_none, later_right}
 use Rattle.tl_checker.proofs.Fronts.{HasBegun, beats_wanted, spells_begun, front_part, part_front, none_front}
 use Rattle.tl_checker.proofs.Taking.{held-append}

@@ -9,7 +9,7 @@ use Rattle.std.specs.Prelude.{◌&&◌, option_map}
 use Rattle.tl_messages.specs.Requests.{HeldMessage, WholeRequest, begun, with_beat, message_of, held_of, request_of, is_whole, masked_word}
 use Rattle.tl_messages.specs.declared.ABeat.{ABeat}
 use Rattle.tl_checker.specs.Ports.{joined, progress_of, judged_by, judged, is_free, ReadsAs}
-use Rattle.tl_checker.specs.Requests.{TlPortLimits, first_fault, Spells, IsFront}
+use Rattle.tl_checker.specs.RequestRules.{TlPortLimits, first_fault, Spells, IsFront}
 use Rattle.tl_checker.specs.declared.Progress.{Progress}
 use Rattle.tl_checker.specs.declared.Progress.TheVariants.{More, Whole}
 use Rattle.tl_checker.specs.declared.TlRule.{TlRule}

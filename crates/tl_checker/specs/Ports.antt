@@ -2,7 +2,7 @@
 use Rattle.std.specs.Prelude.{◌≡◌, ◌↔◌, Bool, ◌&&◌, not, List, Option, Some, None, is_none, option_map, Result, Ok, Err, IfSome, IsTrue, if◌then◌else◌}
 use Rattle.tl_messages.specs.Requests.{HeldMessage, WholeRequest, begun, with_beat, held_of, is_whole, request_of}
 use Rattle.tl_messages.specs.declared.ABeat.{ABeat}
-use Rattle.tl_checker.specs.Requests.{TlPortLimits, first_fault, Spells, IsFront}
+use Rattle.tl_checker.specs.RequestRules.{TlPortLimits, first_fault, Spells, IsFront}
 use Rattle.tl_checker.specs.declared.Progress.{Progress}
 use Rattle.tl_checker.specs.declared.Progress.TheVariants.{More, Whole}
 use Rattle.tl_checker.specs.declared.TlRule.{TlRule}

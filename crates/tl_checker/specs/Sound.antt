@@ -10,7 +10,7 @@ use Rattle.tl_messages.specs.declared.MaskedWord.{MaskedWord}
 use Rattle.tl_messages.specs.declared.Operation.{Operation}
 use Rattle.tl_messages.specs.declared.Operation.TheVariants.{PutPartial, Atomic}
 use Rattle.data_unit.specs.Words.{full_mask}
-use Rattle.tl_checker.specs.Requests.{TlPortLimits}
+use Rattle.tl_checker.specs.RequestRules.{TlPortLimits}
 use Rattle.tl_checker.specs.declared.Level.TheVariants.{Ul}
 
 -- a mask has no lane outside those of address and size, and for every operation but PutPartial it has just these

@@ -4,11 +4,11 @@
 
 mod names;
 mod port;
-mod replies;
-mod requests;
+mod reply_rules;
+mod request_rules;
 
 pub use port::Port;
-pub use replies::check_reply;
+pub use reply_rules::check_reply;
 
 /// The conformance level of a port (TileLink 1.8, TL-UL and TL-UH).
 #[derive(Clone, Copy, Debug, PartialEq, Eq)]

@@ -4,10 +4,10 @@ ghost use Rattle.std.specs.Option.{option_copied};
 ghost use Rattle.tl_messages.specs.declared.ABeat.{ABeat};
 ghost use Rattle.tl_checker.specs.Inside.{CanJoin, front_at, limits_of, stage_after};
 ghost use Rattle.tl_checker.specs.Ports.{joined, judged};
-ghost use Rattle.tl_checker.specs.Requests.{TlPortLimits};
+ghost use Rattle.tl_checker.specs.RequestRules.{TlPortLimits};
 ghost use Rattle.tl_checker.specs.declared.Progress.TheVariants.{More, Whole};
 
-use crate::requests::{first_beat_fault, later_beat_fault};
+use crate::request_rules::{first_beat_fault, later_beat_fault};
 use crate::{Level, Progress, TlRule};
 use std::alloc::{AllocError, Global};
 use std::marker::Model;

@@ -15,7 +15,7 @@ use Rattle.burst_plan.specs.declared.Piece.{Piece}
 use Rattle.flight_table.specs.LiveRequests.{LiveRequest, planned}
 use Rattle.bridge_core.specs.Bridge.{BridgeState, StockedBridge, boxes_of, burst_to_send}
 use Rattle.bridge_core.specs.Laws.{IsSoundBridge, came_of, open_reads, open_writes, outstanding, outstanding_of}
-use Rattle.bridge_core.specs.Requests.{BridgedRequest, holder}
+use Rattle.bridge_core.specs.HeldRequests.{BridgedRequest, holder}
 use Rattle.bridge_core.specs.Sending.{Sending, next_sending}
 use Rattle.subordinate.specs.Device.{DeviceState}
 use Rattle.world.specs.Inside.{ArePaired}

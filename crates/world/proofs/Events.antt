@@ -12,7 +12,7 @@ use Rattle.tl_checker.specs.declared.Progress.TheVariants.{More as Begins, Whole
 use Rattle.tl_checker.specs.declared.TlRule.{TlRule}
 use Rattle.flight_table.specs.Tables.{has_room}
 use Rattle.bridge_core.specs.Bridge.{BridgeState, after_pump_of, after_sent, completed, message_with, offered_after, reply_taken, verdict_on, with_front}
-use Rattle.bridge_core.specs.Requests.{BridgedRequest, flight_table_of, oldest_done, with_request}
+use Rattle.bridge_core.specs.HeldRequests.{BridgedRequest, flight_table_of, oldest_done, with_request}
 use Rattle.bridge_core.specs.Sending.{Sending, next_sending}
 use Rattle.subordinate.specs.FreeMemory.{FreeMemory, performed, b_of, r_of, with_burst}
 use Rattle.subordinate.specs.declared.Performed.{Performed}

@@ -12,7 +12,7 @@ use Rattle.burst_plan.proofs.PieceLaws.{burst_count, divides_evenly, length-piec
 use Rattle.burst_plan.specs.declared.Region.{Region}
 use Rattle.bridge_core.specs.Configs.{is_valid}
 use Rattle.bridge_core.specs.Laws.{IsServed}
-use Rattle.bridge_core.specs.Requests.{BridgedRequest}
+use Rattle.bridge_core.specs.HeldRequests.{BridgedRequest}
 use Rattle.bridge_core.specs.declared.Config.{Config}
 use Rattle.bridge_core.proofs.SentBursts.{plannable}
 use Rattle.flight_table.specs.LiveRequests.{LiveRequest, all_sent, pieces_planned, planned, read_pieces}

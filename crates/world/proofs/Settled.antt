@@ -1,7 +1,7 @@
 -- A request is settled after an answer: it goes on, plans its write, or is finished. It knows one live request; the answer and the memory are
 -- hidden.
 use Rattle.std.proofs.Common.{◌≡◌, false, refl, sym, subst, inl, inr, ◌⊎◌}
-use Rattle.bridge_core.specs.Requests.{BridgedRequest, settled}
+use Rattle.bridge_core.specs.HeldRequests.{BridgedRequest, settled}
 use Rattle.bridge_core.proofs.ResponseLinks.{finished_one, settled_as, with_its_write}
 
 pub settled_has : (P : BridgedRequest → Type 0) (request : BridgedRequest) → P request → (request.flight.writing ≡ false → P (with_its_write request)) → P (finished_one request)

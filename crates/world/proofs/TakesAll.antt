@@ -16,7 +16,7 @@ use Rattle.axi_checker.proofs.Taking.{legal_is_unbroken}
 use Rattle.bridge_core.specs.Bridge.{BridgeState, b_fault, burst_to_send, r_fault}
 use Rattle.bridge_core.proofs.HolderChanges.{filter-found}
 use Rattle.bridge_core.specs.Laws.{IsSoundBridge}
-use Rattle.bridge_core.specs.Requests.{BridgedRequest, holder}
+use Rattle.bridge_core.specs.HeldRequests.{BridgedRequest, holder}
 use Rattle.bridge_core.specs.Sending.{Sending, next_sending}
 use Rattle.bridge_core.proofs.AnswerLinks.{holder_known}
 use Rattle.bridge_core.proofs.JoinedRequests.{limits_made}

@@ -12,7 +12,7 @@ use Rattle.subordinate.specs.declared.PageKind.{PageKind}
 use Rattle.world.specs.Inside.{ArePaired}
 use Rattle.bus_words.proofs.PlaceChanges.{length-change_first}
 use Rattle.tl_messages.specs.declared.ABeat.{ABeat}
-use Rattle.bridge_core.specs.Requests.{BridgedRequest, is_done_for}
+use Rattle.bridge_core.specs.HeldRequests.{BridgedRequest, is_done_for}
 use Rattle.subordinate.specs.FreeMemory.{FreeMemory, Pending, beat_at, has_serial, performed, performed_beat, performed_in}
 use Rattle.subordinate.specs.declared.Performed.{Performed}
 use Rattle.subordinate.specs.declared.BeatState.{BeatState}

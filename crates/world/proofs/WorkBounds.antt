@@ -16,7 +16,7 @@ use Rattle.flight_table.specs.LiveRequests.{LiveRequest, bursts_of, phase_pieces
 use Rattle.flight_table.specs.Work.{answers_of_burst, beats_of_burst, later_work, unsent_work, work_of_bursts}
 use Rattle.bridge_core.specs.Configs.{is_valid}
 use Rattle.bridge_core.specs.Laws.{IsServed, beats_in}
-use Rattle.bridge_core.specs.Requests.{BridgedRequest, flights_of}
+use Rattle.bridge_core.specs.HeldRequests.{BridgedRequest, flights_of}
 use Rattle.bridge_core.specs.declared.Config.{Config}
 use Rattle.world.specs.Laws.{IsSoundWorld}
 use Rattle.world.specs.World.{WorldState, work_left}

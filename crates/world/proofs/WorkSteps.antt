@@ -14,7 +14,7 @@ use Rattle.burst_plan.specs.declared.Piece.{Piece}
 use Rattle.flight_table.specs.LiveRequests.{LiveRequest, finished, is_settled, next_burst, planned, with_answered, with_sent, with_write}
 use Rattle.flight_table.specs.Work.{answers_of_burst, beats_of_burst, later_work, spared_work, unsent_work, work_of_bursts}
 use Rattle.bridge_core.specs.Bridge.{after_sent, burst_to_send}
-use Rattle.bridge_core.specs.Requests.{BridgedRequest, after_read, after_response, after_sending, flights_of, holds, is_numbered, may_send, outline_in, settled, value_found}
+use Rattle.bridge_core.specs.HeldRequests.{BridgedRequest, after_read, after_response, after_sending, flights_of, holds, is_numbered, may_send, outline_in, settled, value_found}
 use Rattle.bridge_core.specs.Sending.{Sending, burst_of_piece, next_sending}
 use Rattle.bridge_core.proofs.AnswerLinks.{answered_reader, answered_writer}
 use Rattle.bridge_core.proofs.NextSending.{map_some, next_found}

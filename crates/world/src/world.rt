@@ -49,7 +49,7 @@ impl Drop for World {
 }
 
 impl World {
-    ghost use Rattle.bridge_core.specs.Requests.{oldest_done};
+    ghost use Rattle.bridge_core.specs.HeldRequests.{oldest_done};
     ghost use Rattle.std.specs.Prelude.{is_some};
     ghost use Rattle.bridge_core.specs.Bridge as bridges;
     ghost use Rattle.subordinate.specs.FreeMemory.{performed_waiting};

@@ -9,7 +9,7 @@ use Rattle.std.proofs.lemmas.List.{length-set, length-replicate}
 use Rattle.tl_messages.specs.Requests.{HeldMessage, WholeRequest, held_of, request_of}
 use Rattle.tl_messages.specs.declared.ABeat.{ABeat}
 use Rattle.tl_checker.specs.Ports.{IsFrontOf, IsSpellingOf, ReadsAs, joined, judged, is_free}
-use Rattle.tl_checker.specs.Requests.{Spells}
+use Rattle.tl_checker.specs.RequestRules.{Spells}
 use Rattle.tl_checker.specs.declared.Progress.{Progress}
 use Rattle.tl_checker.specs.declared.Progress.TheVariants.{More as Begins, Whole}
 use Rattle.tl_checker.proofs.Fronts.{none_front}
@@ -17,7 +17,7 @@ use Rattle.tl_checker.proofs.Taking.{held-append, reads, whole_by}
 use Rattle.flight_table.specs.Tables.{is_busy}
 use Rattle.bridge_core.specs.Bridge.{BridgeState, front_of, message_with, verdict_on, with_front}
 use Rattle.bridge_core.specs.Configs.{port_of}
-use Rattle.bridge_core.specs.Requests.{flight_table_of}
+use Rattle.bridge_core.specs.HeldRequests.{flight_table_of}
 use Rattle.bridge_core.specs.declared.Config.{Config}
 use Rattle.bridge_core.proofs.Openings.{nothing_begun}
 use Rattle.bridge_core.proofs.PortPlaces.{get_set, get_set-other}

@@ -22,7 +22,7 @@ use Rattle.burst_plan.specs.declared.Region.{Region}
 use Rattle.burst_plan.specs.Pieces.{IsPlannable, PlannedRange}
 use Rattle.burst_plan.specs.PlannedTransfers.{HasAddress}
 use Rattle.burst_plan.proofs.PieceLaws.{range_in_page}
-use Rattle.bridge_core.specs.Requests.{address_of, BridgedRequest, value_found}
+use Rattle.bridge_core.specs.HeldRequests.{address_of, BridgedRequest, value_found}
 use Rattle.bridge_core.specs.Sending.{bytes_written, operand_of}
 use Rattle.subordinate.specs.Faults.{Faults, Standing, IsGood, standing_at, is_bad, is_good, lists_page, standing_of_listed}
 use Rattle.world_run.specs.Meaning.{Bytes, atomic_bytes, bytes_after_all, bytes_at, denied, effect, effect_at, meaning, replies_in_order, zeros}

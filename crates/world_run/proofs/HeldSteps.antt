@@ -24,7 +24,7 @@ use Rattle.flight_table.specs.Order.{holds_back, is_get, is_held, share_bytes, i
 use Rattle.flight_table.specs.Laws.{AreRising, IsSoundRequest}
 use Rattle.flight_table.proofs.TableChanges.{all-map}
 use Rattle.bridge_core.specs.Laws.{IsOfMessage, IsServed, IsSoundRequestTable}
-use Rattle.bridge_core.specs.Requests.{BridgedRequest, RequestTable, address_of, flights_of, is_numbered, range_at, range_of, after_read, after_response, after_sending, holds, is_done_for, newly_live, outline_in, settled, value_found, with_read, with_request, with_response, with_sent_burst, without_done}
+use Rattle.bridge_core.specs.HeldRequests.{BridgedRequest, RequestTable, address_of, flights_of, is_numbered, range_at, range_of, after_read, after_response, after_sending, holds, is_done_for, newly_live, outline_in, settled, value_found, with_read, with_request, with_response, with_sent_burst, without_done}
 use Rattle.bridge_core.specs.declared.Config.{Config}
 use Rattle.bridge_core.specs.Bridge.{message_with}
 use Rattle.bridge_core.specs.Configs.{table_limits_of}

@@ -25,7 +25,7 @@ use Rattle.responses.specs.Gathered.{after_b, after_r}
 use Rattle.flight_table.specs.Laws.{AreRising, IsSoundRequest}
 use Rattle.flight_table.specs.LiveRequests.{LiveRequest, with_answered}
 use Rattle.bridge_core.specs.Configs.{table_limits_of, axi_port_of}
-use Rattle.bridge_core.specs.Requests.{BridgedRequest, RequestTable, after_read, after_response, after_sending, oldest_done, flights_of, holds, is_done_for, is_numbered, newly_live, outline_in, settled}
+use Rattle.bridge_core.specs.HeldRequests.{BridgedRequest, RequestTable, after_read, after_response, after_sending, oldest_done, flights_of, holds, is_done_for, is_numbered, newly_live, outline_in, settled}
 use Rattle.bridge_core.specs.Bridge.{message_with, b_fault, r_fault}
 use Rattle.bridge_core.specs.Sending.{Sending, next_sending}
 use Rattle.bridge_core.specs.declared.Config.{Config}

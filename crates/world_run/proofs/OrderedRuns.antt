@@ -15,7 +15,7 @@ use Rattle.responses.specs.Shown.{Reply as ReplyGiven, shown}
 use Rattle.bridge_core.specs.Bridge.{message_with, reply_taken}
 use Rattle.bridge_core.specs.Configs.{table_limits_of}
 use Rattle.bridge_core.specs.Laws.{IsServed}
-use Rattle.bridge_core.specs.Requests.{BridgedRequest, address_of, oldest_done, flights_of, is_done_for, is_numbered, reply_beats}
+use Rattle.bridge_core.specs.HeldRequests.{BridgedRequest, address_of, oldest_done, flights_of, is_done_for, is_numbered, reply_beats}
 use Rattle.bridge_core.proofs.HolderChanges.{all-mapped}
 use Rattle.subordinate.specs.Faults.{Faults, is_good, standing_at}
 use Rattle.world_run.specs.Headline.{IsReplyTo, byte_shown, bytes_of_all, replies_of}

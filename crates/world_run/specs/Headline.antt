@@ -4,7 +4,7 @@
 use Rattle.std.specs.Prelude.{ℕ, ◌≡◌, ◌<◌, List, map, zip, length, Option, Some, None, if◌then◌else◌, nat_eq, slice_get, flat_map, IsTrue}
 use Rattle.std.specs.List.{IsDistinct, AllByRecursion, list_all, range_with_len}
 use Rattle.tl_messages.specs.Requests.{WholeRequest}
-use Rattle.tl_checker.specs.Requests.{Spells}
+use Rattle.tl_checker.specs.RequestRules.{Spells}
 use Rattle.axi_beats.specs.Bursts.{Burst, is_legal}
 use Rattle.axi_checker.specs.OpenBursts.{nothing_open}
 use Rattle.axi_checker.specs.Order.{IsInOrder}

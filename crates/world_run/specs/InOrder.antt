@@ -19,7 +19,7 @@ use Rattle.responses.specs.Answers.{IsReadAt, gathering_after}
 use Rattle.responses.specs.Gathered.{gathering_of}
 use Rattle.bridge_core.specs.Bridge.{BridgeState, message_with}
 use Rattle.bridge_core.specs.Laws.{outstanding}
-use Rattle.bridge_core.specs.Requests.{BridgedRequest, RequestTable, address_of, holder, is_numbered, outline_in}
+use Rattle.bridge_core.specs.HeldRequests.{BridgedRequest, RequestTable, address_of, holder, is_numbered, outline_in}
 use Rattle.subordinate.specs.Faults.{is_good, read_response, standing_at, write_response}
 use Rattle.subordinate.specs.FreeMemory.{Pending, is_read_of, is_waiting, is_write_of}
 use Rattle.subordinate.specs.declared.BeatState.{BeatState}

@@ -29,7 +29,7 @@ use Rattle.flight_table.specs.LiveRequests.{LiveRequest, reads_then_writes, next
 use Rattle.flight_table.proofs.PhaseLaws.{write_at, write_planned, piece_planned}
 use Rattle.bridge_core.specs.Configs.{is_valid}
 use Rattle.bridge_core.specs.Laws.{IsServed, outstanding}
-use Rattle.bridge_core.specs.Requests.{BridgedRequest, address_of, range_at, range_of, value_found, RequestTable, holder, holds, is_numbered}
+use Rattle.bridge_core.specs.HeldRequests.{BridgedRequest, address_of, range_at, range_of, value_found, RequestTable, holder, holds, is_numbered}
 use Rattle.bridge_core.specs.Sending.{burst_of_piece, bytes_to_write}
 use Rattle.bridge_core.specs.declared.Config.{Config}
 use Rattle.bridge_core.proofs.NextSending.{map_some}

@@ -18,7 +18,7 @@ use Rattle.axi_beats.specs.declared.ArBeat.{ArBeat}
 use Rattle.burst_plan.specs.declared.Piece.{Piece}
 use Rattle.flight_table.specs.LiveRequests.{planned}
 use Rattle.bridge_core.specs.Laws.{outstanding}
-use Rattle.bridge_core.specs.Requests.{BridgedRequest, holder, holds, settled}
+use Rattle.bridge_core.specs.HeldRequests.{BridgedRequest, holder, holds, settled}
 use Rattle.bridge_core.proofs.AnswerLinks.{AreOf}
 use Rattle.bridge_core.proofs.HolderChanges.{find-changed, find-changed-gone, part-empty}
 use Rattle.bridge_core.proofs.ResponseLinks.{finished_one, holds_it, nothing_left, settled_as, with_its_write}

@@ -21,7 +21,7 @@ use Rattle.flight_table.specs.Laws.{IsSoundRequest}
 use Rattle.flight_table.specs.LiveRequests.{reads_then_writes, planned}
 use Rattle.flight_table.specs.Order.{is_id}
 use Rattle.flight_table.proofs.PhaseLaws.{write_at, read_at}
-use Rattle.bridge_core.specs.Requests.{BridgedRequest, RequestTable, holder, holds, is_numbered, newly_live, with_request, is_done_for, without_done, address_of, after_sending, may_send}
+use Rattle.bridge_core.specs.HeldRequests.{BridgedRequest, RequestTable, holder, holds, is_numbered, newly_live, with_request, is_done_for, without_done, address_of, after_sending, may_send}
 use Rattle.bridge_core.specs.Bridge.{message_with, after_sent}
 use Rattle.bridge_core.specs.Configs.{table_limits_of}
 use Rattle.bridge_core.specs.Laws.{outstanding, outstanding_of, IsServed}

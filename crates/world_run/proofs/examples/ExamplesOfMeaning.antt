@@ -8,12 +8,12 @@ use Rattle.tl_messages.specs.declared.AtomicOp.TheVariants.{Min, Max, MinU, MaxU
 use Rattle.tl_messages.specs.declared.Operation.{Operation}
 use Rattle.tl_messages.specs.declared.Operation.TheVariants.{PutFull, PutPartial, Atomic, Get, Intent}
 use Rattle.tl_messages.specs.declared.ABeat.{ABeat}
-use Rattle.tl_checker.specs.Requests.{Spells}
+use Rattle.tl_checker.specs.RequestRules.{Spells}
 use Rattle.burst_plan.specs.declared.Region.{Region}
 use Rattle.burst_plan.specs.declared.Piece.{Piece}
 use Rattle.responses.specs.Shown.{Reply}
 use Rattle.bridge_core.specs.Configs.{port_of}
-use Rattle.bridge_core.specs.Requests.{BridgedRequest, newly_live}
+use Rattle.bridge_core.specs.HeldRequests.{BridgedRequest, newly_live}
 use Rattle.subordinate.specs.Faults.{Faults}
 use Rattle.subordinate.specs.declared.PageKind.TheVariants.{Good, SlaveError}
 use Rattle.subordinate.specs.FreeMemory.{Pending, newly_pending}

@@ -36,7 +36,7 @@ use Rattle.flight_table.specs.declared.TableLimits.{TableLimits}
 use Rattle.flight_table.proofs.PhaseLaws.{length_reading, length_writing, read_at, write_at}
 use Rattle.bridge_core.specs.Configs.{is_valid, port_of}
 use Rattle.bridge_core.specs.Laws.{IsServed, answered_pieces, beats_in}
-use Rattle.bridge_core.specs.Requests.{BridgedRequest, address_of, outline_in, range_at, range_of, reply_beats, value_found, after_read, after_response}
+use Rattle.bridge_core.specs.HeldRequests.{BridgedRequest, address_of, outline_in, range_at, range_of, reply_beats, value_found, after_read, after_response}
 use Rattle.bridge_core.specs.declared.Config.{Config}
 use Rattle.bridge_core.proofs.PlannedPieces.{plan_known, some_pieces, atomic_plan, live_plan}
 use Rattle.bridge_core.proofs.ServedRequests.{reads_came, IsReading}

@@ -3,7 +3,7 @@ use Rattle.std.proofs.Common.{◌∙◌, Option, ℕ, ap}
 use Rattle.std.specs.Prelude.{is_some}
 use Rattle.flight_table.specs.Order.{next_ready}
 use Rattle.bridge_core.specs.Bridge.{StockedBridge, burst_to_send}
-use Rattle.bridge_core.specs.Requests.{flight_table_of}
+use Rattle.bridge_core.specs.HeldRequests.{flight_table_of}
 use Rattle.bridge_core.proofs.BridgeSteps.{state_in}
 use Rattle.bridge_core.proofs.Pumps.{names_ready, ready_sends}
 use Rattle.bridge_core.proofs.bridge.Bridge.can_pump.Goals as goal

@@ -4,7 +4,7 @@ use Rattle.std.specs.Prelude.{is_some}
 use Rattle.flight_table.specs.Tables.{FlightTable, is_done_of}
 use Rattle.flight_table.specs.Tables as flights
 use Rattle.bridge_core.specs.Bridge.{StockedBridge}
-use Rattle.bridge_core.specs.Requests.{oldest_done}
+use Rattle.bridge_core.specs.HeldRequests.{oldest_done}
 use Rattle.bridge_core.proofs.Pumps.{found_live}
 use Rattle.bridge_core.proofs.bridge.Bridge.first_done.Goals as goal
 

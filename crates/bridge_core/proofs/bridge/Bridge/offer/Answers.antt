@@ -9,7 +9,7 @@ use Rattle.tl_checker.specs.declared.Progress.{Progress}
 use Rattle.tl_checker.specs.declared.Progress.TheVariants.{More, Whole}
 use Rattle.tl_checker.specs.declared.TlRule.{TlRule}
 use Rattle.bridge_core.specs.Inside.{held_back}
-use Rattle.bridge_core.specs.Requests.{RequestTable}
+use Rattle.bridge_core.specs.HeldRequests.{RequestTable}
 use Rattle.bridge_core.specs.declared.Offered.{Offered}
 use Rattle.bridge_core.specs.declared.Offered.TheVariants as offer
 use Rattle.bridge_core.proofs.OfferSteps.{refused_kept, IsMade, can_accept, is_empty, made_back, made_more, made_refused, made_whole, offering}

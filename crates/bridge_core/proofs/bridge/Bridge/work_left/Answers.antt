@@ -2,7 +2,7 @@
 use Rattle.std.proofs.Common.{◌≡◌, ◌∙◌, ◌*◌, ◌≤◌, ap, arith}
 use Rattle.flight_table.specs.Tables.{FlightTable}
 use Rattle.flight_table.specs.Work.{work}
-use Rattle.bridge_core.specs.Requests.{flight_table_of}
+use Rattle.bridge_core.specs.HeldRequests.{flight_table_of}
 use Rattle.bridge_core.proofs.BridgeSteps.{state_in}
 use Rattle.bridge_core.proofs.WorkLeft.{work_covers_reads}
 use Rattle.bridge_core.proofs.bridge.Bridge.work_left.Goals as goal
