@@ -9,7 +9,7 @@ pub same_place : {X : Type 0} (id_of : X → ℕ) (entries : List X) (ids : List
 same_place id_of entries ids id are = ap (position (λ other. other == id)) are ∙ position_map id_of (λ other. other == id) entries
 
 pub same_count : {X : Type 0} (id_of : X → ℕ) (entries : List X) (ids : List ℕ) (id : ℕ) → ids ≡ map id_of entries → length (filter (λ other. other == id) ids) ≡ length (filter (λ x. id_of x == id) entries)
-same_count id_of entries ids id are = ap (λ (l : List ℕ). length (filter (λ other. other == id) l)) are ∙ length-filter-map id_of (λ other. other == id) entries
+same_count id_of entries ids id are = ap (λ (l : List ℕ). length (filter (λ other. other == id) l)) are ∙ length-filter-map (λ other. other == id) id_of entries
 
 -- a place that was found is within
 pub found_within : {X : Type 0} (test : X → Bool) (entries : List X) (place : Option ℕ) → place ≡ position test entries → IfSome place (λ k. k < length entries)

@@ -13,7 +13,7 @@ use Rattle.axi_beats.specs.declared.AwBeat.{AwBeat}
 use Rattle.axi_beats.specs.declared.WBeat.{WBeat}
 use Rattle.axi_checker.specs.Monitors.{first_data_fault, if_lacking}
 use Rattle.axi_checker.specs.OpenBursts.{AxiBeat, OnAw, OnW, OpenBursts, OpenWrite, lacks_data, open_after, write_of_id, write_to_fill}
-use Rattle.axi_checker.specs.Rules.{AxiPortLimits, address_rules, axi_fault, beats_sent, burst_fault, data_rules, first_axi_fault, id_of, outstanding_beside}
+use Rattle.axi_checker.specs.Rules.{AxiPortLimits, address_of_write, address_rules, axi_fault, beats_sent, burst_fault, data_rules, first_axi_fault, id_of, outstanding_beside}
 use Rattle.axi_checker.specs.declared.AxiRule.{AxiRule}
 use Rattle.axi_checker.specs.declared.AxiRule.TheVariants.{WLast, WWithoutAw}
 
@@ -104,9 +104,9 @@ held_beside port open_bursts (Some (ReadBurst ar)) aw outstanding answer is judg
 
 -- the rules on the address of a write whose ID has so many outstanding
 pub address_fault_of : (port : AxiPortLimits) (open_bursts : OpenBursts) (aw : AwBeat) (outstanding : ℕ) (fault : Option AxiRule)
-    → fault ≡ first_broken (address_rules port aw.id aw.address aw.len aw.size aw.burst outstanding)
+    → fault ≡ first_broken (address_rules port (address_of_write aw) outstanding)
     → length (filter (write_of_id aw.id) open_bursts.writes) ≡ outstanding → axi_fault port open_bursts (OnAw aw) ≡ fault
-address_fault_of port open_bursts aw outstanding fault is few = ap (λ n. first_broken (address_rules port aw.id aw.address aw.len aw.size aw.burst n)) few ∙ sym is
+address_fault_of port open_bursts aw outstanding fault is few = ap (λ n. first_broken (address_rules port (address_of_write aw) n)) few ∙ sym is
 
 -- a write whose address breaks a rule
 pub judged_address : (port : AxiPortLimits) (open_bursts : OpenBursts) (held : Option Burst) (aw : AwBeat) (rule : AxiRule) → aw_of held ≡ Some aw

@@ -6,72 +6,10 @@ use Rattle.std.proofs.lemmas.List.Edits.{length-remove}
 use Rattle.std.specs.List.{AllByRecursion, remove}
 use Rattle.bus_words.specs.Places.{AreDistinct}
 use Rattle.bus_words.proofs.MappedPlaces.{length_map, map-remove}
-use Rattle.bus_words.proofs.PlaceChanges.{all-append}
+use Rattle.bus_words.proofs.DistinctPlaces.{distinct-append, distinct-remove, distinct-take, others-before, others-beside}
+use Rattle.bus_words.proofs.PlaceChanges.{all-append, all-at, all-map, all-remove}
 use Rattle.axi_checker.specs.Slots.{AreSlots, at_slots}
 use Rattle.axi_checker.proofs.RowPlaces.{gap_closed, take_of_taken}
-
--- ---- what is true of all of a list
-
-all-at : (P : ℕ → Type 0) (xs : List ℕ) (k d : ℕ) → AllByRecursion P xs → k < length xs → P (get_or xs k d)
-all-at P [] k d all within = absurd (omega (arith, within))
-all-at P (x ∷ xs) zero d all within = all.0
-all-at P (x ∷ xs) (suc k) d all within = all-at P xs k d all.1 (omega (arith, within))
-
-all-take : (P : ℕ → Type 0) (k : ℕ) (xs : List ℕ) → AllByRecursion P xs → AllByRecursion P (take k xs)
-all-take P zero xs all = tt
-all-take P (suc k) [] all = tt
-all-take P (suc k) (x ∷ xs) all = (all.0, all-take P k xs all.1)
-
-all-remove : (P : ℕ → Type 0) (xs : List ℕ) (k : ℕ) → AllByRecursion P xs → AllByRecursion P (remove xs k)
-all-remove P [] zero all = tt
-all-remove P [] (suc k) all = tt
-all-remove P (x ∷ xs) zero all = all.1
-all-remove P (x ∷ xs) (suc k) all = (all.0, all-remove P xs k all.1)
-
-all_wider : (k : ℕ) (xs : List ℕ) → AllByRecursion (λ x. x < k) xs → AllByRecursion (λ x. x < k + 1) xs
-all_wider k [] all = tt
-all_wider k (x ∷ xs) all = (omega (arith, all.0), all_wider k xs all.1)
-
-all_others : (k : ℕ) (xs : List ℕ) → AllByRecursion (λ x. x < k) xs → AllByRecursion (λ x. x ≢ k) xs
-all_others k [] all = tt
-all_others k (x ∷ xs) all = ((λ same. absurd (omega (arith, same, all.0))), all_others k xs all.1)
-
--- ---- lists without repeats
-
-turned : (m n : ℕ) → m ≢ n → n ≢ m
-turned m n other = λ same. other (sym same)
-
-distinct-take : (k : ℕ) (xs : List ℕ) → AreDistinct xs → AreDistinct (take k xs)
-distinct-take zero xs distinct = tt
-distinct-take (suc k) [] distinct = tt
-distinct-take (suc k) (x ∷ xs) distinct = (all-take (λ m. m ≢ x) k xs distinct.0, distinct-take k xs distinct.1)
-
-distinct-append : (n : ℕ) (xs : List ℕ) → AreDistinct xs → AllByRecursion (λ m. m ≢ n) xs → AreDistinct (xs ++ n ∷ [])
-distinct-append n [] distinct others = (tt, tt)
-distinct-append n (x ∷ xs) distinct others =
-    (all-append (λ m. m ≢ x) xs n distinct.0 (turned x n others.0), distinct-append n xs distinct.1 others.1)
-
-distinct-remove : (xs : List ℕ) (k : ℕ) → AreDistinct xs → AreDistinct (remove xs k)
-distinct-remove [] zero distinct = tt
-distinct-remove [] (suc k) distinct = tt
-distinct-remove (x ∷ xs) zero distinct = distinct.1
-distinct-remove (x ∷ xs) (suc k) distinct = (all-remove (λ m. m ≢ x) xs k distinct.0, distinct-remove xs k distinct.1)
-
--- what stands before a number is another
-before_it : (xs : List ℕ) (k d : ℕ) → AreDistinct xs → k < length xs → AllByRecursion (λ m. m ≢ get_or xs k d) (take k xs)
-before_it [] k d distinct within = absurd (omega (arith, within))
-before_it (x ∷ xs) zero d distinct within = tt
-before_it (x ∷ xs) (suc k) d distinct within =
-    let inside : k < length xs = omega (arith, within) in
-    (turned (get_or xs k d) x (all-at (λ m. m ≢ x) xs k d distinct.0 inside), before_it xs k d distinct.1 inside)
-
--- and what is left without it
-beside_it : (xs : List ℕ) (k d : ℕ) → AreDistinct xs → k < length xs → AllByRecursion (λ m. m ≢ get_or xs k d) (remove xs k)
-beside_it [] k d distinct within = absurd (omega (arith, within))
-beside_it (x ∷ xs) zero d distinct within = distinct.0
-beside_it (x ∷ xs) (suc k) d distinct within =
-    let inside : k < length xs = omega (arith, within) in
-    (turned (get_or xs k d) x (all-at (λ m. m ≢ x) xs k d distinct.0 inside), beside_it xs k d distinct.1 inside)
 
 -- ---- the slots of a room
 
@@ -80,8 +18,8 @@ pub slots_more : (k : ℕ) (xs : List ℕ) → AreSlots k xs → AreSlots (k + 1
 slots_more k xs slots =
     record {
       many = omega (arith, slots.many, length-append xs (k ∷ []));
-      below = all-append (λ x. x < k + 1) xs k (all_wider k xs slots.below) (omega arith);
-      distinct = distinct-append k xs slots.distinct (all_others k xs slots.below);
+      below = all-append (λ x. x < k + 1) xs k (all-map (λ x. x < k) (λ x. x < k + 1) xs (λ x below. omega (arith, below)) slots.below) (omega arith);
+      distinct = distinct-append k xs slots.distinct (all-map (λ x. x < k) (λ x. x ≢ k) xs (λ x below same. absurd (omega (arith, same, below))) slots.below);
     }
 
 -- one slot stored behind those before it
@@ -97,7 +35,7 @@ slots_turned count k d xs slots within =
     record {
       many = omega (arith, slots.many, inside, length-remove xs k inside, length-append (remove xs k) (get_or xs k d ∷ []));
       below = all-append (λ x. x < count) (remove xs k) (get_or xs k d) (all-remove (λ x. x < count) xs k slots.below) (all-at (λ x. x < count) xs k d slots.below inside);
-      distinct = distinct-append (get_or xs k d) (remove xs k) (distinct-remove xs k slots.distinct) (beside_it xs k d slots.distinct inside);
+      distinct = distinct-append (get_or xs k d) (remove xs k) (distinct-remove xs k slots.distinct) (others-beside xs k d slots.distinct inside);
     }
 
 -- ---- a store in one slot
@@ -120,7 +58,7 @@ module _ {X : Type 0} (entries : List X) (filler entry : X) where
       ap₂ (λ y ys. y ∷ ys) (get_or-set_same entries x entry filler there) (same_elsewhere x xs distinct.0)
   changed (x ∷ xs) (suc k) d distinct within there =
       let inside : k < length xs = omega (arith, within) in
-      let other = turned (get_or xs k d) x (all-at (λ m. m ≢ x) xs k d distinct.0 inside) in
+      let other = λ (same : x ≡ get_or xs k d). all-at (λ m. m ≢ x) xs k d distinct.0 inside (sym same) in
       ap₂ (λ y ys. y ∷ ys) (get_or-set_other entries (get_or xs k d) x entry filler other) (changed xs k d distinct.1 inside there)
 
 -- ---- the first n of the slots in a row of bytes, and the entries in them
@@ -149,7 +87,7 @@ module _ {X : Type 0} (entries : List X) (filler : X) (bytes : List ℕ) (n : �
   pushed entry within =
       let at = get_or-take 64 bytes n 0 within in
       let inside : n < length (take 64 bytes) = omega (arith, within, slots.many) in
-      let others : AllByRecursion (λ m. m ≢ get_or bytes n 0) (take n bytes) = rw (sym at, front) (before_it (take 64 bytes) n 0 slots.distinct inside) in
+      let others : AllByRecursion (λ m. m ≢ get_or bytes n 0) (take n bytes) = rw (sym at, front) (others-before (take 64 bytes) n 0 slots.distinct inside) in
       let next : take (n + 1) bytes ≡ take n bytes ++ get_or bytes n 0 ∷ [] = (take_of_taken (n + 1) 64 bytes (omega (arith, within)) ∙ take_more (take 64 bytes) n 0 inside ∙ ap₂ (λ xs x. xs ++ x ∷ []) (sym front) at) in
       ap (at_slots (set entries (get_or bytes n 0) entry) filler) next ∙ appended entries filler entry (get_or bytes n 0) (take n bytes) (slot_within n within) others
 

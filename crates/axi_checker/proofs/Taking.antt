@@ -15,20 +15,21 @@ use Rattle.axi_beats.specs.declared.ArBeat.{ArBeat}
 use Rattle.axi_beats.specs.declared.WBeat.{WBeat}
 use Rattle.axi_checker.specs.Monitors.{IsWithinLimits, first_data_fault}
 use Rattle.axi_checker.specs.OpenBursts.{OnAr, OnAw, OnW, OpenBursts, OpenWrite, lacks_data, write_of_id, write_to_fill}
-use Rattle.axi_checker.specs.Rules.{AxiPortLimits, address_rules, axi_fault, beats_sent, burst_fault, first_axi_fault, id_of, open_after_all, open_with_burst, outstanding_beside}
+use Rattle.axi_checker.specs.Rules.{AxiPortLimits, BurstAddress, address_of_read, address_of_write, address_rules, axi_fault, beats_sent, burst_fault, first_axi_fault, id_of, open_after_all, open_with_burst, outstanding_beside}
 use Rattle.axi_checker.specs.declared.AxiRule.{AxiRule}
 use Rattle.axi_checker.proofs.InOrder.{within-open_after_all}
 use Rattle.axi_checker.proofs.Judging.{first_axi_fault-write, one_beat_more, write_to_fill-with_write, writes_alike, writes_alike-count, writes_alike-ready}
 use Rattle.axi_checker.proofs.LegalBursts.{head_unbroken, last_place, open_after_all-burst, unbroken_burst}
 
 -- an address breaks no rule that is legal, of an ID of the port's, with fewer outstanding than it may have
-pub address_unbroken : (port : AxiPortLimits) (id address len size burst_type open_of_id : ℕ) → is_legal_address port.bus_bytes address len size burst_type ≡ true → id < port.ids → open_of_id < port.depth
-    → first_broken (address_rules port id address len size burst_type open_of_id) ≡ None
-address_unbroken port id address len size burst_type open_of_id legal known fewer =
-    let page = and_parts (fits_bus port.bus_bytes size && burst_type == 1 && nat_lt len 256) (in_one_page address len size) legal in
-    let short = and_parts (fits_bus port.bus_bytes size && burst_type == 1) (nat_lt len 256) page.0 in
-    let fits = and_parts (fits_bus port.bus_bytes size) (burst_type == 1) short.0 in
-    rw (fits.0, fits.1, page.1, lt-leb port.ids id known, lt-leb port.depth open_of_id fewer) refl
+pub address_unbroken : (port : AxiPortLimits) (address : BurstAddress) (open_of_id : ℕ) → is_legal_address port.bus_bytes address.start address.len address.size address.burst ≡ true
+    → address.id < port.ids → open_of_id < port.depth → first_broken (address_rules port address open_of_id) ≡ None
+address_unbroken port address open_of_id legal known fewer =
+    let fit = fits_bus port.bus_bytes address.size in
+    let page = and_parts (fit && address.burst == 1 && nat_lt address.len 256) (in_one_page address.start address.len address.size) legal in
+    let short = and_parts (fit && address.burst == 1) (nat_lt address.len 256) page.0 in
+    let fits = and_parts fit (address.burst == 1) short.0 in
+    rw (fits.0, fits.1, page.1, lt-leb port.ids address.id known, lt-leb port.depth open_of_id fewer) refl
 
 -- nor do W beats that are right at their places, and not more than the transfers
 data_unbroken : (port : AxiPortLimits) (write : OpenWrite) (ws : List WBeat) → write.came + length ws ≤ write.aw.len + 1
@@ -52,14 +53,14 @@ legal_is_unbroken port open_bursts (WriteBurst aw ws) ready legal known fewer =
     let counted = and_parts legal_address (length ws == aw.len + 1) each.0 in
     let count : length ws ≡ aw.len + 1 = eqb-true (length ws) (aw.len + 1) counted.1 in
     let address : axi_fault port open_bursts (OnAw aw) ≡ None =
-    address_unbroken port aw.id aw.address aw.len aw.size aw.burst (outstanding_beside open_bursts (WriteBurst aw ws)) counted.0 known fewer in
+    address_unbroken port (address_of_write aw) (outstanding_beside open_bursts (WriteBurst aw ws)) counted.0 known fewer in
     let beats : first_axi_fault port open_bursts (beats_sent (WriteBurst aw ws)) ≡ None =
     first_axi_fault-write port open_bursts aw ws ready address ∙ data_unbroken port (record { aw = aw; came = 0 }) ws (omega (arith, count)) each.1 in
     let whole : nat_le (length ws) aw.len ≡ false = lt-leb (length ws) aw.len (omega (arith, count)) in
     rw (beats, whole) refl
 legal_is_unbroken port open_bursts (ReadBurst ar) ready legal known fewer =
     let address : axi_fault port open_bursts (OnAr ar) ≡ None =
-    address_unbroken port ar.id ar.address ar.len ar.size ar.burst (outstanding_beside open_bursts (ReadBurst ar)) legal known fewer in
+    address_unbroken port (address_of_read ar) (outstanding_beside open_bursts (ReadBurst ar)) legal known fewer in
     rw address refl
 
 -- the same of what a box holds, by the answer of a judge
@@ -110,11 +111,11 @@ read_unbroken port open_bursts (Some (ReadBurst ar2)) ar is unbroken =
     subst (λ (x : ArBeat). burst_fault port open_bursts (ReadBurst x) ≡ None) same unbroken
 
 -- the address of a burst that breaks no rule
-pub address_of_write : (port : AxiPortLimits) (open_bursts : OpenBursts) (aw : AwBeat) (ws : List WBeat) → burst_fault port open_bursts (WriteBurst aw ws) ≡ None → axi_fault port open_bursts (OnAw aw) ≡ None
-address_of_write port open_bursts aw ws none = head_unbroken port open_bursts (OnAw aw) (map OnW ws) (unbroken_burst port open_bursts (WriteBurst aw ws) none).0
+pub write_address : (port : AxiPortLimits) (open_bursts : OpenBursts) (aw : AwBeat) (ws : List WBeat) → burst_fault port open_bursts (WriteBurst aw ws) ≡ None → axi_fault port open_bursts (OnAw aw) ≡ None
+write_address port open_bursts aw ws none = head_unbroken port open_bursts (OnAw aw) (map OnW ws) (unbroken_burst port open_bursts (WriteBurst aw ws) none).0
 
-pub address_of_read : (port : AxiPortLimits) (open_bursts : OpenBursts) (ar : ArBeat) → burst_fault port open_bursts (ReadBurst ar) ≡ None → axi_fault port open_bursts (OnAr ar) ≡ None
-address_of_read port open_bursts ar none = head_unbroken port open_bursts (OnAr ar) [] (unbroken_burst port open_bursts (ReadBurst ar) none).0
+pub read_address : (port : AxiPortLimits) (open_bursts : OpenBursts) (ar : ArBeat) → burst_fault port open_bursts (ReadBurst ar) ≡ None → axi_fault port open_bursts (OnAr ar) ≡ None
+read_address port open_bursts ar none = head_unbroken port open_bursts (OnAr ar) [] (unbroken_burst port open_bursts (ReadBurst ar) none).0
 
 -- a write that was taken whole is open as it is after its beats one by one
 pub write_taken : (port : AxiPortLimits) (open_bursts after : OpenBursts) (held : Option Burst) (aw : AwBeat) → aw_of held ≡ Some aw → write_to_fill open_bursts ≡ None

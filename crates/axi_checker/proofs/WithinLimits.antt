@@ -11,7 +11,7 @@ use Rattle.axi_beats.specs.declared.AwBeat.{AwBeat}
 use Rattle.axi_beats.specs.declared.ArBeat.{ArBeat}
 use Rattle.axi_checker.specs.Monitors.{HasFewOfEach, IsSoundRead, IsSoundWrite, IsWithinLimits, id_of_read, id_of_write}
 use Rattle.axi_checker.specs.OpenBursts.{AxiBeat, OnAr, OnAw, OnB, OnR, OnW, OpenBursts, OpenRead, OpenWrite, lacks_data, open_after, read_of_id, reads_after, write_of_id}
-use Rattle.axi_checker.specs.Rules.{AxiPortLimits, address_rules, axi_fault}
+use Rattle.axi_checker.specs.Rules.{AxiPortLimits, BurstAddress, address_of_read, address_of_write, address_rules, axi_fault}
 use Rattle.axi_checker.proofs.Few.{few-append, few-change_first, few-without_first, of_id, room_for_one}
 use Rattle.axi_checker.proofs.ReadsAfter.{goes_on, one_more}
 
@@ -23,9 +23,9 @@ pub record IsAllowed (port : AxiPortLimits) (id address len size burst_type open
   pub known : id < port.ids
   pub few : open_of_id < port.depth
 
-pub address_allowed : (port : AxiPortLimits) (id address len size burst_type open_of_id : ℕ) → first_broken (address_rules port id address len size burst_type open_of_id) ≡ None
-    → IsAllowed port id address len size burst_type open_of_id
-address_allowed port id address len size burst_type open_of_id none =
+pub address_allowed : (port : AxiPortLimits) (address : BurstAddress) (open_of_id : ℕ) → first_broken (address_rules port address open_of_id) ≡ None
+    → IsAllowed port address.id address.start address.len address.size address.burst open_of_id
+address_allowed port address open_of_id none =
     record {
       fits = grind (arith, none);
       incr = grind (arith, none);
@@ -36,11 +36,11 @@ address_allowed port id address len size burst_type open_of_id none =
 
 pub aw_allowed : (port : AxiPortLimits) (open_bursts : OpenBursts) (aw : AwBeat) → axi_fault port open_bursts (OnAw aw) ≡ None
     → IsAllowed port aw.id aw.address aw.len aw.size aw.burst (of_id id_of_write aw.id open_bursts.writes)
-aw_allowed port open_bursts aw none = address_allowed port aw.id aw.address aw.len aw.size aw.burst (of_id id_of_write aw.id open_bursts.writes) none
+aw_allowed port open_bursts aw none = address_allowed port (address_of_write aw) (of_id id_of_write aw.id open_bursts.writes) none
 
 pub ar_allowed : (port : AxiPortLimits) (open_bursts : OpenBursts) (ar : ArBeat) → axi_fault port open_bursts (OnAr ar) ≡ None
     → IsAllowed port ar.id ar.address ar.len ar.size ar.burst (of_id id_of_read ar.id open_bursts.reads)
-ar_allowed port open_bursts ar none = address_allowed port ar.id ar.address ar.len ar.size ar.burst (of_id id_of_read ar.id open_bursts.reads) none
+ar_allowed port open_bursts ar none = address_allowed port (address_of_read ar) (of_id id_of_read ar.id open_bursts.reads) none
 
 -- there is room for a burst whose address is allowed
 pub room_for_write : (port : AxiPortLimits) (open_bursts : OpenBursts) (aw : AwBeat) → axi_fault port open_bursts (OnAw aw) ≡ None → IsWithinLimits port open_bursts

@@ -6,6 +6,8 @@ use Rattle.axi_beats.specs.Bursts.{Burst, WriteBurst, ReadBurst, strobes_fit}
 use Rattle.bus_words.specs.Tables.{first_broken}
 use Rattle.axi_beats.specs.Responses.{is_exokay}
 use Rattle.axi_beats.specs.Transfers.{fits_bus, in_one_page}
+use Rattle.axi_beats.specs.declared.ArBeat.{ArBeat}
+use Rattle.axi_beats.specs.declared.AwBeat.{AwBeat}
 use Rattle.axi_beats.specs.declared.WBeat.{WBeat}
 use Rattle.axi_checker.specs.OpenBursts.{OpenBursts, OpenWrite, OpenRead, AxiBeat, OnAw, OnW, OnB, OnAr, OnR, lacks_data, write_of_id, read_of_id, write_to_fill, oldest_write, oldest_read, open_after}
 use Rattle.axi_checker.specs.declared.AxiRule.{AxiRule}
@@ -17,13 +19,27 @@ pub record AxiPortLimits : Type 0 where
   pub ids : ℕ
   pub depth : ℕ
 
+-- the address beat of a burst, of a write or of a read alike
+pub record BurstAddress : Type 0 where
+  pub id : ℕ
+  pub start : ℕ
+  pub len : ℕ
+  pub size : ℕ
+  pub burst : ℕ
+
+abbrev pub address_of_write : AwBeat → BurstAddress
+address_of_write aw = record { id = aw.id; start = aw.address; len = aw.len; size = aw.size; burst = aw.burst }
+
+abbrev pub address_of_read : ArBeat → BurstAddress
+address_of_read ar = record { id = ar.id; start = ar.address; len = ar.len; size = ar.size; burst = ar.burst }
+
 -- the rules on a burst's address; `open_of_id` is how many bursts its ID has open on that side
-abbrev pub address_rules : AxiPortLimits → ℕ → ℕ → ℕ → ℕ → ℕ → ℕ → List (Bool × AxiRule)
-address_rules port id address len size burst_type open_of_id =
-    (not (fits_bus port.bus_bytes size), Size)
-    ∷ (not (burst_type == 1), BurstKind)
-    ∷ (not (in_one_page address len size), Cross4K)
-    ∷ (nat_le port.ids id, IdRange)
+abbrev pub address_rules : AxiPortLimits → BurstAddress → ℕ → List (Bool × AxiRule)
+address_rules port address open_of_id =
+    (not (fits_bus port.bus_bytes address.size), Size)
+    ∷ (not (address.burst == 1), BurstKind)
+    ∷ (not (in_one_page address.start address.len address.size), Cross4K)
+    ∷ (nat_le port.ids address.id, IdRange)
     ∷ (nat_le port.depth open_of_id, Depth)
     ∷ []
 
@@ -48,7 +64,7 @@ right_last (Some read) last = beq last (read.came == read.ar.len)
 -- the rules on a beat after the open bursts
 abbrev pub axi_rules : AxiPortLimits → OpenBursts → AxiBeat → List (Bool × AxiRule)
 axi_rules port open_bursts (OnAw aw) =
-    address_rules port aw.id aw.address aw.len aw.size aw.burst (length (filter (write_of_id aw.id) open_bursts.writes))
+    address_rules port (address_of_write aw) (length (filter (write_of_id aw.id) open_bursts.writes))
 axi_rules port open_bursts (OnW w) = data_rules port (write_to_fill open_bursts) w
 axi_rules port open_bursts (OnB b) =
     (nat_le port.ids b.id, IdRange)
@@ -56,7 +72,7 @@ axi_rules port open_bursts (OnB b) =
     ∷ (is_exokay b.resp, ExOkay)
     ∷ []
 axi_rules port open_bursts (OnAr ar) =
-    address_rules port ar.id ar.address ar.len ar.size ar.burst (length (filter (read_of_id ar.id) open_bursts.reads))
+    address_rules port (address_of_read ar) (length (filter (read_of_id ar.id) open_bursts.reads))
 axi_rules port open_bursts (OnR r) =
     (nat_le port.ids r.id, IdRange)
     ∷ (not (is_some (oldest_read r.id open_bursts)), RWithoutRead)

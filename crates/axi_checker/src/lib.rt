@@ -9,14 +9,14 @@ ghost use Rattle.axi_checker.specs.Names.{rule_name, rule_number};
 
 mod id_list;
 mod id_row;
-mod rules;
 mod monitor;
 mod outstanding;
 mod queue;
 mod row;
+mod rules;
 
-pub use rules::PortLimits;
 pub use monitor::Monitor;
+pub use rules::PortLimits;
 
 /// The rules on AXI4 beats, 1 to 12.
 #[derive(Clone, Copy, Debug, PartialEq, Eq)]

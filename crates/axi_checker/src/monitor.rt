@@ -8,8 +8,8 @@ ghost use Rattle.axi_checker.specs.Order.{lasts_from, read_given, reads_asked, r
 ghost use Rattle.axi_checker.specs.Rules.{axi_fault, beats_sent, burst_fault, id_of, open_after_all, open_with_burst, outstanding_beside};
 
 use crate::AxiRule;
-use crate::rules::{Address, PortLimits};
 use crate::outstanding::{Reads, Writes};
+use crate::rules::{Address, PortLimits};
 use axi_beats::{ArBeat, AwBeat, BBeat, BurstBox, RBeat, Resp, WBeat};
 use std::alloc::{AllocError, Global};
 use std::marker::Model;

@@ -6,7 +6,7 @@ ghost use Rattle.axi_beats.specs.Transfers.{fits_bus, IsBusWidth};
 ghost use Rattle.bus_words.specs.Tables.{first_broken};
 ghost use Rattle.axi_checker.specs.Monitors.{first_data_fault};
 ghost use Rattle.axi_checker.specs.OpenBursts.{OpenBursts, lacks_data, write_to_fill};
-ghost use Rattle.axi_checker.specs.Rules.{address_rules, burst_fault, data_rules, len_of, outstanding_beside, id_of};
+ghost use Rattle.axi_checker.specs.Rules.{address_of_read, address_of_write, address_rules, burst_fault, data_rules, len_of, outstanding_beside, id_of};
 
 use crate::AxiRule;
 use crate::outstanding::OpenWrite;
@@ -45,9 +45,19 @@ pub(crate) struct Address {
     pub(crate) burst: u8,
 }
 
+impl Model for Address {
+    ghost use Rattle.axi_checker.specs.Rules.{BurstAddress};
+
+    ghost Value = { BurstAddress };
+
+    ghost view = { λ a. record { id = a.id; start = a.start; len = a.len; size = a.size; burst = a.burst } };
+
+    ghost inverse = { λ a. record { id = a.id; start = a.start; len = a.len; size = a.size; burst = a.burst } };
+}
+
 impl Address {
     pub(crate) fn of_write(beat: AwBeat) -> Self
-        ensures { result ≡ record { id = beat.id; start = beat.address; len = beat.len; size = beat.size; burst = beat.burst } }
+        ensures { result ≡ address_of_write beat }
     {
         Address {
             id: beat.id,
@@ -59,7 +69,7 @@ impl Address {
     }
 
     pub(crate) fn of_read(beat: ArBeat) -> Self
-        ensures { result ≡ record { id = beat.id; start = beat.address; len = beat.len; size = beat.size; burst = beat.burst } }
+        ensures { result ≡ address_of_read beat }
     {
         Address {
             id: beat.id,
@@ -159,7 +169,7 @@ impl PortLimits {
     /// The first rule that the address of a burst breaks whose ID has so many outstanding on its side.
     pub(crate) fn address_fault(self, address: Address, open_of_id: usize) -> Option<AxiRule>
         requires { IsBusWidth self.bus_bytes }
-        ensures rule { result ≡ first_broken (address_rules self address.id address.start address.len address.size address.burst open_of_id) }
+        ensures rule { result ≡ first_broken (address_rules self address open_of_id) }
         ensures room { result ≡ None → (address.id < self.ids) × (open_of_id < self.depth) }
     {
         let Address {

@@ -65,14 +65,14 @@ pub(crate) fn ask_choices(alloc: Global, load: Load) -> Option<u64> {
     Some(sum)
 }
 
-/// Asks which is the last step that bridge and memory can make by themselves.
+/// Asks which are the steps that bridge and memory can make by themselves, one after another.
 pub(crate) fn ask_choice(alloc: Global, load: Load) -> Option<u64> {
     let mut reply = ReplyBox::new(alloc).ok()?;
     let world = busy_world(alloc, &mut reply, load.size)?;
     let mut found = 0u64;
-    for _ in 0..load.times {
+    for turn in 0..load.times {
         let count = world.choices();
-        let is_beat = count > 0 && matches!(world.choose(count - 1), Step::Perform(_, _));
+        let is_beat = count > 0 && matches!(world.choose(turn % count), Step::Perform(_, _));
         found = found.wrapping_add(u64::from(is_beat));
     }
     Some(found)

@@ -5,6 +5,7 @@ use Rattle.std.specs.List.{AllByRecursion, filter, find, slice_get}
 use Rattle.std.proofs.lemmas.List.Sums.{sum_by-cons, sum_by-take-le}
 use Rattle.std.proofs.lemmas.Bool.Decides.{nat_tests}
 use Rattle.bus_words.proofs.PlaceChanges.{all-find, find-passes}
+use Rattle.bus_words.proofs.FoundChanges.{IsNextOf, all-part, filter-found, part-next}
 use Rattle.axi_beats.specs.declared.BBeat.{BBeat}
 use Rattle.axi_beats.specs.declared.RBeat.{RBeat}
 use Rattle.axi_checker.specs.OpenBursts.{OpenRead, OpenWrite, read_of_id, write_of_id}
@@ -19,7 +20,6 @@ use Rattle.bridge_core.specs.Configs.{axi_port_of, table_limits_of}
 use Rattle.bridge_core.specs.Laws.{IsPartWay, IsServed, IsSoundBridge, IsSoundRequestTable, answered_pieces, beats_in, came_of, came_of_next, open_read, open_reads, open_writes, outstanding, outstanding_of}
 use Rattle.bridge_core.specs.HeldRequests.{BridgedRequest, RequestTable, holder, holds, outline_in}
 use Rattle.responses.specs.Gathered.{reads_of}
-use Rattle.bridge_core.proofs.HolderChanges.{IsNextOf, all-part, filter-found, part-next}
 use Rattle.bridge_core.proofs.NextSending.{present}
 use Rattle.bridge_core.proofs.ReadCounts.{reads_counted}
 use Rattle.bridge_core.proofs.SendingLinks.{sound_requests}

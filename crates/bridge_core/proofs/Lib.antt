@@ -4,7 +4,6 @@ pub mod BridgeSteps
 pub mod BurstWrites
 pub mod BurstsToSend
 pub mod HeldBytes
-pub mod HolderChanges
 pub mod JoinedRequests
 pub mod KeyChanges
 pub mod NextSending

@@ -2,8 +2,9 @@
 use Rattle.std.proofs.Common.{◌≡◌, ℕ, Bool, true, false, is_some, get_or, Option, Some, None, refl, ap, sym, ◌∙◌, subst, arith}
 use Rattle.std.specs.Prelude.{option_map, option_and_then}
 use Rattle.std.specs.List.{find}
-use Rattle.std.proofs.lemmas.Option.{option_and_then_some, same_Some, slice_get-get_or}
+use Rattle.std.proofs.lemmas.Option.{option_and_then_some, slice_get-get_or}
 use Rattle.bus_words.proofs.PlaceChanges.{all-find, find-passes}
+use Rattle.bus_words.proofs.MappedPlaces.{map_some}
 use Rattle.axi_beats.specs.Bursts.{Burst}
 use Rattle.burst_plan.specs.Pieces.{PlannedRange}
 use Rattle.burst_plan.specs.declared.Piece.{Piece}
@@ -29,11 +30,6 @@ pub record IsNext (table : RequestTable) (sending : Sending) : Type 0 where
   pub next : next_burst sending.request.flight ≡ Some (write, piece)
   pub burst : sending.burst ≡ burst_of_piece sending.id sending.request range (write, piece)
   pub ready : IsReady (flight_table_of table) sending.request.flight
-
--- what a map gave came of what was there
-pub map_some : {A B P : Type 0} (f : A → B) (o : Option A) (y : B) → option_map f o ≡ Some y → ((x : A) → o ≡ Some x → f x ≡ y → P) → P
-map_some f None y is k = absurd (cc)
-map_some f (Some x) y is k = k x refl (same_Some (f x) y is)
 
 abbrev pub sending_with : BridgedRequest → ℕ → Burst → Sending
 sending_with request id burst = record { request = request; id = id; burst = burst }

@@ -6,6 +6,7 @@ use Rattle.std.proofs.lemmas.Bool.{cases_eq, cases_lt, lt-leb}
 use Rattle.std.specs.Prelude.{◌≢◌, IfSome, Result, if◌then◌else◌, nat_le, slice_get, slice_set, IsSomeAnd}
 use Rattle.std.specs.Option.{option_flatten}
 use Rattle.std.proofs.lemmas.Bool.Decides.{nat_tests}
+use Rattle.bus_words.proofs.StoredPlaces.{get_set, get_set-other, set_back, set_twice}
 use Rattle.tl_messages.specs.Requests.{HeldMessage}
 use Rattle.tl_messages.specs.declared.ABeat.{ABeat}
 use Rattle.tl_checker.specs.Ports.{PortState, joined, judged, judged_by, progress_of, opening_port, port_after}
@@ -23,7 +24,7 @@ use Rattle.bridge_core.specs.HeldRequests.{RequestTable, flight_table_of, newly_
 use Rattle.bridge_core.specs.declared.Offered.{Offered}
 use Rattle.bridge_core.specs.declared.Offered.TheVariants as offer
 use Rattle.bridge_core.proofs.BridgeSteps.{state_in, free_accepted}
-use Rattle.bridge_core.proofs.PortPlaces.{get_set, get_set-other, IsPort, are_ports_set, port_at, set_back, set_twice}
+use Rattle.bridge_core.proofs.PortPlaces.{IsPort, are_ports_set, port_at}
 use Rattle.bridge_core.proofs.SendingLinks.{linked_accepted}
 use Rattle.bridge_core.specs.declared.Config.{Config}
 

@@ -1,33 +1,11 @@
 -- A client's port by its place among the ports.
-use Rattle.std.proofs.Common.{◌≡◌, ℕ, ◌+◌, ◌<◌, List, [], ◌∷◌, None, Some, length, zero, suc, refl, ◌∙◌, ap, subst, arith}
+use Rattle.std.proofs.Common.{◌≡◌, ℕ, ◌+◌, ◌<◌, List, [], ◌∷◌, None, Some, length, zero, suc, refl, ◌∙◌, subst, arith}
 use Rattle.std.proofs.lemmas.List.{length-set}
-use Rattle.std.specs.Prelude.{◌≢◌, slice_get, slice_set}
+use Rattle.std.specs.Prelude.{slice_get, slice_set}
 use Rattle.tl_checker.specs.Ports.{PortState}
 use Rattle.bridge_core.specs.Configs.{port_of}
 use Rattle.bridge_core.specs.Inside.{ArePorts, ArePortsFrom}
 use Rattle.bridge_core.specs.declared.Config.{Config}
-
-pub get_set : {X : Type 0} (xs : List X) (k : ℕ) (x : X) → k < length xs → slice_get (slice_set xs k x) k ≡ Some x
-get_set [] k x below = absurd (omega (arith, below))
-get_set (y ∷ ys) zero x below = refl
-get_set (y ∷ ys) (suc k) x below = get_set ys k x (omega (arith, below))
-
-pub get_set-other : {X : Type 0} (xs : List X) (k j : ℕ) (x : X) → j ≢ k → slice_get (slice_set xs k x) j ≡ slice_get xs j
-get_set-other [] k j x other = refl
-get_set-other (y ∷ ys) zero zero x other = absurd (other refl)
-get_set-other (y ∷ ys) zero (suc j) x other = refl
-get_set-other (y ∷ ys) (suc k) zero x other = refl
-get_set-other (y ∷ ys) (suc k) (suc j) x other = get_set-other ys k j x (λ same. other (ap suc same))
-
-pub set_twice : {X : Type 0} (xs : List X) (k : ℕ) (x y : X) → slice_set (slice_set xs k x) k y ≡ slice_set xs k y
-set_twice [] k x y = refl
-set_twice (z ∷ zs) zero x y = refl
-set_twice (z ∷ zs) (suc k) x y = cc (set_twice zs k x y)
-
-pub set_back : {X : Type 0} (xs : List X) (k : ℕ) (x : X) → slice_get xs k ≡ Some x → slice_set xs k x ≡ xs
-set_back [] k x there = refl
-set_back (y ∷ ys) zero x there = cc
-set_back (y ∷ ys) (suc k) x there = cc (set_back ys k x there)
 
 -- the port of a client
 pub record IsPort (config : Config) (ports : List PortState) (client k : ℕ) : Type 0 where

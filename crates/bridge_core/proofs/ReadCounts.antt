@@ -5,6 +5,7 @@ use Rattle.std.proofs.lemmas.Bool.{and_parts}
 use Rattle.std.proofs.lemmas.Bool.Decides.{nat_tests}
 use Rattle.std.proofs.Math.Nat.{mul-le-mul}
 use Rattle.std.proofs.lemmas.Nat.{div-mul-add, one_shl, pow_pos}
+use Rattle.bus_words.proofs.MappedPlaces.{map_some}
 use Rattle.tl_messages.specs.Operations.{reply_has_data}
 use Rattle.tl_messages.specs.Requests.{HeldMessage, WholeRequest, request_of}
 use Rattle.tl_messages.specs.declared.Operation.{Operation}
@@ -25,7 +26,6 @@ use Rattle.bridge_core.specs.Configs.{is_valid, port_of, table_limits_of}
 use Rattle.bridge_core.specs.Laws.{IsServed, beats_in}
 use Rattle.bridge_core.specs.HeldRequests.{BridgedRequest, address_of, outline_in, range_at, range_of}
 use Rattle.bridge_core.specs.declared.Config.{Config}
-use Rattle.bridge_core.proofs.NextSending.{map_some}
 
 -- ---- a valid configuration
 

@@ -5,6 +5,7 @@ use Rattle.std.specs.List.{filter, find}
 use Rattle.std.proofs.lemmas.Bool.{cases_eq, eq-eqb, eqb-true}
 use Rattle.std.proofs.lemmas.Bool.Decides.{nat_tests}
 use Rattle.bus_words.specs.Places.{change_first, without_first}
+use Rattle.bus_words.proofs.FoundChanges.{filter-changed, filter-changed-other, filter-without, filter-without-other}
 use Rattle.axi_beats.specs.declared.RBeat.{RBeat}
 use Rattle.axi_checker.specs.OpenBursts.{OpenRead, read_of_id, reads_after}
 use Rattle.axi_checker.proofs.ReadsAfter.{one_more, reads_after-closes, reads_after-goes_on}
@@ -15,7 +16,6 @@ use Rattle.bridge_core.specs.Bridge.{BridgeState, after_r_beat, r_fault}
 use Rattle.bridge_core.specs.Laws.{AreLinked, IsLinked, IsSoundBridge, came_of_next, open_read, open_reads, outstanding}
 use Rattle.bridge_core.specs.HeldRequests.{BridgedRequest, after_read, holder, holds, outline_in, settled}
 use Rattle.bridge_core.proofs.AnswerLinks.{IsReader, finds_reader, open_writes-reads}
-use Rattle.bridge_core.proofs.HolderChanges.{filter-changed, filter-changed-other, filter-without, filter-without-other}
 use Rattle.bridge_core.proofs.ResponseLinks.{IsLeft, holder-other, left_after, one_holder}
 
 -- ---- a request with an R counted, before it is settled

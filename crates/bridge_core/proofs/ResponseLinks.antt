@@ -6,6 +6,8 @@ use Rattle.std.proofs.lemmas.Bool.{cases_eq, leb-true}
 use Rattle.std.proofs.lemmas.Bool.Decides.{nat_tests}
 use Rattle.bus_words.specs.Places.{change_first}
 use Rattle.bus_words.proofs.PlaceChanges.{find-without_first-none}
+use Rattle.bus_words.proofs.FoundChanges.{filter-without, filter-without-other, find-changed, find-changed-gone, find-changed-other, part-empty, part-next}
+use Rattle.bus_words.proofs.MappedPlaces.{length-filter-map}
 use Rattle.axi_beats.specs.declared.BBeat.{BBeat}
 use Rattle.axi_beats.specs.declared.Resp.{Resp}
 use Rattle.axi_checker.specs.OpenBursts.{OpenWrite, lacks_data, write_of_id, write_to_fill}
@@ -17,7 +19,6 @@ use Rattle.bridge_core.specs.Bridge.{BridgeState, after_b_beat, b_fault}
 use Rattle.bridge_core.specs.Laws.{AreLinked, IsLinked, IsPartWay, IsSoundBridge, came_of, came_of_next, open_reads, open_writes, outstanding, outstanding_of}
 use Rattle.bridge_core.specs.HeldRequests.{BridgedRequest, after_response, holder, holds, settled}
 use Rattle.bridge_core.proofs.AnswerLinks.{FindsWriter, finds_writer, open_reads-writes}
-use Rattle.bridge_core.proofs.HolderChanges.{filter-without, filter-without-other, find-changed, find-changed-gone, find-changed-other, length-filter-map, part-empty, part-next}
 
 -- ---- a request is settled
 

@@ -8,8 +8,9 @@ use Rattle.std.proofs.lemmas.List.{drop-append-le, append-nil, length-take-le}
 use Rattle.std.proofs.lemmas.List.Elements.{filter-append}
 use Rattle.std.proofs.lemmas.Option.{get_or_from_slice_get, slice_get_within}
 use Rattle.std.proofs.Math.Seq.{take-suc}
-use Rattle.bus_words.specs.Places.{change_first}
-use Rattle.bus_words.proofs.PlaceChanges.{all-find, find-passes}
+use Rattle.bus_words.proofs.PlaceChanges.{all-find}
+use Rattle.bus_words.proofs.MappedPlaces.{length-filter-map}
+use Rattle.bus_words.proofs.FoundChanges.{find-alone, find-changed-found, find-changed-unseen, part-empty}
 use Rattle.burst_plan.specs.Pieces.{PlannedRange}
 use Rattle.burst_plan.specs.declared.Piece.{Piece}
 use Rattle.flight_table.specs.Laws.{AreRising, IsSoundRequest}
@@ -24,31 +25,8 @@ use Rattle.bridge_core.specs.Configs.{table_limits_of}
 use Rattle.bridge_core.specs.Laws.{AreLinked, IsLinked, IsPartWay, IsSoundBridge, IsSoundRequestTable, came_of, came_of_next, open_reads, open_writes, outstanding, outstanding_of}
 use Rattle.bridge_core.specs.HeldRequests.{BridgedRequest, RequestTable, after_sending, flights_of, holder, holds, is_numbered, may_send}
 use Rattle.bridge_core.specs.Sending.{Sending, burst_of_piece, next_sending}
-use Rattle.bridge_core.proofs.HolderChanges.{length-filter-map, part-empty}
 use Rattle.bridge_core.proofs.NextSending.{IsNext, next_found, next_served, next_sound}
 use Rattle.bridge_core.proofs.ResponseLinks.{part_way-zero}
-
--- ---- searches, where one entry is changed
-
--- a change lets a test find the changed entry that found the entry before, or none
-pub find-changed : {X : Type 0} (q p : X → Bool) (f : X → X) (xs : List X) (x : X) → find p xs ≡ Some x → q (f x) ≡ true → (find q xs ≡ None) ⊎ (find q xs ≡ Some x)
-    → find q (change_first p f xs) ≡ Some (f x)
-find-changed q p f [] x found passes was = absurd (cc (found))
-find-changed q p f (y ∷ ys) x found passes was = grind (arith, find-passes p ys x, find-changed q p f ys x)
-
--- a change of an entry that fails a test, before it and after it, isn't seen by it
-pub find-unchanged : {X : Type 0} (q p : X → Bool) (f : X → X) (xs : List X) (x : X) → find p xs ≡ Some x → q x ≡ false → q (f x) ≡ false → find q (change_first p f xs) ≡ find q xs
-find-unchanged q p f [] x found fails still = refl
-find-unchanged q p f (y ∷ ys) x found fails still = grind (arith, find-unchanged q p f ys x)
-
-some_pass : {X : Type 0} (p q : X → Bool) (xs : List X) (x : X) → find p xs ≡ Some x → q x ≡ true → 1 ≤ length (filter q xs)
-some_pass p q [] x found passes = absurd (cc (found))
-some_pass p q (y ∷ ys) x found passes = grind (arith, some_pass p q ys x)
-
--- an entry that alone passes a test is the one that it finds
-find-alone : {X : Type 0} (p q : X → Bool) (xs : List X) (x : X) → find p xs ≡ Some x → q x ≡ true → length (filter q xs) ≤ 1 → find q xs ≡ Some x
-find-alone p q [] x found passes few = absurd (cc (found))
-find-alone p q (y ∷ ys) x found passes few = grind (arith, some_pass p q ys x, find-alone p q ys x)
 
 -- ---- searches among live requests
 
@@ -217,10 +195,10 @@ linked_sent state sending sound is id =
           rw (next.burst, ← same.1)
           (linked-own sending.id requests.live (after_sent state sending).requests.live sending.request state.open_bursts next.range (next.write, next.piece) (sound.linked sending.id) taken.bursts taken.came
           (next_served requests sending sound.requests next).next
-          (find-changed (holds sending.id) number (after_sending sending.id) requests.live sending.request by_number (eq-eqb sending.id sending.id refl) taken.held)
+          (find-changed-found (holds sending.id) number (after_sending sending.id) requests.live sending.request by_number (eq-eqb sending.id sending.id refl) taken.held)
           (outstanding_sent sending.id sending.request (next.write, next.piece) (next_sound requests sending sound.requests next).answered next.next))
       | inr other ↦
           rw next.burst
           (linked-other sending.id id requests.live (after_sent state sending).requests.live sending.request state.open_bursts next.range (next.write, next.piece) (sound.linked id) other.0
-          (find-unchanged (holds id) number (after_sending sending.id) requests.live sending.request by_number (holds_no_other requests sending id next other.0) other.0))
+          (find-changed-unseen (holds id) number (after_sending sending.id) requests.live sending.request by_number (holds_no_other requests sending id next other.0) other.0))
     ]

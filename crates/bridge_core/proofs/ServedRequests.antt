@@ -6,6 +6,7 @@ use Rattle.std.proofs.lemmas.Bool.{and_parts, eqb-true, leb-true, lt-leb}
 use Rattle.std.proofs.lemmas.List.{take_all}
 use Rattle.std.proofs.lemmas.Bool.Decides.{nat_tests}
 use Rattle.bus_words.specs.Places.{change_first}
+use Rattle.bus_words.proofs.FoundChanges.{part-empty, part-next}
 use Rattle.tl_messages.specs.Operations.{has_data, reply_has_data}
 use Rattle.tl_messages.specs.Requests.{HeldMessage, request_of}
 use Rattle.tl_messages.specs.declared.Operation.{Operation}
@@ -27,7 +28,6 @@ use Rattle.bridge_core.specs.Laws.{IsOfMessage, IsPartWay, IsServed, answered_pi
 use Rattle.bridge_core.specs.HeldRequests.{BridgedRequest, RequestTable, address_of, after_read, after_response, after_sending, newly_live, outline_in, range_of, settled, value_found}
 use Rattle.bridge_core.specs.declared.Config.{Config}
 use Rattle.bridge_core.proofs.AnswerLinks.{answered_next}
-use Rattle.bridge_core.proofs.HolderChanges.{part-empty, part-next}
 use Rattle.bridge_core.proofs.PlannedPieces.{HasPlan, atomic_plan, live_plan, plan_known, some_pieces}
 use Rattle.bridge_core.proofs.ResponseLinks.{part_way-zero}
 

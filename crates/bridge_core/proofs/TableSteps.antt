@@ -1,20 +1,20 @@
 -- Live requests, each kept as its place in the order of bursts and, in the slot of its key, what it asks and was told; and what a change of
 -- one of them keeps of the table: a slot for each key, and what is true of every table.
-use Rattle.std.proofs.Common.{◌≡◌, ◌≢◌, ℕ, ◌==◌, ◌<◌, Bool, false, List, [], ◌∷◌, ◌++◌, map, length, set, Some, None, refl, sym, ◌∙◌, ap, arith, zero, suc, get_or, true}
+use Rattle.std.proofs.Common.{◌≡◌, ◌≢◌, ℕ, ◌==◌, ◌<◌, Bool, false, List, [], ◌∷◌, ◌++◌, map, length, set, Some, None, refl, sym, ◌∙◌, ap, arith, get_or, true}
 use Rattle.std.specs.Prelude.{IsSome, option_map}
 use Rattle.std.specs.List.{AllByRecursion, find}
 use Rattle.std.proofs.lemmas.Bool.{ne_eqb}
 use Rattle.std.proofs.lemmas.Bool.Decides.{nat_tests}
 use Rattle.std.proofs.lemmas.List.{get_or-set_other, get_or-set_same, map-append, get_or_default, length-set}
 use Rattle.bus_words.specs.Places.{change_first, without_first}
-use Rattle.bus_words.proofs.PlaceChanges.{all-find}
+use Rattle.bus_words.proofs.PlaceChanges.{all-at, all-find, all-set}
+use Rattle.bus_words.proofs.MappedPlaces.{all-mapped}
 use Rattle.flight_table.specs.Laws.{HaveOwnKeys, AreRising, IsSound}
 use Rattle.flight_table.specs.LiveRequests.{LiveRequest}
 use Rattle.flight_table.specs.Tables.{KeyedRequest, change_entry, has_key, request_in, requests_of, KeyedTable, change_key, has_number, key_where, table_of}
 use Rattle.bridge_core.specs.Configs.{is_valid}
 use Rattle.bridge_core.specs.Inside.{HeldRequest, bridged, held_in, joined, nothing_held, with_held, IsFirstAt, IsKept, KeptTable, shown_table}
 use Rattle.bridge_core.specs.HeldRequests.{BridgedRequest, RequestTable, flights_of, flight_table_of}
-use Rattle.bridge_core.proofs.HolderChanges.{all-mapped}
 use Rattle.flight_table.proofs.KeyLaws.{named}
 use Rattle.bridge_core.specs.Laws.{IsServed, IsSoundRequestTable}
 use Rattle.bridge_core.proofs.ServedRequests.{all-change_found}
@@ -172,20 +172,13 @@ held_at kept key slot held is same few at = at ∙ get_or_default kept.helds slo
 
 -- what is true of each slot is true of that of a key
 pub all-held : (P : HeldRequest → Type 0) (helds : List HeldRequest) (key : ℕ) → AllByRecursion P helds → key < length helds → P (held_in helds key)
-all-held P [] key all within = absurd (omega (arith, within))
-all-held P (held ∷ helds) zero all within = all.0
-all-held P (held ∷ helds) (suc key) all within = all-held P helds key all.1 (omega (arith, within))
-
-all-put : (P : HeldRequest → Type 0) (helds : List HeldRequest) (key : ℕ) (held : HeldRequest) → AllByRecursion P helds → P held → AllByRecursion P (set helds key held)
-all-put P [] key held all one = tt
-all-put P (first ∷ helds) zero held all one = (one, all.1)
-all-put P (first ∷ helds) (suc key) held all one = (all.0, all-put P helds key held all.1 one)
+all-held P helds key all within = all-at P helds key nothing_held all within
 
 -- something of the bus of the limits is put into a slot
 pub kept_put : (kept : KeptTable) (flight : KeyedTable) (key : ℕ) (held : HeldRequest) → IsKept kept → flight.limits ≡ kept.flight.limits → held.bus_bytes ≡ kept.config.axi_bytes
     → IsKept (record kept { flight = flight; helds = set kept.helds key held })
 kept_put kept flight key held is limits bus =
-    record { limits = limits ∙ is.limits; buses = all-put (λ (h : HeldRequest). h.bus_bytes ≡ kept.config.axi_bytes) kept.helds key held is.buses bus; all = length-set kept.helds key held ∙ is.all }
+    record { limits = limits ∙ is.limits; buses = all-set (λ (h : HeldRequest). h.bus_bytes ≡ kept.config.axi_bytes) kept.helds key held is.buses bus; all = length-set kept.helds key held ∙ is.all }
 
 -- ---- a change of one request
 

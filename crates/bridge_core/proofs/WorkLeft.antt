@@ -6,6 +6,7 @@ use Rattle.std.proofs.Math.Seq.{drop-nil, take-nil}
 use Rattle.std.proofs.lemmas.Bool.{eq-eqb}
 use Rattle.std.proofs.lemmas.Bool.Decides.{eqb_tells, nat_tests}
 use Rattle.std.proofs.lemmas.List.Sums.{sum_by-cons, sum_by-take-drop}
+use Rattle.bus_words.proofs.FoundChanges.{find-none-kept}
 use Rattle.burst_plan.specs.declared.Piece.{Piece}
 use Rattle.flight_table.specs.Laws.{IsSoundRequest}
 use Rattle.flight_table.specs.LiveRequests.{LiveRequest, planned}
@@ -19,7 +20,6 @@ use Rattle.bridge_core.specs.Laws.{AreLinked, IsPartWay, IsServed, IsSoundBridge
 use Rattle.bridge_core.specs.HeldRequests.{BridgedRequest, flight_table_of, flights_of, holder, holds}
 use Rattle.bridge_core.specs.declared.Config.{Config}
 use Rattle.burst_plan.specs.declared.Region.{Region}
-use Rattle.bridge_core.proofs.HolderChanges.{find-none-kept}
 use Rattle.bridge_core.proofs.ResponseLinks.{part_way-zero}
 use Rattle.bridge_core.proofs.SendingLinks.{sound_requests}
 use Rattle.bridge_core.proofs.SentLinks.{holders_counted, none_sent}

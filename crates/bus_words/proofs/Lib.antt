@@ -1,11 +1,13 @@
 pub mod BelowEight
 pub mod DistinctPlaces
 pub mod FirstPlaces
+pub mod FoundChanges
 pub mod Inclusion
 pub mod LaneLaws
 pub mod MappedPlaces
 pub mod MaskLaws
 pub mod PlaceChanges
+pub mod StoredPlaces
 pub mod TableLaws
 pub mod TextLaws
 mod Examples

@@ -1,7 +1,8 @@
 -- What stands at a place of a list, where the list is made of another, or one entry of it changes.
-use Rattle.std.proofs.Common.{◌≡◌, ℕ, zero, suc, Bool, true, false, List, [], ◌∷◌, length, map, refl, ap}
-use Rattle.std.specs.List.{filter, position, position_or_len, remove}
-use Rattle.std.specs.Prelude.{if◌then◌else◌}
+use Rattle.std.proofs.Common.{◌≡◌, ℕ, zero, suc, Bool, true, false, List, [], ◌∷◌, Option, None, Some, length, map, refl, ap}
+use Rattle.std.specs.List.{AllByRecursion, filter, position, position_or_len, remove}
+use Rattle.std.specs.Prelude.{if◌then◌else◌, option_map}
+use Rattle.std.proofs.lemmas.Option.{same_Some}
 
 pub length_map : {X Y : Type 0} (f : X → Y) (xs : List X) → length (map f xs) ≡ length xs
 length_map f [] = refl
@@ -36,11 +37,21 @@ map_same f g [] same = refl
 map_same f g (x ∷ xs) same = rw (same x, map_same f g xs same) refl
 
 -- as many pass a test of what they are made of
-pub length-filter-map : {X Y : Type 0} (f : X → Y) (p : Y → Bool) (xs : List X) → length (filter p (map f xs)) ≡ length (filter (λ x. p (f x)) xs)
-length-filter-map f p [] = refl
-length-filter-map {X = X} {Y = Y} f p (x ∷ xs) = by_test (p (f x)) (length-filter-map f p xs)
+pub length-filter-map : {X Y : Type 0} (p : Y → Bool) (f : X → Y) (xs : List X) → length (filter p (map f xs)) ≡ length (filter (λ x. p (f x)) xs)
+length-filter-map p f [] = refl
+length-filter-map {X = X} {Y = Y} p f (x ∷ xs) = by_test (p (f x)) (length-filter-map p f xs)
   where
     by_test : (b : Bool) → length (filter p (map f xs)) ≡ length (filter (λ z. p (f z)) xs)
         → length (if b then f x ∷ filter p (map f xs) else filter p (map f xs)) ≡ length (if b then x ∷ filter (λ z. p (f z)) xs else filter (λ z. p (f z)) xs)
     by_test true rest = ap suc rest
     by_test false rest = rest
+
+-- what holds of each of a list that is made of another
+pub all-mapped : {X Y : Type 0} (P : Y → Type 0) (f : X → Y) (xs : List X) → AllByRecursion P (map f xs) → AllByRecursion (λ x. P (f x)) xs
+all-mapped P f [] all = tt
+all-mapped P f (x ∷ xs) all = (all.0, all-mapped P f xs all.1)
+
+-- what a map gave came of what was there
+pub map_some : {A B P : Type 0} (f : A → B) (o : Option A) (y : B) → option_map f o ≡ Some y → ((x : A) → o ≡ Some x → f x ≡ y → P) → P
+map_some f None y is k = absurd (cc)
+map_some f (Some x) y is k = k x refl (same_Some (f x) y is)

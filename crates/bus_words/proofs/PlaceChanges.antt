@@ -1,10 +1,43 @@
--- What changes of a list's first passing entry keep: what holds of each entry, how many there are, and how many pass a test.
-use Rattle.std.proofs.Common.{◌≡◌, ◌+◌, suc, ◌≤◌, Bool, true, false, List, [], ◌∷◌, ◌++◌, length, refl, ap, arith}
+-- What changes of a list keep: what holds of each entry, how many there are, and how many pass a test.
+use Rattle.std.proofs.Common.{◌≡◌, ℕ, zero, suc, ◌+◌, ◌<◌, ◌≤◌, Bool, true, false, List, [], ◌∷◌, ◌++◌, length, take, get_or, set, slice_get, refl, ap, subst, arith}
 use Rattle.std.specs.Prelude.{None, Some, if◌then◌else◌}
-use Rattle.std.specs.List.{AllByRecursion, filter, find}
+use Rattle.std.specs.List.{AllByRecursion, filter, find, remove}
 use Rattle.bus_words.specs.Places.{change_first, without_first}
 
--- what holds of each entry holds of the one that a search finds
+-- what holds of each entry holds of each where it follows from that
+pub all-map : {X : Type 0} (P Q : X → Type 0) (xs : List X) → ((x : X) → P x → Q x) → AllByRecursion P xs → AllByRecursion Q xs
+all-map P Q [] follows all = tt
+all-map P Q (x ∷ xs) follows all = (follows x all.0, all-map P Q xs follows all.1)
+
+-- and of the one at a place
+pub all-at : {X : Type 0} (P : X → Type 0) (xs : List X) (k : ℕ) (d : X) → AllByRecursion P xs → k < length xs → P (get_or xs k d)
+all-at P [] k d all within = absurd (omega (arith, within))
+all-at P (x ∷ xs) zero d all within = all.0
+all-at P (x ∷ xs) (suc k) d all within = all-at P xs k d all.1 (omega (arith, within))
+
+pub all-got : {X : Type 0} (P : X → Type 0) (xs : List X) (k : ℕ) (x : X) → AllByRecursion P xs → slice_get xs k ≡ Some x → P x
+all-got P [] k x all at = absurd (cc)
+all-got P (y ∷ ys) zero x all at = let same : y ≡ x = cc in subst P same all.0
+all-got P (y ∷ ys) (suc k) x all at = all-got P ys k x all.1 at
+
+-- and of each entry of a list that was changed at a place
+pub all-set : {X : Type 0} (P : X → Type 0) (xs : List X) (k : ℕ) (x : X) → AllByRecursion P xs → P x → AllByRecursion P (set xs k x)
+all-set P [] k x all holds = tt
+all-set P (y ∷ ys) zero x all holds = (holds, all.1)
+all-set P (y ∷ ys) (suc k) x all holds = (all.0, all-set P ys k x all.1 holds)
+
+pub all-remove : {X : Type 0} (P : X → Type 0) (xs : List X) (k : ℕ) → AllByRecursion P xs → AllByRecursion P (remove xs k)
+all-remove P [] zero all = tt
+all-remove P [] (suc k) all = tt
+all-remove P (x ∷ xs) zero all = all.1
+all-remove P (x ∷ xs) (suc k) all = (all.0, all-remove P xs k all.1)
+
+pub all-take : {X : Type 0} (P : X → Type 0) (k : ℕ) (xs : List X) → AllByRecursion P xs → AllByRecursion P (take k xs)
+all-take P zero xs all = tt
+all-take P (suc k) [] all = tt
+all-take P (suc k) (x ∷ xs) all = (all.0, all-take P k xs all.1)
+
+-- and of the one that a search finds
 pub all-find : {X : Type 0} (P : X → Type 0) (p : X → Bool) (xs : List X) (x : X) → AllByRecursion P xs → find p xs ≡ Some x → P x
 all-find P p [] x all found = absurd (cc)
 all-find {X = X} P p (y ∷ ys) x all found = by_test (p y) found (λ later. all-find P p ys x all.1 later)

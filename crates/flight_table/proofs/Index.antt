@@ -5,6 +5,7 @@ use Rattle.bus_words.proofs.FirstPlaces.{find-none}
 use Rattle.std.proofs.lemmas.Bool.{cases_eq, eq-eqb, ne_eqb}
 use Rattle.std.proofs.lemmas.Grind.{common_steps}
 use Rattle.bus_words.specs.Places.{AreDistinct, change_first, without_first}
+use Rattle.bus_words.proofs.DistinctPlaces.{distinct-append, distinct-without_first}
 use Rattle.bus_words.proofs.PlaceChanges.{all-append, all-without_first}
 use Rattle.slab.proofs.SlabLemmas.{Updates-with_value}
 use Rattle.slab.specs.Slab.{Slab, with_value, get, ContainsKey, slab_len, Updates}
@@ -50,13 +51,6 @@ fresh-request s key (k ∷ ks) others = grind (arith, nat_tests, others.0, fresh
 entries-append : (s : Slab LiveRequest) (ks : List ℕ) (key : ℕ) → entries_in s (ks ++ key ∷ []) ≡ entries_in s ks ++ entry_in s key ∷ []
 entries-append s [] key = refl
 entries-append s (k ∷ ks) key = rw (entries-append s ks key) refl
-
-others-sym : (key k : ℕ) → k ≢ key → key ≢ k
-others-sym key k other = λ e. other (sym e)
-
-pub distinct-append : (key : ℕ) (ks : List ℕ) → AreDistinct ks → AreOthers key ks → AreDistinct (ks ++ key ∷ [])
-distinct-append key [] distinct others = (tt, tt)
-distinct-append key (k ∷ ks) distinct others = (all-append (λ m. m ≢ k) ks key distinct.0 (others-sym key k others.0), distinct-append key ks distinct.1 others.1)
 
 pub entries-add : (s t : Slab LiveRequest) (key : ℕ) (r : LiveRequest) (ks : List ℕ) → IsIndex s ks → get s key ≡ None → Updates s t key (Some r)
     → entries_in t (ks ++ key ∷ []) ≡ entries_in s ks ++ record { key = key; request = r } ∷ []
@@ -138,10 +132,6 @@ pub entries-remove : (s t : Slab LiveRequest) (key : ℕ) (ks : List ℕ) → Ar
 entries-remove s t key ks distinct u =
     entries-same s t key (without_first (λ k. k == key) ks) (without-others key ks distinct) u.others ∙ entries-without s key ks
 
-pub distinct-without : (p : ℕ → Bool) (ks : List ℕ) → AreDistinct ks → AreDistinct (without_first p ks)
-distinct-without p [] distinct = tt
-distinct-without p (k ∷ ks) distinct = grind (arith, distinct.1, all-without_first (λ m. m ≢ k) p ks distinct.0, distinct-without p ks distinct.1)
-
 pub length-without : (s : Slab LiveRequest) (key : ℕ) (ks : List ℕ) → IsSome (request_in key (entries_in s ks)) → length (without_first (λ k. k == key) ks) + 1 ≡ length ks
 length-without s key [] some = absurd (grind (arith, some))
 length-without s key (k ∷ ks) some = grind (arith, length-without s key ks)
@@ -157,7 +147,7 @@ index-remove s t key ks r index some u is len =
     let found : is_some r ≡ true = rw is (key-there s key ks index.there some) in
     let less : slab_len t + 1 ≡ slab_len s = on_some r found len in record {
       there = there-same s t key (without_first (λ k. k == key) ks) others u.others (all-without_first (ContainsKey s) (λ k. k == key) ks index.there);
-      distinct = distinct-without (λ k. k == key) ks index.distinct;
+      distinct = distinct-without_first (λ k. k == key) ks index.distinct;
       count = omega (arith, less, index.count, length-without s key ks some);
     }
 

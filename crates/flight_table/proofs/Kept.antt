@@ -11,7 +11,7 @@ use Rattle.flight_table.specs.Order.{holds_back}
 use Rattle.flight_table.specs.Tables.{KeyedRequest, change_entry, has_key, request_in, requests_of}
 use Rattle.flight_table.proofs.Lowered.{count_cons, less_if}
 use Rattle.bus_words.proofs.MappedPlaces.{length_map, map-remove, map_same}
-use Rattle.flight_table.proofs.TableChanges.{all-map}
+use Rattle.bus_words.proofs.PlaceChanges.{all-map}
 use Rattle.std.proofs.lemmas.Bool.{le-ltb}
 use Rattle.std.proofs.lemmas.Option.{same_Some}
 use Rattle.std.proofs.lemmas.List.Elements.{filter_agree}

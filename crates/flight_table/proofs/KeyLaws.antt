@@ -4,13 +4,13 @@ use Rattle.std.specs.Prelude.{if◌then◌else◌, option_map, option_and_then, 
 use Rattle.std.specs.List.{AllByRecursion, find}
 use Rattle.std.proofs.lemmas.Bool.{and_parts, eqb-true, eq-eqb}
 use Rattle.bus_words.specs.Places.{change_first, without_first}
-use Rattle.bus_words.proofs.PlaceChanges.{find-passes}
+use Rattle.bus_words.proofs.PlaceChanges.{all-map, find-passes}
 use Rattle.flight_table.specs.Laws.{AreRising, HaveOwnKeys, IsSound}
 use Rattle.flight_table.specs.Order.{IsSmallestDone, IsSmallestReady, is_ready, next_ready}
 use Rattle.flight_table.specs.LiveRequests.{LiveRequest}
 use Rattle.flight_table.specs.Tables.{FlightTable, KeyedRequest, KeyedTable, change_entry, has_key, has_number, is_done_of, is_of, key_in, oldest_done, request_in, request_named, requests_of, table_of}
 use Rattle.std.proofs.lemmas.Bool.Decides.{nat_tests}
-use Rattle.flight_table.proofs.TableChanges.{from_numbers, all-map}
+use Rattle.flight_table.proofs.TableChanges.{from_numbers}
 
 -- a key that a search found is one of the keys
 key_listed : (P : ℕ → Type 0) (test : LiveRequest → Bool) (entries : List KeyedRequest) (k : ℕ) → AllByRecursion P (map (λ entry. entry.key) entries) → key_in test entries ≡ Some k → P k

@@ -4,7 +4,7 @@ use Rattle.std.specs.Prelude.{if◌then◌else◌, IfSome}
 use Rattle.std.specs.List.{AllByRecursion, filter, list_any}
 use Rattle.std.proofs.Math.Nat.{mul-le-mul_right}
 use Rattle.std.proofs.lemmas.Bool.{lt-ltb, ltb-true, le-ltb}
-use Rattle.bus_words.proofs.PlaceChanges.{all-append}
+use Rattle.bus_words.proofs.PlaceChanges.{all-append, all-map}
 use Rattle.flight_table.specs.Laws.{AreLimits, AreRising, HaveOwnKeys, IsSound, IsSoundRequest, IsSoundTable}
 use Rattle.flight_table.specs.LiveRequests.{LiveRequest, all_sent, flight_for, pieces_planned, plan_for, planned}
 use Rattle.burst_plan.specs.declared.Piece.{Piece}
@@ -17,7 +17,7 @@ use Rattle.flight_table.specs.Order.{holds_back, holds_id, is_held}
 use Rattle.flight_table.specs.Tables.{FlightTable, KeyedRequest, KeyedTable, has_key, has_number, has_room, has_source, is_busy, is_of, request_at, requests_of, table_of, with_request, without_number}
 use Rattle.flight_table.proofs.KeyLaws.{without_by_number}
 use Rattle.flight_table.proofs.Steps.{with_live}
-use Rattle.flight_table.proofs.TableChanges.{all-map, count-none, from_numbers, sound-without, to_numbers}
+use Rattle.flight_table.proofs.TableChanges.{count-none, from_numbers, sound-without, to_numbers}
 use Rattle.std.proofs.lemmas.Bool.Decides.{nat_tests}
 use Rattle.flight_table.proofs.Kept.{count_pushed}
 use Rattle.bus_words.proofs.MappedPlaces.{length_map}

@@ -7,7 +7,7 @@ use Rattle.std.proofs.Math.Seq.{take-append_seam}
 use Rattle.std.proofs.lemmas.List.{map-set, map_push, set-get_or}
 use native.Mathlib.Nat.{zero-div}
 use Rattle.bus_words.proofs.FirstPlaces.{find-first, find-none, position_is_first}
-use Rattle.bus_words.proofs.PlaceChanges.{all-append}
+use Rattle.bus_words.proofs.PlaceChanges.{all-append, all-map, all-remove, all-set}
 use Rattle.burst_plan.specs.Pieces.{IsPlannable, PlannedRange, range_end}
 use Rattle.burst_plan.proofs.PieceLaws.{range_in_page}
 use Rattle.bus_words.specs.Places.{AreDistinct}
@@ -19,11 +19,9 @@ use Rattle.flight_table.specs.declared.rows.Row.{Row}
 use Rattle.flight_table.specs.Inside.{count_holders, lowered}
 use Rattle.flight_table.specs.Spans.{counted_in, lowered_in, span_of}
 use Rattle.flight_table.specs.declared.spans.Span.{Span}
-use Rattle.flight_table.proofs.TableChanges.{all-map}
 use Rattle.flight_table.proofs.Lowered.{counted_all, lowered_all}
 use Rattle.flight_table.proofs.MarkLaws.{as_marks, below, pushed, removed_is}
 use Rattle.bus_words.proofs.MappedPlaces.{length_map, map-remove}
-use Rattle.flight_table.proofs.SumLaws.{all_remove, all_set}
 use Rattle.std.proofs.lemmas.Bool.Decides.{nat_tests}
 
 abbrev pub pages_of : List Row → List ℕ
@@ -132,7 +130,7 @@ pub rows_set : (live : List LiveRequest) (place : ℕ) (old new : LiveRequest) (
 rows_set live place old new rows kept there same plan =
     record {
       pages = λ page. kept.pages page ∙ sym (ap number_of (stays (is_on (Some page)) (ap (λ p. lies_in (Some page) (page_of p)) same)));
-      ranges = all_set HasPlan live place new kept.ranges (rw same plan);
+      ranges = all-set HasPlan live place new kept.ranges (rw same plan);
     }
   where
     stays : (q : LiveRequest → Bool) → q new ≡ q old → map q (set live place new) ≡ map q live
@@ -173,7 +171,7 @@ pub rows_remove : (live : List LiveRequest) (place : ℕ) (rows : List Row) → 
 rows_remove live place rows kept within =
     record {
       pages = λ page. bits_cut place page rows ∙ ap (without_bit place) (kept.pages page) ∙ sym (ap number_of (map-remove (is_on (Some page)) live place) ∙ removed_is (map (is_on (Some page)) live) place (rw (length_map (is_on (Some page)) live) within));
-      ranges = all_remove HasPlan live place kept.ranges;
+      ranges = all-remove HasPlan live place kept.ranges;
     }
 
 pub pages_cut : (place : ℕ) (rows : List Row) → pages_of (map (cut place) rows) ≡ pages_of rows
@@ -243,7 +241,7 @@ none_has page rows none = others rows (find-none (has_page page) rows none)
 pub distinct_set : (pages : List ℕ) (k page : ℕ) → AreDistinct pages → AreOthers page pages → AreDistinct (set pages k page)
 distinct_set [] k page distinct others = tt
 distinct_set (p ∷ pages) zero page distinct others = (others.1, distinct.1)
-distinct_set (p ∷ pages) (suc k) page distinct others = (all_set (λ m. m ≢ p) pages k page distinct.0 (λ e. others.0 (sym e)), distinct_set pages k page distinct.1 others.1)
+distinct_set (p ∷ pages) (suc k) page distinct others = (all-set (λ m. m ≢ p) pages k page distinct.0 (λ e. others.0 (sym e)), distinct_set pages k page distinct.1 others.1)
 
 -- ---- there are no more rows in use than live requests
 

@@ -1,13 +1,13 @@
 -- The sums over the live requests, through each change of them.
-use Rattle.std.proofs.Common.{◌≡◌, ℕ, zero, suc, ◌+◌, ◌*◌, ◌<◌, ◌≤◌, List, [], ◌∷◌, ◌++◌, length, get_or, set, refl, ap, sym, suc-mul, arith}
+use Rattle.std.proofs.Common.{◌≡◌, ℕ, ◌+◌, ◌*◌, ◌<◌, ◌≤◌, List, [], ◌∷◌, ◌++◌, length, get_or, set, refl, ap, sym, suc-mul, arith}
 use Rattle.std.specs.List.{AllByRecursion, filter, remove, sum_by}
 use Rattle.std.proofs.lemmas.List.Sums.{sum_by-cons, sum_by-remove, sum_by-set, sum_by_push}
+use Rattle.bus_words.proofs.PlaceChanges.{all-map}
 use Rattle.flight_table.specs.LiveRequests.{LiveRequest}
 use Rattle.flight_table.specs.Sums.{ArePart, AreSmall, IsSmall, one_undone, sums_of, with_sums}
 use Rattle.flight_table.specs.Tables.{is_undone}
 use Rattle.flight_table.specs.Work.{unsent_work, work_of}
 use Rattle.flight_table.specs.declared.sums.Sums.{Sums}
-use Rattle.flight_table.proofs.TableChanges.{all-map}
 
 pub same_sums : (a b : Sums) → a.undone ≡ b.undone → a.work ≡ b.work → a.unsent ≡ b.unsent → a ≡ b
 same_sums a b one two three = λ i. record { undone = one i; work = two i; unsent = three i }
@@ -79,17 +79,6 @@ less_small r less sums is small =
       work = omega (arith, ap (λ (s : Sums). s.work) is, small.work);
       unsent = omega (arith, ap (λ (s : Sums). s.unsent) is, small.unsent);
     }
-
-pub all_set : {X : Type 0} (P : X → Type 0) (xs : List X) (place : ℕ) (new : X) → AllByRecursion P xs → P new → AllByRecursion P (set xs place new)
-all_set P [] place new all holds = tt
-all_set P (x ∷ xs) zero new all holds = (holds, all.1)
-all_set P (x ∷ xs) (suc place) new all holds = (all.0, all_set P xs place new all.1 holds)
-
-pub all_remove : {X : Type 0} (P : X → Type 0) (xs : List X) (place : ℕ) → AllByRecursion P xs → AllByRecursion P (remove xs place)
-all_remove P [] zero all = tt
-all_remove P [] (suc place) all = tt
-all_remove P (x ∷ xs) zero all = all.1
-all_remove P (x ∷ xs) (suc place) all = (all.0, all_remove P xs place all.1)
 
 -- ---- what is read
 pub count_undone : (live : List LiveRequest) → sum_by one_undone live ≡ length (filter is_undone live)

@@ -2,18 +2,13 @@
 use Rattle.std.proofs.Common.{◌≡◌, ℕ, ◌+◌, ◌==◌, ◌<◌, ◌≤◌, Bool, true, false, None, List, [], ◌∷◌, map, length, Some, refl, ap, sym, ◌∙◌, arith, inl, inr, ◌⊎◌}
 use Rattle.std.specs.List.{AllByRecursion, filter, find, list_any}
 use Rattle.bus_words.specs.Places.{change_first, without_first}
-use Rattle.bus_words.proofs.PlaceChanges.{all-change_first, all-without_first, length-filter-without_first}
+use Rattle.bus_words.proofs.PlaceChanges.{all-change_first, all-map, all-without_first, length-filter-without_first}
 use Rattle.flight_table.specs.Laws.{AreRising, IsSoundRequest, IsSoundTable}
 use Rattle.flight_table.specs.LiveRequests.{LiveRequest}
 use Rattle.flight_table.specs.Order.{holds_back, holds_id, is_held}
 use Rattle.flight_table.specs.Tables.{FlightTable, change_number, has_number, has_source, is_of, without_number}
 use Rattle.flight_table.specs.declared.TableLimits.{TableLimits}
 use Rattle.std.proofs.lemmas.Bool.Decides.{nat_tests}
-
--- what holds of each holds of each what follows
-pub all-map : {X : Type 0} (P Q : X → Type 0) (xs : List X) → ((x : X) → P x → Q x) → AllByRecursion P xs → AllByRecursion Q xs
-all-map P Q [] so all = tt
-all-map P Q (x ∷ xs) so all = (so x all.0, all-map P Q xs so all.1)
 
 -- ---- tests on the entries, where one is replaced
 

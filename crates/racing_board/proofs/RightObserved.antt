@@ -3,10 +3,10 @@
 use Rattle.std.proofs.Common.{◌≡◌, ℕ, List, length, Some, ◌⊎◌, inl, inr, sym, ◌∙◌, ap, ap₂, subst}
 use Rattle.std.specs.Prelude.{◌≢◌, slice_get, slice_set}
 use Rattle.std.proofs.lemmas.Option.{slice_get_within}
+use Rattle.bus_words.proofs.StoredPlaces.{get_set, get_set-other}
 use Rattle.axi_checker.specs.OpenBursts.{nothing_open}
 use Rattle.axi_checker.specs.Rules.{open_after_all}
 use Rattle.bridge_core.specs.Configs.{axi_port_of}
-use Rattle.bridge_core.proofs.PortPlaces.{get_set, get_set-other}
 use Rattle.world_run.specs.Headline.{bytes_of_all}
 use Rattle.world.specs.Setups.{SetupLists, faults_of}
 use Rattle.scoreboard.specs.Boards.{ClientBoard}

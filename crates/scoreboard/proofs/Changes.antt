@@ -20,8 +20,9 @@ use Rattle.axi_beats.specs.Responses.{is_okay}
 use Rattle.burst_plan.proofs.RequestWrites.{given_at-bytes_of}
 use Rattle.responses.specs.Answers.{after_reads}
 use Rattle.responses.specs.Gathered.{GatherState, gathering_of, old_value, reads_of}
+use Rattle.subordinate.specs.Effects.{HasGoodPages}
 use Rattle.subordinate.specs.Faults.{Faults, IsAbsent, IsGood, IsSlaveError, Standing, read_response, read_response_on}
-use Rattle.subordinate.specs.InsidePages.{KeepsGoodPages, PagesState}
+use Rattle.subordinate.specs.InsidePages.{PagesState}
 use Rattle.world_run.specs.Meaning.{Bytes, bytes_at, effect, with_bytes}
 use Rattle.world_run.proofs.SerialOldValues.{old_value_at}
 use Rattle.world_run.proofs.SerialReplies.{outline_as}
@@ -32,7 +33,7 @@ use Rattle.scoreboard.proofs.RequestWords.{range}
 use Rattle.scoreboard.proofs.WordReads.{answered_words}
 
 -- the old value that is found
-pub value_found : (state : PagesState) (q : WholeRequest) (op : AtomicOp) (address : ℕ) → q.size ≤ 3 → KeepsGoodPages state → IsMemoryRange address q.size → q.address % 2 ^ q.size ≡ 0 → address % 4096 ≡ q.address % 4096
+pub value_found : (state : PagesState) (q : WholeRequest) (op : AtomicOp) (address : ℕ) → q.size ≤ 3 → HasGoodPages state.faults state.memory → IsMemoryRange address q.size → q.address % 2 ^ q.size ≡ 0 → address % 4096 ≡ q.address % 4096
     → old_value (outline_as q (Atomic op))
     (after_reads 8 (outline_as q (Atomic op)) (enumerate_from 0 (words_read state address q.size 0 (reads_of 8 (outline_as q (Atomic op))))) (gathering_of (outline_as q (Atomic op)) false))
     ≡ (if is_okay (read_response state.faults address) then Some (value (bytes_at (bytes_in state) address (2 ^ q.size))) else None)
@@ -86,7 +87,7 @@ number_put m address own size number small aligned own_aligned same = fun_ext (�
 
 -- the same, of a checked request and what was gathered of it
 pub found_as : (state : PagesState) (held : HeldMessage) (op : AtomicOp) (address size : ℕ) (gather new : GatherState) (result : Option ℕ) → IsCheckedRequest held → held.operation ≡ Atomic op
-    → address % 4096 ≡ held.address % 4096 → IsFresh gather held → KeepsGoodPages state → size ≡ held.size
+    → address % 4096 ≡ held.address % 4096 → IsFresh gather held → HasGoodPages state.faults state.memory → size ≡ held.size
     → new ≡ record gather { gathering = after_reads 8 gather.outline (enumerate_from 0 (words_read state address size 0 (reads_of 8 gather.outline))) gather.gathering }
     → result ≡ old_value new.outline new.gathering
     → result ≡ (if is_okay (read_response state.faults address) then Some (value (bytes_at (bytes_in state) address (2 ^ held.size))) else None)

@@ -7,6 +7,8 @@ use Rattle.std.proofs.lemmas.List.{length-append}
 use Rattle.std.proofs.lemmas.List.Elements.{filter-append}
 use Rattle.std.proofs.lemmas.Option.{same_Some}
 use Rattle.bus_words.specs.Places.{change_first, without_first}
+use Rattle.bus_words.proofs.FoundChanges.{find-append-fails, find-none-kept}
+use Rattle.bus_words.proofs.MappedPlaces.{length-filter-map}
 use Rattle.tl_messages.specs.declared.DBeat.{DBeat}
 use Rattle.axi_beats.specs.declared.RBeat.{RBeat}
 use Rattle.axi_beats.specs.declared.Resp.{Resp}
@@ -14,8 +16,6 @@ use Rattle.flight_table.specs.LiveRequests.{finished, is_settled, with_answered,
 use Rattle.flight_table.specs.Tables.{has_source}
 use Rattle.responses.specs.Gathered.{after_b, after_r}
 use Rattle.bridge_core.specs.HeldRequests.{BridgedRequest, after_read, after_response, after_sending, flights_of, outline_in, settled, value_found}
-use Rattle.bridge_core.proofs.HolderChanges.{find-none-kept, length-filter-map}
-use Rattle.bridge_core.proofs.SendingLinks.{find-append-fails}
 
 -- ---- who asks
 

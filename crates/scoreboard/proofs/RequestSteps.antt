@@ -7,6 +7,7 @@ use Rattle.std.proofs.lemmas.Bool.Decides.{eqb_tells}
 use Rattle.std.proofs.lemmas.List.{length-append, length-set}
 use Rattle.std.proofs.lemmas.Option.{slice_get_within}
 use Rattle.bus_words.proofs.PlaceChanges.{all-append}
+use Rattle.bus_words.proofs.StoredPlaces.{get_set, get_set-other}
 use Rattle.tl_messages.specs.Requests.{HeldMessage, WholeRequest, held_of, message_of, request_of}
 use Rattle.tl_messages.specs.declared.ABeat.{ABeat}
 use Rattle.tl_checker.specs.Ports.{joined, judged}
@@ -17,7 +18,6 @@ use Rattle.tl_checker.specs.declared.TlRule.{TlRule}
 use Rattle.tl_checker.proofs.Fronts.{none_front}
 use Rattle.responses.specs.Shown.{Reply, shown}
 use Rattle.bridge_core.specs.Configs.{port_of}
-use Rattle.bridge_core.proofs.PortPlaces.{get_set, get_set-other}
 use Rattle.world_run.specs.Headline.{IsSpelled, bytes_of_all}
 use Rattle.world_run.specs.Meaning.{Effect, meaning}
 use Rattle.world_run.specs.Runs.{AcceptedMessage}

@@ -1,11 +1,11 @@
 -- The words of a request that a checker let pass.
-use Rattle.std.proofs.Common.{◌≡◌, ℕ, zero, suc, ◌+◌, ◌-◌, ◌*◌, ◌/◌, ◌%◌, ◌^◌, ◌<◌, ◌≤◌, true, length, List, [], ◌∷◌, Some, min, refl, sym, subst, ◌∙◌, ap, arith, inl, inr}
+use Rattle.std.proofs.Common.{◌≡◌, ℕ, ◌+◌, ◌-◌, ◌*◌, ◌/◌, ◌%◌, ◌^◌, ◌<◌, ◌≤◌, true, length, Some, min, refl, sym, ◌∙◌, ap, arith, inl, inr}
 use Rattle.std.specs.Prelude.{slice_get}
-use Rattle.std.specs.List.{AllByRecursion}
 use Rattle.std.proofs.lemmas.Bool.{cases_lt}
 use Rattle.std.proofs.lemmas.Nat.{pow-add}
 use Rattle.std.proofs.Math.Pow.{pow_mono}
 use Rattle.std.proofs.lemmas.Option.{slice_get-get_or}
+use Rattle.bus_words.proofs.PlaceChanges.{all-got}
 use Rattle.tl_messages.specs.Lanes.{in_lanes}
 use Rattle.tl_messages.specs.Operations.{beats_of, has_data}
 use Rattle.tl_messages.specs.Requests.{HeldMessage, beat_at}
@@ -38,16 +38,10 @@ word_lanes a own size lane same below inside = elim (cases_lt size 3) [
   | inr many ↦ in_lanes_every a (min size 3) lane (omega (arith, many)) below
 ]
 
--- what holds of all entries of a list holds of each
-all-at : {X : Type 0} (P : X → Type 0) (xs : List X) (k : ℕ) (x : X) → AllByRecursion P xs → slice_get xs k ≡ Some x → P x
-all-at P [] k x all at = absurd (cc (at))
-all-at P (y ∷ ys) zero x all at = let same : y ≡ x = cc in subst P same all.0
-all-at P (y ∷ ys) (suc k) x all at = all-at P ys k x all.1 at
-
 pub mask_within : (held : HeldMessage) (address k : ℕ) (word : MaskedWord) → IsCheckedRequest held → address % 4096 ≡ held.address % 4096 → slice_get held.beats k ≡ Some word
     → IsWithinWord (address + k * 8) (min held.size 3) word.mask
 mask_within held address k word checked same there lane below has =
-    let right = all-at (IsRightMask held.operation held.address held.size) held.beats k word checked.2.masks there in
+    let right = all-got (IsRightMask held.operation held.address held.size) held.beats k word checked.2.masks there in
     word_lanes (address + k * 8) held.address held.size lane (omega (arith, same)) below (right.within lane below has)
 
 pub beat_there : (held : HeldMessage) (k : ℕ) → k < length held.beats → slice_get held.beats k ≡ Some (beat_at held k)

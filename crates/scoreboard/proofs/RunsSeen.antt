@@ -9,6 +9,7 @@ use Rattle.std.proofs.lemmas.List.{append-nil, append_assoc, length-append}
 use Rattle.std.proofs.lemmas.Option.{same_Some}
 use Rattle.bus_words.specs.Places.{without_first}
 use Rattle.bus_words.proofs.PlaceChanges.{all-find, find-passes}
+use Rattle.bus_words.proofs.MappedPlaces.{length-filter-map}
 use Rattle.tl_messages.specs.Requests.{HeldMessage, WholeRequest, held_of, message_of, request_of}
 use Rattle.tl_messages.specs.declared.ABeat.{ABeat}
 use Rattle.tl_messages.specs.declared.DBeat.{DBeat}
@@ -32,7 +33,6 @@ use Rattle.bridge_core.specs.Laws.{IsFreeFront, IsServed}
 use Rattle.bridge_core.specs.HeldRequests.{BridgedRequest, after_read, after_response, after_sending, oldest_done, holds, is_done_for, is_numbered, newly_live, outline_in, reply_beats}
 use Rattle.bridge_core.specs.Sending.{Sending, next_sending}
 use Rattle.bridge_core.specs.declared.Config.{Config}
-use Rattle.bridge_core.proofs.HolderChanges.{length-filter-map}
 use Rattle.subordinate.specs.Faults.{Faults}
 use Rattle.subordinate.specs.FreeMemory.{b_of, r_of}
 use Rattle.world_run.specs.Headline.{IsReplyTo, IsSpelled, bytes_of_all, replies_of}

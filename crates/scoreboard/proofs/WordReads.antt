@@ -21,10 +21,10 @@ use Rattle.axi_beats.specs.declared.Resp.{Resp}
 use Rattle.responses.specs.Answers.{after_reads}
 use Rattle.responses.specs.Gathered.{Gathering, after_r, gathered, gathering_of, reads_of}
 use Rattle.responses.specs.declared.gather.Outline.{Outline}
-use Rattle.subordinate.specs.Effects.{IsCaptured}
+use Rattle.subordinate.specs.Effects.{HasGoodPages, IsCaptured}
 use Rattle.subordinate.specs.Faults.{is_bad, read_response, standing_at, write_response}
 use Rattle.subordinate.specs.FreeMemory.{FreeMemory}
-use Rattle.subordinate.specs.InsidePages.{KeepsGoodPages, PagesState}
+use Rattle.subordinate.specs.InsidePages.{PagesState}
 use Rattle.subordinate.proofs.EffectLaws.{is_captured}
 use Rattle.world_run.specs.Meaning.{effect}
 use Rattle.world_run.proofs.SerialReplies.{IsAnsweredAs, is_put, outline_as, reply_at}
@@ -50,7 +50,7 @@ word_there state address size n k r there =
 abbrev as_memory : PagesState → FreeMemory
 as_memory s = record { bus_bytes = 8; faults = s.faults; memory = s.memory; pending = []; sent = 0 }
 
-word_captured : (state : PagesState) (address size k : ℕ) → KeepsGoodPages state → IsWordAt address size k
+word_captured : (state : PagesState) (address size k : ℕ) → HasGoodPages state.faults state.memory → IsWordAt address size k
     → IsCaptured (as_memory state) (read_of_word address size k) 1 (word_read state address size k).payload (word_read state address size k).resp
 word_captured state address size k pages at =
     is_captured (as_memory state) (read_of_word address size k) 1 _ _ (inr refl) (one_transfer (address + k * 8) (min size 3) (omega arith) (word_aligned address size k at)).fits (omega arith)
@@ -94,7 +94,7 @@ reads_there : (size : ℕ) (operation : Operation) (q : WholeRequest) → q.size
 reads_there size operation q is has = rw has refl
 
 -- the answers to the words of a range are those of a memory with its bytes
-pub answered_words : (state : PagesState) (q : WholeRequest) (operation : Operation) (address : ℕ) → reply_has_data operation ≡ true → KeepsGoodPages state → IsMemoryRange address q.size
+pub answered_words : (state : PagesState) (q : WholeRequest) (operation : Operation) (address : ℕ) → reply_has_data operation ≡ true → HasGoodPages state.faults state.memory → IsMemoryRange address q.size
     → q.address % 2 ^ q.size ≡ 0 → address % 4096 ≡ q.address % 4096
     → IsAnsweredAs state.faults 8 (outline_as q operation) address (bytes_in state) (words_read state address q.size 0 (reads_of 8 (outline_as q operation))) []
 answered_words state q operation address has pages range aligned same =
@@ -120,7 +120,7 @@ answered_words state q operation address has pages range aligned same =
 
 -- the reply to a Get or an atomic whose words were gathered
 pub reply_of_words : (state : PagesState) (q : WholeRequest) (operation : Operation) (address : ℕ) → reply_has_data operation ≡ true → is_put operation ≡ false → ((op : AtomicOp) → operation ≡ Atomic op → q.size ≤ 3)
-    → KeepsGoodPages state → IsMemoryRange address q.size → q.address % 2 ^ q.size ≡ 0 → address % 4096 ≡ q.address % 4096
+    → HasGoodPages state.faults state.memory → IsMemoryRange address q.size → q.address % 2 ^ q.size ≡ 0 → address % 4096 ≡ q.address % 4096
     → gathered (outline_as q operation)
     (after_reads 8 (outline_as q operation) (enumerate_from 0 (words_read state address q.size 0 (reads_of 8 (outline_as q operation)))) (gathering_of (outline_as q operation) false))
     ≡ (effect state.faults q (bytes_in state) address operation (standing_at state.faults address) (is_bad state.faults address)).reply

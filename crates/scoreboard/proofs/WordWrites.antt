@@ -10,10 +10,10 @@ use Rattle.tl_messages.specs.declared.MaskedWord.{MaskedWord}
 use Rattle.axi_beats.specs.Bursts.{strobes_fit}
 use Rattle.axi_beats.specs.Transfers.{covers_lane, transfer_end, transfer_has}
 use Rattle.data_unit.proofs.AlignedLanes.{in_lanes-aligned}
-use Rattle.subordinate.specs.Effects.{IsWritten, strobes_byte}
+use Rattle.subordinate.specs.Effects.{HasGoodPages, IsWritten, strobes_byte}
 use Rattle.subordinate.specs.Faults.{is_good, standing_at}
 use Rattle.subordinate.specs.FreeMemory.{FreeMemory, bytes_written}
-use Rattle.subordinate.specs.InsidePages.{KeepsGoodPages, PagesState}
+use Rattle.subordinate.specs.InsidePages.{PagesState}
 use Rattle.subordinate.proofs.EffectLaws.{is_written}
 use Rattle.std.proofs.lemmas.Nat.{div-add-mod', pow_pos}
 use Rattle.world_run.proofs.SerialReplies.{in_page, standing_of}
@@ -45,7 +45,7 @@ word_strobes_fit address size mask small aligned within =
     (λ lane low high. either (has_lane mask lane) (covers_lane 8 address size 1 lane) (λ has. covered address size lane small aligned (omega (arith, high)) (within lane (omega (arith, high)) has)))
 
 -- the bytes after a word is put
-pub put_bytes : (state new : PagesState) (address size : ℕ) (word : MaskedWord) → size ≤ 3 → address % 2 ^ size ≡ 0 → is_good (standing_at state.faults address) ≡ true → KeepsGoodPages state
+pub put_bytes : (state new : PagesState) (address size : ℕ) (word : MaskedWord) → size ≤ 3 → address % 2 ^ size ≡ 0 → is_good (standing_at state.faults address) ≡ true → HasGoodPages state.faults state.memory
     → new ≡ record state { memory = bytes_written 8 state.memory (write_at address size) 1 (data_of word) } → bytes_in new ≡ put_in_word address size word (bytes_in state)
 put_bytes state new address size word small aligned good pages becomes = fun_ext (λ x. by_test x (strobes_byte 8 (write_at address size) 1 (data_of word) x) refl)
   where

@@ -10,7 +10,7 @@ ghost use Rattle.bridge_core.specs.Sending.{operand_of};
 ghost use Rattle.responses.specs.Answers.{after_reads};
 ghost use Rattle.responses.specs.Gathered.{after_b, gathered, outline_of, reads_of};
 ghost use Rattle.responses.specs.Shown.{shown};
-ghost use Rattle.subordinate.specs.InsidePages.{KeepsGoodPages};
+ghost use Rattle.subordinate.specs.Effects.{HasGoodPages};
 ghost use Rattle.subordinate.specs.Faults.{device_fault, is_bad, is_good, standing_at, write_response};
 ghost use Rattle.world_run.specs.Meaning.{Bytes, effect, meaning, with_bytes};
 ghost use Rattle.scoreboard.specs.InsideSerial.{IsFresh, IsMemoryRange, IsWithinWord, IsWordAt, bytes_in, put_below, put_in_word, word_read, words_read};
@@ -148,7 +148,7 @@ fn change(pages: &mut Pages, gather: &mut Gather, op: AtomicOp, request: &Reques
     requires operation { request.now.operation ≡ Atomic op }
     requires same_byte { address % 4096 ≡ request.now.address % 4096 }
     requires fresh { IsFresh gather.old request.now }
-    requires pages { KeepsGoodPages pages.old }
+    requires pages { HasGoodPages pages.old.faults pages.old.memory }
     ensures gather { gather.new ≡ record gather.old {
       gathering = after_reads 8 gather.old.outline (enumerate_from 0 (words_read pages.old address request.now.size 0 (reads_of 8 gather.old.outline))) gather.old.gathering;
     } }

@@ -8,8 +8,9 @@ use Rattle.axi_beats.specs.declared.Resp.TheVariants.{Okay}
 use Rattle.bus_words.specs.Lanes.{lane_byte}
 use Rattle.bus_words.specs.Places.{AreDistinct}
 use Rattle.bus_words.specs.Tables.{first_broken}
+use Rattle.subordinate.specs.Effects.{HasGoodPages}
 use Rattle.subordinate.specs.Faults.{Standing, device_fault, is_good, lists_page, rules_of_pages, rules_of_words, standing_at, write_response}
-use Rattle.subordinate.specs.InsidePages.{KeepsGoodPages, pages_of, pages_state}
+use Rattle.subordinate.specs.InsidePages.{pages_of}
 use Rattle.subordinate.specs.Pages.{byte_at_address, is_listed_good}
 use Rattle.subordinate.specs.declared.PageKind.{PageKind}
 use Rattle.subordinate.specs.declared.PageKind.TheVariants.{Good, SlaveError}
@@ -45,7 +46,7 @@ are_apart pages bad_words none = apart_from [] 0 pages (none_before (rules_of_pa
 -- ---- a page that has a place
 
 -- a page that has a place among the good ones is good
-pub okay_at : (listed : List (ℕ × PageKind)) (numbers : List ℕ) (pages : List (List ℕ)) (bad : List ℕ) (address : ℕ) → length pages ≡ length numbers → KeepsGoodPages (pages_state listed numbers pages bad)
+pub okay_at : (listed : List (ℕ × PageKind)) (numbers : List ℕ) (pages : List (List ℕ)) (bad : List ℕ) (address : ℕ) → length pages ≡ length numbers → HasGoodPages (record { pages = listed; bad_words = bad }) (pages_of numbers pages)
     → is_some (position (is_page_of address) numbers) ≡ true → Okay ≡ write_response (standing_at (record { pages = listed; bad_words = bad }) address)
 okay_at listed numbers pages bad address same keeps placed = by_place (position (is_page_of address) numbers) refl placed
   where

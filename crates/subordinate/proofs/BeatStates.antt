@@ -8,6 +8,7 @@ use Rattle.std.proofs.lemmas.List.Sums.{sum_by-drop_more}
 use Rattle.std.proofs.lemmas.Option.{slice_get-get_or, slice_get-map}
 use Rattle.std.specs.List.{AllByRecursion, list_any, enumerate_from}
 use Rattle.std.specs.Prelude.{Some, None, filter, filter_map, flat_map, option_map, sum_by, if◌then◌else◌, slice_get, slice_set, take}
+use Rattle.bus_words.proofs.StoredPlaces.{slice_get-append-after, slice_get-append-before}
 use Rattle.subordinate.specs.FreeMemory.{Pending, is_waiting, performed_waiting_in, waiting_in}
 use Rattle.subordinate.specs.Inside.{count_waiting, waiting_places}
 use Rattle.subordinate.specs.Laws.{IsPerformed}
@@ -109,20 +110,6 @@ waiting_in-is pending = waiting_in-places pending.serial 0 pending.beats
 pub length-waiting_in : (pending : Pending) → length (waiting_in pending) ≡ count_waiting pending.beats
 length-waiting_in pending = ap (λ (beats : List (ℕ × ℕ)). length beats) (waiting_in-is pending) ∙ length-map (waiting_places 0 pending.beats) (λ place. (pending.serial, place)) ∙ length-waiting_places 0 pending.beats
 
-pub slice_get-append-before : {X : Type 0} (xs ys : List X) (k : ℕ) → k < length xs → slice_get (xs ++ ys) k ≡ slice_get xs k
-slice_get-append-before [] ys k within = absurd (omega (arith, within))
-slice_get-append-before (x ∷ xs) ys zero within = refl
-slice_get-append-before (x ∷ xs) ys (suc k) within = slice_get-append-before xs ys k (omega (arith, within))
-
-pub slice_get-append-after : {X : Type 0} (xs ys : List X) (k : ℕ) → length xs ≤ k → slice_get (xs ++ ys) k ≡ slice_get ys (k - length xs)
-slice_get-append-after [] ys k past =
-    let same : k ≡ k - 0 = omega arith in
-    ap (slice_get ys) same
-slice_get-append-after (x ∷ xs) ys zero past = absurd (omega (arith, past))
-slice_get-append-after (x ∷ xs) ys (suc k) past =
-    let less : suc k - suc (length xs) ≡ k - length xs = omega arith in
-    rw less (slice_get-append-after xs ys k (omega (arith, past)))
-
 -- the open bursts from a place on: that one, and those after it
 from_place : (pending : List Pending) (i : ℕ) (p : Pending) → i < length pending → p ≡ get_or pending i p → flat_map waiting_in (drop i pending) ≡ waiting_in p ++ flat_map waiting_in (drop (i + 1) pending)
 from_place pending i p within is =
@@ -167,3 +154,31 @@ sum_end f pending i count total past so_far = omega (arith, so_far, ap (λ (ps :
 pub length-waiting_beats : (pending : List Pending) → length (flat_map waiting_in pending) ≡ sum_by (λ p. count_waiting p.beats) pending
 length-waiting_beats [] = refl
 length-waiting_beats (p ∷ ps) = length-append (waiting_in p) (flat_map waiting_in ps) ∙ ap (λ (n : ℕ). n + length (flat_map waiting_in ps)) (length-waiting_in p) ∙ ap (λ (n : ℕ). count_waiting p.beats + n) (length-waiting_beats ps) ∙ sym (sum_by-drop_more (λ q. count_waiting q.beats) (p ∷ ps) 0 p (omega arith))
+
+fewer_from : (pending : List Pending) (i : ℕ) → length (flat_map waiting_in (drop i pending)) ≤ length (flat_map waiting_in pending)
+fewer_from pending zero = omega arith
+fewer_from [] (suc i) = omega arith
+fewer_from (p ∷ ps) (suc i) = omega (arith, fewer_from ps i, length-append (waiting_in p) (flat_map waiting_in ps))
+
+-- a waiting beat counted from the last back is one of those from a place on, counted so
+pub waiting-back : (pending : List Pending) (i left : ℕ) → left ≤ length (flat_map waiting_in (drop i pending))
+    → slice_get (flat_map waiting_in pending) (length (flat_map waiting_in pending) - left)
+    ≡ slice_get (flat_map waiting_in (drop i pending)) (length (flat_map waiting_in (drop i pending)) - left)
+waiting-back pending zero left within = refl
+waiting-back [] (suc i) left within = refl
+waiting-back (p ∷ ps) (suc i) left within =
+    let count = length-append (waiting_in p) (flat_map waiting_in ps) in
+    let most = fewer_from ps i in
+    let past : length (waiting_in p) ≤ length (flat_map waiting_in (p ∷ ps)) - left = omega (arith, count, most, within) in
+    let rest : length (flat_map waiting_in (p ∷ ps)) - left - length (waiting_in p) ≡ length (flat_map waiting_in ps) - left = omega (arith, count, most, within) in
+    slice_get-append-after (waiting_in p) (flat_map waiting_in ps) (length (flat_map waiting_in (p ∷ ps)) - left) past
+    ∙ ap (slice_get (flat_map waiting_in ps)) rest
+    ∙ waiting-back ps i left within
+
+-- and so many are from a place on
+pub length-from_place : (pending : List Pending) (i : ℕ) (p : Pending) → i < length pending → p ≡ get_or pending i p
+    → length (flat_map waiting_in (drop i pending)) ≡ count_waiting p.beats + length (flat_map waiting_in (drop (i + 1) pending))
+length-from_place pending i p within is =
+    ap (λ (beats : List (ℕ × ℕ)). length beats) (from_place pending i p within is)
+    ∙ length-append (waiting_in p) (flat_map waiting_in (drop (i + 1) pending))
+    ∙ ap (λ (n : ℕ). n + length (flat_map waiting_in (drop (i + 1) pending))) (length-waiting_in p)

@@ -129,7 +129,7 @@ none_both : (old new : Option ℕ) → is_some new ≡ is_some old → is_some o
 none_both old new same none = grind arith
 
 -- a transfer of a write sets the strobed bytes of good pages, and no other byte
-pub is_written : (old new : FreeMemory) (aw : AwBeat) (n : ℕ) (w : WBeat) → IsBusWidth old.bus_bytes → fits_bus old.bus_bytes aw.size ≡ true → 1 ≤ n → HasGoodPages old
+pub is_written : (old new : FreeMemory) (aw : AwBeat) (n : ℕ) (w : WBeat) → IsBusWidth old.bus_bytes → fits_bus old.bus_bytes aw.size ≡ true → 1 ≤ n → HasGoodPages old.faults old.memory
     → new.memory ≡ bytes_written old.bus_bytes old.memory aw n w → IsWritten old new aw n w
 unfolding bytes_written
 is_written old new aw n w width fits one pages written =
@@ -166,7 +166,7 @@ same_page : (bus_bytes start x : ℕ) → IsBusWidth bus_bytes → start / bus_b
 same_page bus_bytes start x width here = elim width [ inl four ↦ (let at = rw four at here in omega (arith, at)) | inr eight ↦ (let at = rw eight at here in omega (arith, at)) ]
 
 -- a transfer of a read captures its bytes, each in its lane, where its page is good and its word isn't bad
-pub is_captured : (state : FreeMemory) (ar : ArBeat) (n payload : ℕ) (resp : Resp) → IsBusWidth state.bus_bytes → fits_bus state.bus_bytes ar.size ≡ true → 1 ≤ n → HasGoodPages state
+pub is_captured : (state : FreeMemory) (ar : ArBeat) (n payload : ℕ) (resp : Resp) → IsBusWidth state.bus_bytes → fits_bus state.bus_bytes ar.size ≡ true → 1 ≤ n → HasGoodPages state.faults state.memory
     → captured state.bus_bytes state.faults state.memory ar n ≡ Captured payload resp → IsCaptured state ar n payload resp
 is_captured state ar n payload resp width fits one pages captures =
     record {
@@ -206,7 +206,7 @@ legal_fits : (bus_bytes address len size burst_type : ℕ) → is_legal_address 
 legal_fits bus_bytes address len size burst_type legal = grind (arith, legal)
 
 -- performing a beat of a legal burst does what its transfer says, by addresses
-pub has_effect : (state : FreeMemory) (pending : Pending) (beat : ℕ) → IsBusWidth state.bus_bytes → IsLegal state.bus_bytes pending.burst → HasGoodPages state
+pub has_effect : (state : FreeMemory) (pending : Pending) (beat : ℕ) → IsBusWidth state.bus_bytes → IsLegal state.bus_bytes pending.burst → HasGoodPages state.faults state.memory
     → HasEffect state (with_performed state pending beat) pending.burst beat
 has_effect state pending beat width legal pages = by_burst (with_performed state pending beat) pending.burst legal refl
   where
@@ -222,7 +222,7 @@ has_effect state pending beat width legal pages = by_burst (with_performed state
         by_data new aw fits (slice_get data_beats beat) becomes
 
 -- the same of the burst with a serial, where the beat was performed just now
-pub has_effect-performed : (state : FreeMemory) (serial beat : ℕ) → IsBusWidth state.bus_bytes → IfSome (find (has_serial serial) state.pending) (λ pending. IsLegal state.bus_bytes pending.burst) → HasGoodPages state
+pub has_effect-performed : (state : FreeMemory) (serial beat : ℕ) → IsBusWidth state.bus_bytes → IfSome (find (has_serial serial) state.pending) (λ pending. IsLegal state.bus_bytes pending.burst) → HasGoodPages state.faults state.memory
     → (performed state serial beat).1 ≡ Done → HasEffectAt serial beat state (performed state serial beat).0
 has_effect-performed state serial beat width legal pages is_done =
     of_step (performed state serial beat).0 (performs_done state serial beat (performed state serial beat).0 (ap (λ (answer : Performed). ((performed state serial beat).0, answer)) is_done))

@@ -8,8 +8,7 @@ use Rattle.axi_beats.specs.Bursts.{Burst, WriteBurst, ReadBurst}
 use Rattle.axi_beats.specs.declared.WBeat.{WBeat}
 use Rattle.subordinate.specs.Effects.{HasGoodPages, IsWholePage}
 use Rattle.subordinate.specs.Faults.{device_fault, is_good, lists_page, rules_of_pages, rules_of_words, standing_of_listed}
-use Rattle.subordinate.specs.FreeMemory.{FreeMemory, memory_after, memory_with, opening}
-use Rattle.subordinate.specs.InsidePages.{KeepsGoodPages}
+use Rattle.subordinate.specs.FreeMemory.{FreeMemory, memory_after, memory_with}
 use Rattle.subordinate.specs.Pages.{Memory, byte_at_address, holds_address, is_listed_good, opening_memory, word_at, zero_page, zero_words}
 use Rattle.subordinate.specs.declared.DeviceFault.{DeviceFault}
 use Rattle.subordinate.specs.declared.DeviceFault.TheVariants.{PageRange, PageTwice}
@@ -73,8 +72,9 @@ whole-opening_memory [] = tt
 whole-opening_memory (page ∷ pages) = (refl, whole-opening_memory pages)
 
 -- pages and bad words that aren't refused open a memory whose bytes are those of the good pages
-has_good_pages-opening : (bus_bytes : ℕ) (pages : List (ℕ × PageKind)) (bad_words : List ℕ) → device_fault pages bad_words ≡ None → HasGoodPages (opening bus_bytes pages bad_words)
-has_good_pages-opening bus_bytes pages bad_words none =
+pub good_pages-opening : (pages : List (ℕ × PageKind)) (bad_words : List ℕ) → device_fault pages bad_words ≡ None
+    → HasGoodPages (record { pages = pages; bad_words = bad_words }) (opening_memory pages)
+good_pages-opening pages bad_words none =
     record {
       exactly = λ address.
           is_some-option_map _ (word_at (opening_memory pages) address)
@@ -82,16 +82,6 @@ has_good_pages-opening bus_bytes pages bad_words none =
           ∙ keeps-opening_memory (address / 4096) [] 0 pages (none_before (rules_of_pages [] 0 pages) (rules_of_words pages 0 bad_words) none);
       whole = whole-opening_memory (filter is_listed_good pages);
     }
-
--- the same of the pages of a device, and the other way
-pub keeps_good_pages-opening : (pages : List (ℕ × PageKind)) (bad_words : List ℕ) → device_fault pages bad_words ≡ None
-    → KeepsGoodPages (record { faults = record { pages = pages; bad_words = bad_words }; memory = opening_memory pages })
-keeps_good_pages-opening pages bad_words none =
-    let opens = has_good_pages-opening 8 pages bad_words none in
-    record { exactly = opens.exactly; whole = opens.whole }
-
-pub has_good_pages-kept : (state : FreeMemory) → KeepsGoodPages (record { faults = state.faults; memory = state.memory }) → HasGoodPages state
-has_good_pages-kept state kept = record { exactly = kept.exactly; whole = kept.whole }
 
 -- ---- performing
 
@@ -107,5 +97,5 @@ kept_whole state (WriteBurst aw data_beats) beat whole = by_data (slice_get data
     by_data (Some w) = whole-bytes_written state.bus_bytes state.memory aw (beat + 1) w whole
 
 -- every beat that is performed keeps it so
-pub keeps_good_pages-after : (state : FreeMemory) (burst : Burst) (beat : ℕ) → HasGoodPages state → KeepsGoodPages (record { faults = state.faults; memory = memory_after state burst beat })
-keeps_good_pages-after state burst beat pages = record { exactly = λ address. kept_bytes state burst beat address ∙ pages.exactly address; whole = kept_whole state burst beat pages.whole }
+pub good_pages-after : (state : FreeMemory) (burst : Burst) (beat : ℕ) → HasGoodPages state.faults state.memory → HasGoodPages state.faults (memory_after state burst beat)
+good_pages-after state burst beat pages = record { exactly = λ address. kept_bytes state burst beat address ∙ pages.exactly address; whole = kept_whole state burst beat pages.whole }

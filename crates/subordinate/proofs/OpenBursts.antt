@@ -11,6 +11,7 @@ use Rattle.std.proofs.lemmas.Cmp.{ranked}
 use Rattle.std.proofs.lemmas.List.Sorted.{IsNonDecreasingBy-from_default}
 use Rattle.bus_words.proofs.FirstPlaces.{find-first, find-none, position_is_first}
 use Rattle.bus_words.specs.Places.{change_first, without_first}
+use Rattle.bus_words.proofs.PlaceChanges.{all-at}
 use Rattle.axi_beats.specs.Bursts.{Burst, ReadBurst, WriteBurst}
 use Rattle.axi_checker.specs.OpenBursts.{OpenBursts, lacks_data, read_of_id, write_of_id, write_to_fill}
 use Rattle.subordinate.specs.FreeMemory.{FreeMemory, Pending, gives_last, has_serial, is_read_of, is_write_of, newly_pending, open_bursts_of, open_read_in, open_write_in, pending_after_r}
@@ -164,7 +165,5 @@ pending_after_r-more id [] p found more = refl
 pending_after_r-more id (q ∷ qs) p found more = grind (arith, pending_after_r-more id qs p)
 
 -- what holds of all open bursts holds of the one at a place
-pub all-at : (P : Pending → Type 0) (pending : List Pending) (k : ℕ) (p : Pending) → AllByRecursion P pending → k < length pending → p ≡ get_or pending k p → P p
-all-at P [] k p all within is = absurd (omega (arith, within))
-all-at P (q ∷ qs) zero p all within is = subst P (sym is) all.0
-all-at P (q ∷ qs) (suc k) p all within is = all-at P qs k p all.1 (omega (arith, within)) is
+pub all-placed : (P : Pending → Type 0) (pending : List Pending) (k : ℕ) (p : Pending) → AllByRecursion P pending → k < length pending → p ≡ get_or pending k p → P p
+all-placed P pending k p all within is = subst P (sym is) (all-at P pending k p all within)

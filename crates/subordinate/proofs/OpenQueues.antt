@@ -15,7 +15,7 @@ use Rattle.subordinate.specs.Inside.{burst_in, captured_at, is_beside, no_burst}
 use Rattle.subordinate.specs.Laws.{IsSoundMemory, queue_of, queue_of_burst}
 use Rattle.subordinate.specs.declared.BeatState.{BeatState}
 use Rattle.subordinate.proofs.BurstIndex.{burst_at}
-use Rattle.subordinate.proofs.OpenBursts.{all-at, count_in_queue}
+use Rattle.subordinate.proofs.OpenBursts.{all-placed, count_in_queue}
 use Rattle.bus_words.proofs.MappedPlaces.{position_same}
 use Rattle.std.proofs.lemmas.Bool.Decides.{nat_tests}
 
@@ -75,7 +75,7 @@ pub queue_known : (bursts : List Pending) (queue k : ℕ) → AllByRecursion (λ
 queue_known bursts queue k known place =
     let at = position_is_first (is_in queue) bursts k place in
     let same : queue_of (burst_at bursts k) ≡ queue = eqb-true _ queue (first-passes (is_in queue) bursts k _ at) in
-    subst (λ n. n < 32) same (all-at (λ p. queue_of p < 32) bursts k (burst_at bursts k) known at.within (here bursts k at.within))
+    subst (λ n. n < 32) same (all-placed (λ p. queue_of p < 32) bursts k (burst_at bursts k) known at.within (here bursts k at.within))
 
 -- ---- the burst at a place
 
@@ -90,7 +90,7 @@ some_at bursts k within = slice_get-get_or bursts k _ within
 
 pub known_at : (bursts : List Pending) (k : ℕ) → k < length bursts → AllByRecursion (λ p. queue_of p < 32) bursts → IfSome (slice_get bursts k) (λ p. queue_of p < 32)
 known_at bursts k within known =
-    subst (λ (found : Option Pending). IfSome found (λ p. queue_of p < 32)) (sym (some_at bursts k within)) (all-at (λ p. queue_of p < 32) bursts k (burst_at bursts k) known within (here bursts k within))
+    subst (λ (found : Option Pending). IfSome found (λ p. queue_of p < 32)) (sym (some_at bursts k within)) (all-placed (λ p. queue_of p < 32) bursts k (burst_at bursts k) known within (here bursts k within))
 
 -- a beat that captured is one of its burst
 pub captured_within : (beats : List BeatState) (n : ℕ) → IsSome (captured_at (slice_get beats n)) → n < length beats

@@ -7,8 +7,9 @@ use Rattle.axi_beats.specs.Transfers.{transfer_address}
 use Rattle.axi_beats.specs.declared.AwBeat.{AwBeat}
 use Rattle.axi_beats.specs.declared.WBeat.{WBeat}
 use Rattle.data_unit.specs.Words.{merged}
+use Rattle.subordinate.specs.Effects.{HasGoodPages}
 use Rattle.subordinate.specs.FreeMemory.{bytes_written}
-use Rattle.subordinate.specs.InsidePages.{IsTransferOf, KeepsGoodPages, PagesState, first_lane, pages_of}
+use Rattle.subordinate.specs.InsidePages.{IsTransferOf, PagesState, first_lane, pages_of}
 use Rattle.subordinate.specs.Pages.{with_word, word_place}
 use Rattle.subordinate.proofs.BytesWritten.{bytes_written-one_word, word_after, word_after-merged}
 use Rattle.subordinate.proofs.EffectLaws.{is_some-bytes_written, whole-bytes_written}
@@ -40,9 +41,9 @@ bytes_written-none bus_bytes address numbers pages aw n w same is here missing =
     ∙ sym (bytes_written-one_word bus_bytes (pages_of numbers pages) aw n w is)
 
 -- every write keeps the good pages
-pub keeps_good_pages-written : (bus_bytes : ℕ) (pages : PagesState) (aw : AwBeat) (n : ℕ) (w : WBeat) → KeepsGoodPages pages
-    → KeepsGoodPages (record pages { memory = bytes_written bus_bytes pages.memory aw n w })
-keeps_good_pages-written bus_bytes pages aw n w kept =
+pub good_pages-written : (bus_bytes : ℕ) (pages : PagesState) (aw : AwBeat) (n : ℕ) (w : WBeat) → HasGoodPages pages.faults pages.memory
+    → HasGoodPages pages.faults (bytes_written bus_bytes pages.memory aw n w)
+good_pages-written bus_bytes pages aw n w kept =
     record {
       exactly = λ address. is_some-bytes_written bus_bytes pages.memory aw n w address ∙ kept.exactly address;
       whole = whole-bytes_written bus_bytes pages.memory aw n w kept.whole;

@@ -10,7 +10,7 @@ use Rattle.axi_checker.proofs.Few.{few-append, few-change_first, few-without_fir
 use Rattle.axi_checker.specs.Monitors.{HasFewOfEach}
 use Rattle.axi_checker.specs.Rules.{id_of, outstanding_beside}
 use Rattle.bus_words.proofs.FirstPlaces.{IsFirst, change_first-first, find-first, position_is_first, without_first-first}
-use Rattle.bus_words.proofs.PlaceChanges.{all-append, all-without_first, find-passes}
+use Rattle.bus_words.proofs.PlaceChanges.{all-append, all-set, all-without_first, find-passes}
 use Rattle.std.proofs.lemmas.Bool.{eqb-true}
 use Rattle.std.proofs.lemmas.Option.{slice_get-get_or}
 use Rattle.bus_words.specs.Places.{change_first}
@@ -18,22 +18,17 @@ use Rattle.subordinate.specs.Device.{DeviceState, after_r}
 use Rattle.subordinate.specs.FreeMemory.{FreeMemory, Pending, beat_after, beat_at, gives_last, has_serial, is_read_of, is_waiting, memory_after, newly_pending, open_bursts_of, performed, transfers_in, with_beat, with_burst}
 use Rattle.subordinate.specs.Effects.{HasGoodPages}
 use Rattle.subordinate.specs.Inside.{HasRoom, after_closing, after_counting, after_performing, burst_in, captured_at, device_state, is_beside, memory_of, memory_over, with_answer}
-use Rattle.subordinate.specs.InsidePages.{KeepsGoodPages, PagesState}
+use Rattle.subordinate.specs.InsidePages.{PagesState}
 use Rattle.subordinate.specs.Laws.{HasAnswered, IsBeatOf, IsPerformed, IsSoundMemory, IsSoundPending, RisesWithin, queue_of, queue_of_burst}
-use Rattle.subordinate.proofs.GoodPages.{has_good_pages-kept, keeps_good_pages-after}
+use Rattle.subordinate.proofs.GoodPages.{good_pages-after}
 use Rattle.subordinate.specs.declared.BeatState.{BeatState}
 use Rattle.subordinate.specs.declared.BeatState.TheVariants.{Waiting, Written, Captured}
 use Rattle.subordinate.proofs.FaultLaws.{read_plain}
 use Rattle.subordinate.specs.Faults.{is_bad, standing_at}
-use Rattle.subordinate.proofs.OpenBursts.{all-at, count_in_queue, known_beside, pending_after_r-last, pending_after_r-more, position-serial, rises-append, rises-change_first, rises-without_first, serial_at}
+use Rattle.subordinate.proofs.OpenBursts.{all-placed, count_in_queue, known_beside, pending_after_r-last, pending_after_r-more, position-serial, rises-append, rises-change_first, rises-without_first, serial_at}
 use Rattle.subordinate.proofs.BeatStates.{set_performed}
 
 -- ---- lists
-
-all-set : {X : Type 0} (P : X → Type 0) (xs : List X) (k : ℕ) (x : X) → AllByRecursion P xs → P x → AllByRecursion P (set xs k x)
-all-set P [] k x all new = tt
-all-set P (y ∷ ys) zero x all new = (new, all.1)
-all-set P (y ∷ ys) (suc k) x all new = (all.0, all-set P ys k x all.1 new)
 
 -- ---- one open burst
 
@@ -99,10 +94,6 @@ sound-newly bus_bytes serial burst legal =
 
 -- ---- all of them
 
--- other bursts leave the pages as they are
-kept_pages : (memory : FreeMemory) (pending : List Pending) (sent : ℕ) → HasGoodPages memory → HasGoodPages (record memory { pending = pending; sent = sent })
-kept_pages memory pending sent pages = record { exactly = pages.exactly; whole = pages.whole }
-
 queue_below : (burst : Burst) → id_of burst < 16 → queue_of_burst burst < 32
 queue_below (WriteBurst aw ws) known = omega (arith, known)
 queue_below (ReadBurst ar) known = omega (arith, known)
@@ -116,7 +107,7 @@ sound-append memory burst sound legal known fewer =
       rising = rises-append 0 memory.sent memory.pending (newly_pending memory.sent burst) sound.rising refl;
       few = few-append queue_of 32 4 memory.pending (newly_pending memory.sent burst) sound.few (queue_below burst known) (omega (arith, count_in_queue burst memory.pending, fewer));
       each = all-append (IsSoundPending memory.bus_bytes) memory.pending (newly_pending memory.sent burst) sound.each (sound-newly memory.bus_bytes memory.sent burst legal);
-      pages = kept_pages memory _ _ sound.pages;
+      pages = sound.pages;
     }
 
 -- there is room for one more
@@ -140,12 +131,12 @@ sound-remove memory k sound within =
       rising = rises-without_first 0 memory.sent test memory.pending sound.rising;
       few = few-without_first queue_of 32 4 test memory.pending sound.few;
       each = all-without_first (IsSoundPending memory.bus_bytes) test memory.pending sound.each;
-      pages = kept_pages memory _ _ sound.pages;
+      pages = sound.pages;
     })
 
 -- a burst that changed, and kept its serial and its burst, over pages that are good
 sound-set : (memory : FreeMemory) (pages : PagesState) (k : ℕ) (change : Pending → Pending) (d : Pending) → ((p : Pending) → (change p).serial ≡ p.serial) → ((p : Pending) → (change p).burst ≡ p.burst)
-    → IsSoundMemory memory → k < length memory.pending → IsSoundPending memory.bus_bytes (change (get_or memory.pending k d)) → KeepsGoodPages pages
+    → IsSoundMemory memory → k < length memory.pending → IsSoundPending memory.bus_bytes (change (get_or memory.pending k d)) → HasGoodPages pages.faults pages.memory
     → IsSoundMemory (memory_of memory.bus_bytes pages (set memory.pending k (change (get_or memory.pending k d))) memory.sent)
 sound-set memory pages k change d same_serial same_burst sound within new good =
     let test = has_serial (serial_at memory.pending k) in
@@ -155,7 +146,7 @@ sound-set memory pages k change d same_serial same_burst sound within new good =
       rising = subst (λ (ps : List Pending). RisesWithin 0 memory.sent ps) becomes (rises-change_first 0 memory.sent test change memory.pending same_serial sound.rising);
       few = subst (λ (ps : List Pending). HasFewOfEach queue_of 32 4 ps) becomes (few-change_first queue_of 32 4 test change memory.pending (λ p. ap queue_of_burst (same_burst p)) sound.few);
       each = all-set (IsSoundPending memory.bus_bytes) memory.pending k _ sound.each new;
-      pages = has_good_pages-kept _ good;
+      pages = good;
     }
 
 -- ---- the device
@@ -218,7 +209,7 @@ pub sound-answered : (memory : FreeMemory) (k : ℕ) (p : Pending) → IsSoundMe
 sound-answered memory k p sound within is captured =
     let here : slice_get memory.pending k ≡ Some p = slice_get-get_or memory.pending k p within ∙ ap Some (sym is) in
     let beat = captured-is (beat_at p p.answered) (subst (λ (found : Option Pending). IfSome found (λ q. IsSome (captured_at (beat_at q q.answered)))) here captured) in
-    let new = sound-with_answer memory.bus_bytes beat.0 beat.1 p (all-at (IsSoundPending memory.bus_bytes) memory.pending k p sound.each within is) beat.2 in
+    let new = sound-with_answer memory.bus_bytes beat.0 beat.1 p (all-placed (IsSoundPending memory.bus_bytes) memory.pending k p sound.each within is) beat.2 in
     let same : PagesState = record { faults = memory.faults; memory = memory.memory } in
     subst (λ (q : Pending). IsSoundMemory (record memory { pending = set memory.pending k (with_answer q) })) (sym is)
     (sound-set memory same k with_answer p (λ q. refl) (λ q. refl) sound within (subst (λ (q : Pending). IsSoundPending memory.bus_bytes (with_answer q)) is new)
@@ -231,8 +222,8 @@ pub sound-performed : (memory : FreeMemory) (pages : PagesState) (k beat : ℕ) 
 sound-performed memory pages k beat state p sound within is became becomes =
     let performed : is_waiting state ≡ false = ap is_waiting became ∙ beat_after-performed memory p.burst beat in
     let of_burst : IsBeatOf p.burst state = subst (IsBeatOf p.burst) (sym became) (beat_after-of memory p.burst beat) in
-    let new = sound-with_beat memory.bus_bytes beat state p (all-at (IsSoundPending memory.bus_bytes) memory.pending k p sound.each within is) performed of_burst in
-    let good : KeepsGoodPages pages = subst KeepsGoodPages (sym becomes) (keeps_good_pages-after memory p.burst beat sound.pages) in
+    let new = sound-with_beat memory.bus_bytes beat state p (all-placed (IsSoundPending memory.bus_bytes) memory.pending k p sound.each within is) performed of_burst in
+    let good : HasGoodPages pages.faults pages.memory = subst (λ (now : PagesState). HasGoodPages now.faults now.memory) (sym becomes) (good_pages-after memory p.burst beat sound.pages) in
     subst (λ (q : Pending). IsSoundMemory (memory_of memory.bus_bytes pages (set memory.pending k (with_beat beat state q)) memory.sent)) (sym is)
     (sound-set memory pages k (with_beat beat state) p (λ q. refl) (λ q. refl) sound within (subst (λ (q : Pending). IsSoundPending memory.bus_bytes (with_beat beat state q)) is new) good)
 

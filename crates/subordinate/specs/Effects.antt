@@ -10,19 +10,19 @@ use Rattle.axi_beats.specs.declared.Resp.{Resp}
 use Rattle.axi_beats.specs.declared.AwBeat.{AwBeat}
 use Rattle.axi_beats.specs.declared.ArBeat.{ArBeat}
 use Rattle.axi_beats.specs.declared.WBeat.{WBeat}
-use Rattle.subordinate.specs.Faults.{standing_at, is_good, read_response}
+use Rattle.subordinate.specs.Faults.{Faults, standing_at, is_good, read_response}
 use Rattle.subordinate.specs.FreeMemory.{FreeMemory, beat_after, has_serial}
 use Rattle.subordinate.specs.declared.BeatState.TheVariants.{Captured}
-use Rattle.subordinate.specs.Pages.{GoodPage, byte_at_address}
+use Rattle.subordinate.specs.Pages.{GoodPage, Memory, byte_at_address}
 
 -- a page has all its words
 abbrev pub IsWholePage : GoodPage → Type 0
 IsWholePage page = length page.words ≡ 512
 
--- the bytes of a memory are just those of its good pages, and these have all their words
-pub record HasGoodPages (state : FreeMemory) : Type 0 where
-  pub exactly : (address : ℕ) → is_some (byte_at_address state.memory address) ≡ is_good (standing_at state.faults address)
-  pub whole : AllByRecursion IsWholePage state.memory
+-- the bytes of a memory are just those of the pages that are good, and these have all their words
+pub record HasGoodPages (faults : Faults) (memory : Memory) : Type 0 where
+  pub exactly : (address : ℕ) → is_some (byte_at_address memory address) ≡ is_good (standing_at faults address)
+  pub whole : AllByRecursion IsWholePage memory
 
 -- whether transfer n of a write has an address, and the strobe of its lane
 abbrev pub strobes_byte : ℕ → AwBeat → ℕ → WBeat → ℕ → Bool

@@ -1,21 +1,14 @@
 -- The pages of a device: what they hold, how their fields make it, and the transfers that are performed on them.
-use Rattle.std.specs.Prelude.{◌≡◌, ℕ, ◌+◌, ◌*◌, ◌/◌, ◌%◌, ◌≤◌, List, [], ◌∷◌, IsTrue, is_some}
-use Rattle.std.specs.List.{AllByRecursion}
+use Rattle.std.specs.Prelude.{ℕ, ◌+◌, ◌*◌, ◌/◌, ◌%◌, ◌≤◌, List, [], ◌∷◌, IsTrue}
 use Rattle.axi_beats.specs.Transfers.{IsBusWidth, fits_bus, in_one_page}
-use Rattle.subordinate.specs.Effects.{IsWholePage}
-use Rattle.subordinate.specs.Faults.{Faults, standing_at, is_good}
-use Rattle.subordinate.specs.Pages.{Memory, byte_at_address}
+use Rattle.subordinate.specs.Faults.{Faults}
+use Rattle.subordinate.specs.Pages.{Memory}
 use Rattle.subordinate.specs.declared.PageKind.{PageKind}
 
 -- the faults of a memory, and its good pages
 pub record PagesState : Type 0 where
   pub faults : Faults
   pub memory : Memory
-
--- the bytes of a memory are just those of the pages listed as good, and these have all their words
-pub record KeepsGoodPages (state : PagesState) : Type 0 where
-  pub exactly : (address : ℕ) → is_some (byte_at_address state.memory address) ≡ is_good (standing_at state.faults address)
-  pub whole : AllByRecursion IsWholePage state.memory
 
 -- good pages, by their numbers and their words in the same order
 abbrev pub pages_of : List ℕ → List (List ℕ) → Memory

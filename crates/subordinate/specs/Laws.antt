@@ -57,4 +57,4 @@ pub record IsSoundMemory (state : FreeMemory) : Type 0 where
   pub rising : RisesWithin 0 state.sent state.pending
   pub few : HasFewOfEach queue_of 32 4 state.pending
   pub each : AllByRecursion (IsSoundPending state.bus_bytes) state.pending
-  pub pages : HasGoodPages state
+  pub pages : HasGoodPages state.faults state.memory

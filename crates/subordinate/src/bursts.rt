@@ -160,6 +160,20 @@ impl Bursts {
         None
     }
 
+    /// Serial and beat of a beat that waits, counted among these from 0 by rising serial and beat. It is looked for from the
+    /// end that it is nearer to.
+    pub(crate) fn waiting_at(&self, k: u32) -> (u64, u16)
+        requires { k < length (flat_map waiting_in self.now) }
+        ensures { slice_get (flat_map waiting_in self.now) k ≡ Some result }
+    {
+        let left = self.waiting - k;
+        if k < left {
+            waiting_on(&self.items, k)
+        } else {
+            waiting_back(&self.items, left)
+        }
+    }
+
     /// One more burst, which was just sent.
     pub(crate) fn push(&mut self, burst: OpenBurst)
         requires room { length self.old < 128 }
@@ -222,6 +236,40 @@ impl Bursts {
         self.answers = self.answers.with(queue, ready);
         burst
     }
+}
+
+/// A beat that waits, counted from the first on, from 0.
+fn waiting_on(bursts: &[OpenBurst], k: u32) -> (u64, u16)
+    requires { k < length (flat_map waiting_in bursts.now) }
+    ensures { slice_get (flat_map waiting_in bursts.now) k ≡ Some result }
+{
+    let mut left = k;
+    for burst in bursts {
+        let waiting = u32::from(burst.waiting());
+        if left < waiting {
+            return (burst.serial(), burst.nth_waiting(left as u16));
+        }
+        left -= waiting;
+    }
+    unreachable!()
+}
+
+/// A beat that waits, counted from the last back, from 1.
+fn waiting_back(bursts: &[OpenBurst], k: u32) -> (u64, u16)
+    requires some { 1 ≤ k }
+    requires most { k ≤ length (flat_map waiting_in bursts.now) }
+    ensures { slice_get (flat_map waiting_in bursts.now) (length (flat_map waiting_in bursts.now) - k) ≡ Some result }
+{
+    let mut left = k;
+    for place in (0..bursts.len()).rev() {
+        let waiting = u32::from(bursts[place].waiting());
+        if left <= waiting {
+            let beat = bursts[place].nth_waiting((waiting - left) as u16);
+            return (bursts[place].serial(), beat);
+        }
+        left -= waiting;
+    }
+    unreachable!()
 }
 
 /// Where no earlier burst has a beat that waits, once so many are left of the one at a place.

@@ -187,15 +187,7 @@ impl Device {
         requires { k < length (waiting_beats self.now.memory) }
         ensures { slice_get (waiting_beats self.now.memory) k ≡ Some result }
     {
-        let mut left = k;
-        for burst in self.open.as_slice() {
-            let waiting = u32::from(burst.waiting());
-            if left < waiting {
-                return (burst.serial(), burst.nth_waiting(left as u16));
-            }
-            left -= waiting;
-        }
-        unreachable!()
+        self.open.waiting_at(k)
     }
 
     /// Serial and beat of the first beat that isn't performed, by rising serial and beat.

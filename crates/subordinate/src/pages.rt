@@ -30,14 +30,15 @@ pub struct Pages {
 impl Model for Pages {
     ghost use Rattle.std.specs.Prelude.{◌≡◌, length};
     ghost use Rattle.bus_words.specs.Places.{AreDistinct};
-    ghost use Rattle.subordinate.specs.InsidePages.{KeepsGoodPages, PagesState, pages_state};
+    ghost use Rattle.subordinate.specs.Effects.{HasGoodPages};
+    ghost use Rattle.subordinate.specs.InsidePages.{PagesState, pages_of, pages_state};
 
     ghost Value = { PagesState };
 
     ghost view = { λ p. pages_state p.listed.items p.numbers.items p.words.items p.bad.items };
 
     ghost invariant = { λ p. (length p.words.items ≡ length p.numbers.items)
-        × KeepsGoodPages (pages_state p.listed.items p.numbers.items p.words.items p.bad.items) × AreDistinct p.numbers.items };
+        × HasGoodPages (record { pages = p.listed.items; bad_words = p.bad.items }) (pages_of p.numbers.items p.words.items) × AreDistinct p.numbers.items };
 }
 
 // Written out, so that what lets go of one calls this, and proves nothing of its parts.
@@ -56,7 +57,7 @@ impl Pages {
     ghost use Rattle.subordinate.specs.Faults.{is_bad, read_response, standing_at, write_response};
     ghost use Rattle.subordinate.specs.FreeMemory.{captured};
     ghost use Rattle.subordinate.specs.declared.BeatState.TheVariants.{Captured};
-    ghost use Rattle.subordinate.specs.InsidePages.{KeepsGoodPages};
+    ghost use Rattle.subordinate.specs.Effects.{HasGoodPages};
     ghost use Rattle.subordinate.specs.Pages.{byte_at_address, opening_memory};
 
     /// These pages, all bytes of the good ones zero, with these bad words; `device_fault` doesn't refuse them. The one error
@@ -83,7 +84,7 @@ impl Pages {
     /// The word that an address is in; none outside good pages.
     fn word_at(&self, address: u32) -> Option<u64>
         ensures word { result ≡ word_at self.now.memory address }
-        ensures good_pages { KeepsGoodPages self.now }
+        ensures good_pages { HasGoodPages self.now.faults self.now.memory }
     {
         match place_of(&self.numbers, address / 4096) {
             Some(place) => Some(self.words[place][(address % 4096 / 8) as usize]),
@@ -94,7 +95,7 @@ impl Pages {
     /// The byte at an address of a good page; none outside these.
     pub fn byte(&self, address: u32) -> Option<u8>
         ensures value { result ≡ byte_at_address self.now.memory address }
-        ensures good_pages { KeepsGoodPages self.now }
+        ensures good_pages { HasGoodPages self.now.faults self.now.memory }
     {
         match self.word_at(address) {
             Some(word) => Some(lane_byte(word, (address % 8) as u8)),
@@ -112,7 +113,7 @@ impl Pages {
     /// The response to a write that begins at an address (AXI4, A3.4.4): that of its page (this project's profile).
     pub fn write_response(&self, address: u32) -> Resp
         ensures value { result ≡ write_response (standing_at self.now.faults address) }
-        ensures good_pages { KeepsGoodPages self.now }
+        ensures good_pages { HasGoodPages self.now.faults self.now.memory }
     {
         if place_of(&self.numbers, address / 4096).is_some() {
             return Resp::Okay;
@@ -141,7 +142,7 @@ impl Pages {
     pub fn read(&self, bus_bytes: u8, ar: ArBeat, n: u16) -> (u64, Resp)
         requires { IsTransferOf bus_bytes ar.address ar.len ar.size n }
         ensures captured { Captured result.0 result.1 ≡ captured bus_bytes self.now.faults self.now.memory ar n }
-        ensures good_pages { KeepsGoodPages self.now }
+        ensures good_pages { HasGoodPages self.now.faults self.now.memory }
     {
         let address = address_of(bus_bytes, ar.address, ar.len, ar.size, n);
         let resp = self.read_response(address);
@@ -157,7 +158,7 @@ impl Pages {
         requires transfer { IsTransferOf bus_bytes aw.address aw.len aw.size n }
         requires strobes { IsTrue (strobes_fit bus_bytes aw n beat.strobes) }
         ensures written { self.new ≡ record self.old { memory = bytes_written bus_bytes self.old.memory aw n beat } }
-        ensures good_pages { KeepsGoodPages self.old }
+        ensures good_pages { HasGoodPages self.old.faults self.old.memory }
     {
         let address = address_of(bus_bytes, aw.address, aw.len, aw.size, n);
         let Some(page) = place_of(&self.numbers, address / 4096) else {

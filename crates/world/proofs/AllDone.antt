@@ -8,7 +8,9 @@ use Rattle.std.proofs.lemmas.Bool.Decides.{nat_tests}
 use Rattle.std.proofs.lemmas.List.{length-append}
 use Rattle.std.proofs.lemmas.List.Sums.{sum_by-cons}
 use Rattle.std.proofs.lemmas.Option.{same_Some, slice_get-get_or}
-use Rattle.bus_words.proofs.PlaceChanges.{all-find, find-passes}
+use Rattle.bus_words.proofs.PlaceChanges.{all-find, all-got, find-passes}
+use Rattle.bus_words.proofs.MappedPlaces.{all-mapped}
+use Rattle.bus_words.proofs.FoundChanges.{filter-found}
 use Rattle.axi_beats.specs.Bursts.{Burst, ReadBurst, WriteBurst}
 use Rattle.axi_beats.specs.declared.ArBeat.{ArBeat}
 use Rattle.axi_checker.specs.OpenBursts.{OpenBursts, OpenRead, OpenWrite, read_of_id, write_of_id}
@@ -23,7 +25,6 @@ use Rattle.bridge_core.specs.Configs.{table_limits_of}
 use Rattle.bridge_core.specs.Laws.{IsPartWay, IsServed, IsSoundBridge, IsSoundRequestTable, came_of, came_of_next, open_read, open_reads, open_writes, outstanding, outstanding_of}
 use Rattle.bridge_core.specs.HeldRequests.{BridgedRequest, RequestTable, flights_of, holder, holds, may_send}
 use Rattle.bridge_core.proofs.AnswerLinks.{holder_known}
-use Rattle.bridge_core.proofs.HolderChanges.{all-mapped, filter-found}
 use Rattle.bridge_core.proofs.NextSending.{next_sending-some}
 use Rattle.bridge_core.proofs.JoinedRequests.{limits_made}
 use Rattle.bridge_core.proofs.ResponseLinks.{not_so, part_way-zero}
@@ -42,12 +43,6 @@ use Rattle.world.specs.declared.Step.TheVariants.{AnswerB, AnswerR, Pump}
 use Rattle.subordinate.proofs.Monitors.{oldest_read_seen}
 
 -- ---- searches
-
--- what holds of all holds of each
-all-at : {X : Type 0} (P : X → Type 0) (xs : List X) (n : ℕ) (x : X) → AllByRecursion P xs → slice_get xs n ≡ Some x → P x
-all-at P [] n x all at = absurd (cc)
-all-at P (y ∷ ys) zero x all at = subst P (same_Some y x at) all.0
-all-at P (y ∷ ys) (suc n) x all at = all-at P ys n x all.1 at
 
 -- what a search finds nowhere isn't what another finds
 none_found : {X : Type 0} (p q : X → Bool) (xs : List X) (x : X) → find p xs ≡ None → find q xs ≡ Some x → p x ≡ false
@@ -239,7 +234,7 @@ nothing_open memory sound still to_come = by_pending memory.pending refl
         let within : p.answered < length p.beats = omega (arith, to_come ar.id p found, each.0.whole) in
         let beat = get_or p.beats p.answered Waiting in
         let at : beat_at p p.answered ≡ Some beat = slice_get-get_or p.beats p.answered Waiting within in
-        let of_read : IsBeatOf (ReadBurst ar) beat = subst (λ (b : Burst). IsBeatOf b beat) burst (all-at (IsBeatOf p.burst) p.beats p.answered beat each.0.beats at) in
+        let of_read : IsBeatOf (ReadBurst ar) beat = subst (λ (b : Burst). IsBeatOf b beat) burst (all-got (IsBeatOf p.burst) p.beats p.answered beat each.0.beats at) in
         let gives : is_some (r_of memory ar.id) ≡ true = rw (found, at) (read_gives ar ar.id p beat of_read (not_waiting_at p.beats p.answered beat performed at)) in
         cc (gives, none_passes (λ id. is_some (r_of memory id)) 0 16 ar.id still.rs (omega arith) (omega (arith, below)))
 

@@ -13,15 +13,15 @@ use Rattle.axi_beats.specs.declared.BBeat.{BBeat}
 use Rattle.axi_beats.specs.declared.RBeat.{RBeat}
 use Rattle.axi_beats.specs.declared.Resp.{Resp}
 use Rattle.axi_checker.proofs.Few.{length-few}
-use Rattle.bus_words.proofs.PlaceChanges.{all-find, find-passes}
-use Rattle.flight_table.proofs.TableChanges.{all-map}
+use Rattle.bus_words.proofs.PlaceChanges.{all-find, all-map, find-passes}
+use Rattle.bus_words.proofs.StoredPlaces.{slice_get-append-after, slice_get-append-before}
 use Rattle.subordinate.specs.Faults.{standing_at, write_response}
 use Rattle.subordinate.specs.FreeMemory.{FreeMemory, Pending, after_b_of, after_r_of, answers_left, b_from, b_of, beat_after, beat_at, gives_last, has_serial, is_read_of, is_waiting, is_write_of, newly_pending, r_from, r_of, r_with, reads_as, start_of, transfers_in, waiting_beats, waiting_in, with_beat, with_burst, with_performed, work_in, work_open, writes_as}
 use Rattle.subordinate.specs.Inside.{count_waiting, waiting_places, with_answer}
 use Rattle.subordinate.specs.Laws.{IsPerformed, IsSoundMemory, IsSoundPending, RisesWithin, queue_of}
 use Rattle.subordinate.specs.declared.BeatState.{BeatState}
 use Rattle.subordinate.specs.declared.BeatState.TheVariants.{Waiting, Written, Captured}
-use Rattle.subordinate.proofs.BeatStates.{count_waiting-le, count_waiting-put, count_waiting-replicate, length-waiting_in, none_waiting, slice_get-append-after, slice_get-append-before, waiting_in-is}
+use Rattle.subordinate.proofs.BeatStates.{count_waiting-le, count_waiting-put, count_waiting-replicate, length-waiting_in, none_waiting, waiting_in-is}
 use Rattle.subordinate.proofs.OpenBursts.{pending_after_r-last, pending_after_r-more}
 use Rattle.subordinate.proofs.SoundDevices.{beat_after-performed}
 use Rattle.world.proofs.Sums.{sum_between, sum_without}

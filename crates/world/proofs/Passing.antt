@@ -8,7 +8,6 @@ use Rattle.std.proofs.lemmas.List.{length-append}
 use Rattle.bridge_core.specs.Bridge.{BridgeState, StockedBridge, after_pump, after_pump_of, after_sent, burst_to_send, after_b_beat, after_r_beat}
 use Rattle.bridge_core.specs.Laws.{IsSoundBridge}
 use Rattle.bridge_core.specs.Sending.{Sending, next_sending}
-use Rattle.bridge_core.proofs.NextSending.{map_some}
 use Rattle.subordinate.specs.Device.{DeviceState, open_burst, after_b, after_r, closed_by_b, closed_by_r}
 use Rattle.subordinate.specs.FreeMemory.{FreeMemory, newly_pending, with_burst, Pending, has_serial, after_b_of, after_r_of, b_of, gives_last, is_read_of, is_write_of, r_of}
 use Rattle.subordinate.specs.Laws.{IsSoundMemory, RisesWithin, IsSoundPending}
@@ -20,6 +19,7 @@ use Rattle.world.proofs.Boxes.{box_in_stock}
 use Rattle.world.proofs.TakesAll.{takes_all}
 use Rattle.std.proofs.lemmas.Bool.{eq-eqb, ne_eqb}
 use Rattle.bus_words.proofs.PlaceChanges.{all-find, length-change_first, length-without_found}
+use Rattle.bus_words.proofs.MappedPlaces.{map_some}
 use Rattle.axi_beats.specs.declared.BBeat.{BBeat}
 use Rattle.axi_beats.specs.declared.RBeat.{RBeat}
 use Rattle.axi_checker.specs.declared.AxiRule.{AxiRule}

@@ -5,6 +5,8 @@ use Rattle.std.specs.Prelude.{IfSome, find, nat_le, not}
 use Rattle.std.specs.Bool.{beq}
 use Rattle.std.proofs.lemmas.Bool.{lt-leb}
 use Rattle.bus_words.proofs.PlaceChanges.{all-find}
+use Rattle.bus_words.proofs.FoundChanges.{filter-found}
+use Rattle.bus_words.proofs.MappedPlaces.{map_some}
 use Rattle.axi_beats.specs.Bursts.{Burst, IsLegal}
 use Rattle.axi_beats.specs.Responses.{is_exokay}
 use Rattle.axi_beats.specs.declared.BBeat.{BBeat}
@@ -14,13 +16,11 @@ use Rattle.axi_checker.specs.Rules.{burst_fault}
 use Rattle.axi_checker.proofs.LegalBursts.{last_place}
 use Rattle.axi_checker.proofs.Taking.{legal_is_unbroken}
 use Rattle.bridge_core.specs.Bridge.{BridgeState, b_fault, burst_to_send, r_fault}
-use Rattle.bridge_core.proofs.HolderChanges.{filter-found}
 use Rattle.bridge_core.specs.Laws.{IsSoundBridge}
 use Rattle.bridge_core.specs.HeldRequests.{BridgedRequest, holder}
 use Rattle.bridge_core.specs.Sending.{Sending, next_sending}
 use Rattle.bridge_core.proofs.AnswerLinks.{holder_known}
 use Rattle.bridge_core.proofs.JoinedRequests.{limits_made}
-use Rattle.bridge_core.proofs.NextSending.{map_some}
 use Rattle.bridge_core.proofs.SentBursts.{sent_unbroken, sent_within}
 use Rattle.subordinate.specs.Faults.{Standing, IsAbsent, IsGood, IsSlaveError, standing_at, write_response}
 use Rattle.subordinate.specs.FreeMemory.{b_of, r_of, device_port, gives_last, is_read_of, start_of, transfers_in}

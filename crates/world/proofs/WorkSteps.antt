@@ -6,6 +6,8 @@ use Rattle.std.proofs.lemmas.Bool.{and_parts, cond_both, cases_lt, leb-true}
 use Rattle.std.proofs.lemmas.List.Sums.{sum_by-cons}
 use Rattle.std.proofs.lemmas.Option.{same_Some, slice_get-map}
 use Rattle.bus_words.specs.Places.{change_first}
+use Rattle.bus_words.proofs.MappedPlaces.{map_some}
+use Rattle.bus_words.proofs.StoredPlaces.{slice_get-append-after, slice_get-append-before}
 use Rattle.axi_beats.specs.Bursts.{Burst}
 use Rattle.axi_beats.specs.declared.BBeat.{BBeat}
 use Rattle.axi_beats.specs.declared.RBeat.{RBeat}
@@ -17,12 +19,11 @@ use Rattle.bridge_core.specs.Bridge.{after_sent, burst_to_send}
 use Rattle.bridge_core.specs.HeldRequests.{BridgedRequest, after_read, after_response, after_sending, flights_of, holds, is_numbered, may_send, outline_in, settled, value_found}
 use Rattle.bridge_core.specs.Sending.{Sending, burst_of_piece, next_sending}
 use Rattle.bridge_core.proofs.AnswerLinks.{answered_reader, answered_writer}
-use Rattle.bridge_core.proofs.NextSending.{map_some, next_found}
+use Rattle.bridge_core.proofs.NextSending.{next_found}
 use Rattle.bridge_core.proofs.ResponseLinks.{not_so}
 use Rattle.bridge_core.proofs.SentLinks.{found_by_number}
 use Rattle.responses.specs.Gathered.{Gathering, after_b, after_r}
 use Rattle.subordinate.specs.FreeMemory.{answers_left, b_of, ids_with_b, ids_with_r, r_of, transfers_in, waiting_beats, work_open, with_burst}
-use Rattle.subordinate.proofs.BeatStates.{slice_get-append-after, slice_get-append-before}
 use Rattle.world.specs.Laws.{IsSoundWorld, work_spared}
 use Rattle.world.specs.World.{WorldState, answered_b, answered_r, enabled, next, perform_at, pumps_enabled, work_left}
 use Rattle.world.specs.declared.Step.{Step}

@@ -6,6 +6,7 @@ use Rattle.std.specs.Option.{option_flatten}
 use Rattle.std.proofs.lemmas.Bool.{cases_eq, eq-eqb, ne_eqb, leb-false}
 use Rattle.std.proofs.lemmas.Option.{same_Some}
 use Rattle.std.proofs.lemmas.List.{length-set, length-replicate}
+use Rattle.bus_words.proofs.StoredPlaces.{get_set, get_set-other}
 use Rattle.tl_messages.specs.Requests.{HeldMessage, WholeRequest, held_of, request_of}
 use Rattle.tl_messages.specs.declared.ABeat.{ABeat}
 use Rattle.tl_checker.specs.Ports.{IsFrontOf, IsSpellingOf, ReadsAs, joined, judged, is_free}
@@ -20,7 +21,6 @@ use Rattle.bridge_core.specs.Configs.{port_of}
 use Rattle.bridge_core.specs.HeldRequests.{flight_table_of}
 use Rattle.bridge_core.specs.declared.Config.{Config}
 use Rattle.bridge_core.proofs.Openings.{nothing_begun}
-use Rattle.bridge_core.proofs.PortPlaces.{get_set, get_set-other}
 use Rattle.world_run.specs.Runs.{Heard, heard_nothing, with_heard, AcceptedMessage, messages_from, requests_of, accepted_in, answers_of}
 use Rattle.world.specs.Setups.{SetupLists}
 use Rattle.world.specs.World.{WorldState, Outcome, opening_world, next, leaves_all}

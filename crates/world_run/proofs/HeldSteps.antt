@@ -9,7 +9,9 @@ use Rattle.std.proofs.lemmas.Bool.{and_parts, cases_Bool, eqb-true, cases_eq, co
 use Rattle.std.proofs.lemmas.List.Folds.{find-append}
 use Rattle.std.proofs.lemmas.Option.{same_Some}
 use Rattle.bus_words.specs.Places.{change_first, without_first}
-use Rattle.bus_words.proofs.PlaceChanges.{all-find, find-passes, all-append, all-change_first, all-without_first}
+use Rattle.bus_words.proofs.PlaceChanges.{all-append, all-change_first, all-find, all-map, all-without_first, find-passes}
+use Rattle.bus_words.proofs.MappedPlaces.{all-mapped}
+use Rattle.bus_words.proofs.FoundChanges.{find-changed-found, find-changed-unseen}
 use Rattle.tl_messages.specs.Lanes.{in_range}
 use Rattle.tl_messages.specs.Requests.{HeldMessage, WholeRequest, request_of}
 use Rattle.tl_messages.specs.declared.Operation.{Operation}
@@ -22,14 +24,12 @@ use Rattle.responses.specs.Gathered.{after_b, after_r}
 use Rattle.flight_table.specs.LiveRequests.{LiveRequest, plan_for, is_settled, with_answered}
 use Rattle.flight_table.specs.Order.{holds_back, is_get, is_held, share_bytes, is_id}
 use Rattle.flight_table.specs.Laws.{AreRising, IsSoundRequest}
-use Rattle.flight_table.proofs.TableChanges.{all-map}
 use Rattle.bridge_core.specs.Laws.{IsOfMessage, IsServed, IsSoundRequestTable}
 use Rattle.bridge_core.specs.HeldRequests.{BridgedRequest, RequestTable, address_of, flights_of, is_numbered, range_at, range_of, after_read, after_response, after_sending, holds, is_done_for, newly_live, outline_in, settled, value_found, with_read, with_request, with_response, with_sent_burst, without_done}
 use Rattle.bridge_core.specs.declared.Config.{Config}
 use Rattle.bridge_core.specs.Bridge.{message_with}
 use Rattle.bridge_core.specs.Configs.{table_limits_of}
-use Rattle.bridge_core.proofs.HolderChanges.{all-mapped}
-use Rattle.bridge_core.proofs.SentLinks.{find-changed, find-unchanged, found_by_number, numbers}
+use Rattle.bridge_core.proofs.SentLinks.{found_by_number, numbers}
 use Rattle.subordinate.specs.Faults.{Faults, is_good, standing_at}
 use Rattle.world.specs.Laws.{IsSoundWorld}
 use Rattle.world.specs.Setups.{SetupLists}
@@ -502,13 +502,9 @@ accepts_on order table message all sound regions foreseen = record {
 
 -- ---- all events
 
-all_weaken : {X : Type 0} (P Q : X → Type 0) (xs : List X) → ((x : X) → P x → Q x) → AllByRecursion P xs → AllByRecursion Q xs
-all_weaken P Q [] weaker all = tt
-all_weaken P Q (x ∷ xs) weaker all = (weaker x all.0, all_weaken P Q xs weaker all.1)
-
 pub are_asked : (order : Order) (state : WorldState) → KeepsOrder order state → AreAsked order state.bridge.requests.live
 are_asked order state keeps =
-    all_weaken (IsInOrder order state.memory.bus_bytes keeps.wrote) (λ r. asked order r.flight.number ≡ Some (request_of r.message)) state.bridge.requests.live (λ r is. is.asked) keeps.live
+    all-map (IsInOrder order state.memory.bus_bytes keeps.wrote) (λ r. asked order r.flight.number ≡ Some (request_of r.message)) state.bridge.requests.live (λ r is. is.asked) keeps.live
 
 module _ (order : Order) (state : WorldState) (sound : IsSoundWorld state) (regions : state.bridge.requests.regions ≡ order.regions) (all : AreAsked order state.bridge.requests.live) where
   abbrev Moves : Step → Outcome → Type 0
@@ -581,13 +577,13 @@ numbered_once test (first ∷ live) request rising found = by_test (test first) 
 pub found_changed : (live : List BridgedRequest) (test : BridgedRequest → Bool) (change : BridgedRequest → BridgedRequest) (request : BridgedRequest) → HaveNumbers live → find test live ≡ Some request
     → (change request).flight.number ≡ request.flight.number → find (is_numbered request.flight.number) (change_first test change live) ≡ Some (change request)
 found_changed live test change request rising found same =
-    find-changed (is_numbered request.flight.number) test change live request found (eq-eqb (change request).flight.number request.flight.number same)
+    find-changed-found (is_numbered request.flight.number) test change live request found (eq-eqb (change request).flight.number request.flight.number same)
     (inr (found_by_number test live request rising found))
 
 pub found_others : (live : List BridgedRequest) (test : BridgedRequest → Bool) (change : BridgedRequest → BridgedRequest) (request : BridgedRequest) (n : ℕ) → find test live ≡ Some request
     → (change request).flight.number ≡ request.flight.number → request.flight.number ≢ n → find (is_numbered n) (change_first test change live) ≡ find (is_numbered n) live
 found_others live test change request n found same other =
-    find-unchanged (is_numbered n) test change live request found (ne_eqb request.flight.number n other) (rw same (ne_eqb request.flight.number n other))
+    find-changed-unseen (is_numbered n) test change live request found (ne_eqb request.flight.number n other) (rw same (ne_eqb request.flight.number n other))
 
 abbrev pub changed_table : (BridgedRequest → Bool) → (BridgedRequest → BridgedRequest) → RequestTable → RequestTable
 changed_table test change table = record table { live = change_first test change table.live }

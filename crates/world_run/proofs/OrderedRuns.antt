@@ -7,6 +7,7 @@ use Rattle.std.proofs.lemmas.Bool.{and_parts, eqb-true}
 use Rattle.std.proofs.lemmas.List.{append-nil}
 use Rattle.std.proofs.lemmas.Option.{same_Some}
 use Rattle.bus_words.proofs.PlaceChanges.{all-find, find-passes}
+use Rattle.bus_words.proofs.MappedPlaces.{all-mapped}
 use Rattle.tl_messages.specs.Requests.{HeldMessage, WholeRequest, held_of, request_of}
 use Rattle.burst_plan.specs.declared.Region.{Region}
 use Rattle.flight_table.specs.Laws.{IsSoundRequest}
@@ -16,7 +17,6 @@ use Rattle.bridge_core.specs.Bridge.{message_with, reply_taken}
 use Rattle.bridge_core.specs.Configs.{table_limits_of}
 use Rattle.bridge_core.specs.Laws.{IsServed}
 use Rattle.bridge_core.specs.HeldRequests.{BridgedRequest, address_of, oldest_done, flights_of, is_done_for, is_numbered, reply_beats}
-use Rattle.bridge_core.proofs.HolderChanges.{all-mapped}
 use Rattle.subordinate.specs.Faults.{Faults, is_good, standing_at}
 use Rattle.world_run.specs.Headline.{IsReplyTo, byte_shown, bytes_of_all, replies_of}
 use Rattle.world_run.specs.InOrder.{IsGathered, IsForeseen, IsForeseenBy, IsInOrder, IsOrdered, KeepsOrder, is_finished, is_over, memory_bytes, order_of, started}

@@ -7,6 +7,7 @@ use Rattle.std.proofs.lemmas.Bool.{and_from, and_parts, le-leb, lt-ltb, and_righ
 use Rattle.std.proofs.lemmas.List.FromFn.{length-map-range_with_len, get_or-map-range_with_len}
 use Rattle.std.proofs.lemmas.Option.{get_or_from_slice_get, slice_get_within}
 use Rattle.bus_words.specs.Lanes.{given_at}
+use Rattle.bus_words.proofs.MappedPlaces.{map_some}
 use Rattle.tl_messages.specs.Lanes.{in_range}
 use Rattle.tl_messages.specs.Operations.{has_data, reply_has_data}
 use Rattle.tl_messages.specs.Requests.{WholeRequest, request_of}
@@ -32,7 +33,6 @@ use Rattle.bridge_core.specs.Laws.{IsServed, outstanding}
 use Rattle.bridge_core.specs.HeldRequests.{BridgedRequest, address_of, range_at, range_of, value_found, RequestTable, holder, holds, is_numbered}
 use Rattle.bridge_core.specs.Sending.{burst_of_piece, bytes_to_write}
 use Rattle.bridge_core.specs.declared.Config.{Config}
-use Rattle.bridge_core.proofs.NextSending.{map_some}
 use Rattle.bridge_core.proofs.ReadCounts.{planned_range}
 use Rattle.bridge_core.proofs.SentBursts.{IsListed, piece_of_plan, plannable, written_are_bytes}
 use Rattle.bridge_core.proofs.ServedRequests.{atomic_both}

@@ -9,6 +9,7 @@ use Rattle.std.proofs.lemmas.Bool.{and_parts, and_from, eqb-true, or_parts, ne_e
 use Rattle.std.proofs.lemmas.Option.{same_Some, slice_get_within}
 use Rattle.bus_words.specs.Lanes.{has_lane, lane_byte}
 use Rattle.bus_words.specs.Places.{change_first}
+use Rattle.bus_words.proofs.FoundChanges.{find-changed, find-changed-gone, part-empty}
 use Rattle.axi_beats.specs.Bursts.{IsLegal, WriteBurst, is_legal_address, is_legal_data, Burst, ReadBurst}
 use Rattle.axi_beats.specs.Transfers.{transfer_address, transfer_has}
 use Rattle.axi_beats.specs.declared.AwBeat.{AwBeat}
@@ -20,7 +21,6 @@ use Rattle.flight_table.specs.LiveRequests.{planned}
 use Rattle.bridge_core.specs.Laws.{outstanding}
 use Rattle.bridge_core.specs.HeldRequests.{BridgedRequest, holder, holds, settled}
 use Rattle.bridge_core.proofs.AnswerLinks.{AreOf}
-use Rattle.bridge_core.proofs.HolderChanges.{find-changed, find-changed-gone, part-empty}
 use Rattle.bridge_core.proofs.ResponseLinks.{finished_one, holds_it, nothing_left, settled_as, with_its_write}
 use Rattle.subordinate.specs.Effects.{HasEffect, IsCaptured, IsWritten}
 use Rattle.subordinate.specs.Faults.{is_good, read_response, standing_at}

@@ -8,6 +8,7 @@ use Rattle.std.proofs.lemmas.Option.{same_Some}
 use Rattle.std.proofs.lemmas.Bool.Decides.{nat_tests}
 use Rattle.bus_words.specs.Places.{change_first, without_first}
 use Rattle.bus_words.proofs.PlaceChanges.{all-find, find-passes}
+use Rattle.bus_words.proofs.FoundChanges.{IsNextOf, filter-found, filter-without-other, part-next}
 use Rattle.tl_messages.specs.Requests.{request_of}
 use Rattle.axi_beats.specs.Bursts.{Burst, ReadBurst, WriteBurst}
 use Rattle.axi_beats.specs.declared.BBeat.{BBeat}
@@ -28,7 +29,6 @@ use Rattle.bridge_core.proofs.AnswerLinks.{IsHolder, one_side, AreOf, IsReader, 
 use Rattle.bridge_core.proofs.ResponseLinks.{holder-other, one_holder, settled-other}
 use Rattle.bridge_core.proofs.SendingLinks.{sound_requests}
 use Rattle.bridge_core.proofs.ServedRequests.{all-change_found, IsReading}
-use Rattle.bridge_core.proofs.HolderChanges.{IsNextOf, filter-without-other, part-next, filter-found}
 use Rattle.bridge_core.proofs.ReadLinks.{after_read-last, after_read-more, after_read-other, closed_by, counted_by}
 use Rattle.subordinate.specs.FreeMemory.{Pending, FreeMemory, b_from, b_of, is_waiting, is_write_of, start_of, beat_at, gives_last, is_read_of, open_read_in, pending_after_r, r_from, r_of, r_with, transfers_in}
 use Rattle.subordinate.specs.Faults.{Faults, standing_at, write_response}

@@ -9,6 +9,7 @@ use Rattle.std.proofs.lemmas.List.{append-nil}
 use Rattle.std.proofs.lemmas.List.Elements.{filter-append}
 use Rattle.bus_words.specs.Places.{change_first}
 use Rattle.bus_words.proofs.PlaceChanges.{all-append, all-without_first, all-find, find-passes}
+use Rattle.bus_words.proofs.FoundChanges.{find-append-fails, find-changed-found, find-changed-unseen, find-without_first}
 use Rattle.tl_messages.specs.Requests.{HeldMessage, request_of}
 use Rattle.tl_messages.specs.declared.ABeat.{ABeat}
 use Rattle.axi_beats.specs.Bursts.{Burst, ReadBurst, WriteBurst}
@@ -26,9 +27,9 @@ use Rattle.bridge_core.specs.Bridge.{message_with, after_sent}
 use Rattle.bridge_core.specs.Configs.{table_limits_of}
 use Rattle.bridge_core.specs.Laws.{outstanding, outstanding_of, IsServed}
 use Rattle.bridge_core.specs.Sending.{Sending, burst_of_piece}
-use Rattle.bridge_core.proofs.SendingLinks.{find-append-fails, no_holder, find-without_first, sound_requests}
+use Rattle.bridge_core.proofs.SendingLinks.{no_holder, sound_requests}
 use Rattle.bridge_core.proofs.NextSending.{IsNext}
-use Rattle.bridge_core.proofs.SentLinks.{find-changed, find-unchanged, found_by_number, holds_no_other, outstanding_sent, taken_by}
+use Rattle.bridge_core.proofs.SentLinks.{found_by_number, holds_no_other, outstanding_sent, taken_by}
 use Rattle.bridge_core.proofs.ServedRequests.{all-change_found}
 use Rattle.subordinate.specs.FreeMemory.{Pending, newly_pending, FreeMemory, beat_after, beat_at, has_serial, memory_after, performed, with_beat, with_performed, reads_as, writes_as}
 use Rattle.subordinate.specs.Laws.{IsSoundPending}
@@ -262,7 +263,7 @@ module _ (order : Order) (state : WorldState) (sending : Sending) (sent : IsNext
   sent_own_bursts : AreOfHolder order state.memory.bus_bytes keeps.wrote (filter (is_of_id sending.id) (state.memory.pending ++ sent_one ∷ [])) (holder sending.id after)
   sent_own_bursts =
       let taken = taken_by sent_table sending sound.bridge_laws.requests sent in
-      let held = find-changed (holds sending.id) (is_numbered sent_number) (after_sending sending.id) sent_table.live request by_number (eq-eqb sending.id sending.id refl) taken.held in
+      let held = find-changed-found (holds sending.id) (is_numbered sent_number) (after_sending sending.id) sent_table.live request by_number (eq-eqb sending.id sending.id refl) taken.held in
       let mine = filter (is_of_id sending.id) state.memory.pending in
       of_same_holder order state.memory.bus_bytes keeps.wrote (filter (is_of_id sending.id) (state.memory.pending ++ sent_one ∷ [])) (Some (after_sending sending.id request)) (holder sending.id after) (sym held)
       (subst (λ (ps : List Pending). AreBurstsOf order state.memory.bus_bytes keeps.wrote sent_number ps (outstanding (after_sending sending.id request).flight))
@@ -276,7 +277,7 @@ module _ (order : Order) (state : WorldState) (sending : Sending) (sent : IsNext
   sent_other_bursts id other =
       subst (λ (ps : List Pending). AreOfHolder order state.memory.bus_bytes keeps.wrote ps (holder id after)) (sym (filter_no_more (is_of_id id) state.memory.pending sent_one (one_of_id id ∙ other)))
       (of_same_holder order state.memory.bus_bytes keeps.wrote (filter (is_of_id id) state.memory.pending) (holder id sent_table.live) (holder id after)
-      (sym (find-unchanged (holds id) (is_numbered sent_number) (after_sending sending.id) sent_table.live request by_number (holds_no_other sent_table sending id sent other) other))
+      (sym (find-changed-unseen (holds id) (is_numbered sent_number) (after_sending sending.id) sent_table.live request by_number (holds_no_other sent_table sending id sent other) other))
       (keeps.bursts id))
 
   all_bursts : (id : ℕ) (b : Bool) → (sending.id == id) ≡ b → AreOfHolder order state.memory.bus_bytes keeps.wrote (filter (is_of_id id) (state.memory.pending ++ sent_one ∷ [])) (holder id after)

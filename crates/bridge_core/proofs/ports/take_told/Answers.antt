@@ -1,11 +1,11 @@
 -- A beat that is refused leaves its port as it is.
 use Rattle.std.proofs.Common.{◌≡◌, ℕ, sym, List, Option, Some, None, refl}
 use Rattle.std.specs.Prelude.{IfSome, Result, Err, Ok, slice_get, slice_set}
+use Rattle.bus_words.proofs.StoredPlaces.{set_back}
 use Rattle.tl_messages.specs.declared.ABeat.{ABeat}
 use Rattle.tl_checker.specs.Ports.{PortState, port_after}
 use Rattle.tl_checker.specs.declared.Progress.{Progress}
 use Rattle.tl_checker.specs.declared.TlRule.{TlRule}
-use Rattle.bridge_core.proofs.PortPlaces.{set_back}
 use Rattle.bridge_core.proofs.ports.take_told.Goals as goal
 
 kept : (ports : List PortState) (client : ℕ) (beat : ABeat) (told : Result Progress TlRule) (there : Option PortState) → slice_get ports client ≡ there

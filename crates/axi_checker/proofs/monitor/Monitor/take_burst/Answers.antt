@@ -6,7 +6,7 @@ use Rattle.axi_checker.specs.Monitors.{MonitorState, monitor_state}
 use Rattle.axi_checker.specs.OpenBursts.{OpenBursts, OpenWrite, write_to_fill}
 use Rattle.axi_checker.specs.Rules.{open_with_burst}
 use Rattle.axi_checker.proofs.SoundMonitors.{sound-open_with_burst, sound_read_room, sound_write_room}
-use Rattle.axi_checker.proofs.Taking.{address_of_read, address_of_write, filled_with_burst, read_unbroken, write_taken, write_unbroken}
+use Rattle.axi_checker.proofs.Taking.{filled_with_burst, read_address, read_unbroken, write_address, write_taken, write_unbroken}
 use Rattle.axi_checker.proofs.monitor.Monitor.take_burst.Goals as goal
 
 pub add_whole-requires : goal.add_whole-requires
@@ -15,7 +15,7 @@ add_whole-requires c =
     let now = c.args.self.now in
     let none = write_unbroken now.port now.open_bursts c.args.burst.now c.aw.result c.aw.ensures c.requires.unbroken in
     sound_write_room (monitor_state old.limits old.writes.items old.reads.items) now c.aw.result old.writes.room old.reads.room c.self.invariant c.self.view_is
-    (address_of_write now.port now.open_bursts c.aw.result (w_beats_of c.args.burst.now) none)
+    (write_address now.port now.open_bursts c.aw.result (w_beats_of c.args.burst.now) none)
 
 pub add-requires : goal.add-requires
 add-requires c =
@@ -23,7 +23,7 @@ add-requires c =
     let now = c.args.self.now in
     let none = read_unbroken now.port now.open_bursts c.args.burst.now c.ar.result c.ar.ensures c.requires.unbroken in
     sound_read_room (monitor_state old.limits old.writes.items old.reads.items) now c.ar.result old.writes.room old.reads.room c.self.invariant c.self.view_is
-    (address_of_read now.port now.open_bursts c.ar.result none)
+    (read_address now.port now.open_bursts c.ar.result none)
 
 pub invariant_of-self : goal.invariant_of-self
 invariant_of-self c =

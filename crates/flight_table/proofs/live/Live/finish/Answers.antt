@@ -13,7 +13,8 @@ use Rattle.flight_table.proofs.HeldIds.{gives_back, ids_finish, length_holders}
 use Rattle.flight_table.specs.Spans.{lowered_in, span_of}
 use Rattle.flight_table.specs.Sums.{IsSmall}
 use Rattle.flight_table.specs.declared.spans.Span.{Span}
-use Rattle.flight_table.proofs.SumLaws.{all_set, are_part, are_small, less_small, sums_set}
+use Rattle.bus_words.proofs.PlaceChanges.{all-set}
+use Rattle.flight_table.proofs.SumLaws.{are_part, are_small, less_small, sums_set}
 use Rattle.flight_table.proofs.Kept.{kept_finish, length_kept, named_with, placed, requests_changed}
 use Rattle.flight_table.proofs.RowLaws.{length_row, row_fits, row_lowered, rows_set}
 use Rattle.flight_table.proofs.live.Live.finish.Goals as goal
@@ -78,7 +79,7 @@ invariant_of-self c =
       rw after
           (record {
             sums_are = c.with-self-inside.ensures.sums ∙ sums_set (requests_of i.slots) place r c.finished-done.result c.without.result at.within (at.there r) (c.without.ensures ∙ c.self.invariant.3.sums_are);
-            small = all_set IsSmall (requests_of i.slots) place c.finished-done.result c.self.invariant.3.small c.with-self-inside.ensures.small;
+            small = all-set IsSmall (requests_of i.slots) place c.finished-done.result c.self.invariant.3.small c.with-self-inside.ensures.small;
             few = omega (arith, c.self.invariant.3.few, length-set (requests_of i.slots) place c.finished-done.result);
           }),
       kept_finished 8 _ i.slots c.set.new.self i.clients c.finish.new.self c.args.key r c.finished-done.result c.self.invariant.4 c.get-request.ensures.request

@@ -8,7 +8,8 @@ use Rattle.flight_table.proofs.HeldIds.{ids_remove}
 use Rattle.std.proofs.lemmas.List.Edits.{length-remove}
 use Rattle.flight_table.specs.Spans.{span_of}
 use Rattle.flight_table.specs.Sums.{IsSmall}
-use Rattle.flight_table.proofs.SumLaws.{all_remove, are_part, sums_removed}
+use Rattle.bus_words.proofs.PlaceChanges.{all-remove}
+use Rattle.flight_table.proofs.SumLaws.{are_part, sums_removed}
 use Rattle.flight_table.proofs.Kept.{kept_remove, named_with, placed, requests_without}
 use Rattle.bus_words.proofs.MappedPlaces.{map-remove}
 use Rattle.flight_table.proofs.RowLaws.{rows_remove}
@@ -54,7 +55,7 @@ invariant_of-self c =
       rw after
           (record {
             sums_are = sums_removed (requests_of i.slots) place r c.without-self-inside.result at.within (at.there r) (c.without-self-inside.ensures ∙ c.self.invariant.3.sums_are);
-            small = all_remove IsSmall (requests_of i.slots) place c.self.invariant.3.small;
+            small = all-remove IsSmall (requests_of i.slots) place c.self.invariant.3.small;
             few = omega (arith, c.self.invariant.3.few, length-remove (requests_of i.slots) place at.within);
           }),
       kept_removed 8 _ i.slots c.remove-7.new.self i.clients c.remove-8.new.self c.args.key r c.self.invariant.4 c.get-request.ensures.request

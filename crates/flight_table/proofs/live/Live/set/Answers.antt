@@ -5,7 +5,8 @@ use Rattle.flight_table.specs.Tables.{requests_of}
 use Rattle.flight_table.proofs.ClientLaws.{kept_same}
 use Rattle.flight_table.proofs.HeldIds.{ids_set, length_holders, may_rename}
 use Rattle.flight_table.specs.Sums.{IsSmall}
-use Rattle.flight_table.proofs.SumLaws.{all_set, are_part, are_small, sums_moved}
+use Rattle.bus_words.proofs.PlaceChanges.{all-set}
+use Rattle.flight_table.proofs.SumLaws.{are_part, are_small, sums_moved}
 use Rattle.flight_table.proofs.KeyLaws.{request_listed}
 use Rattle.flight_table.proofs.Kept.{kept_set, named_with, placed, requests_changed}
 use Rattle.flight_table.proofs.RowLaws.{HasPlan, rows_set, unchanged}
@@ -46,7 +47,7 @@ invariant_of-self c =
       rw after
           (record {
             sums_are = sums_moved (requests_of i.slots) place r c.args.request c.moved-self-inside.result at.within (at.there r) (rw c.self.invariant.3.sums_are at c.moved-self-inside.ensures.sums);
-            small = all_set IsSmall (requests_of i.slots) place c.args.request c.self.invariant.3.small c.moved-self-inside.ensures.small;
+            small = all-set IsSmall (requests_of i.slots) place c.args.request c.self.invariant.3.small c.moved-self-inside.ensures.small;
             few = omega (arith, c.self.invariant.3.few, length-set (requests_of i.slots) place c.args.request);
           }),
       kept_same 8 i.slots c.set.new.self i.clients c.args.key r c.args.request c.self.invariant.4 found progress.client progress.source progress.done

@@ -6,7 +6,7 @@ use Rattle.std.proofs.lemmas.List.{map-set, map_push}
 use Rattle.bus_words.proofs.FirstPlaces.{first-passes, position_is_first}
 use Rattle.flight_table.specs.Rows.{bits_of, has_page, is_vacant}
 use Rattle.flight_table.specs.declared.rows.Row.{Row}
-use Rattle.flight_table.proofs.Index.{distinct-append}
+use Rattle.bus_words.proofs.DistinctPlaces.{distinct-append}
 use Rattle.flight_table.proofs.RowLaws.{AreOthers, bits_claimed, bits_pushed, distinct_set, none_has, pages_of}
 use Rattle.flight_table.proofs.rows.Rows.claim.Goals as goal
 

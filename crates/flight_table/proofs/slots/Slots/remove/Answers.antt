@@ -2,7 +2,8 @@ use Rattle.std.proofs.Common.{◌==◌, IsSome, arith, ap, length}
 use Rattle.bus_words.specs.Places.{without_first}
 use Rattle.flight_table.specs.Inside.{entries_in}
 use Rattle.flight_table.specs.Tables.{request_in}
-use Rattle.flight_table.proofs.Index.{distinct-without, entries-remove, index-remove, key_placed, keys_of, length-without}
+use Rattle.bus_words.proofs.DistinctPlaces.{distinct-without_first}
+use Rattle.flight_table.proofs.Index.{entries-remove, index-remove, key_placed, keys_of, length-without}
 use Rattle.flight_table.proofs.slots.Slots.remove.Goals as goal
 
 pub take_out-requires-clause-there : goal.take_out-requires-clause-there
@@ -29,7 +30,7 @@ pub returns-clause-keys : goal.returns-clause-keys
 returns-clause-keys c =
     let s = c.self.inside.requests in
     let ks = c.self.inside.order.items in
-    rw (c.take_out.ensures.items, keys_of c.try_remove.new.self (without_first (λ k. k == c.args.key) ks)) (distinct-without (λ k. k == c.args.key) ks c.self.invariant.0.distinct)
+    rw (c.take_out.ensures.items, keys_of c.try_remove.new.self (without_first (λ k. k == c.args.key) ks)) (distinct-without_first (λ k. k == c.args.key) ks c.self.invariant.0.distinct)
 
 pub returns-clause-entries : goal.returns-clause-entries
 returns-clause-entries c =

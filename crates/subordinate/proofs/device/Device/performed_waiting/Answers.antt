@@ -6,7 +6,7 @@ use Rattle.subordinate.specs.Device.{DeviceState}
 use Rattle.subordinate.specs.FreeMemory.{Pending, performed_waiting_in}
 use Rattle.subordinate.specs.Laws.{IsSoundPending}
 use Rattle.subordinate.proofs.BeatStates.{sum_end, sum_step}
-use Rattle.subordinate.proofs.OpenBursts.{all-at}
+use Rattle.subordinate.proofs.OpenBursts.{all-placed}
 use Rattle.subordinate.proofs.device.Device.performed_waiting.Goals as goal
 
 pub loop-burst-init : goal.loop-burst-init
@@ -18,7 +18,7 @@ loop-burst-init c =
 pub performed_waiting-requires : goal.performed_waiting-requires
 performed_waiting-requires c =
     let sound : IsSoundPending c.self.inside.bus_bytes c.burst-item.result =
-    all-at (IsSoundPending c.self.inside.bus_bytes) c.as_slice-burst-items.result.now c.loop-burst.burst-index c.burst-item.result
+    all-placed (IsSoundPending c.self.inside.bus_bytes) c.as_slice-burst-items.result.now c.loop-burst.burst-index c.burst-item.result
     (subst (λ (pending : List Pending). AllByRecursion (IsSoundPending c.self.inside.bus_bytes) pending) (sym c.as_slice-burst-items.ensures) c.self.invariant.0.each) c.loop-burst-test.true c.burst-item.is in
     record { answered = sound.answered; most = sound.most }
 

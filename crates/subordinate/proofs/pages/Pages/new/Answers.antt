@@ -2,11 +2,12 @@
 use Rattle.std.proofs.Common.{◌≡◌, ℕ, arith, length, sym, subst, ◌∙◌, ap}
 use Rattle.std.proofs.lemmas.List.{length-replicate}
 use Rattle.std.specs.Prelude.{replicate}
-use Rattle.subordinate.specs.InsidePages.{KeepsGoodPages, pages_state}
+use Rattle.subordinate.specs.Effects.{HasGoodPages}
+use Rattle.subordinate.specs.InsidePages.{PagesState, pages_state}
 use Rattle.subordinate.specs.Pages.{opening_memory, zero_words}
 use Rattle.subordinate.proofs.ApartPages.{are_apart}
 use Rattle.subordinate.proofs.PagesOf.{pages_state-opening}
-use Rattle.subordinate.proofs.GoodPages.{keeps_good_pages-opening}
+use Rattle.subordinate.proofs.GoodPages.{good_pages-opening}
 use Rattle.subordinate.proofs.pages.Pages.new.Goals as goal
 
 -- the fields make the opening state
@@ -22,7 +23,7 @@ opens c =
 pub invariant_of-result : goal.invariant_of-result
 invariant_of-result c = (
   ap length c.in_ok-words.ensures ∙ length-replicate c.len.result zero_words ∙ omega arith,
-  subst KeepsGoodPages (sym (opens c)) (keeps_good_pages-opening c.args.pages.now c.args.bad.now c.requires.fine),
+  subst (λ (now : PagesState). HasGoodPages now.faults now.memory) (sym (opens c)) (good_pages-opening c.args.pages.now c.args.bad.now c.requires.fine),
   rw c.in_ok-numbers.ensures (are_apart c.args.pages.now c.args.bad.now c.requires.fine),
 )
 

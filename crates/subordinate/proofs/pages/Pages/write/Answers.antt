@@ -1,10 +1,11 @@
 -- One word of the page is changed, in the lanes of the strobes.
 use Rattle.std.proofs.Common.{◌≡◌, ◌^◌, ◌<◌, None, Some, get_or, position, arith, sym, subst, ◌∙◌, ap}
 use Rattle.std.proofs.Math.ListN.{set, length-set}
+use Rattle.subordinate.specs.Effects.{HasGoodPages}
 use Rattle.subordinate.specs.FreeMemory.{bytes_written}
-use Rattle.subordinate.specs.InsidePages.{KeepsGoodPages, PagesState, pages_of, pages_state}
+use Rattle.subordinate.specs.InsidePages.{PagesState, pages_of, pages_state}
 use Rattle.subordinate.specs.Pages.{Memory, word_place}
-use Rattle.subordinate.proofs.PageWrites.{bytes_written-store, bytes_written-none, keeps_good_pages-written}
+use Rattle.subordinate.proofs.PageWrites.{bytes_written-store, bytes_written-none, good_pages-written}
 use Rattle.subordinate.proofs.PagesOf.{is_page_of}
 use Rattle.subordinate.proofs.pages.Pages.write.Goals as goal
 
@@ -40,8 +41,8 @@ stored c =
 pub invariant_of-self : goal.invariant_of-self
 invariant_of-self c = (
   length-set c.self.inside.words.items c.in-Some.page _ ∙ c.self.invariant.0,
-  subst (λ (memory : Memory). KeepsGoodPages (record { faults = record { pages = c.self.inside.listed.items; bad_words = c.self.inside.bad.items }; memory = memory })) (sym (stored c))
-      (keeps_good_pages-written c.args.bus_bytes (pages_state c.self.inside.listed.items c.self.inside.numbers.items c.self.inside.words.items c.self.inside.bad.items) c.args.aw c.args.n c.args.beat
+  subst (λ (memory : Memory). HasGoodPages (record { pages = c.self.inside.listed.items; bad_words = c.self.inside.bad.items }) memory) (sym (stored c))
+      (good_pages-written c.args.bus_bytes (pages_state c.self.inside.listed.items c.self.inside.numbers.items c.self.inside.words.items c.self.inside.bad.items) c.args.aw c.args.n c.args.beat
       c.self.invariant.1),
   c.self.invariant.2,
 )

@@ -2,7 +2,7 @@
 use Rattle.std.proofs.Common.{◌≡◌, drop}
 use Rattle.std.specs.Prelude.{flat_map, slice_get}
 use Rattle.subordinate.specs.FreeMemory.{waiting_in}
-use Rattle.subordinate.proofs.device.Device.pending_at.Given as goal
+use Rattle.subordinate.proofs.bursts.waiting_on.Given as goal
 
 abbrev pub invariant-loop-burst : goal.invariant-loop-burst
-invariant-loop-burst l = slice_get (flat_map waiting_in (drop l.burst-index l.burst-items)) l.left ≡ slice_get (flat_map waiting_in l.burst-items) l.k
+invariant-loop-burst l = slice_get (flat_map waiting_in (drop l.burst-index l.bursts)) l.left ≡ slice_get (flat_map waiting_in l.bursts) l.k
