@@ -113,7 +113,7 @@ few_beside : (id : ℕ) (live : List BridgedRequest) (open_bursts : OpenBursts) 
 few_beside id live open_bursts request range (true, piece) linked = omega (arith, ap length linked.writes, length_open_writes id (outstanding_of (holder id live)))
 few_beside id live open_bursts request range (false, piece) linked = omega (arith, ap length linked.reads, length_open_reads id (came_of (holder id live)) (outstanding_of (holder id live)))
 
-few_outstanding : (flight : LiveRequest) → length (outstanding flight) ≤ flight.sent - flight.answered
+pub few_outstanding : (flight : LiveRequest) → length (outstanding flight) ≤ flight.sent - flight.answered
 few_outstanding flight = omega (arith, length-drop flight.answered (take flight.sent (planned flight)), length-take flight.sent (planned flight))
 
 -- a burst is within the limits of a port that has so many bursts outstanding

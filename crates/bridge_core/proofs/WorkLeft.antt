@@ -7,6 +7,7 @@ use Rattle.std.proofs.lemmas.Bool.{eq-eqb}
 use Rattle.std.proofs.lemmas.Bool.Decides.{eqb_tells, nat_tests}
 use Rattle.std.proofs.lemmas.List.Sums.{sum_by-cons, sum_by-take-drop}
 use Rattle.bus_words.proofs.FoundChanges.{find-none-kept}
+use Rattle.bus_words.proofs.PlaceChanges.{pass_fewer}
 use Rattle.burst_plan.specs.declared.Piece.{Piece}
 use Rattle.flight_table.specs.Laws.{IsSoundRequest}
 use Rattle.flight_table.specs.LiveRequests.{LiveRequest, planned}
@@ -119,9 +120,6 @@ work_without_id limits accepted flight sound none = grind (arith, none_sent limi
 
 -- ---- all of them
 
-fewer_after : {X : Type 0} (q : X → Bool) (x : X) (xs : List X) → length (filter q xs) ≤ length (filter q (x ∷ xs))
-fewer_after q x xs = grind arith
-
 alone_here : {X : Type 0} (q : X → Bool) (x : X) (xs : List X) → q x ≡ true → length (filter q (x ∷ xs)) ≤ 1 → length (filter q xs) ≡ 0
 alone_here q x xs passes few = grind arith
 
@@ -144,7 +142,7 @@ work_of_all limits accepted config regions [] open_bursts all served one linked 
     let no_reads : open_bursts.reads ≡ [] = none_left key_of_read open_bursts.reads (λ id. (linked id).reads) in
     record { whole = rw (no_writes, no_reads) refl; came = rw no_reads (omega arith) }
 work_of_all limits accepted config regions (r ∷ live) open_bursts all served one linked =
-    by_id r.flight.id refl (λ some linked_to. work_of_all limits accepted config regions live some all.1 served.1 (λ id. omega (arith, one id, fewer_after (holds id) r live)) linked_to)
+    by_id r.flight.id refl (λ some linked_to. work_of_all limits accepted config regions live some all.1 served.1 (λ id. omega (arith, one id, pass_fewer (holds id) r live)) linked_to)
   where
     -- where another holds the ID, or nobody does
     later : (id : ℕ) → holds id r ≡ false → holder id (r ∷ live) ≡ holder id live

@@ -1,17 +1,14 @@
 -- A run that isn't refused.
 use Rattle.std.proofs.Common.{◌≡◌, ℕ, ◌≤◌, ◌==◌, Bool, true, false, List, length, Option, Some, None, refl, sym}
-use Rattle.std.specs.Prelude.{◌&&◌, ◌||◌, not, is_some, nat_le, nat_lt, if◌then◌else◌}
-use Rattle.std.specs.Option.{option_or}
+use Rattle.std.specs.Prelude.{◌&&◌, ◌||◌, not, is_some, nat_le, nat_lt}
 use Rattle.std.specs.List.{list_any}
 use Rattle.std.proofs.lemmas.Bool.{eqb-true, false≢true, leb-true, not-false}
-use Rattle.std.proofs.lemmas.Option.{none-some}
 use Rattle.bus_words.specs.Lanes.{is_between}
 use Rattle.tl_messages.specs.declared.ABeat.{ABeat}
 use Rattle.burst_plan.specs.Pieces.{is_max_len}
 use Rattle.bridge_core.specs.Configs.{is_valid}
 use Rattle.world.specs.Setups.{SetupLists, setup_fault}
-use Rattle.world.specs.declared.SetupFault.{SetupFault}
-use Rattle.world.specs.declared.SetupFault.TheVariants.{BadConfig}
+use Rattle.world.proofs.SetupFaults.{valid_of}
 use Rattle.thread_reports.specs.Refusals.{is_refused}
 
 -- where none of some tests holds, the first two don't
@@ -31,11 +28,6 @@ not_refused setup scripts words steps idle none =
     let both = first_two (is_some (setup_fault setup)) (not (length scripts == setup.config.clients)) (list_any (λ script. nat_lt 4096 (length script)) scripts)
     (not (nat_le 1 (length words) && nat_le (length words) 4)) (nat_lt 1000000 steps) (steps == 0) (idle == 0) none in
     (none_is (setup_fault setup) both.0, eqb-true (length scripts) setup.config.clients (not-false (length scripts == setup.config.clients) both.1))
-
--- a set-up that isn't refused has valid limits
-valid_of : (valid : Bool) (rest : Option SetupFault) → option_or (if valid then None else Some BadConfig) rest ≡ None → valid ≡ true
-valid_of true rest none = refl
-valid_of false rest none = absurd (none-some BadConfig (sym none))
 
 first_of_seven : (a b c d e f g : Bool) → (a && b && c && d && e && f && g) ≡ true → a ≡ true
 first_of_seven true b c d e f g all = refl

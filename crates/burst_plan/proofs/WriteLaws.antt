@@ -1,5 +1,5 @@
 -- The bursts of a range's pieces are legal, and the W beats of a write put each given byte at its address and no other.
-use Rattle.std.proofs.Common.{◌≡◌, ℕ, zero, suc, ◌+◌, ◌-◌, ◌%◌, ◌<◌, ◌≤◌, nat_le, Bool, true, false, ◌||◌, not, List, ◌∷◌, map, Option, Some, None, is_some, if◌then◌else◌, refl, sym, ◌∙◌, ap, arith, lit<, inl, inr}
+use Rattle.std.proofs.Common.{◌≡◌, ℕ, zero, suc, ◌+◌, ◌-◌, ◌%◌, ◌<◌, ◌≤◌, nat_le, Bool, true, false, ◌||◌, not, List, ◌∷◌, map, Option, Some, None, is_some, if◌then◌else◌, refl, sym, ◌∙◌, ap, arith, lit<}
 use Rattle.std.specs.List.{range_with_len, slice_get, enumerate_from}
 use Rattle.std.specs.Prelude.{unwrap_or}
 use Rattle.std.specs.Option.{option_flatten}
@@ -8,14 +8,15 @@ use Rattle.std.proofs.lemmas.List.FromFn.{length-map-range_with_len}
 use Rattle.std.proofs.lemmas.List.Folds.{list_all-map}
 use Rattle.std.proofs.lemmas.Option.{slice_get_within, get_or_from_slice_get}
 use Rattle.bus_words.specs.Lanes.{has_lane, lane_byte, mask_of, payload_of, given_at}
-use Rattle.bus_words.proofs.Inclusion.{list_all-from}
 use Rattle.bus_words.proofs.LaneLaws.{lane_byte-payload_of}
 use Rattle.bus_words.proofs.MaskLaws.{has_lane-mask_of}
+use Rattle.bus_words.proofs.Ranges.{list_all-from}
 use Rattle.axi_beats.specs.Bursts.{IsLegal, is_legal_address, is_legal_data, strobes_fit}
 use Rattle.axi_beats.specs.Transfers.{IsBusWidth, fits_bus, covers_lane, lane_address, transfer_address, transfer_end, transfer_has}
 use Rattle.axi_beats.specs.declared.AwBeat.{AwBeat}
 use Rattle.axi_beats.specs.declared.WBeat.{WBeat}
 use Rattle.axi_beats.proofs.TransferLaws.{covers_lane-mod, lane_address-mod}
+use Rattle.axi_beats.proofs.Sizes.{lane_below}
 use Rattle.burst_plan.specs.Pieces.{PlannedRange, IsPlannable, IsPartOf, pieces}
 use Rattle.burst_plan.specs.PlannedBursts.{byte_to_write, w_beat, write_of, AreBytes, PutsBytes, PutsGivenBytes, ReadsAreLegal}
 use Rattle.burst_plan.specs.declared.Piece.{Piece}
@@ -56,10 +57,6 @@ byte_to_write-mod bus_bytes given piece n x width fits one has =
     let address = lane_address-mod bus_bytes piece.address piece.size n x width fits one low high in
     rw (covered, address) refl
 
--- a lane of the bus is a lane of a word
-lane-lt : (bus_bytes x : ℕ) → IsBusWidth bus_bytes → x % bus_bytes < 8
-lane-lt bus_bytes x width = elim width [ inl four ↦ rw four (omega arith) | inr eight ↦ rw eight (omega arith) ]
-
 none-zero : (o : Option ℕ) → is_some o ≡ false → unwrap_or o 0 ≡ 0
 none-zero None none = refl
 none-zero (Some byte) none = absurd (cc)
@@ -73,8 +70,8 @@ w_beat_puts bus_bytes given piece n width fits small one =
     let lane_holds : (lane : ℕ) → lane < 8 → lane_byte (payload_of (byte_to_write bus_bytes given piece n)) lane ≡ unwrap_or (byte_to_write bus_bytes given piece n lane) 0 = λ lane below.
     lane_byte-payload_of (byte_to_write bus_bytes given piece n) lane (record { at = λ k within. byte_to_write-lt bus_bytes given piece n k small }) below in
     record {
-      strobes = λ x has. strobe (x % bus_bytes) (lane-lt bus_bytes x width) ∙ ap (λ (o : Option ℕ). is_some o) (byte_to_write-mod bus_bytes given piece n x width fits one has);
-      payload = λ x byte has there. lane_holds (x % bus_bytes) (lane-lt bus_bytes x width) ∙ ap (λ (o : Option ℕ). unwrap_or o 0) (byte_to_write-mod bus_bytes given piece n x width fits one has ∙ there);
+      strobes = λ x has. strobe (x % bus_bytes) (lane_below bus_bytes x width) ∙ ap (λ (o : Option ℕ). is_some o) (byte_to_write-mod bus_bytes given piece n x width fits one has);
+      payload = λ x byte has there. lane_holds (x % bus_bytes) (lane_below bus_bytes x width) ∙ ap (λ (o : Option ℕ). unwrap_or o 0) (byte_to_write-mod bus_bytes given piece n x width fits one has ∙ there);
       outside = λ lane below free. strobe lane below ∙ rw free refl;
       zero = λ lane below none. lane_holds lane below ∙ none-zero (byte_to_write bus_bytes given piece n lane) (sym (strobe lane below) ∙ none);
     }

@@ -86,3 +86,8 @@ without_first-remove {X = X} p (x ∷ xs) within = by_test (p x) within (without
 
 pub without_first-first : {X : Type 0} (p : X → Bool) (xs : List X) (k : ℕ) → IsFirst p xs k → without_first p xs ≡ remove xs k
 without_first-first p xs k at = rw at.first at (without_first-remove p xs (rw at.first at.within))
+
+-- two tests that agree find the same
+pub find-same : {X : Type 0} (p q : X → Bool) (xs : List X) → ((x : X) → p x ≡ q x) → find p xs ≡ find q xs
+find-same p q [] same = refl
+find-same p q (x ∷ xs) same = rw (same x, find-same p q xs same) refl

@@ -3,10 +3,11 @@ use Rattle.std.proofs.Common.{◌≡◌, ℕ, zero, suc, ◌+◌, ◌<◌, ◌�
 use Rattle.std.specs.Int.{bit_at}
 use Rattle.std.specs.Prelude.{bit_and}
 use Rattle.std.specs.List.{list_all, range_with_len}
-use Rattle.std.proofs.lemmas.Bool.{and_parts, and_from, eqb-true, eq-eqb}
+use Rattle.std.proofs.lemmas.Bool.{and_parts, eqb-true, eq-eqb}
 use Rattle.std.proofs.lemmas.Nat.{and_le_l}
 use Rattle.std.proofs.lemmas.Nat.Bits.{bit_at_and, bit_at-lt, same_from_bits_below}
 use Rattle.bus_words.specs.Lanes.{has_lane}
+use Rattle.bus_words.proofs.Ranges.{list_all-from}
 
 -- a test that a range passes, number by number
 list_all-at : (p : ℕ → Bool) (a n k : ℕ) → list_all p (range_with_len a n) ≡ true → a ≤ k → k < a + n → p k ≡ true
@@ -17,11 +18,6 @@ list_all-at p a (suc n) k all low high =
       | inl here ↦ rw (← here) parts.0
       | inr past ↦ list_all-at p (a + 1) n k parts.1 (omega arith) (omega arith)
     ]
-
--- and one that each number of a range passes
-pub list_all-from : (p : ℕ → Bool) (a n : ℕ) → ((k : ℕ) → a ≤ k → k < a + n → p k ≡ true) → list_all p (range_with_len a n) ≡ true
-list_all-from p a zero each = refl
-list_all-from p a (suc n) each = and_from (p a) (list_all p (range_with_len (a + 1) n)) (each a (omega arith) (omega arith)) (list_all-from p (a + 1) n (λ k low high. each k (omega arith) (omega arith)))
 
 -- two tests that each follow from the other are one
 same_tests : (a b : Bool) → (a ≡ true → b ≡ true) → (b ≡ true → a ≡ true) → a ≡ b

@@ -7,6 +7,7 @@ pub mod LaneLaws
 pub mod MappedPlaces
 pub mod MaskLaws
 pub mod PlaceChanges
+pub mod Ranges
 pub mod StoredPlaces
 pub mod TableLaws
 pub mod TextLaws

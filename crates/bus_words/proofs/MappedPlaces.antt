@@ -1,7 +1,8 @@
 -- What stands at a place of a list, where the list is made of another, or one entry of it changes.
-use Rattle.std.proofs.Common.{◌≡◌, ℕ, zero, suc, Bool, true, false, List, [], ◌∷◌, Option, None, Some, length, map, refl, ap}
+use Rattle.std.proofs.Common.{◌≡◌, ℕ, zero, suc, ◌+◌, Bool, true, false, List, [], ◌∷◌, ◌++◌, Option, None, Some, flat_map, length, map, slice_get, take, refl, ap, sym, ◌∙◌, arith, rules}
 use Rattle.std.specs.List.{AllByRecursion, filter, position, position_or_len, remove}
 use Rattle.std.specs.Prelude.{if◌then◌else◌, option_map}
+use Rattle.std.proofs.lemmas.List.{append_assoc}
 use Rattle.std.proofs.lemmas.Option.{same_Some}
 
 pub length_map : {X Y : Type 0} (f : X → Y) (xs : List X) → length (map f xs) ≡ length xs
@@ -55,3 +56,22 @@ all-mapped P f (x ∷ xs) all = (all.0, all-mapped P f xs all.1)
 pub map_some : {A B P : Type 0} (f : A → B) (o : Option A) (y : B) → option_map f o ≡ Some y → ((x : A) → o ≡ Some x → f x ≡ y → P) → P
 map_some f None y is k = absurd (cc)
 map_some f (Some x) y is k = k x refl (same_Some (f x) y is)
+
+-- one entry more of a list, and what is made of it
+pub map-take-next : {X Y : Type 0} (f : X → Y) (xs : List X) (k : ℕ) (x : X) → slice_get xs k ≡ Some x → map f (take (k + 1) xs) ≡ map f (take k xs) ++ f x ∷ []
+map-take-next f [] k x there = absurd (cc (there))
+map-take-next f (y ∷ xs) zero x there = let same : y ≡ x = cc in rw same refl
+map-take-next {Y = Y} f (y ∷ xs) (suc k) x there =
+    let size : suc k + 1 ≡ suc (k + 1) = omega arith in
+    rw size (ap (λ (rest : List Y). f y ∷ rest) (map-take-next f xs k x there))
+
+flat_map-take-suc : {X Y : Type 0} (f : X → List Y) (xs : List X) (k : ℕ) (x : X) → slice_get xs k ≡ Some x → flat_map f (take (suc k) xs) ≡ flat_map f (take k xs) ++ f x
+flat_map-take-suc f [] k x found = search rules
+flat_map-take-suc f (y ∷ ys) zero x found = search rules
+flat_map-take-suc f (y ∷ ys) (suc k) x found =
+    ap (λ text. f y ++ text) (flat_map-take-suc f ys k x found) ∙ sym (append_assoc (f y) (flat_map f (take k ys)) (f x))
+
+pub flat_map-take : {X Y : Type 0} (f : X → List Y) (xs : List X) (k : ℕ) (x : X) → slice_get xs k ≡ Some x → flat_map f (take (k + 1) xs) ≡ flat_map f (take k xs) ++ f x
+flat_map-take f xs k x found =
+    let next : k + 1 ≡ suc k = omega arith in
+    rw next (flat_map-take-suc f xs k x found)

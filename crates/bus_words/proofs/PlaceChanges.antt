@@ -76,7 +76,7 @@ pass_more q x xs ys fewer = by_test (q x)
     by_test true = omega (arith, fewer)
     by_test false = fewer
 
-pass_fewer : {X : Type 0} (q : X → Bool) (x : X) (xs : List X) → length (filter q xs) ≤ length (filter q (x ∷ xs))
+pub pass_fewer : {X : Type 0} (q : X → Bool) (x : X) (xs : List X) → length (filter q xs) ≤ length (filter q (x ∷ xs))
 pass_fewer q x xs = by_test (q x)
   where
     by_test : (b : Bool) → length (filter q xs) ≤ length (if b then x ∷ filter q xs else filter q xs)

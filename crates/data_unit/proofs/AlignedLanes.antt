@@ -1,33 +1,13 @@
 -- The lanes of 2^size bytes from an address on: what they are depends on the address's lane alone, they are all lanes from size 3 on, and those of
 -- an aligned address stand side by side.
-use Rattle.std.proofs.Common.{◌≡◌, ℕ, zero, suc, ◌+◌, ◌-◌, ◌*◌, ◌/◌, ◌%◌, ◌^◌, ◌<◌, ◌≤◌, ◌==◌, nat_le, nat_lt, Bool, true, ◌&&◌, refl, sym, ◌∙◌, arith, inl, inr}
+use Rattle.std.proofs.Common.{◌≡◌, ℕ, zero, suc, ◌+◌, ◌-◌, ◌*◌, ◌/◌, ◌%◌, ◌^◌, ◌<◌, ◌≤◌, ◌==◌, nat_le, nat_lt, true, ◌&&◌, refl, sym, ◌∙◌, arith, inl, inr}
 use Rattle.std.proofs.Math.Pow.{mod-mod-pow, pow_mono, pow_pos}
 use Rattle.std.proofs.lemmas.Bool.Decides.{nat_tests}
 use Rattle.std.proofs.lemmas.Bool.{cases_lt}
 use Rattle.std.specs.List.{range_with_len, list_any}
 use Rattle.bus_words.specs.Lanes.{is_between}
+use Rattle.bus_words.proofs.Ranges.{one_passes}
 use Rattle.tl_messages.specs.Lanes.{in_lanes, lane_of}
-
--- what one number of a range passes, some number of it passes
-pub any-range : (p : ℕ → Bool) (a n k : ℕ) → k < n → p (a + k) ≡ true → list_any p (range_with_len a n) ≡ true
-any-range p a zero k below h = absurd (none below)
-  where
-    none : k < 0 → ⊥
-    none e = omega arith
-any-range p a (suc n) zero below h = rw (at_start h) refl
-  where
-    start : a + 0 ≡ a
-    start = omega arith
-
-    at_start : p (a + 0) ≡ true → p a ≡ true
-    at_start e = rw start at e
-any-range p a (suc n) (suc k) below h = grind (arith, any-range p (a + 1) n k (omega arith) (later h))
-  where
-    next : a + suc k ≡ a + 1 + k
-    next = omega arith
-
-    later : p (a + suc k) ≡ true → p (a + 1 + k) ≡ true
-    later e = rw next at e
 
 -- how far above an address a lane first comes
 distance : ℕ → ℕ → ℕ
@@ -37,7 +17,7 @@ distance address lane = (lane + 8 - address % 8) % 8
 pub in_lanes_every : (address size lane : ℕ) → 3 ≤ size → lane < 8 → in_lanes address size lane ≡ true
 unfolding distance
 in_lanes_every address size lane big below =
-    any-range (λ x. lane_of x == lane) address (2 ^ size) (distance address lane) (omega (arith, pow_mono {i = 3} {j = size} big)) (grind arith)
+    one_passes (λ x. lane_of x == lane) address (2 ^ size) (distance address lane) (omega (arith, pow_mono {i = 3} {j = size} big)) (grind arith)
 
 -- addresses of one lane have the same lanes
 lanes_of_range : (a b n lane : ℕ) → a % 8 ≡ b % 8 → list_any (λ x. lane_of x == lane) (range_with_len a n) ≡ list_any (λ x. lane_of x == lane) (range_with_len b n)

@@ -1,5 +1,5 @@
 -- The lines of one beat more, and texts that aren't empty.
-use Rattle.std.proofs.Common.{◌≡◌, ◌≢◌, ℕ, zero, suc, ◌+◌, ◌≤◌, List, [], ◌∷◌, ◌++◌, take, flat_map, Option, Some, None, slice_get, length, length-append, refl, ap, sym, ◌∙◌, append_assoc, rules, arith}
+use Rattle.std.proofs.Common.{◌≡◌, ◌≢◌, ℕ, ◌≤◌, List, [], ◌∷◌, ◌++◌, flat_map, Option, Some, None, length, length-append, refl, ap, rules, arith}
 use Rattle.axi_beats.specs.Boxes.{aw_of, w_beats_of}
 use Rattle.axi_beats.specs.Bursts.{Burst, WriteBurst, ReadBurst}
 use Rattle.axi_beats.specs.Lines.{aw_text, w_text}
@@ -8,17 +8,6 @@ use Rattle.line_text.specs.Traces.{held_text}
 use Rattle.tl_checker.specs.Names.{name_of}
 use Rattle.tl_checker.specs.declared.TlRule.{TlRule}
 use Rattle.tl_checker.specs.declared.TlRule.TheVariants.{Opcode, Level, Size, AtomicSize, Align, Param, Mask, Corrupt, SourceBusy, BurstControl, DOpcode, DSize, DSource, DBeats, DDenied, DCorrupt}
-
-flat_map-take-suc : {X : Type 0} (f : X → List ℕ) (xs : List X) (k : ℕ) (x : X) → slice_get xs k ≡ Some x → flat_map f (take (suc k) xs) ≡ flat_map f (take k xs) ++ f x
-flat_map-take-suc f [] k x found = search rules
-flat_map-take-suc f (y ∷ ys) zero x found = search rules
-flat_map-take-suc f (y ∷ ys) (suc k) x found =
-    ap (λ text. f y ++ text) (flat_map-take-suc f ys k x found) ∙ sym (append_assoc (f y) (flat_map f (take k ys)) (f x))
-
-pub flat_map-take : {X : Type 0} (f : X → List ℕ) (xs : List X) (k : ℕ) (x : X) → slice_get xs k ≡ Some x → flat_map f (take (k + 1) xs) ≡ flat_map f (take k xs) ++ f x
-flat_map-take f xs k x found =
-    let next : k + 1 ≡ suc k = omega arith in
-    rw next (flat_map-take-suc f xs k x found)
 
 -- the text of a write
 pub held_text-write : (burst : Option Burst) (aw : AwBeat) → aw_of burst ≡ Some aw → held_text burst ≡ aw_text aw ++ flat_map w_text (w_beats_of burst)

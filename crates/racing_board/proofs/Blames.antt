@@ -5,6 +5,7 @@ use Rattle.std.specs.List.{AllByRecursion, list_any}
 use Rattle.std.proofs.lemmas.Bool.{and_from, and_parts, both_ways, cases_lt, eqb-true, true_from_ne_false}
 use Rattle.std.proofs.lemmas.List.{append-nil, get_or_past}
 use Rattle.bus_words.specs.Tables.{first_broken}
+use Rattle.bus_words.proofs.StoredPlaces.{there_is}
 use Rattle.tl_messages.specs.Operations.{beats_of}
 use Rattle.tl_messages.specs.Requests.{HeldMessage, request_of}
 use Rattle.tl_messages.specs.declared.ABeat.{ABeat}
@@ -36,7 +37,7 @@ use Rattle.racing_board.proofs.AlikeBeats.{left_alike}
 use Rattle.racing_board.proofs.Entries.{Each, Stands, carry, place_of, run, slot}
 use Rattle.racing_board.proofs.Explained.{Explains, explains_opening}
 use Rattle.racing_board.proofs.Lengths.{live_less}
-use Rattle.racing_board.proofs.ReplyBeats.{explains_reply, in_list}
+use Rattle.racing_board.proofs.ReplyBeats.{explains_reply}
 use Rattle.racing_board.proofs.ReplyMoves.{waits_for}
 use Rattle.racing_board.proofs.ReplySteps.{any_all, at_begun, at_source, begun_as, begun_parts, waits_live}
 use Rattle.racing_board.proofs.RequestActs.{AreBytes, acts}
@@ -129,7 +130,7 @@ module _ (setup : SetupLists) (board : RacingBoard) (order : Order) (number : â„
       by_look (inr found) =
           let live = live_due (list_any (begun_to number) order) found.entry found.passes in
           let stands = found.stands.live live.0 in
-          let there = in_list board.clients number (omega (arith, stands.client, live.1)) in
+          let there = there_is board.clients number (omega (arith, stands.client, live.1)) in
           absurd (cc (none, there.1))
 
   module _ (client : ClientBoard) (there : slice_get board.clients number â‰¡ Some client) where

@@ -23,11 +23,11 @@ use Rattle.tl_checker.proofs.BeatRules.{first_none}
 use Rattle.tl_checker.proofs.Fronts.{none_front}
 use Rattle.tl_checker.proofs.RequestLaws.{spelled_sound}
 use Rattle.tl_checker.proofs.SpellingLaws.{all_given}
-use Rattle.tl_checker.proofs.Taking.{answered_parts}
+use Rattle.tl_checker.proofs.Taking.{answered_parts, held-append}
 use Rattle.data_unit.proofs.NumberLaws.{lane_byte-lt}
 use Rattle.scoreboard.specs.Boards.{ClientBoard, due_of, none_left}
 use Rattle.scoreboard.proofs.PutWords.{length-bytes_given}
-use Rattle.scoreboard.proofs.RequestBeats.{ends_here, goes_on, held_with}
+use Rattle.scoreboard.proofs.RequestBeats.{ends_here, goes_on}
 use Rattle.racing_board.specs.Boards.{answer_to}
 use Rattle.racing_board.proofs.RequestActs.{IsWell}
 
@@ -134,7 +134,7 @@ front_next client beat small right is =
         record {
           begins = goes.front;
           held =
-              held_with client.limits beats beat ∙ ap (λ (front : Option HeldMessage). Some (joined client.limits front beat)) fits.held;
+              held-append client.limits beats beat ∙ ap (λ (front : Option HeldMessage). Some (joined client.limits front beat)) fits.held;
         },
       );
       free = joined_free client beat More small right is;
@@ -150,7 +150,7 @@ whole_sound client beat right is =
     (held_answer client beat beats Whole fits.held is) in
     subst (λ (front : Option HeldMessage). IsSound client.limits (joined client.limits front beat)) fits.held
     (spelled_sound client.limits (joined client.limits (held_of client.limits.client beats) beat)
-    (beats ++ beat ∷ [], record { spells = ends.spells; held = held_with client.limits beats beat }))
+    (beats ++ beat ∷ [], record { spells = ends.spells; held = held-append client.limits beats beat }))
 
 -- nothing has begun
 pub front_none : (client : ClientBoard) → client.front ≡ None → IsFrontRight client

@@ -20,7 +20,6 @@ pub mod Lengths
 pub mod OnlySuch
 pub mod Others
 pub mod RacerBytes
-pub mod Ranges
 pub mod ReplyBeats
 pub mod ReplyBytes
 pub mod ReplyMoves

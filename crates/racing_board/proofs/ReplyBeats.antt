@@ -1,11 +1,12 @@
 -- A beat on channel D: the board still knows what it knew of an order.
-use Rattle.std.proofs.Common.{◌≡◌, ℕ, zero, suc, ◌<◌, ◌≤◌, ◌==◌, Bool, true, false, ◌&&◌, not, List, [], ◌∷◌, map, length, get_or, set, drop, Option, Some, None, if◌then◌else◌, refl, sym, ◌∙◌, ap, subst, arith}
+use Rattle.std.proofs.Common.{◌≡◌, ℕ, ◌<◌, ◌≤◌, ◌==◌, Bool, true, false, ◌&&◌, not, List, [], ◌∷◌, map, length, get_or, set, drop, Option, Some, None, if◌then◌else◌, refl, sym, ◌∙◌, ap, subst, arith}
 use Rattle.std.specs.Prelude.{slice_get}
 use Rattle.std.specs.List.{AllByRecursion, list_any}
 use Rattle.std.proofs.lemmas.Bool.{and_parts, eqb-true, false_from_ne_true}
 use Rattle.std.proofs.lemmas.List.{length-set}
 use Rattle.std.proofs.lemmas.List.Edits.{length-swap}
 use Rattle.std.proofs.lemmas.Option.{slice_get_within}
+use Rattle.bus_words.proofs.StoredPlaces.{there_is}
 use Rattle.tl_messages.specs.declared.DBeat.{DBeat}
 use Rattle.world_run.specs.Meaning.{Bytes, zeros}
 use Rattle.scoreboard.specs.Boards.{ClientBoard, DueBoard, after_begun, after_reply_beat, due_of, has_source, none_left}
@@ -23,11 +24,6 @@ use Rattle.racing_board.proofs.SlotMoves.{moved, moved_apart, moved_either, seco
 use Rattle.racing_board.proofs.Slots.{at}
 
 -- ---- of a client that isn't there
-
-pub in_list : (clients : List ClientBoard) (i : ℕ) → i < length clients → (client : ClientBoard) × (slice_get clients i ≡ Some client)
-in_list [] i below = absurd (omega (arith, below))
-in_list (first ∷ clients) zero below = (first, refl)
-in_list (first ∷ clients) (suc i) below = in_list clients i (omega (arith, below))
 
 nobody : (board : RacingBoard) (begun : Bool) (number source : ℕ) → slice_get board.clients number ≡ None → (order : Order) (m : Bytes)
     → Each board.faults board.regions (Stands board.faults board.regions (length board.clients) board.races.racers (due_at board.clients)) m order
@@ -47,7 +43,7 @@ nobody board begun number source none (entry ∷ order) m each = (
     live false is = waits_live entry (and_parts (entry.request.source == source) (entry.came == 0) is).1
 
     out : number < length board.clients → ⊥
-    out below = let found = in_list board.clients number below in absurd (cc (none, found.1))
+    out below = let found = there_is board.clients number below in absurd (cc (none, found.1))
 
 -- ---- what becomes of the replies
 

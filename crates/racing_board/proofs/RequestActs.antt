@@ -21,9 +21,9 @@ use Rattle.burst_plan.specs.declared.Region.{Region}
 use Rattle.bridge_core.specs.HeldRequests.{address_of}
 use Rattle.subordinate.specs.Faults.{Faults, Standing, IsGood, IsSlaveError, IsAbsent, is_bad, is_good, standing_at}
 use Rattle.world_run.specs.Meaning.{Bytes, Effect, atomic_bytes, bytes_at, effect, meaning, with_bytes}
+use Rattle.world_run.proofs.BytesLeft.{given_before, given_past}
 use Rattle.scoreboard.specs.SerialMemory.{on_good_page}
 use Rattle.scoreboard.proofs.Meanings.{meaning_none, meaning_some}
-use Rattle.scoreboard.proofs.PutWords.{given_before, given_past}
 use Rattle.racing_board.specs.Races.{Racer, alone, covers}
 
 -- ---- requests as a checker lets them pass

@@ -13,6 +13,7 @@ use Rattle.tl_checker.specs.RequestRules.{Spells, TlPortLimits}
 use Rattle.tl_checker.specs.declared.Progress.{Progress}
 use Rattle.tl_checker.specs.declared.Progress.TheVariants.{More, Whole}
 use Rattle.tl_checker.specs.declared.TlRule.{TlRule}
+use Rattle.tl_checker.proofs.Taking.{held-append}
 use Rattle.responses.specs.Shown.{Reply, shown}
 use Rattle.bridge_core.specs.Configs.{port_of}
 use Rattle.world_run.specs.Headline.{bytes_of_all}
@@ -24,7 +25,7 @@ use Rattle.scoreboard.specs.Observed.{Observed, requests_in, with_begun, with_me
 use Rattle.scoreboard.specs.Right.{IsRightNow, IsTold, left_of, replies_to}
 use Rattle.scoreboard.proofs.BoardOf.{IsClientOf, IsWith, replies_to-own, shown_source}
 use Rattle.scoreboard.proofs.Owed.{IsOwed, dues_with, eqb_same, none_of_past, order, owed_other, owed_own, same_or_not}
-use Rattle.scoreboard.proofs.RequestBeats.{EndsHere, ends_here, goes_on, held_with}
+use Rattle.scoreboard.proofs.RequestBeats.{EndsHere, ends_here, goes_on}
 use Rattle.scoreboard.proofs.RequestSteps.{IsCompleted, client_of, other_replies, own_replies, requests_whole, with_whole}
 use Rattle.scoreboard.proofs.SeenLists.{bytes_after_all-append}
 use Rattle.scoreboard.proofs.Told.{left-nothing}
@@ -41,7 +42,7 @@ module _ (setup : SetupLists) (observed : Observed) (number : ℕ) where
   client_more client beat of =
       record {
         limits = of.limits;
-        front = rw (eqb_same number, of.limits, of.front) (sym (held_with (port_of setup.config number) (observed.begun number) beat));
+        front = rw (eqb_same number, of.limits, of.front) (sym (held-append (port_of setup.config number) (observed.begun number) beat));
         dues = of.dues;
         owed = of.owed;
       }
@@ -200,7 +201,7 @@ module _ (setup : SetupLists) (observed : Observed) (board : RacingBoard) (numbe
       same_message = rw (own.limits, own.front) refl
 
       held : held_of number beats ≡ Some message
-      held = held_with limits (observed.begun number) beat ∙ ap Some (sym same_message)
+      held = held-append limits (observed.begun number) beat ∙ ap Some (sym same_message)
 
       requests : requests_in next ≡ requests_in observed ++ request_of message ∷ []
       requests = requests_whole observed number beats message held

@@ -1,8 +1,9 @@
 -- Beats that are right, of which a racing board finds none wrong.
-use Rattle.std.proofs.Common.{◌≡◌, ℕ, zero, suc, ◌<◌, false, List, [], ◌∷◌, ◌++◌, length, Option, Some, None, Result, refl, sym, ◌∙◌, ap, subst, arith}
+use Rattle.std.proofs.Common.{◌≡◌, ℕ, ◌<◌, false, List, [], ◌∷◌, ◌++◌, Option, Some, None, Result, refl, sym, ◌∙◌, ap, subst}
 use Rattle.std.specs.Prelude.{slice_get}
 use Rattle.std.specs.List.{AllByRecursion}
 use Rattle.std.proofs.lemmas.List.{append-nil, append_assoc}
+use Rattle.bus_words.proofs.StoredPlaces.{there_is}
 use Rattle.tl_messages.specs.declared.ABeat.{ABeat}
 use Rattle.tl_checker.specs.declared.Progress.{Progress}
 use Rattle.tl_checker.specs.declared.TlRule.{TlRule}
@@ -99,14 +100,9 @@ module _ (setup : SetupLists) (observed : Observed) (board : RacingBoard) where
 
   -- ---- a client of the set-up
 
-  found_below : (clients : List ClientBoard) (k : ℕ) → k < length clients → (client : ClientBoard) × (slice_get clients k ≡ Some client)
-  found_below [] k within = absurd (omega (arith, within))
-  found_below (client ∷ clients) zero within = (client, refl)
-  found_below (client ∷ clients) (suc k) within = found_below clients k (omega (arith, within))
-
   client_there : (number : ℕ) → IsRacingOf setup observed board → number < setup.config.clients
       → (client : ClientBoard) × (slice_get board.clients number ≡ Some client)
-  client_there number of below = found_below board.clients number (subst (λ n. number < n) (sym of.count) below)
+  client_there number of below = there_is board.clients number (subst (λ n. number < n) (sym of.count) below)
 
   -- ---- nothing is wrong with a beat that is right
 

@@ -7,6 +7,7 @@ use Rattle.std.proofs.lemmas.Bool.{and_parts, and_from, both_ways, cases_eq, cas
 use Rattle.std.proofs.lemmas.List.{get_or-set_other, get_or-set_same, get_or_past, length-map}
 use Rattle.std.proofs.lemmas.List.Folds.{list_any_at}
 use Rattle.bus_words.specs.Lanes.{given_at}
+use Rattle.bus_words.proofs.Ranges.{passes_at}
 use Rattle.racing_board.specs.Races.{Racer, beside, covers, depends_on, doubts_after, doubts_beside, is_fixed, may_write, meets, no_racer}
 
 -- the request in a slot
@@ -141,14 +142,6 @@ sharing_meets racer other x here there =
     (lt-ltb other.address (racer.address + 2 ^ racer.size) (omega (arith, start, high)))
 
 -- ---- either in doubt or settled, still
-
-passes_at : (test : ℕ → Bool) (from n k : ℕ) → list_all test (range_with_len from n) ≡ true → k < n → test (from + k) ≡ true
-passes_at test from zero k all below = absurd (omega (arith, below))
-passes_at test from (suc n) zero all below = let first : from + 0 ≡ from = omega arith in
-    ap test first ∙ (and_parts (test from) (list_all test (range_with_len (from + 1) n)) all).0
-passes_at test from (suc n) (suc k) all below =
-    let place : from + suc k ≡ from + 1 + k = omega arith in
-    ap test place ∙ passes_at test (from + 1) n k (and_parts (test from) (list_all test (range_with_len (from + 1) n)) all).1 (omega (arith, below))
 
 -- of one that reads and is fixed all bytes are settled
 pub fixed_settled : (racer : Racer) (x : ℕ) → is_fixed racer ≡ true → racer.reads ≡ true → covers racer x ≡ true → racer.settled x ≡ true

@@ -1,10 +1,10 @@
 -- A beat that is blamed by a rule breaks the same rule against a beat that is alike.
-use Rattle.std.proofs.Common.{◌≡◌, ℕ, zero, suc, ◌+◌, ◌-◌, ◌*◌, ◌<◌, ◌==◌, Bool, true, false, ◌&&◌, not, List, [], ◌∷◌, length, Option, Some, None, if◌then◌else◌, refl, sym, ◌∙◌, ap, arith}
+use Rattle.std.proofs.Common.{◌≡◌, ℕ, ◌+◌, ◌-◌, ◌*◌, ◌<◌, ◌==◌, Bool, true, false, ◌&&◌, not, List, [], ◌∷◌, length, Option, Some, None, if◌then◌else◌, refl, sym, ◌∙◌, ap, arith}
 use Rattle.std.specs.Bool.{beq}
-use Rattle.std.specs.List.{list_any, range_with_len}
 use Rattle.std.proofs.lemmas.Bool.{and_parts, both_ways, eq-eqb, eqb-true, false_from_ne_true, not-false, true_from_ne_false}
 use Rattle.bus_words.specs.Lanes.{lane_byte, word_address}
 use Rattle.bus_words.specs.Tables.{first_broken}
+use Rattle.bus_words.proofs.Ranges.{none_passes}
 use Rattle.tl_messages.specs.Operations.{beats_of}
 use Rattle.tl_messages.specs.declared.DBeat.{DBeat}
 use Rattle.scoreboard.specs.Boards as strict
@@ -19,18 +19,11 @@ use Rattle.racing_board.proofs.AlikeBeats.{Alike, LeftAlike, Same, Words}
 abbrev rows : Bool → Bool → Bool → Bool → Bool → Bool → List (Bool × ReplyRule)
 rows a b c d e f = (a, rule.Interleaved) ∷ (b, rule.Opcode) ∷ (c, rule.Size) ∷ (d, rule.Denied) ∷ (e, rule.Corrupt) ∷ (f, rule.Payload) ∷ []
 
-none_in : (test : ℕ → Bool) (from n : ℕ) → ((k : ℕ) → k < n → test (from + k) ≡ false) → list_any test (range_with_len from n) ≡ false
-none_in test from zero each = refl
-none_in test from (suc n) each =
-    let first : from + 0 ≡ from = omega arith in
-    rw (sym (ap test first) ∙ each 0 (omega arith))
-    (none_in test (from + 1) n (λ k below. let place : from + 1 + k ≡ from + (k + 1) = omega arith in ap test place ∙ each (k + 1) (omega (arith, below))))
-
 -- where a payload differs it tells of nothing that is settled
 tells_nothing : (racer : Racer) (k : ℕ) (due other beat : DBeat) → Alike racer k due other → beat.payload ≡ other.payload
     → tells_otherwise racer k due beat ≡ false
 tells_nothing racer k due other beat alike is =
-    rw (none_in (differs_in racer k due.payload beat.payload) 0 8 (λ lane below. one (0 + lane) (omega (arith, below))))
+    rw (none_passes (differs_in racer k due.payload beat.payload) 0 8 (λ lane below. one (0 + lane) (omega (arith, below))))
     (nothing racer.reads (not due.corrupt))
   where
     nothing : (a b : Bool) → (a && b && false) ≡ false

@@ -12,12 +12,12 @@ use Rattle.bus_words.specs.Lanes.{given_at, has_lane, is_between, lane_byte, pay
 use Rattle.bus_words.proofs.BelowEight.{below_eight}
 use Rattle.bus_words.proofs.MaskLaws.{has_lane-mask_of}
 use Rattle.bus_words.proofs.LaneLaws.{word_of_lanes-same}
+use Rattle.bus_words.proofs.Ranges.{one_passes}
 use Rattle.tl_messages.specs.Lanes.{in_range, lane_of}
 use Rattle.tl_messages.specs.Operations.{reply_has_data, beats_of}
 use Rattle.tl_messages.specs.Requests.{WholeRequest}
 use Rattle.tl_messages.specs.declared.DBeat.{DBeat}
 use Rattle.data_unit.specs.Words.{merged}
-use Rattle.data_unit.proofs.AlignedLanes.{any-range}
 use Rattle.data_unit.proofs.ByteLaws.{lane_byte-past}
 use Rattle.responses.specs.Gathered.{Gathering, byte_gathered, gathered, outline_of, words_of}
 use Rattle.responses.specs.declared.gather.Outline.{Outline}
@@ -125,7 +125,7 @@ lacks_some q words k inside there =
     let below : lane_of q.address < 8 = omega arith in
     let first : address_in_word q k (lane_of q.address) ≡ q.address + 8 * k = omega arith in
     let held : in_range q.address q.size (address_in_word q k (lane_of q.address)) ≡ true = let fits = first_in_word q.size k inside in rw first (grind (arith, nat_tests)) in
-    any-range (λ lane. in_range q.address q.size (address_in_word q k lane) && is_none (given_at (bytes_of_reply q words) q.address (address_in_word q k lane))) 0 8 (lane_of q.address) below
+    one_passes (λ lane. in_range q.address q.size (address_in_word q k lane) && is_none (given_at (bytes_of_reply q words) q.address (address_in_word q k lane))) 0 8 (lane_of q.address) below
     (rw (from_zero, given_in_word q words k (lane_of q.address) None below there) (none_held (in_range q.address q.size (address_in_word q k (lane_of q.address))) None held refl))
 
 shown_or_zero : (held : Bool) (byte zero_byte : ℕ) → zero_byte ≡ 0 → (if held then byte else zero_byte) ≡ unwrap_or (if held then Some byte else None) 0

@@ -1,9 +1,7 @@
 -- The score of a set-up is made as its definition says.
-use Rattle.std.proofs.Common.{◌≡◌, ◌≢◌, ◌⊎◌, inl, inr, Bool, true, false, Option, None, Some, IfSome, IfOk, IfErr, Result, Ok, Err, option_map, if◌then◌else◌, refl, sym, ap, rules}
-use Rattle.std.specs.Option.{option_or}
+use Rattle.std.proofs.Common.{◌≡◌, ◌⊎◌, inl, inr, true, Option, None, Some, IfSome, IfOk, IfErr, Result, Ok, Err, refl, sym, ap, rules}
 use Rattle.bridge_core.specs.Configs.{is_valid}
 use Rattle.burst_plan.specs.PageMap.{region_fault}
-use Rattle.burst_plan.specs.declared.MapFault.{MapFault}
 use Rattle.score_script.specs.Profiles.{ProfileBoard, opening_board}
 use Rattle.score_script.specs.ScoreStates.{board_of}
 use Rattle.score_script.specs.Scores.{Score, opened}
@@ -11,10 +9,10 @@ use Rattle.score_script.specs.declared.profiles.Board.{Board}
 use Rattle.score_script.specs.declared.profiles.Profile.{Profile}
 use Rattle.script_text.specs.Stages.{OpensAs}
 use Rattle.subordinate.specs.Faults.{device_fault}
-use Rattle.subordinate.specs.declared.DeviceFault.{DeviceFault}
 use Rattle.world.specs.Setups.{SetupLists, setup_fault}
 use Rattle.world.specs.declared.SetupFault.{SetupFault}
 use Rattle.world.specs.declared.SetupFault.TheVariants.{BadConfig, Map, Device, NoMemory}
+use Rattle.world.proofs.SetupFaults.{memory_never}
 
 -- a score with a board by which nothing was judged
 abbrev score_with : ProfileBoard → Score
@@ -23,13 +21,6 @@ score_with board = record { board = board; held = None; judged = 0; wrong = 0 }
 abbrev pub made : Result Board SetupFault → Result Score SetupFault
 made (Ok board) = Ok (score_with (board_of board))
 made (Err fault) = Err fault
-
-memory_never : (valid : Bool) (regions : Option MapFault) (device : Option DeviceFault)
-    → option_or (if valid then None else Some BadConfig) (option_or (option_map Map regions) (option_map Device device)) ≢ Some NoMemory
-memory_never false regions device wrong = search rules
-memory_never true (Some fault) device wrong = search rules
-memory_never true None (Some fault) wrong = search rules
-memory_never true None None wrong = search rules
 
 -- a set-up with a fault is refused by it
 refused_as : (setup : SetupLists) (fault : SetupFault) → setup_fault setup ≡ Some fault → OpensAs {W = Score} true (Err fault) (Err fault)

@@ -1,20 +1,13 @@
 -- The clients of a scoreboard: how many there are, and one of them changed.
-use Rattle.std.proofs.Common.{◌≡◌, ℕ, ◌≤◌, Bool, true, false, length, map, Option, Some, None, if◌then◌else◌, refl, arith}
+use Rattle.std.proofs.Common.{◌≡◌, ℕ, ◌≤◌, length, map, Option, Some, None, arith}
 use Rattle.std.specs.List.{range_with_len}
-use Rattle.std.specs.Option.{option_or}
 use Rattle.std.proofs.lemmas.List.FromFn.{length-map-range_with_len}
 use Rattle.tl_messages.specs.declared.ABeat.{ABeat}
 use Rattle.bridge_core.specs.Configs.{is_valid}
 use Rattle.bridge_core.proofs.JoinedRequests.{limits_made}
 use Rattle.world.specs.Setups.{SetupLists, setup_fault}
-use Rattle.world.specs.declared.SetupFault.{SetupFault}
-use Rattle.world.specs.declared.SetupFault.TheVariants.{BadConfig}
+use Rattle.world.proofs.SetupFaults.{valid_of}
 use Rattle.scoreboard.specs.Boards.{Board, ClientBoard, IsAfterA, IsAnswered, answer_to, opening_client, with_client}
-
--- a set-up that isn't refused has valid limits
-valid_of : (valid : Bool) (rest : Option SetupFault) → option_or (if valid then None else Some BadConfig) rest ≡ None → valid ≡ true
-valid_of true rest none = refl
-valid_of false rest none = absurd (cc (none))
 
 -- there are at most eight clients
 pub few_clients : (setup : SetupLists) → setup_fault setup ≡ None → length (map (opening_client setup.config) (range_with_len 0 setup.config.clients)) ≤ 8

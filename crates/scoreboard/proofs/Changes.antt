@@ -26,8 +26,9 @@ use Rattle.subordinate.specs.InsidePages.{PagesState}
 use Rattle.world_run.specs.Meaning.{Bytes, bytes_at, effect, with_bytes}
 use Rattle.world_run.proofs.SerialOldValues.{old_value_at}
 use Rattle.world_run.proofs.SerialReplies.{outline_as}
+use Rattle.world_run.proofs.BytesLeft.{given_before, given_past}
 use Rattle.scoreboard.specs.InsideSerial.{IsFresh, IsMemoryRange, bytes_in, put_in_word, words_read, word_read}
-use Rattle.scoreboard.proofs.PutWords.{given_before, given_or, given_past, in_word, out_of_word}
+use Rattle.scoreboard.proofs.PutWords.{given_or, in_word, out_of_word}
 use Rattle.scoreboard.specs.SerialMemory.{IsCheckedRequest}
 use Rattle.scoreboard.proofs.RequestWords.{range}
 use Rattle.scoreboard.proofs.WordReads.{answered_words}

@@ -6,8 +6,7 @@ use Rattle.std.proofs.lemmas.Bool.Decides.{nat_tests}
 use Rattle.std.proofs.lemmas.Bool.{cases_lt, and_parts, leb-true}
 use Rattle.std.proofs.lemmas.Nat.{div-add-mod', pow_pos}
 use Rattle.std.proofs.lemmas.List.FromFn.{length-map-range_with_len}
-use Rattle.std.proofs.lemmas.Option.{slice_get_past}
-use Rattle.bus_words.specs.Lanes.{given_at, has_lane, lane_byte}
+use Rattle.bus_words.specs.Lanes.{has_lane, lane_byte}
 use Rattle.tl_messages.specs.Operations.{has_data}
 use Rattle.tl_messages.specs.Requests.{HeldMessage, byte_given, bytes_given}
 use Rattle.tl_messages.specs.declared.MaskedWord.{MaskedWord}
@@ -15,15 +14,8 @@ use Rattle.axi_beats.specs.Transfers.{transfer_end, transfer_has}
 use Rattle.burst_plan.proofs.RequestWrites.{given_at-bytes_given}
 use Rattle.subordinate.specs.Effects.{strobes_byte}
 use Rattle.world_run.specs.Meaning.{Bytes, with_bytes}
+use Rattle.world_run.proofs.BytesLeft.{given_before, given_past}
 use Rattle.scoreboard.specs.InsideSerial.{data_of, put_below, put_in_word, write_at}
-
-pub given_before : (bytes : List (Option ℕ)) (start x : ℕ) → x < start → given_at bytes start x ≡ None
-given_before bytes start x below = let out : nat_le start x ≡ false = grind (arith, nat_tests) in rw out refl
-
-pub given_past : (bytes : List (Option ℕ)) (start x : ℕ) → start + length bytes ≤ x → given_at bytes start x ≡ None
-given_past bytes start x above =
-    let after : nat_le start x ≡ true = grind (arith, nat_tests) in
-    rw (after, slice_get_past bytes (x - start) (omega (arith, above))) refl
 
 pub length-bytes_given : (held : HeldMessage) → length (bytes_given held) ≡ 2 ^ held.size
 length-bytes_given held = length-map-range_with_len (λ i. if has_data held.operation then byte_given held.address held.beats i else None) 0 (2 ^ held.size)

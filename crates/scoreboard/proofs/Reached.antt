@@ -1,10 +1,11 @@
 -- A scoreboard that was reached by beats of which none was wrong holds what was observed, which is right; and the next beat is wrong exactly
 -- where what was observed with it isn't.
-use Rattle.std.proofs.Common.{◌≡◌, ℕ, zero, suc, ◌<◌, List, [], ◌∷◌, ◌++◌, length, arith, Option, Some, None, ◌⊎◌, inl, inr, refl, sym, ◌∙◌, ap, subst}
+use Rattle.std.proofs.Common.{◌≡◌, ℕ, ◌<◌, List, [], ◌∷◌, ◌++◌, arith, Option, Some, None, ◌⊎◌, inl, inr, refl, sym, ◌∙◌, ap, subst}
 use Rattle.std.specs.Prelude.{◌↔◌, slice_get}
 use Rattle.std.proofs.lemmas.List.{append-nil, append_assoc}
 use Rattle.std.proofs.lemmas.Option.{slice_get_within}
 use Rattle.bus_words.proofs.PlaceChanges.{all-append}
+use Rattle.bus_words.proofs.StoredPlaces.{there_is}
 use Rattle.tl_messages.specs.declared.ABeat.{ABeat}
 use Rattle.tl_messages.specs.declared.DBeat.{DBeat}
 use Rattle.axi_checker.specs.OpenBursts.{OnAr, OnAw, OnB, OnR, OnW}
@@ -126,19 +127,14 @@ reached_holds setup before board reached = holds_after setup [] before (opening_
 
 -- ---- the next beat
 
-found_below : {X : Type 0} (xs : List X) (k : ℕ) → k < length xs → (x : X) × (slice_get xs k ≡ Some x)
-found_below [] k below = absurd (omega (arith, below))
-found_below (x ∷ xs) zero below = (x, refl)
-found_below (x ∷ xs) (suc k) below = found_below xs k (omega (arith, below))
-
 -- a beat that may come isn't wrong
 not_wrong : (setup : SetupLists) (observed : Observed) (board : Board) (seen : Seen) → HasSource seen → IsBoardOf setup observed board → HasClient setup.config.clients seen
     → IsContiguous setup observed seen → IsRightNow setup (with_seen observed seen) → wrong_at board seen ≡ None
 not_wrong setup observed board (A number beat) source of below contiguous now =
-    let (client, there) = found_below board.clients number (omega (arith, below, of.count)) in
+    let (client, there) = there_is board.clients number (omega (arith, below, of.count)) in
     ap (λ (found : Option ClientBoard). a_wrong found beat) there ∙ request_right setup observed number client beat (of.clients number client there) of.right now
 not_wrong setup observed board (D number beat) source of below contiguous now =
-    let (client, there) = found_below board.clients number (omega (arith, below, of.count)) in
+    let (client, there) = there_is board.clients number (omega (arith, below, of.count)) in
     ap (λ (found : Option ClientBoard). d_wrong found beat) there ∙ reply_right setup observed number client beat (of.clients number client there) source now contiguous
 not_wrong setup observed board (Aw beat) source of below contiguous now = axi_right setup observed board (OnAw beat) of now
 not_wrong setup observed board (W beat) source of below contiguous now = axi_right setup observed board (OnW beat) of now

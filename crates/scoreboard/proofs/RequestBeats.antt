@@ -11,7 +11,7 @@ use Rattle.tl_checker.specs.declared.Progress.{Progress}
 use Rattle.tl_checker.specs.declared.Progress.TheVariants.{More, Whole}
 use Rattle.tl_checker.specs.declared.TlRule.{TlRule}
 use Rattle.tl_checker.proofs.Taken.{front_exact, wanted_of}
-use Rattle.tl_checker.proofs.Taking.{reads, held-append, whole_by}
+use Rattle.tl_checker.proofs.Taking.{reads, whole_by}
 use Rattle.scoreboard.specs.Observed.{is_complete}
 use Rattle.scoreboard.proofs.Owed.{eqb_same}
 
@@ -75,6 +75,3 @@ pub may_end : (limits : TlPortLimits) (beats : List ABeat) (beat : ABeat) (busy 
 may_end limits beats beat busy q front spells free = (((reads limits beats beat busy front).spelled q).1 (of_free limits.client beats busy free, spells)).0
 
 -- ---- what is held
-
-pub held_with : (limits : TlPortLimits) (beats : List ABeat) (beat : ABeat) → held_of limits.client (beats ++ beat ∷ []) ≡ Some (joined limits (held_of limits.client beats) beat)
-held_with limits beats beat = held-append limits beats beat

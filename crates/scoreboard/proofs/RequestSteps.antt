@@ -16,6 +16,7 @@ use Rattle.tl_checker.specs.declared.Progress.{Progress}
 use Rattle.tl_checker.specs.declared.Progress.TheVariants.{More, Whole}
 use Rattle.tl_checker.specs.declared.TlRule.{TlRule}
 use Rattle.tl_checker.proofs.Fronts.{none_front}
+use Rattle.tl_checker.proofs.Taking.{held-append}
 use Rattle.responses.specs.Shown.{Reply, shown}
 use Rattle.bridge_core.specs.Configs.{port_of}
 use Rattle.world_run.specs.Headline.{IsSpelled, bytes_of_all}
@@ -28,7 +29,7 @@ use Rattle.scoreboard.specs.Right.{IsFree, IsRightNow, IsTold, is_of, left_of, r
 use Rattle.scoreboard.specs.SerialMemory.{IsCarriedOut, meaning_now}
 use Rattle.scoreboard.proofs.BoardOf.{IsBoardOf, IsClientOf, IsMemoryOf, IsWith, meaning_here, memory_after, replies_to-other, replies_to-own, shown_source}
 use Rattle.scoreboard.proofs.Owed.{IsOwed, dues_with, eqb_same, free-left, left-free, none_of_past, order, owed_other, owed_own, past-free, same_or_not}
-use Rattle.scoreboard.proofs.RequestBeats.{EndsHere, GoesOn, IsFreeFor, ends_here, goes_on, held_with, may_end, may_go_on}
+use Rattle.scoreboard.proofs.RequestBeats.{EndsHere, GoesOn, IsFreeFor, ends_here, goes_on, may_end, may_go_on}
 use Rattle.scoreboard.proofs.SeenLists.{all_of_last, requests_of-append, zip-append}
 use Rattle.scoreboard.proofs.Told.{left-nothing, told-reply}
 
@@ -93,7 +94,7 @@ client_more : (setup : SetupLists) (observed : Observed) (number : ℕ) (client 
 client_more setup observed number client beat of =
     record {
       limits = of.limits;
-      front = rw (eqb_same number, of.limits, of.front) (sym (held_with (port_of setup.config number) (observed.begun number) beat));
+      front = rw (eqb_same number, of.limits, of.front) (sym (held-append (port_of setup.config number) (observed.begun number) beat));
       dues = of.dues;
       owed = of.owed;
     }
@@ -310,7 +311,7 @@ board_whole setup observed old new number client beat of there ends out is =
     same_message = rw (own.limits, own.front) refl
 
     held : held_of number beats ≡ Some message
-    held = held_with (port_of setup.config number) (observed.begun number) beat ∙ ap Some (sym same_message)
+    held = held-append (port_of setup.config number) (observed.begun number) beat ∙ ap Some (sym same_message)
 
     done : IsCompleted setup observed number beats message reply
     done =
@@ -418,7 +419,7 @@ request_right setup observed number client beat of before after = by_complete (i
     by_complete true is =
         let now : IsRightNow setup (with_whole number beats observed) = subst (λ (b : Bool). IsRightNow setup (with_message number beats b observed)) is after in
         let message = joined limits (held_of number begun) beat in
-        let held : held_of number beats ≡ Some message = held_with limits begun beat in
+        let held : held_of number beats ≡ Some message = held-append limits begun beat in
         let requests = requests_whole observed number beats message held in
         let accepted : AcceptedMessage = record { client = number; beats = beats } in
         let paired = zip-append observed.messages (requests_in observed) accepted (request_of message) before.as_many in

@@ -44,12 +44,13 @@ use Rattle.world.specs.World.{Outcome, WorldState, answered_b, answered_r, chang
 use Rattle.world.specs.declared.Answer.TheVariants as answer
 use Rattle.world.specs.declared.Step.{Step}
 use Rattle.world.specs.declared.Step.TheVariants as step
-use Rattle.world_run.proofs.AcceptedRequests.{IsHeard, accepted_at_step, completed_heard, heard_after, heard_at_first, heard_next, known_heard, quiet_request, request_at}
+use Rattle.world_run.proofs.AcceptedRequests.{IsHeard, accepted_at_step, completed_heard, cons_option-list, heard_after, heard_at_first, heard_next, known_heard, quiet_request, request_at}
 use Rattle.world_run.proofs.CarriedOut.{is_carried_out}
 use Rattle.world.proofs.Events.{EachWay, IsAccepted, IsTaken, after_accepted, after_begun, after_sending as after_sending_world, each_way}
 use Rattle.world_run.proofs.MainTheorem.{run_requests}
 use Rattle.world.proofs.TakesAll.{takes_all}
 use Rattle.world_run.proofs.Told.{messages_along, spelled_at}
+use Rattle.world_run.proofs.RunLemmas.{first_sound}
 use Rattle.scoreboard.specs.Observed.{Observed, nothing_observed, observed_in, requests_in, with_all, with_begun, with_message, with_seen}
 use Rattle.scoreboard.specs.Right.{HasClient, IsContiguous, IsFree, IsPartly, IsRight, IsRightNow, left_of, replies_to, shown_to}
 use Rattle.scoreboard.specs.SeenRuns.{observed, seen_from, seen_of, seen_of_reply}
@@ -499,10 +500,6 @@ module _ (setup : SetupLists) (requests past : List WholeRequest) (before : List
 
 -- ---- a run
 
-sound_first : (state : WorldState) (steps : List Step) → AreSoundAlong state steps → IsSoundWorld state
-sound_first state [] along = along
-sound_first state (event ∷ events) along = along.0
-
 -- what holds of an optional entry before a list, and of the list
 head_holds : {X : Type 0} (P : X → Type 0) (o : Option X) (xs : List X) → AllByRecursion P (cons_option o xs) → (x : X) → o ≡ Some x → P x
 head_holds P None xs all x is = absurd (cc (is))
@@ -511,10 +508,6 @@ head_holds P (Some y) xs all x is = subst P (same_Some y x is) all.0
 rest_holds : {X : Type 0} (P : X → Type 0) (o : Option X) (xs : List X) → AllByRecursion P (cons_option o xs) → AllByRecursion P xs
 rest_holds P None xs all = all
 rest_holds P (Some y) xs all = all.1
-
-cons_option-list : {X : Type 0} (o : Option X) (xs : List X) → cons_option o xs ≡ option_to_list o ++ xs
-cons_option-list None xs = refl
-cons_option-list (Some x) xs = refl
 
 -- the requests of the whole run are those that are accepted so far, and those that the other events make accepted
 abbrev AreAll : List WholeRequest → List WholeRequest → Heard → WorldState → List Step → Type 0
@@ -542,7 +535,7 @@ right_along setup requests past heard state (event ∷ events) before is all alo
     (accords_next setup requests past before state along.0 accords event (record {
       later = requests_of (messages_along (heard_after heard event outcome.answer) outcome.state events);
       all = all_later;
-      laws = sound_first outcome.state events along.1;
+      laws = first_sound outcome.state events along.1;
       heard = heard_next setup.config state (observed_in before).begun event accords.seen.heard;
       handed = head_holds (IsReplyTo requests (replies_of setup requests)) (handed_at event outcome.answer outcome.reply) (handed_in outcome.state events) handed;
     })))

@@ -1,7 +1,8 @@
 -- What one event shows, as the world tells it: its answer, the burst that it sent last, and the box with the last reply.
-use Rattle.std.proofs.Common.{◌≡◌, ℕ, zero, suc, ◌+◌, ◌≤◌, true, List, [], ◌∷◌, ◌++◌, map, length, take, Option, Some, None, if◌then◌else◌, refl, sym, ◌∙◌, ap, subst, arith}
+use Rattle.std.proofs.Common.{◌≡◌, ℕ, ◌+◌, ◌≤◌, true, List, [], ◌∷◌, ◌++◌, map, length, take, Option, Some, None, if◌then◌else◌, refl, sym, ◌∙◌, ap, subst}
 use Rattle.std.specs.Prelude.{slice_get}
 use Rattle.std.proofs.lemmas.List.{append-nil, append_assoc, take_all}
+use Rattle.bus_words.proofs.MappedPlaces.{map-take-next}
 use Rattle.tl_messages.specs.declared.DBeat.{DBeat}
 use Rattle.axi_beats.specs.Bursts.{Burst}
 use Rattle.world.specs.Laws.{AreSoundAlong, IsSoundWorld}
@@ -59,17 +60,10 @@ seen_answered state new event told burst box reply answers becomes sent kept =
 
 -- ---- one item more of a list that is shown
 
-mapped_next : {X Y : Type 0} (f : X → Y) (xs : List X) (k : ℕ) (x : X) → slice_get xs k ≡ Some x → map f (take (k + 1) xs) ≡ map f (take k xs) ++ f x ∷ []
-mapped_next f [] k x there = absurd (cc (there))
-mapped_next f (y ∷ xs) zero x there = let same : y ≡ x = cc in rw same refl
-mapped_next {Y = Y} f (y ∷ xs) (suc k) x there =
-    let size : suc k + 1 ≡ suc (k + 1) = omega arith in
-    rw size (ap (λ (rest : List Y). f y ∷ rest) (mapped_next f xs k x there))
-
 pub shown_more : {X Y : Type 0} (f : X → Y) (old all : List Y) (xs : List X) (k : ℕ) (x : X) → all ≡ old ++ map f (take k xs) → slice_get xs k ≡ Some x
     → all ++ f x ∷ [] ≡ old ++ map f (take (k + 1) xs)
 shown_more f old all xs k x so_far there =
-    ap (λ (ys : List _). ys ++ f x ∷ []) so_far ∙ append_assoc old (map f (take k xs)) (f x ∷ []) ∙ ap (λ (ys : List _). old ++ ys) (sym (mapped_next f xs k x there))
+    ap (λ (ys : List _). ys ++ f x ∷ []) so_far ∙ append_assoc old (map f (take k xs)) (f x ∷ []) ∙ ap (λ (ys : List _). old ++ ys) (sym (map-take-next f xs k x there))
 
 -- ---- a list of events, one after another
 

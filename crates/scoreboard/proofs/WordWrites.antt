@@ -1,10 +1,10 @@
 -- What it does to the bytes of a memory when a word's bytes are put.
 use Rattle.std.proofs.Common.{◌≡◌, ℕ, zero, suc, ◌+◌, ◌-◌, ◌*◌, ◌/◌, ◌%◌, ◌^◌, ◌<◌, ◌≤◌, Bool, true, false, ◌||◌, not, [], if◌then◌else◌, refl, sym, ◌∙◌, ap, arith, inr}
 use Rattle.std.specs.Prelude.{unwrap_or, nat_le}
-use Rattle.std.specs.List.{list_all, range_with_len}
 use Rattle.std.proofs.Math.Path.{fun_ext}
-use Rattle.std.proofs.lemmas.Bool.{and_from, and_parts, leb-true}
+use Rattle.std.proofs.lemmas.Bool.{and_parts, leb-true}
 use Rattle.bus_words.specs.Lanes.{has_lane, is_between, lane_byte}
+use Rattle.bus_words.proofs.Ranges.{list_all-from}
 use Rattle.tl_messages.specs.Lanes.{in_lanes, lane_of}
 use Rattle.tl_messages.specs.declared.MaskedWord.{MaskedWord}
 use Rattle.axi_beats.specs.Bursts.{strobes_fit}
@@ -31,17 +31,13 @@ covered address size lane small aligned below inside = highest size small aligne
     highest (suc (suc (suc zero))) few even is = let top : address / 8 * 8 + (8 - 1) - address / 8 * 8 ≡ lane_of address + 8 - 1 = omega (arith, even) in rw top is
     highest (suc (suc (suc (suc s)))) few even is = absurd (omega (arith, few))
 
-all_in_range : (p : ℕ → Bool) (a n : ℕ) → ((k : ℕ) → a ≤ k → k < a + n → p k ≡ true) → list_all p (range_with_len a n) ≡ true
-all_in_range p a zero each = refl
-all_in_range p a (suc n) each = and_from _ _ (each a (omega arith) (omega arith)) (all_in_range p (a + 1) n (λ k low high. each k (omega (arith, low)) (omega (arith, high))))
-
 either : (a b : Bool) → (a ≡ true → b ≡ true) → (not a || b) ≡ true
 either true b leads = leads refl
 either false b leads = refl
 
 pub word_strobes_fit : (address size mask : ℕ) → size ≤ 3 → address % 2 ^ size ≡ 0 → IsWithinWord address size mask → strobes_fit 8 (write_at address size) 1 mask ≡ true
 word_strobes_fit address size mask small aligned within =
-    all_in_range (λ lane. not (has_lane mask lane) || covers_lane 8 address size 1 lane) 0 8
+    list_all-from (λ lane. not (has_lane mask lane) || covers_lane 8 address size 1 lane) 0 8
     (λ lane low high. either (has_lane mask lane) (covers_lane 8 address size 1 lane) (λ has. covered address size lane small aligned (omega (arith, high)) (within lane (omega (arith, high)) has)))
 
 -- the bytes after a word is put

@@ -13,6 +13,7 @@ use Rattle.axi_beats.specs.declared.AwBeat.{AwBeat}
 use Rattle.axi_beats.specs.declared.Resp.{Resp}
 use Rattle.axi_beats.specs.declared.WBeat.{WBeat}
 use Rattle.axi_beats.proofs.TransferLaws.{covers_lane-mod, lane_address-mod, lane_address_within, mod-lane_address}
+use Rattle.axi_beats.proofs.Sizes.{lane_below}
 use Rattle.subordinate.specs.Effects.{HasEffect, HasEffectAt, HasGoodPages, IsCaptured, IsWholePage, IsWritten, strobes_byte}
 use Rattle.subordinate.specs.Faults.{Standing, is_bad, is_good, lists_page, read_response, read_response_on, standing_at, standing_of_listed}
 use Rattle.subordinate.specs.FreeMemory.{FreeMemory, Pending, has_serial, performed, byte_in_lane, bytes_written, captured, lane_written, memory_after, memory_with, with_performed, writes_lane}
@@ -98,9 +99,6 @@ is_some-bytes_written bus_bytes memory aw n w x = is_some-lanes_written bus_byte
 pub whole-bytes_written : (bus_bytes : ℕ) (memory : Memory) (aw : AwBeat) (n : ℕ) (w : WBeat) → AllByRecursion IsWholePage memory → AllByRecursion IsWholePage (bytes_written bus_bytes memory aw n w)
 unfolding bytes_written
 whole-bytes_written bus_bytes memory aw n w whole = whole-lanes_written bus_bytes aw n w memory 0 8 whole
-
-lane_below : (bus_bytes address : ℕ) → IsBusWidth bus_bytes → address % bus_bytes < 8
-lane_below bus_bytes address width = grind arith
 
 -- the byte of a strobed address of the transfer is set by its lane
 strobed_lane : (bus_bytes : ℕ) (aw : AwBeat) (n : ℕ) (w : WBeat) (x : ℕ) → IsBusWidth bus_bytes → fits_bus bus_bytes aw.size ≡ true → 1 ≤ n → strobes_byte bus_bytes aw n w x ≡ true

@@ -7,7 +7,7 @@ use Rattle.std.proofs.lemmas.Option.{same_Some, slice_get-get_or}
 use Rattle.std.specs.List.{AllByRecursion}
 use Rattle.std.specs.Prelude.{Option, Some, None, IfSome, IsSome, filter, find, is_some, position, slice_get}
 use Rattle.axi_beats.specs.Bursts.{Burst, ReadBurst, WriteBurst}
-use Rattle.bus_words.proofs.FirstPlaces.{first-passes, position_is_first}
+use Rattle.bus_words.proofs.FirstPlaces.{find-same, first-passes, position_is_first}
 use Rattle.bus_words.proofs.PlaceChanges.{find-passes}
 use Rattle.subordinate.specs.Bursts.{is_found_ready, is_in, is_queue_ready, is_ready}
 use Rattle.subordinate.specs.FreeMemory.{FreeMemory, Pending, b_from, b_of, is_read_of, is_write_of, newly_pending, r_from, r_of}
@@ -20,10 +20,6 @@ use Rattle.bus_words.proofs.MappedPlaces.{position_same}
 use Rattle.std.proofs.lemmas.Bool.Decides.{nat_tests}
 
 -- ---- tests that agree
-
-find_agree : {X : Type 0} (p q : X → Bool) (xs : List X) → ((x : X) → p x ≡ q x) → find p xs ≡ find q xs
-find_agree p q [] same = refl
-find_agree p q (x ∷ xs) same = rw (same x, find_agree p q xs same) refl
 
 write_in : (id : ℕ) (p : Pending) → is_in (2 * id) p ≡ is_write_of id p
 write_in id p = grind (arith, nat_tests)
@@ -40,24 +36,24 @@ read_place id bursts = position_same (is_in (2 * id + 1)) (is_read_of id) bursts
 -- ---- which IDs may answer
 
 pub ready_b : (memory : FreeMemory) (id : ℕ) → is_queue_ready memory.pending (2 * id) ≡ is_some (b_of memory id)
-ready_b memory id = ap is_found_ready (find_agree (is_in (2 * id)) (is_write_of id) memory.pending (write_in id)) ∙ by_found (find (is_write_of id) memory.pending) refl
+ready_b memory id = ap is_found_ready (find-same (is_in (2 * id)) (is_write_of id) memory.pending (write_in id)) ∙ by_found (find (is_write_of id) memory.pending) refl
   where
     by_found : (found : Option Pending) → find (is_write_of id) memory.pending ≡ found → is_found_ready found ≡ is_some (b_from memory.faults id found)
     by_found None none = refl
     by_found (Some p) found = let passes = find-passes (is_write_of id) memory.pending p found in grind (arith, passes)
 
 pub ready_r : (memory : FreeMemory) (id : ℕ) → is_queue_ready memory.pending (2 * id + 1) ≡ is_some (r_of memory id)
-ready_r memory id = ap is_found_ready (find_agree (is_in (2 * id + 1)) (is_read_of id) memory.pending (read_in id)) ∙ by_found (find (is_read_of id) memory.pending) refl
+ready_r memory id = ap is_found_ready (find-same (is_in (2 * id + 1)) (is_read_of id) memory.pending (read_in id)) ∙ by_found (find (is_read_of id) memory.pending) refl
   where
     by_found : (found : Option Pending) → find (is_read_of id) memory.pending ≡ found → is_found_ready found ≡ is_some (r_from id found)
     by_found None none = refl
     by_found (Some p) found = let passes = find-passes (is_read_of id) memory.pending p found in grind (arith, passes)
 
 pub first_ready_b : (memory : FreeMemory) (ids : List ℕ) → find (λ id. is_queue_ready memory.pending (2 * id)) ids ≡ find (λ id. is_some (b_of memory id)) ids
-first_ready_b memory ids = find_agree _ _ ids (ready_b memory)
+first_ready_b memory ids = find-same _ _ ids (ready_b memory)
 
 pub first_ready_r : (memory : FreeMemory) (ids : List ℕ) → find (λ id. is_queue_ready memory.pending (2 * id + 1)) ids ≡ find (λ id. is_some (r_of memory id)) ids
-first_ready_r memory ids = find_agree _ _ ids (ready_r memory)
+first_ready_r memory ids = find-same _ _ ids (ready_r memory)
 
 -- ---- no burst has an ID past the most
 

@@ -84,7 +84,7 @@ filter-change_first test keep change (p ∷ ps) apart same = grind (arith, apart
 write_not_read : (id other : ℕ) (burst : Burst) → writes_as id burst ≡ true → reads_as other burst ≡ false
 write_not_read id other burst is = grind arith
 
-read_not_write : (id other : ℕ) (burst : Burst) → reads_as id burst ≡ true → writes_as other burst ≡ false
+pub read_not_write : (id other : ℕ) (burst : Burst) → reads_as id burst ≡ true → writes_as other burst ≡ false
 read_not_write id other burst is = grind arith
 
 write_of_one : (id other : ℕ) (burst : Burst) → other ≢ id → writes_as id burst ≡ true → writes_as other burst ≡ false

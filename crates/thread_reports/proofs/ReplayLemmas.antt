@@ -1,18 +1,15 @@
 -- What a list of steps shows is what its front shows, and what the rest shows after it. It knows lists; what a step does is hidden.
-use Rattle.std.proofs.Common.{◌≡◌, ℕ, ◌+◌, ◌==◌, Bool, true, false, List, [], ◌∷◌, ◌++◌, length, Option, Some, None, refl, ap, suc, ◌∙◌, arith}
+use Rattle.std.proofs.Common.{◌≡◌, ℕ, ◌+◌, ◌==◌, Bool, true, false, List, [], ◌∷◌, ◌++◌, length, refl, ap, suc, ◌∙◌, arith}
 use Rattle.std.specs.Prelude.{filter, zip, ◌&&◌, if◌then◌else◌}
 use Rattle.std.specs.List.{cons_option, list_all}
 use Rattle.std.proofs.lemmas.List.Elements.{filter-append}
 use Rattle.world_run.specs.Runs.{HandedReply, accepted_numbers, answers_of, handed_at, handed_in}
+use Rattle.world_run.proofs.RunLemmas.{cons_option-append}
 use Rattle.world.specs.World.{WorldState, after, next}
 use Rattle.world.specs.declared.Answer.{Answer}
 use Rattle.world.specs.declared.Answer.TheVariants.{More, Accepted, NotReady, Exhausted, Refused, NoClient, Sent, Idle, Done, NoSuch, Already, B, R, Nothing, Reply}
 use Rattle.world.specs.declared.Step.{Step}
 use Rattle.thread_reports.specs.Reports.{handed_to, is_accepted, offered_by, offers_of}
-
-cons_option-append : {A : Type 0} (o : Option A) (xs ys : List A) → cons_option o (xs ++ ys) ≡ cons_option o xs ++ ys
-cons_option-append None xs ys = refl
-cons_option-append (Some x) xs ys = refl
 
 -- steps with their answers
 abbrev pub answered : WorldState → List Step → List (Step × Answer)

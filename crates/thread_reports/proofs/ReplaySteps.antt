@@ -1,5 +1,5 @@
 -- What was found of each client, one step on. It knows which client a step belongs to; what was found of one client is hidden.
-use Rattle.std.proofs.Common.{◌≡◌, ℕ, ◌<◌, ◌==◌, Bool, true, false, List, [], ◌∷◌, ◌++◌, length, set, suc, zero, ◌+◌, Option, Some, None, option_to_list, refl, sym, subst, ap, ap₂, ◌∙◌, arith}
+use Rattle.std.proofs.Common.{◌≡◌, ℕ, ◌==◌, Bool, true, false, List, [], ◌∷◌, ◌++◌, length, set, suc, zero, ◌+◌, Option, Some, None, option_to_list, refl, sym, subst, ap, ap₂, ◌∙◌}
 use Rattle.std.specs.Prelude.{◌&&◌, not, is_some, slice_get, if◌then◌else◌}
 use Rattle.std.proofs.lemmas.Bool.{eqb-true, ne_eqb, eqb-false}
 use Rattle.std.proofs.lemmas.List.{append-nil, length_push}
@@ -34,12 +34,6 @@ set_other (z ∷ zs) zero zero y apart = absurd (apart refl)
 set_other (z ∷ zs) zero (suc k) y apart = refl
 set_other (z ∷ zs) (suc i) zero y apart = refl
 set_other (z ∷ zs) (suc i) (suc k) y apart = set_other zs i k y (λ same. apart (ap suc same))
-
--- what stands at a place within a list
-pub there_is : {A : Type 0} (xs : List A) (i : ℕ) → i < length xs → (x : A) × (slice_get xs i ≡ Some x)
-there_is [] i within = absurd (omega arith)
-there_is (x ∷ xs) zero within = (x, refl)
-there_is (x ∷ xs) (suc i) within = there_is xs i (omega arith)
 
 -- ---- a step
 

@@ -1,10 +1,11 @@
 -- The next of a client's receipts, and what a report says of all of them.
-use Rattle.std.proofs.Common.{◌≡◌, ◌<◌, ◌+◌, ◌∙◌, ℕ, zero, suc, List, [], ◌∷◌, ◌++◌, append-nil, append_assoc, drop, flat_map, length, map, Some, Result, Ok, Err, refl, sym, take, ap, arith, rules}
+use Rattle.std.proofs.Common.{◌≡◌, ◌<◌, ◌+◌, ◌∙◌, ℕ, zero, suc, List, [], ◌∷◌, ◌++◌, append-nil, drop, flat_map, length, map, Some, Result, Ok, Err, refl, sym, ap, arith, rules}
 use Rattle.std.specs.Prelude.{OnOk, get_or, option_map, slice_get}
 use Rattle.std.proofs.lemmas.List.{length-map}
 use Rattle.std.proofs.lemmas.Option.{get_or_from_slice_get, slice_get-map, slice_get_within}
 use Rattle.std.specs.List.{range_with_len}
 use Rattle.std.proofs.lemmas.Grind.{flat_map-append}
+use Rattle.bus_words.proofs.StoredPlaces.{there_is}
 use Rattle.axi_beats.proofs.Ranges.{range_with_len-append-range_with_len}
 use Rattle.tl_messages.specs.declared.ABeat.{ABeat}
 use Rattle.tl_messages.specs.declared.DBeat.{DBeat}
@@ -14,7 +15,6 @@ use Rattle.world.specs.World.{WorldState, opening_world}
 use Rattle.world.specs.declared.Step.{Step}
 use Rattle.thread_reports.specs.Reports.{IsReport, beats_of_all, head_of}
 use Rattle.thread_reports.specs.declared.receipts.Receipts.{Receipts}
-use Rattle.thread_reports.proofs.ReplaySteps.{there_is}
 use Rattle.threads_script.specs.ReportTexts.{AreReceived}
 
 drop_next : {A : Type 0} (xs : List A) (i : ℕ) (x : A) → slice_get xs i ≡ Some x → drop i xs ≡ x ∷ drop (i + 1) xs
@@ -57,17 +57,6 @@ received_of setup scripts steps receipts world report client received is =
 pub on_ok : {A E : Type 0} {P Q : Type 0} (result : Result A E) → (P → Q) → OnOk result P → OnOk result Q
 on_ok (Ok x) goes holds = goes holds
 on_ok (Err e) goes holds = holds
-
-flat_map-take-suc : {X : Type 0} (f : X → List ℕ) (xs : List X) (k : ℕ) (x : X) → slice_get xs k ≡ Some x → flat_map f (take (suc k) xs) ≡ flat_map f (take k xs) ++ f x
-flat_map-take-suc f [] k x found = search rules
-flat_map-take-suc f (y ∷ ys) zero x found = search rules
-flat_map-take-suc f (y ∷ ys) (suc k) x found =
-    ap (λ text. f y ++ text) (flat_map-take-suc f ys k x found) ∙ sym (append_assoc (f y) (flat_map f (take k ys)) (f x))
-
-pub flat_map-take : {X : Type 0} (f : X → List ℕ) (xs : List X) (k : ℕ) (x : X) → slice_get xs k ≡ Some x → flat_map f (take (k + 1) xs) ≡ flat_map f (take k xs) ++ f x
-flat_map-take f xs k x found =
-    let next : k + 1 ≡ suc k = omega arith in
-    rw next (flat_map-take-suc f xs k x found)
 
 -- the text of one client more
 pub one_more : (f : ℕ → List ℕ) (n : ℕ) → flat_map f (range_with_len 0 (n + 1)) ≡ flat_map f (range_with_len 0 n) ++ f n

@@ -1,9 +1,9 @@
 -- A box is in stock wherever a request is ready: each ID has at most as many bursts outstanding as it may have on one side. It counts; what
 -- a box holds is hidden.
-use Rattle.std.proofs.Common.{◌≡◌, ◌⊎◌, inl, inr, ℕ, suc, ◌+◌, ◌-◌, ◌==◌, ◌<◌, ◌≤◌, Bool, true, false, List, [], ◌∷◌, ◌++◌, length, Option, Some, None, refl, ap, sym, ◌∙◌, subst, arith}
-use Rattle.std.specs.Prelude.{IsSome, option_map, filter, take}
+use Rattle.std.proofs.Common.{◌≡◌, ◌⊎◌, inl, inr, ℕ, suc, ◌+◌, ◌==◌, ◌<◌, ◌≤◌, Bool, true, false, List, [], ◌∷◌, ◌++◌, length, Option, Some, None, refl, ap, sym, ◌∙◌, subst, arith}
+use Rattle.std.specs.Prelude.{IsSome, option_map, filter}
 use Rattle.std.specs.List.{AllByRecursion}
-use Rattle.std.proofs.lemmas.List.{length-append, length-drop, length-take}
+use Rattle.std.proofs.lemmas.List.{length-append}
 use Rattle.std.proofs.lemmas.List.Elements.{filter-append}
 use Rattle.std.proofs.lemmas.Bool.{eq-eqb}
 use Rattle.axi_beats.specs.Bursts.{Burst, WriteBurst, ReadBurst}
@@ -12,16 +12,15 @@ use Rattle.axi_checker.specs.OpenBursts.{OpenBursts, read_of_id, write_of_id}
 use Rattle.axi_checker.specs.Rules.{id_of}
 use Rattle.axi_checker.proofs.Few.{room_for_one}
 use Rattle.burst_plan.specs.declared.Piece.{Piece}
-use Rattle.flight_table.specs.LiveRequests.{LiveRequest, planned}
 use Rattle.bridge_core.specs.Bridge.{BridgeState, StockedBridge, boxes_of, burst_to_send}
-use Rattle.bridge_core.specs.Laws.{IsSoundBridge, came_of, open_reads, open_writes, outstanding, outstanding_of}
+use Rattle.bridge_core.specs.Laws.{IsSoundBridge, came_of, open_reads, open_writes, outstanding_of}
 use Rattle.bridge_core.specs.HeldRequests.{BridgedRequest, holder}
 use Rattle.bridge_core.specs.Sending.{Sending, next_sending}
 use Rattle.subordinate.specs.Device.{DeviceState}
 use Rattle.world.specs.Inside.{ArePaired}
 use Rattle.bridge_core.proofs.AnswerLinks.{holder_known}
 use Rattle.bridge_core.proofs.NextSending.{next_found}
-use Rattle.bridge_core.proofs.SentBursts.{id_of_piece, sent_within}
+use Rattle.bridge_core.proofs.SentBursts.{few_outstanding, id_of_piece, sent_within}
 use Rattle.bridge_core.proofs.SentLinks.{taken_by}
 use Rattle.subordinate.specs.FreeMemory.{FreeMemory, Pending, is_read_of, is_write_of, newly_pending, reads_as, writes_as}
 use Rattle.subordinate.proofs.OpenBursts.{reads_known, writes_known}
@@ -62,9 +61,6 @@ counted bridge memory id agree =
     sym (reads_known id memory.pending) ∙ ap (λ (outstanding : OpenBursts). length (filter (read_of_id id) outstanding.reads)) (sym agree.outstanding)
     ∙ ap length (agree.bridge_laws.linked id).reads in
     omega (arith, both_sides id memory.pending, writes, reads, either_side id (came_of held) (outstanding_of held))
-
-few_outstanding : (flight : LiveRequest) → length (outstanding flight) ≤ flight.sent - flight.answered
-few_outstanding flight = omega (arith, length-drop flight.answered (take flight.sent (planned flight)), length-take flight.sent (planned flight))
 
 few_held : (bridge : BridgeState) (id : ℕ) → IsSoundBridge bridge → (held : Option BridgedRequest) → holder id bridge.requests.live ≡ held → length (outstanding_of held) ≤ bridge.requests.config.depth
 few_held bridge id sound None is = omega arith

@@ -1,11 +1,12 @@
 -- The first step that is enabled, by what stands before it; and that an R of whose burst more come enables nothing else.
-use Rattle.std.proofs.Common.{◌≡◌, ℕ, Bool, true, false, List, [], ◌∷◌, length, Option, Some, None, is_some, refl, ap, sym, ◌∙◌, subst, ◌<◌, arith}
+use Rattle.std.proofs.Common.{◌≡◌, ℕ, true, false, List, [], ◌∷◌, length, Option, Some, None, is_some, refl, ap, sym, ◌∙◌, subst, ◌<◌, arith}
 use Rattle.std.specs.Prelude.{find, flat_map, slice_get}
 use Rattle.std.specs.List.{range_with_len}
 use Rattle.std.proofs.lemmas.Bool.{lt-leb}
 use Rattle.std.proofs.lemmas.Option.{slice_get_within}
 use Rattle.bus_words.specs.Places.{change_first}
-use Rattle.axi_beats.specs.Bursts.{Burst, ReadBurst, WriteBurst}
+use Rattle.bus_words.proofs.FirstPlaces.{find-same}
+use Rattle.axi_beats.specs.Bursts.{Burst}
 use Rattle.axi_beats.specs.declared.RBeat.{RBeat}
 use Rattle.flight_table.specs.LiveRequests.{LiveRequest, planned}
 use Rattle.flight_table.specs.Order.{next_ready}
@@ -17,9 +18,10 @@ use Rattle.bridge_core.specs.HeldRequests.{BridgedRequest, after_read, flight_ta
 use Rattle.bridge_core.proofs.AnswerLinks.{answered_reader}
 use Rattle.bridge_core.proofs.Pumps.{ready_goes}
 use Rattle.bridge_core.proofs.ResponseLinks.{not_so}
-use Rattle.subordinate.specs.FreeMemory.{FreeMemory, Pending, after_r_of, b_from, b_of, first_with_b, first_with_r, gives_last, is_read_of, is_write_of, pending_after_r, performed, r_of, reads_as, waiting_beats, waiting_in, writes_as}
+use Rattle.subordinate.specs.FreeMemory.{FreeMemory, Pending, after_r_of, b_from, b_of, first_with_b, first_with_r, gives_last, is_read_of, is_write_of, pending_after_r, performed, r_of, waiting_beats, waiting_in}
 use Rattle.subordinate.specs.declared.Performed.{Performed}
 use Rattle.subordinate.specs.declared.Performed.TheVariants as perform
+use Rattle.subordinate.proofs.OrderLaws.{read_not_write}
 use Rattle.world.specs.Choices.{IsPerformed, answers_enabled, goes_on, is_sent}
 use Rattle.world.specs.Laws.{IsSoundWorld}
 use Rattle.world.specs.World.{WorldState, answered_r, enabled, next, perform_at, performed_by, pumped}
@@ -85,18 +87,9 @@ same_beats : (id : ℕ) (ps : List Pending) (p : Pending) → find (is_read_of i
 same_beats id [] p found more = absurd (cc (found))
 same_beats id (q ∷ ps) p found more = grind (arith, more, same_beats id ps p)
 
--- and so does each write
-not_write : (id write : ℕ) (burst : Burst) → reads_as id burst ≡ true → writes_as write burst ≡ false
-not_write id write (WriteBurst aw ws) is = absurd (cc (is))
-not_write id write (ReadBurst ar) is = refl
-
 same_write : (id write : ℕ) (ps : List Pending) (p : Pending) → find (is_read_of id) ps ≡ Some p → gives_last p ≡ false → find (is_write_of write) (pending_after_r id ps) ≡ find (is_write_of write) ps
 same_write id write [] p found more = absurd (cc (found))
-same_write id write (q ∷ ps) p found more = grind (arith, more, not_write id write q.burst, same_write id write ps p)
-
-find_alike : {X : Type 0} (p q : X → Bool) (xs : List X) → ((x : X) → p x ≡ q x) → find p xs ≡ find q xs
-find_alike p q [] alike = refl
-find_alike p q (x ∷ xs) alike = grind (arith, alike x, find_alike p q xs alike)
+same_write id write (q ∷ ps) p found more = grind (arith, more, read_not_write id write q.burst, same_write id write ps p)
 
 -- the requests keep their places in the order
 same_flights : (id : ℕ) (f : BridgedRequest → BridgedRequest) (live : List BridgedRequest) (request : BridgedRequest) → find (holds id) live ≡ Some request → (f request).flight ≡ request.flight
@@ -148,7 +141,7 @@ reads_on state id sound kept still goes =
             performed = same_beats id state.memory.pending finds.read finds.found gives ∙ still.performed.performed;
           };
       written =
-          find_alike (λ (write : ℕ). is_some (b_of (after_r_of state.memory id) write)) (λ (write : ℕ). is_some (b_of state.memory write)) (range_with_len 0 16)
+          find-same (λ (write : ℕ). is_some (b_of (after_r_of state.memory id) write)) (λ (write : ℕ). is_some (b_of state.memory write)) (range_with_len 0 16)
           (λ write. ap (λ (o : Option Pending). is_some (b_from state.memory.faults write o)) (same_write id write state.memory.pending finds.read finds.found gives))
           ∙ still.written;
     })

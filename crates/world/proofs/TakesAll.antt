@@ -8,7 +8,6 @@ use Rattle.bus_words.proofs.PlaceChanges.{all-find}
 use Rattle.bus_words.proofs.FoundChanges.{filter-found}
 use Rattle.bus_words.proofs.MappedPlaces.{map_some}
 use Rattle.axi_beats.specs.Bursts.{Burst, IsLegal}
-use Rattle.axi_beats.specs.Responses.{is_exokay}
 use Rattle.axi_beats.specs.declared.BBeat.{BBeat}
 use Rattle.axi_beats.specs.declared.RBeat.{RBeat}
 use Rattle.axi_checker.specs.OpenBursts.{OpenBursts, read_of_id, write_of_id}
@@ -22,13 +21,14 @@ use Rattle.bridge_core.specs.Sending.{Sending, next_sending}
 use Rattle.bridge_core.proofs.AnswerLinks.{holder_known}
 use Rattle.bridge_core.proofs.JoinedRequests.{limits_made}
 use Rattle.bridge_core.proofs.SentBursts.{sent_unbroken, sent_within}
-use Rattle.subordinate.specs.Faults.{Standing, IsAbsent, IsGood, IsSlaveError, standing_at, write_response}
+use Rattle.subordinate.specs.Faults.{standing_at}
 use Rattle.subordinate.specs.FreeMemory.{b_of, r_of, device_port, gives_last, is_read_of, start_of, transfers_in}
 use Rattle.subordinate.specs.Laws.{IsSoundPending}
 use Rattle.world.specs.Laws.{GoesWell, IsSoundWorld, TakeAll}
 use Rattle.world.specs.World.{WorldState}
 use Rattle.world.proofs.OpenWork.{b_found, r_found}
 use Rattle.subordinate.proofs.Monitors.{captured_plain, oldest_read_seen, oldest_write_seen}
+use Rattle.subordinate.proofs.FaultLaws.{write_plain}
 
 -- ---- a burst that goes
 
@@ -63,11 +63,6 @@ id_known bridge id sound some = by_holder (holder id bridge.requests.live) refl
 
 -- ---- a B
 
-no_exokay : (standing : Standing) → is_exokay (write_response standing) ≡ false
-no_exokay IsGood = refl
-no_exokay IsSlaveError = refl
-no_exokay IsAbsent = refl
-
 full_write : (len : ℕ) → nat_le (len + 1) len ≡ false
 full_write len = lt-leb (len + 1) len (omega arith)
 
@@ -79,7 +74,7 @@ b_unbroken state id b sound is =
     ap (λ (outstanding : OpenBursts). find (write_of_id id) outstanding.writes) sound.outstanding ∙ oldest.seen in
     let listed = filter-found (write_of_id id) state.bridge.open_bursts.writes _ there in
     let below = id_known state.bridge id sound.bridge_laws (λ none. absurd (cc (listed, rw none at (sound.bridge_laws.linked id).writes))) in
-    rw (finds.answer, lt-leb state.bridge.requests.config.ids id below, there, full_write oldest.aw.len, no_exokay (standing_at state.memory.faults (start_of finds.write.burst))) refl
+    rw (finds.answer, lt-leb state.bridge.requests.config.ids id below, there, full_write oldest.aw.len, write_plain (standing_at state.memory.faults (start_of finds.write.burst))) refl
 
 -- ---- an R
 

@@ -260,7 +260,7 @@ config_next state step = each_way (λ event outcome. outcome.state.bridge.reques
     step
 
 -- an optional entry before a list
-cons_option-list : {A : Type 0} (o : Option A) (xs : List A) → cons_option o xs ≡ option_to_list o ++ xs
+pub cons_option-list : {A : Type 0} (o : Option A) (xs : List A) → cons_option o xs ≡ option_to_list o ++ xs
 cons_option-list None xs = refl
 cons_option-list (Some x) xs = refl
 

@@ -30,10 +30,10 @@ use Rattle.world_run.specs.Serial.{Order, after_one, asked, bytes_before, gives_
 
 -- ---- bytes of a list
 
-given_before : (bytes : List (Option ℕ)) (start x : ℕ) → x < start → given_at bytes start x ≡ None
+pub given_before : (bytes : List (Option ℕ)) (start x : ℕ) → x < start → given_at bytes start x ≡ None
 given_before bytes start x below = let out : nat_le start x ≡ false = grind (arith, nat_tests) in rw out refl
 
-given_past : (bytes : List (Option ℕ)) (start x : ℕ) → start + length bytes ≤ x → given_at bytes start x ≡ None
+pub given_past : (bytes : List (Option ℕ)) (start x : ℕ) → start + length bytes ≤ x → given_at bytes start x ≡ None
 given_past bytes start x above =
     let after : nat_le start x ≡ true = grind (arith, nat_tests) in
     rw (after, slice_get_past bytes (x - start) (omega (arith, above))) refl

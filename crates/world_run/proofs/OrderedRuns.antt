@@ -37,6 +37,7 @@ use Rattle.world_run.proofs.HeldSteps.{unaccepted}
 use Rattle.world_run.proofs.History.{quiet_memory, written_in_turn}
 use Rattle.world_run.proofs.OrderOpens.{keeps_opening}
 use Rattle.world_run.proofs.BytesLeft.{all_carried_out, message_within, replies_at, writer_touches}
+use Rattle.world_run.proofs.RunLemmas.{first_sound}
 
 -- ---- what is accepted is foreseen
 
@@ -164,10 +165,6 @@ EachKeeps order =
     → KeepsOrder order (next state step).state
 
 module _ (order : Order) (kept : EachKeeps order) where
-  first_sound : (state : WorldState) (steps : List Step) → AreSoundAlong state steps → IsSoundWorld state
-  first_sound state [] along = along
-  first_sound state (step ∷ steps) along = along.0
-
   abbrev AllReplies : List HandedReply → Type 0
   AllReplies handed = AllByRecursion (IsReplyTo order.requests (replies_in order)) handed
 

@@ -10,6 +10,7 @@ use Rattle.world_run.specs.Runs.{HandedReply, handed_at, handed_in, piece_of, ha
 use Rattle.world.specs.World.{WorldState, Outcome, next, after, outcomes}
 use Rattle.world_run.specs.declared.Handed.{Handed}
 use Rattle.world.specs.declared.Step.{Step}
+use Rattle.world.specs.Laws.{AreSoundAlong, IsSoundWorld}
 
 pub after-append : (state : WorldState) (steps : List Step) (step : Step) → after state (steps ++ step ∷ []) ≡ (next (after state steps) step).state
 after-append state [] step = refl
@@ -24,7 +25,7 @@ pub answers_of-append : (state : WorldState) (steps : List Step) (step : Step) �
 answers_of-append state [] step = refl
 answers_of-append state (first ∷ steps) step = ap (λ rest. (next state first).answer ∷ rest) (answers_of-append (next state first).state steps step)
 
-cons_option-append : {A : Type 0} (o : Option A) (xs ys : List A) → cons_option o (xs ++ ys) ≡ cons_option o xs ++ ys
+pub cons_option-append : {A : Type 0} (o : Option A) (xs ys : List A) → cons_option o (xs ++ ys) ≡ cons_option o xs ++ ys
 cons_option-append None xs ys = refl
 cons_option-append (Some x) xs ys = refl
 
@@ -95,3 +96,8 @@ piece_of-last handed beats more here count =
   where
     size : length beats + length more - length beats ≡ length more
     size = omega arith
+
+-- where the laws hold along the steps they hold before them
+pub first_sound : (state : WorldState) (steps : List Step) → AreSoundAlong state steps → IsSoundWorld state
+first_sound state [] along = along
+first_sound state (step ∷ steps) along = along.0

@@ -1,7 +1,8 @@
 -- A run's record with one event more: the record of a run is that of the run with the event at its end. It knows the lists of a record, for
 -- the loop of run; what an event does is hidden.
-use Rattle.std.proofs.Common.{◌≡◌, ℕ, ◌+◌, ◌≤◌, true, List, [], ◌∷◌, ◌++◌, map, length, take, Option, Some, None, Result, Ok, Err, option_to_list, refl, sym, ap, ◌∙◌, subst, arith, zero, suc, flat_map, if◌then◌else◌, length-append, slice_get, IfSome, OnOk}
+use Rattle.std.proofs.Common.{◌≡◌, ℕ, ◌+◌, ◌≤◌, true, List, [], ◌∷◌, ◌++◌, map, length, take, Option, Some, None, Result, Ok, Err, option_to_list, refl, sym, ap, ◌∙◌, subst, flat_map, if◌then◌else◌, length-append, slice_get, IfSome, OnOk}
 use Rattle.std.proofs.lemmas.List.{append-nil, append_assoc, map-append, take_all}
+use Rattle.bus_words.proofs.MappedPlaces.{map-take-next}
 use Rattle.tl_messages.specs.declared.DBeat.{DBeat}
 use Rattle.axi_beats.specs.declared.WBeat.{WBeat}
 use Rattle.world.specs.Laws.{IsSoundWorld, AreSoundAlong}
@@ -19,13 +20,6 @@ use Rattle.world.proofs.Events.{each_way}
 use Rattle.world_run.proofs.RunLemmas.{after-append, answers_of-append, handed_in-append, sent_in-append, AreCutFrom-append, handed_of-append, piece_of-last}
 
 -- ---- W beats, one more
-
-map-take-next : {A B : Type 0} (f : A → B) (xs : List A) (k : ℕ) (x : A) → slice_get xs k ≡ Some x → map f (take (k + 1) xs) ≡ map f (take k xs) ++ f x ∷ []
-map-take-next f [] k x there = absurd (cc)
-map-take-next f (y ∷ xs) zero x there = cc
-map-take-next f (y ∷ xs) (suc k) x there =
-    let size : suc k + 1 ≡ suc (k + 1) = omega arith in
-    rw size (ap (λ rest. f y ∷ rest) (map-take-next f xs k x there))
 
 -- where the W beats before one are appended, the next is appended to them
 pub data_next : (old all : List SentBeat) (beats : List WBeat) (k : ℕ) (x : WBeat) → all ≡ old ++ map (λ beat. W beat) (take k beats) → slice_get beats k ≡ Some x

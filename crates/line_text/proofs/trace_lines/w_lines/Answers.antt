@@ -1,8 +1,8 @@
 use Rattle.std.proofs.Common.{◌≡◌, Err, take, flat_map, rules}
 use Rattle.std.proofs.KnownBytes.{Appends-trans}
+use Rattle.bus_words.proofs.MappedPlaces.{flat_map-take}
 use Rattle.axi_beats.specs.Boxes.{w_beats_of}
 use Rattle.axi_beats.specs.Lines.{w_text}
-use Rattle.line_text.proofs.TraceTexts.{flat_map-take}
 use Rattle.line_text.proofs.Writings.{short_at}
 use Rattle.line_text.proofs.trace_lines.w_lines.Goals as goal
 

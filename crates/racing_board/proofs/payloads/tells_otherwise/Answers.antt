@@ -2,7 +2,7 @@
 use Rattle.std.proofs.Common.{◌≡◌, true, ap, arith, refl, sym, ◌∙◌}
 use Rattle.racing_board.specs.Boards.{differs_in}
 use Rattle.racing_board.specs.InsideRaces.{racer_of}
-use Rattle.racing_board.proofs.Ranges.{none_passes, one_passes}
+use Rattle.bus_words.proofs.Ranges.{none_passes, one_passes}
 use Rattle.racing_board.proofs.payloads.tells_otherwise.Goals as goal
 
 pub returns-then-differs_in : goal.returns-then-differs_in

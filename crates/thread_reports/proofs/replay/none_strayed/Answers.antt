@@ -3,10 +3,10 @@ use Rattle.std.proofs.Common.{◌≡◌, ◌∙◌, ◌++◌, drop, false, List,
 use Rattle.std.specs.Prelude.{slice_get}
 use Rattle.std.proofs.lemmas.List.{length-map, take-append-drop}
 use Rattle.std.proofs.lemmas.Option.{slice_get_within}
+use Rattle.bus_words.proofs.StoredPlaces.{there_is}
 use Rattle.tl_messages.specs.declared.ABeat.{ABeat}
 use Rattle.thread_reports.specs.Replays.{FoundOffers}
 use Rattle.thread_reports.specs.Reports.{items_of, offers_of}
-use Rattle.thread_reports.proofs.ReplaySteps.{there_is}
 use Rattle.thread_reports.proofs.replay.none_strayed.Goals as goal
 use borrow.Author.Count.{below_more}
 

@@ -2,8 +2,9 @@
 use Rattle.std.proofs.Common.{◌≡◌, ◌<◌, ◌+◌, ◌∙◌, ap, ap₂, drop, flat_map, length, length-append, refl, take, arith}
 use Rattle.std.proofs.KnownBytes.{Appends-trans}
 use Rattle.std.proofs.lemmas.List.{drop_at, take_at}
+use Rattle.bus_words.proofs.MappedPlaces.{flat_map-take}
 use Rattle.threads_script.specs.ReportTexts.{receipt_text}
-use Rattle.threads_script.proofs.ReceiptLemmas.{flat_map-take, next_reply}
+use Rattle.threads_script.proofs.ReceiptLemmas.{next_reply}
 use Rattle.threads_script.proofs.report_writer.receipt_lines.Goals as goal
 
 pub split_at-requires : goal.split_at-requires

@@ -1,7 +1,7 @@
 -- A byte that isn't settled is one of the range.
 use Rattle.std.proofs.Common.{◌≡◌, ◌+◌, ◌<◌, ◌^◌, ◌||◌, not, Bool, true, false, ap, refl, sym, ◌∙◌, arith}
 use Rattle.racing_board.specs.InsideRaces.{RacerState, settled_in}
-use Rattle.racing_board.proofs.Ranges.{all_pass, one_fails}
+use Rattle.bus_words.proofs.Ranges.{all_pass, one_fails}
 use Rattle.racing_board.proofs.racer.Racer.is_fixed.Goals as goal
 
 pub returns-then-not-is_settled : goal.returns-then-not-is_settled
