@@ -160,8 +160,8 @@ impl RequestTable {
         let key = serving(&self.flight, beat.id);
         let held = &mut self.held[key.slot()];
         held.on_r(beat);
-        let found = held.old_value().is_some();
         if beat.last {
+            let found = held.old_value().is_some();
             answer(&mut self.flight, key, found);
         }
     }

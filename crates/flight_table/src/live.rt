@@ -136,7 +136,9 @@ impl Live {
         }
     }
 
-    /// Puts a request in the place of that of a key, of which it is what sending and answering make.
+    /// Puts a request in the place of that of a key, of which it is what sending and answering make. It is inline, so that a
+    /// request that was just made isn't written down and read again.
+    #[inline(always)]
     pub(crate) fn set(&mut self, key: Key, request: LiveRequest)
         requires progress { IsSomeAnd (request_in key self.old.entries) (λ old. IsProgress old request) }
         requires id { IsSomeAnd (request_in key self.old.entries) (λ old. MayName self.old.limits.ids (requests_of self.old.entries) old.id request.id) }

@@ -59,7 +59,8 @@ impl Sums {
         }
     }
 
-    /// The sums where one of those summed has become what sending and answering make of it.
+    /// The sums where one of those summed has become what sending and answering make of it. It is inline, as its caller is.
+    #[inline(always)]
     pub(crate) fn moved(self, old: &LiveRequest, new: &LiveRequest) -> Self
         requires part { ArePart old.now self }
         requires small { AreSmall self }

@@ -23,7 +23,8 @@ fn digits_of(byte: usize) -> (u8, u8)
     (PAIRS[2 * byte], PAIRS[2 * byte + 1])
 }
 
-/// The last words of a line of at most 64 bytes, with a space between each two, and its line feed.
+/// The last words of a line of at most 64 bytes, with a space between each two, and its line feed. What puts some in front
+/// moves the start once, since it is read anew after a store among the bytes.
 #[derive(Drop)]
 pub(crate) struct LineText {
     bytes: [u8; 64],
@@ -83,9 +84,9 @@ impl LineText {
         requires { length text.now + length self.old ≤ 64 }
         ensures { self.new ≡ text.now ++ self.old }
     {
-        for k in 0..text.len() {
-            self.put(text[text.len() - 1 - k]);
-        }
+        let start = self.start - text.len();
+        self.bytes[start..self.start].copy_from_slice(text);
+        self.start = start;
     }
 
     /// Puts a word and a space in front.
@@ -94,8 +95,11 @@ impl LineText {
         requires { length word.now + length self.old < 64 }
         ensures { self.new ≡ word.now ++ 32 ∷ self.old }
     {
-        self.put(b' ');
-        self.put_text(word);
+        let end = self.start - 1;
+        self.bytes[end] = b' ';
+        let start = end - word.len();
+        self.bytes[start..end].copy_from_slice(word);
+        self.start = start;
     }
 
     /// Puts a decimal number in front.
@@ -113,8 +117,9 @@ impl LineText {
         ensures text { self.new ≡ decimal number ++ 32 ∷ self.old }
         ensures short { length self.new ≤ length self.old + 4 }
     {
-        self.put(b' ');
-        self.start = write_digits(u64::from(number), &mut self.bytes, self.start);
+        let end = self.start - 1;
+        self.bytes[end] = b' ';
+        self.start = write_digits(u64::from(number), &mut self.bytes, end);
     }
 
     /// Puts a flag and a space in front.
@@ -123,8 +128,7 @@ impl LineText {
         ensures text { self.new ≡ flag is_set ++ 32 ∷ self.old }
         ensures short { length self.new ≡ length self.old + 2 }
     {
-        self.put(b' ');
-        self.put(if is_set { b'1' } else { b'0' });
+        self.put_two(if is_set { b'1' } else { b'0' }, b' ');
     }
 
     /// Puts two bytes in front.
@@ -133,8 +137,10 @@ impl LineText {
         requires { length self.old < 63 }
         ensures { self.new ≡ first ∷ second ∷ self.old }
     {
-        self.put(second);
-        self.put(first);
+        let start = self.start - 2;
+        self.bytes[start] = first;
+        self.bytes[start + 1] = second;
+        self.start = start;
     }
 
     /// Puts a number in so many hexadecimal digits, an even count of them, in front.

@@ -46,7 +46,7 @@ fn event<W: Write>(
     offered_beat(step, writer)?;
     let answer = world.step(step, reply);
     answer_line(&answer, writer)?;
-    match (step, answer) {
+    match (step, &answer) {
         (Step::Pump, Answer::Sent(_)) => burst_lines(world.last_burst(), writer),
         (Step::Take(client), Answer::Reply(_)) => reply_lines(*client, reply.as_slice(), writer),
         _ => Ok(()),

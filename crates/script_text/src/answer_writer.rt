@@ -15,21 +15,21 @@ pub fn answer_line<W: Write>(answer: &Answer, writer: &mut W) -> Result<(), Writ
     ensures all { OnOk result (Appends (W.contents writer.old) (W.contents writer.new) (answer_text answer.now)) }
     ensures front { OnErr result (StopsShort (answer_text answer.now) (W.contents writer.old) (W.contents writer.new)) }
 {
-    match *answer {
+    match answer {
         Answer::More => write_text(b"= more\n", writer),
-        Answer::Accepted(number) => accepted_line(number, writer),
+        Answer::Accepted(number) => accepted_line(*number, writer),
         Answer::NotReady => write_text(b"= notready\n", writer),
         Answer::Exhausted => write_text(b"= exhausted\n", writer),
-        Answer::Refused(rule) => refused_line(rule, writer),
+        Answer::Refused(rule) => refused_line(*rule, writer),
         Answer::NoClient => write_text(b"= noclient\n", writer),
-        Answer::Sent(serial) => sent_line(serial, writer),
+        Answer::Sent(serial) => sent_line(*serial, writer),
         Answer::Idle => write_text(b"= idle\n", writer),
         Answer::Done => write_text(b"= done\n", writer),
         Answer::NoSuch => write_text(b"= nosuch\n", writer),
         Answer::Already => write_text(b"= already\n", writer),
-        Answer::B(beat) => b_line(&beat, writer),
-        Answer::R(beat) => r_line(&beat, writer),
+        Answer::B(beat) => b_line(beat, writer),
+        Answer::R(beat) => r_line(beat, writer),
         Answer::Nothing => write_text(b"= nothing\n", writer),
-        Answer::Reply(number) => reply_line(number, writer),
+        Answer::Reply(number) => reply_line(*number, writer),
     }
 }

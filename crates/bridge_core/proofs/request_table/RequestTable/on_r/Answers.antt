@@ -1,8 +1,8 @@
 -- The answer belongs to the request that holds its ID.
-use Rattle.std.proofs.Common.{◌∙◌, ap, set, subst, sym}
+use Rattle.std.proofs.Common.{◌≡◌, ◌∙◌, ap, refl, set, subst, sym}
 use Rattle.std.specs.Prelude.{IsSomeAnd, is_some}
 use Rattle.flight_table.specs.Order.{holds_id}
-use Rattle.bridge_core.specs.Inside.{AwaitsBeat, kept_table}
+use Rattle.bridge_core.specs.Inside.{AwaitsBeat, kept_table, value_held}
 use Rattle.bridge_core.specs.HeldRequests.{RequestTable, after_read, holder, with_read}
 use Rattle.bridge_core.proofs.Serving.{beat_reads, holder_apart, read_fits}
 use Rattle.bridge_core.proofs.TableSteps.{IsChanged}
@@ -34,12 +34,13 @@ changed c =
     ((beat_reads c.args.beat.now c.self.view_is c.self.invariant.1 c.self.invariant.0 c.serving-key.ensures c.slot.ensures.value c.slot.ensures.within c.index_mut-held.ensures.value c.requires c.on_r.ensures
     (c.is_some-found.ensures ∙ ap is_some c.old_value.ensures.value)).answers c.if-beat.true).changes c.answer.new.flight c.answer.ensures.state c.answer.ensures.laws
 
-counted : (c : goal.Else-beat) → IsChanged (kept_table c.self.inside.config c.self.inside.map c.self.inside.flight c.self.inside.held.items)
+counted : (c : goal.After-self-else-beat-1) → IsChanged (kept_table c.self.inside.config c.self.inside.map c.self.inside.flight c.self.inside.held.items)
     (kept_table c.self.inside.config c.self.inside.map c.self.inside.flight (set c.self.inside.held.items c.slot.result c.on_r.new.self)) (holds_id c.args.beat.now.id)
     (after_read c.self.inside.config.axi_bytes c.args.beat.now)
 counted c =
+    let same : is_some (value_held c.on_r.new.self) ≡ is_some (value_held c.on_r.new.self) = refl in
     (beat_reads c.args.beat.now c.self.view_is c.self.invariant.1 c.self.invariant.0 c.serving-key.ensures c.slot.ensures.value c.slot.ensures.within c.index_mut-held.ensures.value c.requires c.on_r.ensures
-    (c.is_some-found.ensures ∙ ap is_some c.old_value.ensures.value)).more c.if-beat.false
+    same).more c.if-beat.false
 
 pub invariant_of-self : goal.invariant_of-self
 invariant_of-self c = ((changed c).sound, (changed c).kept)
