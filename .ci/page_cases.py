@@ -1,6 +1,7 @@
 """Tries the pages: each guarantee of README names a call and a clause that the source has, each page that it names is there,
 each crate has a page, each example of the library stands in a test as it stands on its page, the pages that are written by
-docs/definitions.py are up to date, and docs/TRUSTED.md lists each definition that a clause of its statements names.
+docs/definitions.py are up to date, docs/TRUSTED.md lists each definition that a clause of its statements names, and no file
+that is kept is a log or names a folder of one machine.
 
     python3 .ci/page_cases.py
 """
@@ -28,6 +29,8 @@ CLAUSE = re.compile(r"(?ms)^ *ensures (?:(\w+) )?{(.*?)}$")
 NAME = re.compile(r"(?:\b(\w+)\.)?([A-Za-z_]\w*)")
 # A guarantee of the list, from its dash to its end.
 GUARANTEE = re.compile(r"(?m)^- .*(?:\n  .*)*")
+# A folder of one machine, in which a path goes on.
+MACHINE = re.compile(rb"(?<![\w.])/(?:home|mnt|opt|root|srv|tmp|work|Users)/\w")
 
 
 def heads(crate, call):
@@ -88,6 +91,19 @@ def examples():
             yield name, None if without_space(example) in tested else f"{TESTED.relative_to(TOP)} doesn't have it"
 
 
+def kept():
+    """Each file that is kept, but where it is neither a log nor names a folder of one machine: then all of them as one case."""
+    listed = subprocess.run(["git", "ls-files", "-z"], cwd=TOP, capture_output=True)
+    names = sorted(it.decode() for it in listed.stdout.split(b"\0") if it)
+    faults = [(name, "it is a log") for name in names if name.endswith(".log")]
+    for name in names:
+        found = MACHINE.search((TOP / name).read_bytes()) if (TOP / name).is_file() else None
+        if found:
+            faults.append((name, f"it names a folder of one machine, {found[0].decode()!r} .."))
+    yield from faults
+    yield "the files that are kept", None if names else listed.stderr.decode() or "git lists none"
+
+
 def cases():
     page = (TOP / "README.md").read_text()
     lines = len(page.splitlines())
@@ -107,6 +123,7 @@ def cases():
         yield f"the page of {crate.name}", None if 20 <= lines <= 60 else f"it has {lines} lines"
     yield from examples()
     yield from trusted()
+    yield from kept()
     written = subprocess.run([sys.executable, TOP / "docs" / "definitions.py", "--check"], capture_output=True, text=True)
     why = written.stdout.strip() or written.stderr.strip()[-200:]
     yield "the pages that docs/definitions.py writes", None if written.returncode == 0 else why
