@@ -104,10 +104,9 @@ impl RequestTable {
         ensures port { port.new ≡ opening_port port.old.limits }
         ensures laws { IsSoundRequestTable self.new }
     {
-        let number = self.flight.accepted();
         let request = port.whole().unwrap();
         let range = range_of(&self.config, &self.map, request);
-        let key = self.flight.accept(request.client(), request, range);
+        let (number, key) = self.flight.accept_keyed(request.client(), request, range);
         self.held[key.slot()].begin(port, range.is_none());
         number
     }

@@ -92,20 +92,38 @@ impl Flight {
         self.live.has_source(client, source)
     }
 
-    /// Accepts a client's request, and answers its key. Its number is how many were accepted before it. The range is that of
-    /// the plan, in AXI addresses. A request without a plan sends nothing and is done at once, and so is an Intent.
+    /// Accepts a client's request, and answers its number: 0, 1, 2, .. in the order of acceptance. The range is that of the
+    /// plan, in AXI addresses. A request without a plan sends nothing and is done at once, and so is an Intent.
     ///
     /// The client is one of the table's and has room, its source is free, and fewer than 2^48 requests were accepted.
-    pub fn accept(&mut self, client: u8, request: &Request, plan: Option<Plan>) -> Key
+    pub fn accept(&mut self, client: u8, request: &Request, plan: Option<Plan>) -> u64
         requires client { client < self.old.limits.clients }
         requires room { IsTrue (has_room (table_of self.old) client) }
         requires source { IsFalse (is_busy (table_of self.old) client request.now.source) }
         requires number { self.old.accepted < 2 ^ 48 }
+        ensures number { result ≡ self.old.accepted }
+        ensures table { table_of self.new ≡ with_request (flight_for result client request.now plan) (table_of self.old) }
+
+        // The other requests keep their keys, and the new one has its own.
+        ensures state { (key : ℕ) × (request_at key self.old ≡ None)
+            × (self.new ≡ with_entry (record { key = key; request = flight_for result client request.now plan }) self.old) }
+        ensures laws { IsSound self.new }
+    {
+        self.accept_keyed(client, request, plan).0
+    }
+
+    /// Accepts a client's request as `accept` does, and answers its number and its key.
+    pub fn accept_keyed(&mut self, client: u8, request: &Request, plan: Option<Plan>) -> (u64, Key)
+        requires client { client < self.old.limits.clients }
+        requires room { IsTrue (has_room (table_of self.old) client) }
+        requires source { IsFalse (is_busy (table_of self.old) client request.now.source) }
+        requires number { self.old.accepted < 2 ^ 48 }
+        ensures number { result.0 ≡ self.old.accepted }
         ensures table { table_of self.new ≡ with_request (flight_for self.old.accepted client request.now plan) (table_of self.old) }
 
         // The other requests keep their keys, and the new one has its own.
-        ensures fresh { request_at result self.old ≡ None }
-        ensures state { self.new ≡ with_entry (record { key = result; request = flight_for self.old.accepted client request.now plan }) self.old }
+        ensures fresh { request_at result.1 self.old ≡ None }
+        ensures state { self.new ≡ with_entry (record { key = result.1; request = flight_for self.old.accepted client request.now plan }) self.old }
         ensures laws { IsSound self.new }
     {
         let number = self.accepted;
@@ -113,7 +131,7 @@ impl Flight {
             .live
             .add(LiveRequest::accepted(number, client, request, plan));
         self.accepted = number + 1;
-        key
+        (number, key)
     }
 
     /// How many requests were accepted since the start; the next one has this number.

@@ -194,6 +194,7 @@ impl<'a> Words<'a> {
     }
 
     /// A decimal number to a limit: 1 to 20 digits.
+    #[inline(always)]
     pub fn dec(&self, n: u32, limit: u64) -> Result<u64, u32>
         requires { 0 < n }
         ensures reads { Reads (is_dec_to limit (word_at self.now n)) (dec_at self.now n) n result }
@@ -206,6 +207,7 @@ impl<'a> Words<'a> {
     }
 
     /// A hexadecimal number to a limit: 1 to 16 digits of either case.
+    #[inline(always)]
     pub fn hex(&self, n: u32, limit: u64) -> Result<u64, u32>
         requires { 0 < n }
         ensures reads { Reads (is_hex_to limit (word_at self.now n)) (hex_at self.now n) n result }
@@ -218,6 +220,7 @@ impl<'a> Words<'a> {
     }
 
     /// A decimal number to 255.
+    #[inline(always)]
     pub fn byte(&self, n: u32) -> Result<u8, u32>
         requires { 0 < n }
         ensures { Reads (byte_field (word_at self.now n)) (dec_at self.now n) n result }
@@ -226,6 +229,7 @@ impl<'a> Words<'a> {
     }
 
     /// A decimal number to 65,535.
+    #[inline(always)]
     pub fn short(&self, n: u32) -> Result<u16, u32>
         requires { 0 < n }
         ensures { Reads (short_field (word_at self.now n)) (dec_at self.now n) n result }
@@ -242,6 +246,7 @@ impl<'a> Words<'a> {
     }
 
     /// An address or a page: a hexadecimal number to 2^32 - 1.
+    #[inline(always)]
     pub fn address(&self, n: u32) -> Result<u32, u32>
         requires { 0 < n }
         ensures { Reads (address_field (word_at self.now n)) (hex_at self.now n) n result }
@@ -250,6 +255,7 @@ impl<'a> Words<'a> {
     }
 
     /// A mask: a hexadecimal number to ff.
+    #[inline(always)]
     pub fn mask(&self, n: u32) -> Result<u8, u32>
         requires { 0 < n }
         ensures { Reads (is_hex_to 255 (word_at self.now n)) (hex_at self.now n) n result }
@@ -258,6 +264,7 @@ impl<'a> Words<'a> {
     }
 
     /// `0` or `1`, as it stands.
+    #[inline(always)]
     pub fn flag(&self, n: u32) -> Result<bool, u32>
         requires { 0 < n }
         ensures { Reads (flag_field (word_at self.now n)) (is_set (word_at self.now n)) n result }

@@ -1,6 +1,7 @@
 //! Writing a text, and what was written of it where the writer fails.
-ghost use Rattle.std.specs.Prelude.{◌≤◌, [], IfOk, OnErr, OnOk, length, take};
+ghost use Rattle.std.specs.Prelude.{◌≤◌, ◌≢◌, [], IfErr, IfOk, OnErr, OnOk, length, take};
 ghost use Rattle.std.specs.Io.KnownBytes.{Appends};
+ghost use Rattle.std.specs.IoError.{error_kind};
 ghost use Rattle.line_text.specs.Writing.{StopsShort};
 
 use std::io;
@@ -18,18 +19,21 @@ impl From<io::Error> for WriteFault {
     }
 }
 
-/// Writes some of a text that isn't empty, none where the write was interrupted. The writer's error goes no further.
+/// Writes some of a text that isn't empty, none where the write was interrupted. A writer that takes nothing of it is at fault.
 #[inline(always)]
-fn write_some<W: Write>(text: &[u8], writer: &mut W) -> Result<usize, WriteFault>
+fn write_some<W: Write>(text: &[u8], writer: &mut W) -> io::Result<usize>
     ensures within { IfOk result (λ count. count ≤ length text.now) }
     ensures ok { IfOk result (λ count. Appends (W.contents writer.old) (W.contents writer.new) (take count text.now)) }
     ensures err { OnErr result (Appends (W.contents writer.old) (W.contents writer.new) []) }
+
+    // An interrupted write is no fault: its caller tries again.
+    ensures retried { IfErr result (λ e. error_kind e ≢ ErrorKind.Interrupted) }
 {
     match writer.write(text) {
-        Ok(0) => Err(WriteFault),
+        Ok(0) => Err(io::Error::from(ErrorKind::WriteZero)),
         Ok(count) => Ok(count),
         Err(error) if error.kind() == ErrorKind::Interrupted => Ok(0),
-        Err(_) => Err(WriteFault),
+        Err(error) => Err(error),
     }
 }
 
@@ -44,9 +48,8 @@ fn write_rest<W: Write>(text: &[u8], writer: &mut W) -> Result<(), WriteFault>
         if rest.is_empty() {
             return Ok(());
         }
-        let count = match write_some(rest, writer) {
-            Ok(count) => count,
-            Err(fault) => return Err(fault),
+        let Ok(count) = write_some(rest, writer) else {
+            return Err(WriteFault);
         };
         rest = &rest[count..];
     }
@@ -66,9 +69,8 @@ pub fn write_text<W: Write>(text: &[u8], writer: &mut W) -> Result<(), WriteFaul
     if text.is_empty() {
         return Ok(());
     }
-    let count = match write_some(text, writer) {
-        Ok(count) => count,
-        Err(fault) => return Err(fault),
+    let Ok(count) = write_some(text, writer) else {
+        return Err(WriteFault);
     };
     if count == text.len() {
         return Ok(());

@@ -39,6 +39,7 @@ pub enum Form {
 
 impl Form {
     /// The form of a line that begins with this word.
+    #[inline(always)]
     pub fn named(word: &[u8]) -> Option<Form>
         ensures { result ≡ form_of word.now }
     {

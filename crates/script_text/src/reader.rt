@@ -283,6 +283,7 @@ impl Block {
     }
 
     /// Takes the bytes up to the next line feed, and it too. They are the line that was read last.
+    #[inline(always)]
     pub fn read_line<R: Read, W: Write>(
         &mut self,
         reader: &mut R,

@@ -142,6 +142,7 @@ impl World {
     }
 
     /// One event: the next state and the answer are those that `next` defines, and the box changes with a reply alone.
+    #[inline(always)]
     pub fn step(&mut self, step: &Step, reply: &mut ReplyBox) -> Answer
         ensures answer { result ≡ (next self.old step.now).answer }
         ensures state { self.new ≡ (next self.old step.now).state }
@@ -155,6 +156,7 @@ impl World {
         self.made(step, reply)
     }
 
+    #[inline(always)]
     fn made(&mut self, step: &Step, reply: &mut ReplyBox) -> Answer
         ensures answer { result ≡ (next self.old step.now).answer }
         ensures state { self.new ≡ (next self.old step.now).state }
@@ -171,6 +173,7 @@ impl World {
         }
     }
 
+    #[inline(always)]
     fn offer(&mut self, client: u8, beat: &ABeat) -> Answer
         ensures answer { result ≡ (next self.old (Offer client beat.now)).answer }
         ensures state { self.new ≡ (next self.old (Offer client beat.now)).state }
@@ -188,6 +191,7 @@ impl World {
         answer
     }
 
+    #[inline(always)]
     pub(crate) fn pump(&mut self) -> Answer
         ensures answer { result ≡ (next self.old Pump).answer }
         ensures state { self.new ≡ (next self.old Pump).state }
@@ -200,6 +204,7 @@ impl World {
         Answer::Sent(serial)
     }
 
+    #[inline(always)]
     pub(crate) fn perform(&mut self, serial: u64, beat: u16) -> Answer
         ensures answer { result ≡ (next self.old (Perform serial beat)).answer }
         ensures state { self.new ≡ (next self.old (Perform serial beat)).state }
@@ -215,6 +220,7 @@ impl World {
         }
     }
 
+    #[inline(always)]
     pub(crate) fn answer_b(&mut self, id: u8) -> Answer
         ensures answer { result ≡ (next self.old (AnswerB id)).answer }
         ensures state { self.new ≡ (next self.old (AnswerB id)).state }
@@ -227,6 +233,7 @@ impl World {
         Answer::B(beat)
     }
 
+    #[inline(always)]
     pub(crate) fn answer_r(&mut self, id: u8) -> Answer
         ensures answer { result ≡ (next self.old (AnswerR id)).answer }
         ensures state { self.new ≡ (next self.old (AnswerR id)).state }
@@ -239,6 +246,7 @@ impl World {
         Answer::R(beat)
     }
 
+    #[inline(always)]
     fn take(&mut self, client: u8, reply: &mut ReplyBox) -> Answer
         ensures answer { result ≡ (next self.old (Take client)).answer }
         ensures state { self.new ≡ (next self.old (Take client)).state }

@@ -5,7 +5,8 @@ use line_text::{
 };
 use script_text::{Script, ScriptFault, answer_line, read_script};
 use std::alloc::Global;
-use std::io::Write;
+use std::io;
+use std::io::{ErrorKind, Write};
 use std::test::Fail;
 use tl_checker::TlRule;
 use world::Answer;
@@ -155,5 +156,62 @@ fn a_script_answers_what_it_says(rt: HostRuntime) -> Result<(), Fail> {
         same(&rt, text, ended, answer);
         same(&rt, ("output", text), output.len(), 0);
     }
+    Ok(())
+}
+
+/// A writer each of whose writes is interrupted once before it is taken whole; a full one takes nothing.
+#[derive(Drop)]
+struct Slow {
+    text: Vec<u8>,
+    was_interrupted: bool,
+    is_full: bool,
+}
+
+impl Write for Slow {
+    fn write(&mut self, buf: &[u8]) -> io::Result<usize> {
+        if self.is_full {
+            return Ok(0);
+        }
+        self.was_interrupted = !self.was_interrupted;
+        if self.was_interrupted {
+            return Err(io::Error::from(ErrorKind::Interrupted));
+        }
+        let Ok(()) = self.text.extend_from_slice(buf) else {
+            return Err(io::Error::from(ErrorKind::OutOfMemory));
+        };
+        Ok(buf.len())
+    }
+
+    fn flush(&mut self) -> io::Result<()> {
+        Ok(())
+    }
+}
+
+#[test]
+fn writes_that_are_interrupted(rt: HostRuntime) -> Result<(), Fail> {
+    let mut writer = Slow {
+        text: Vec::new(rt.alloc()),
+        was_interrupted: false,
+        is_full: false,
+    };
+    same(
+        &rt,
+        "interrupted",
+        answer_line(&Answer::Accepted(7), &mut writer),
+        Ok(()),
+    );
+    same(
+        &rt,
+        "text",
+        writer.text.as_slice(),
+        b"= accepted 7\n".as_slice(),
+    );
+    writer.is_full = true;
+    same(
+        &rt,
+        "full",
+        answer_line(&Answer::Idle, &mut writer),
+        Err(WriteFault),
+    );
     Ok(())
 }

@@ -19,8 +19,8 @@ use Rattle.bridge_core.proofs.request_table.RequestTable.accept.Goals as goal
 of_port : (limits : TlPortLimits) (whole : Option HeldMessage) (message : HeldMessage) → whole ≡ Some message → IfSome whole (checker.IsSound limits) → checker.IsSound limits message
 of_port limits whole message is sound = rw is at sound
 
-pub accept-key-requires-clause-room : goal.accept-key-requires-clause-room
-accept-key-requires-clause-room c =
+pub accept_keyed-number-requires-clause-room : goal.accept_keyed-number-requires-clause-room
+accept_keyed-number-requires-clause-room c =
     let i = c.self.inside in
     let message = c.unwrap-request.result.now in
     let whole : c.args.port.now.whole ≡ Some message = sym c.whole.ensures.request ∙ ap option_copied c.unwrap-request.ensures in
@@ -28,8 +28,8 @@ accept-key-requires-clause-room c =
     let seen : table_of i.flight ≡ flight_table_of c.args.self.now = table_seen (kept_table i.config i.map i.flight i.held.items) c.self.invariant.1 ∙ ap flight_table_of c.self.view_is in
     subst (λ (t : FlightTable). has_room t c.client.result ≡ true) (sym seen) (subst (λ n. has_room (flight_table_of c.args.self.now) n ≡ true) (sym client) c.requires.room)
 
-pub accept-key-requires-clause-source : goal.accept-key-requires-clause-source
-accept-key-requires-clause-source c =
+pub accept_keyed-number-requires-clause-source : goal.accept_keyed-number-requires-clause-source
+accept_keyed-number-requires-clause-source c =
     let i = c.self.inside in
     let message = c.unwrap-request.result.now in
     let whole : c.args.port.now.whole ≡ Some message = sym c.whole.ensures.request ∙ ap option_copied c.unwrap-request.ensures in
@@ -39,7 +39,7 @@ accept-key-requires-clause-source c =
     subst (λ (t : FlightTable). is_busy t c.client.result message.source ≡ false) (sym seen) (subst (λ n. is_busy (flight_table_of c.args.self.now) n message.source ≡ false) (sym client) free)
 
 joined : (c : goal.After-self-1) → IsJoined (kept_table c.self.inside.config c.self.inside.map c.self.inside.flight c.self.inside.held.items)
-    (kept_table c.self.inside.config c.self.inside.map c.accept-key.new.self (set c.self.inside.held.items c.slot.result c.begin.new.self)) c.unwrap-request.result.now
+    (kept_table c.self.inside.config c.self.inside.map c.accept_keyed-number.new.self (set c.self.inside.held.items c.slot.result c.begin.new.self)) c.unwrap-request.result.now
 joined c =
     let i = c.self.inside in
     let message = c.unwrap-request.result.now in
@@ -50,14 +50,14 @@ joined c =
     c.requires.limits ∙ ap (λ (t : RequestTable). port_of t.config c.args.port.now.limits.client) (sym c.self.view_is) ∙ ap (λ n. port_of i.config n) (sym sound.client) in
     let room = held_at old c.slot.result c.slot.result c.index_mut.result.now c.self.invariant.1 refl c.slot.ensures.within c.index_mut.ensures.value in
     let begun : c.begin.new.self ≡ record { message = message; bus_bytes = c.index_mut.result.now.bus_bytes; gathering = gathering_of (outline_of (request_of message)) c.is_none.result } = rw whole at c.begin.ensures.held in
-    joins old c.accept-key.new.self c.slot.result c.begin.new.self message c.range_of-range.result c.self.invariant.1 c.self.invariant.0
+    joins old c.accept_keyed-number.new.self c.slot.result c.begin.new.self message c.range_of-range.result c.self.invariant.1 c.self.invariant.0
     (record {
       few = c.slot.ensures.within;
-      fresh = rw c.slot.ensures.value c.accept-key.ensures.fresh;
+      fresh = rw c.slot.ensures.value c.accept_keyed-number.ensures.fresh;
       range_is = c.range_of-range.ensures.range;
-      state = c.accept-key.ensures.state
+      state = c.accept_keyed-number.ensures.state
           ∙ rw (c.slot.ensures.value, c.client.ensures) refl;
-      laws = c.accept-key.ensures.laws;
+      laws = c.accept_keyed-number.ensures.laws;
       pages = c.range_of-range.ensures.map;
       of_port = subst (λ l. checker.IsSound l message) limits sound;
       held_is = begun ∙ rw (room, none_told c.range_of-range.result c.is_none.result c.is_none.ensures) refl;

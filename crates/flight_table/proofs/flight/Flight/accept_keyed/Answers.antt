@@ -4,7 +4,7 @@ use Rattle.flight_table.specs.LiveRequests.{LiveRequest}
 use Rattle.flight_table.specs.Laws.{IsSound}
 use Rattle.flight_table.specs.Tables.{KeyedTable}
 use Rattle.flight_table.proofs.NewRequests.{accepted_laws, is_latest, known_client, quota_left, room_left}
-use Rattle.flight_table.proofs.flight.Flight.accept.Goals as goal
+use Rattle.flight_table.proofs.flight.Flight.accept_keyed.Goals as goal
 
 pub add-key-requires-clause-room : goal.add-key-requires-clause-room
 add-key-requires-clause-room c =
