@@ -27,9 +27,11 @@ pub record BurstAddress : Type 0 where
   pub size : ℕ
   pub burst : ℕ
 
+-- what an AW beat says of its burst
 abbrev pub address_of_write : AwBeat → BurstAddress
 address_of_write aw = record { id = aw.id; start = aw.address; len = aw.len; size = aw.size; burst = aw.burst }
 
+-- what an AR beat says of its burst
 abbrev pub address_of_read : ArBeat → BurstAddress
 address_of_read ar = record { id = ar.id; start = ar.address; len = ar.len; size = ar.size; burst = ar.burst }
 

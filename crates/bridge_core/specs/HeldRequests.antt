@@ -34,6 +34,7 @@ pub record RequestTable : Type 0 where
 abbrev pub flights_of : List BridgedRequest → List LiveRequest
 flights_of live = map (λ request. request.flight) live
 
+-- the live requests as the order of bursts sees them, with how many were accepted
 abbrev pub flight_table_of : RequestTable → FlightTable
 flight_table_of table = record { limits = table_limits_of table.config; accepted = table.accepted; live = flights_of table.live }
 

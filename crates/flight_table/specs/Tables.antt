@@ -43,10 +43,11 @@ is_done_of client request = is_of client request && request.done
 abbrev pub oldest_done : FlightTable → ℕ → Option LiveRequest
 oldest_done table client = find (is_done_of client) table.live
 
--- how many are accepted and not done
+-- a request that was accepted and isn't done
 abbrev pub is_undone : LiveRequest → Bool
 is_undone request = not request.done
 
+-- how many requests are accepted and not done
 abbrev pub in_flight : FlightTable → ℕ
 in_flight table = length (filter is_undone table.live)
 

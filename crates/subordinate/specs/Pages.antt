@@ -10,6 +10,7 @@ pub record GoodPage : Type 0 where
   pub number : ℕ
   pub words : List ℕ
 
+-- the bytes of the memory: its good pages
 abbrev pub Memory : Type 0
 Memory = List GoodPage
 

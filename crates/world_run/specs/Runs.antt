@@ -103,6 +103,7 @@ abbrev pub piece_of : List DBeat → Handed → HandedReply
 piece_of d_beats handed =
     record { client = handed.client; number = handed.number; beats = slice_range d_beats handed.first (handed.first + handed.beats) }
 
+-- the replies that were handed out, in order, each with its client, its number and its beats
 abbrev pub handed_of : List Handed → List DBeat → List HandedReply
 handed_of replies d_beats = map (piece_of d_beats) replies
 
