@@ -1,19 +1,26 @@
--- Worked values of orders: what is accepted, what is due in each order of it, and what a board says.
-use Rattle.std.proofs.Common.{◌≡◌, ℕ, true, false, List, [], ◌∷◌, ◌++◌, length, Some, None, refl, arith}
-use Rattle.std.specs.Prelude.{replicate}
+-- Worked values of orders: what is accepted, what is due in each order of it, and what a board says; and where the laws on lists of beats end.
+use Rattle.std.proofs.Common.{◌≡◌, ℕ, true, false, List, [], ◌∷◌, ◌++◌, length, Some, None, refl, sym, ◌∙◌, inl, inr, arith}
+use Rattle.std.proofs.lemmas.Bool.{false≢true}
+use Rattle.std.proofs.lemmas.Option.{none-some}
+use Rattle.std.specs.Prelude.{replicate, slice_get, slice_index_or}
 use Rattle.tl_messages.specs.declared.ABeat.{ABeat}
 use Rattle.tl_messages.specs.declared.DBeat.{DBeat}
 use Rattle.tl_checker.specs.declared.Level.TheVariants.{Uh}
 use Rattle.subordinate.specs.Pages.{zero_words}
 use Rattle.subordinate.specs.declared.PageKind.TheVariants.{Good}
 use Rattle.world.specs.Setups.{SetupLists}
-use Rattle.scoreboard.specs.declared.ReplyRule.TheVariants.{Payload}
+use Rattle.scoreboard.proofs.Reached.{right_nothing}
+use Rattle.scoreboard.specs.Boards as strict
+use Rattle.scoreboard.specs.Boards.{Board, ClientBoard, opening_board, opening_client}
+use Rattle.scoreboard.specs.Right.{IsRight}
+use Rattle.scoreboard.specs.declared.ReplyRule.TheVariants.{Payload, Unasked}
 use Rattle.scoreboard.specs.declared.Seen.{Seen}
 use Rattle.scoreboard.specs.declared.Seen.TheVariants.{A, D}
 use Rattle.scoreboard.specs.declared.Wrong.TheVariants.{Reply}
 use Rattle.racing_board.specs.Boards.{wrong_at}
 use Rattle.racing_board.specs.Orders.{board_after, due_beats}
 use Rattle.racing_board.specs.RealTime.{KeepsRealTime, accepted_in, arranged}
+use Rattle.racing_board.specs.Wider.{TellsNoMore}
 
 -- two clients and one good page, to which a region leads that permits all
 abbrev setup : SetupLists
@@ -124,3 +131,70 @@ first_due = refl
 last_due : due_beats setup (arranged setup two_puts (0 ∷ 1 ∷ 2 ∷ [])) 1 2 ≡ told 0xbb000000 ∷ []
 unfolding zero_words
 last_due = refl
+
+-- ---- where the laws end
+
+-- beats before that are right don't make the next one right: nothing was observed, and a reply comes
+unasked : wrong_at (board_after setup []) (D 0 acknowledged) ≡ Some (Reply Unasked None)
+unfolding zero_words
+unasked = refl
+
+not_whatever_comes_next : ((before : List Seen) → IsRight setup before → wrong_at (board_after setup before) (D 0 acknowledged) ≡ None) → ⊥
+not_whatever_comes_next law = none-some (Reply Unasked None) (sym (law [] (right_nothing setup)) ∙ unasked)
+
+-- in an order out of real time the beat that is blamed is right
+early_due : due_beats setup (arranged setup apart (1 ∷ 0 ∷ [])) 1 2 ≡ told 0 ∷ []
+unfolding zero_words
+early_due = refl
+
+-- client 1 gets two words, and with the first of them asks for them again by the same source: a scoreboard finds the source busy
+abbrev get_two : Seen
+get_two = A 1 (a 4 0 4 2 0 0xff 0)
+
+abbrev word : DBeat
+word = record { opcode = 1; param = 0; size = 4; source = 2; denied = false; payload = 0; corrupt = false }
+
+abbrev twice : List Seen
+twice = get_two ∷ D 1 word ∷ get_two ∷ D 1 word ∷ []
+
+-- a scoreboard after beats, whatever it finds of them
+abbrev follows : Board → List Seen → Board → Type 0
+follows start [] board = board ≡ start
+follows start (seen ∷ rest) board = (next : Board) × strict.IsAfter start seen next × follows next rest board
+
+-- client 1 with both words due, then with one
+abbrev asked : Board
+asked = strict.with_client 1 (strict.with_due (opening_client setup.config 1) 2 (word ∷ word ∷ [])) (opening_board setup)
+
+abbrev begun : Board
+begun = strict.after_d asked 1 (slice_get asked.clients 1) word
+
+abbrev ended : Board
+ended = strict.after_d begun 1 (slice_get begun.clients 1) word
+
+is_asked : strict.IsAfter (opening_board setup) get_two asked
+unfolding zero_words
+is_asked =
+    record {
+      changed = strict.with_due (opening_client setup.config 1) 2 (word ∷ word ∷ []);
+      answered = record { carried_out = record { bytes = refl; faults = refl; regions = refl }; due = refl };
+      rest = refl;
+    }
+
+is_refused : strict.IsAfter begun get_two begun
+unfolding zero_words
+is_refused = record { changed = slice_index_or begun.clients 1 (opening_client setup.config 1); answered = (refl, refl); rest = refl }
+
+is_ended : follows (opening_board setup) twice ended
+unfolding zero_words
+is_ended = (asked, is_asked, begun, refl, begun, is_refused, ended, refl, refl)
+
+-- it finds the reply to the second request unasked, which a racing board has taken: beside one that found a source busy, this board may tell less
+not_behind_busy_sources : ((compared : Board) → follows (opening_board setup) twice compared → TellsNoMore (strict.wrong_at compared (D 1 word)) (wrong_at (board_after setup twice) (D 1 word))) → ⊥
+unfolding zero_words
+not_behind_busy_sources law = refuted (law ended is_ended)
+  where
+    refuted : TellsNoMore (Some (Reply Unasked None)) None → ⊥
+    refuted (inl same) = none-some (Reply Unasked None) same
+    refuted (inr (inl wide, none)) = false≢true wide
+    refuted (inr (inr wide, none)) = false≢true wide
