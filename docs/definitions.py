@@ -81,6 +81,17 @@ STATEMENTS = (
         ),
     ),
     ("What a run's record is", "`world_run::run`, clause `shows`.", (("world_run", "Runs", "IsRunOf"),)),
+    (
+        "What a step by hand keeps",
+        "`world_run::opened` and `world_run::ordered_step`, clause `order`.",
+        (
+            ("world_run", "InOrder", "KeepsOrder"),
+            ("world_run", "InOrder", "IsForeseen"),
+            ("world_run", "Serial", "Order"),
+            ("world", "Setups", "faults_of"),
+            ("world", "Setups", "lists_of"),
+        ),
+    ),
     ("What `drain` does", "`world::World::drain`, clause `drains`.", (("world", "Laws", "IsDrained"),)),
     (
         "The text of `run` and `check`, and the status",

@@ -38,7 +38,7 @@ CALLS = (
     *(("world_tests", f"constructors::{name}", ("AllocError",)) for name in (
         "request", "reply_box", "burst_box", "port", "monitor", "flight", "gather")),
     *(("world_tests", f"constructors::{name}", ("NoMemory",)) for name in (
-        "page_map", "bridge", "device", "world", "a_run")),
+        "page_map", "bridge", "device", "world", "opened_world", "a_run")),
     ("bridge_threads", "growths::shared", ("NoMemory",)),
     # The lists that it is given come first.
     ("bridge_threads", "growths::threads", ("AllocError", "NoMemory", "Spawn")),

@@ -149,7 +149,8 @@ impl World {
         ensures reply { reply.new ≡ (if is_reply result then (next self.old step.now).reply else reply.old) }
         ensures kept { IsTrue (leaves_all result) → self.new ≡ self.old }
 
-        // Bridge and memory agree, and neither refuses what the other hands it.
+        // Bridge and memory agree, before it as after it, and neither refuses what the other hands it.
+        ensures laws_before { IsSoundWorld self.old }
         ensures laws { IsSoundWorld self.new }
         ensures take_all { TakeAll self.old }
     {

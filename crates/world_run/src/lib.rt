@@ -1,10 +1,15 @@
-//! A whole run of a world: a list of events and what they gave, and the main theorem about it.
+//! A whole run of a world: a list of events and what they gave, and the main theorem about it; and the same order of a world
+//! that is driven one step at a time.
 #![tactic(auto)]
 
+mod ordered;
 mod runs;
 
 use axi_beats::{ArBeat, AwBeat, WBeat};
+pub use ordered::{opened, ordered_step};
 pub use runs::{RunRecord, run};
+pub use subordinate::PageKind;
+pub use world::{Answer, Setup, SetupFault, Step, World, setup_fault};
 
 /// One beat that Pump sent.
 #[derive(Clone, Copy, Debug, PartialEq, Eq)]

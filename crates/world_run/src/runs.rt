@@ -11,7 +11,7 @@ ghost use Rattle.world_run.specs.declared.SentBeat.TheVariants.{W};
 ghost use Rattle.world.specs.declared.SetupFault.TheVariants.{NoMemory};
 ghost use Rattle.world.specs.declared.Step.{Step};
 
-use crate::{Handed, SentBeat};
+use crate::{Handed, SentBeat, opened, ordered_step};
 use axi_beats::BurstBox;
 use std::alloc::Global;
 use tl_messages::{DBeat, ReplyBox};
@@ -100,7 +100,7 @@ fn one_step(ran: &mut RunRecord, step: &Step, reply: &mut ReplyBox) -> Result<()
     ensures grows { OnOk result ((setup : SetupLists) (before : List Step) → IsRunOf setup before ran.old.answers.items ran.old.replies.items ran.old.d_beats.items ran.old.sent.items ran.old.world → IsRunOf setup (before ++ step.now ∷ []) ran.new.answers.items ran.new.replies.items ran.new.d_beats.items ran.new.sent.items ran.new.world) }
     ensures laws { OnOk result (IsSoundWorld ran.new.world) }
 {
-    let answer = ran.world.step(step, reply);
+    let answer = ordered_step(&mut ran.world, step, reply);
     put(&mut ran.answers, answer)?;
     if let Answer::Sent(_) = answer {
         return keep_burst(&mut ran.sent, ran.world.last_burst());
@@ -133,7 +133,7 @@ pub fn run(alloc: Global, setup: &Setup, steps: &[Step]) -> Result<RunRecord, Se
     // written is that of its request's own turn among them.
     ensures in_order { IfOk result (λ ran. IsOrdered (order_of (lists_of setup.now) steps.now ran.answers.items) ran.world) }
 {
-    let world = match World::new(alloc, setup) {
+    let world = match opened(alloc, setup) {
         Ok(world) => world,
         Err(fault) => return Err(fault),
     };

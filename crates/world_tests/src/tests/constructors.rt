@@ -14,7 +14,7 @@ use subordinate::{Device, PageKind};
 use tl_checker::{Level, Port};
 use tl_messages::{ABeat, ReplyBox, Request};
 use world::{Setup, SetupFault, Step, World};
-use world_run::run;
+use world_run::{opened, run};
 
 #[test]
 fn request(rt: HostRuntime) -> Result<(), Fail> {
@@ -87,6 +87,14 @@ fn given(lists: Lists) -> Result<Setup, SetupFault> {
 #[test]
 fn world(rt: HostRuntime) -> Result<(), Fail> {
     World::new(rt.alloc(), &given(PLAIN)?)?;
+    Ok(())
+}
+
+/// The same world by the call that tells of the order: nothing is in flight, and every byte is zero.
+#[test]
+fn opened_world(rt: HostRuntime) -> Result<(), Fail> {
+    let world = opened(rt.alloc(), &given(PLAIN)?)?;
+    assert_eq!(rt; (world.in_flight(), world.byte(0x10000)), (0, Some(0)));
     Ok(())
 }
 

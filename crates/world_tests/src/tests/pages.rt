@@ -29,19 +29,17 @@ fn library(rt: HostRuntime) -> Result<(), Fail> {
     let alloc = rt.alloc();
     let (config, region, put) = (config_of(USUAL), FOUR_PAGES, a_beat(PUT));
 
-    use subordinate::PageKind;
-    use world::Setup;
-    use world::Step::{AnswerB, Offer, Perform, Pump, Take};
+    use world_run::Step::{AnswerB, Offer, Perform, Pump, Take};
+    use world_run::{PageKind, Setup, run};
 
-    // `config` has two clients and a bus of 8 bytes, `region` leads from TileLink page 0 to AXI page 10 (hexadecimal), and
-    // `put` is a beat.
+    // `config` has two clients and a bus of 8 bytes, `region` leads TileLink page 0 to AXI page 0x10, `put` is a beat.
     let mut setup = Setup::new(config);
     setup
         .pages
         .try_extend_from_slice(&[(0x10, PageKind::Good)])?;
     setup.regions.try_extend_from_slice(&[region])?;
     let steps = [Offer(0, put), Pump, Perform(0, 0), AnswerB(0), Take(0)];
-    let ran = world_run::run(alloc, &setup, &steps)?; // Accepted(0), Sent(0), Done, B of ID 0, Reply(0)
+    let ran = run(alloc, &setup, &steps)?; // Accepted(0), Sent(0), Done, B of ID 0, Reply(0)
 
     let b = BBeat { id: 0, resp: Okay };
     assert_eq!(rt;

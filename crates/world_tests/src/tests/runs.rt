@@ -6,7 +6,7 @@ use subordinate::PageKind;
 use tl_checker::TlRule;
 use tl_messages::{DBeat, ReplyBox};
 use world::{Answer, Step};
-use world_run::{Handed, RunRecord, SentBeat, run};
+use world_run::{Handed, RunRecord, SentBeat, opened, ordered_step, run};
 
 /// Two good pages and one that gives slave errors, behind a region of four; a word of the first is bad.
 const MIXED: Lists = Lists {
@@ -381,5 +381,28 @@ fn steps(rt: HostRuntime) {
     for wanted in RUNS {
         let done = carried::<WorldBench>(rt.alloc(), wanted.lists, wanted.events);
         assert_eq!(rt; done, Some(wanted.events.len()), "{}", wanted.name);
+    }
+}
+
+/// The same of a world that makes these steps by hand, by the calls whose contracts tell of the order.
+fn seen_after_steps(alloc: Global, wanted: &Run) -> Option<usize> {
+    let setup = set_up(wanted.lists)?;
+    let world = opened(alloc, &setup).ok()?;
+    let reply = ReplyBox::new(alloc).ok()?;
+    let mut bench = WorldBench { world, reply };
+    for event in wanted.events {
+        let (step, answer) = step_of(*event)?;
+        if ordered_step(&mut bench.world, &step, &mut bench.reply) != answer {
+            return None;
+        }
+    }
+    Some(carried_by(&mut bench, wanted.after))
+}
+
+#[test]
+fn ordered_steps(rt: HostRuntime) {
+    for wanted in RUNS {
+        let seen = seen_after_steps(rt.alloc(), wanted);
+        assert_eq!(rt; seen, Some(wanted.after.len()), "{}", wanted.name);
     }
 }
