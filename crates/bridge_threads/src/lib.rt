@@ -11,4 +11,5 @@ mod threads;
 mod turns;
 
 pub use shared::{HistoryFull, Shared};
+pub use thread_reports::{Receipts, Report};
 pub use threads::{Fault, Gate, Limits, Who, run_threads};
