@@ -187,7 +187,7 @@ is_refused = record { changed = slice_index_or begun.clients 1 (opening_client s
 
 is_ended : follows (opening_board setup) twice ended
 unfolding zero_words
-is_ended = (asked, is_asked, begun, refl, begun, is_refused, ended, refl, refl)
+is_ended = (asked, is_asked, (begun, refl, (begun, is_refused, (ended, refl, refl))))
 
 -- it finds the reply to the second request unasked, which a racing board has taken: beside one that found a source busy, this board may tell less
 not_behind_busy_sources : ((compared : Board) → follows (opening_board setup) twice compared → TellsNoMore (strict.wrong_at compared (D 1 word)) (wrong_at (board_after setup twice) (D 1 word))) → ⊥
