@@ -78,14 +78,15 @@ def judged(lines):
 
     for number, line in enumerate(lines[first:], first + 1):
         words = line.split()
-        if not words or words[0].startswith("#") or words[0] == "=" and words[1] not in (*WITHDRAWN, "drained"):
+        if not words or words[0].startswith("#"):
             continue
-        if held and not (words[0] == "=" and words[1] in WITHDRAWN):
+        answer = words[1] if words[0] == "=" else None
+        # Only the line straight behind an A line may withdraw it, and any other settles it.
+        if held and answer not in WITHDRAWN:
             take(*held)
         held = None
-        if words[0] == "=":
-            if words[1] == "drained":
-                board.drained()
+        if answer == "drained":
+            board.drained()
         elif words[0] == "A":
             held = number, words
         elif words[0] in KINDS:
@@ -112,12 +113,15 @@ def answered(program, lines):
 
 
 def changed(rng, lines, first):
-    """Lines with one of their beats changed, left out, written twice or moved, or said to come after a drain."""
+    """Lines with one of their beats changed, left out, written twice or moved, or said to come after a drain, or with an answer
+    between two of them."""
     lines = list(lines)
     places = [at for at in range(first, len(lines)) if lines[at].split()[:1] and lines[at].split()[0] in KINDS]
     at = rng.choice(places)
-    kind = rng.randrange(6)
-    if kind == 0:
+    kind = rng.randrange(7)
+    if kind == 6:
+        lines.insert(rng.randrange(first, len(lines) + 1), f"= {rng.choice((*WITHDRAWN, 'more', 'accepted 0'))}")
+    elif kind == 0:
         del lines[at]
     elif kind == 1:
         lines.insert(at, lines[at])

@@ -146,7 +146,7 @@ address_line words = read_as (address_field ∷ []) words (hex_at words 2)
 
 -- ---- answers
 
--- whether an answer, by the word after `=`, says that the beat before it wasn't taken
+-- whether an answer, by the word after `=`, says that the beat straight before it wasn't taken
 abbrev pub is_withdrawal : List ℕ → Bool
 is_withdrawal word =
     bytes_eq word (codes "noclient")

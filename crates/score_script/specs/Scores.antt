@@ -26,7 +26,8 @@ use Rattle.script_text.specs.declared.setup_parser.SetupLine.{SetupLine}
 use Rattle.world.specs.Setups.{SetupLists, setup_fault}
 use Rattle.world.specs.declared.SetupFault.{SetupFault}
 
--- the board; the beat that is held; and how many beats were judged, and how many of them are wrong
+-- the board; the beat that is held, which is that of the last line, where that is an A line; and how many beats were judged, and how many of them
+-- are wrong
 pub record Score : Type 0 where
   pub board : ProfileBoard
   pub held : Option HeldBeat
@@ -119,12 +120,13 @@ observing settled number (A client beat) =
     record { held = settled.0; own = None; after = record settled.1 { held = Some (record { number = number; client = client; beat = beat }) } }
 observing settled number seen = record { held = settled.0; own = (judging settled.1 number seen).0; after = (judging settled.1 number seen).1 }
 
--- what a line of this number finds. The held beat is judged first, but where the line withdraws it
+-- what a line of this number finds. The held beat is judged first, but where the line withdraws it; another answer finds nothing of its own
 abbrev pub finds : Score → ℕ → Command → Finds
 finds score number (command.Seen seen) = observing (settling score) number seen
 finds score number (command.Byte address) =
     record { held = (settling score).0; own = Some (finding.Byte (byte_in (settling score).1.board address)); after = (settling score).1 }
 finds score number command.Withdrawal = record { held = None; own = None; after = record score { held = None } }
+finds score number command.Answer = record { held = (settling score).0; own = None; after = (settling score).1 }
 
 -- the lines of what a line finds
 abbrev pub finds_text : Finds → List ℕ
@@ -158,12 +160,23 @@ abbrev pub told_step : ScoreState → ℕ → Result Command ℕ → LineStep Sc
 told_step state number (Err word) = Err (Script number word)
 told_step state number (Ok command) = command_step state (score_at state number) number command
 
--- an answer, by the word after `=`: it withdraws the beat before it, says that AXI beats went unobserved, or is skipped
+-- whether a beat is held
+abbrev pub holds : Stage Score → Bool
+holds Opening = false
+holds (SettingUp setup) = false
+holds (Running score) = is_some score.held
+
+-- an answer that neither withdraws a beat nor says that any went unobserved: the held beat is judged; where none is held, it is skipped
+abbrev pub other_step : ScoreState → ℕ → LineStep ScoreState
+other_step state number =
+    if holds state.stage then command_step state (score_at state number) number command.Answer else Ok ([], state)
+
+-- an answer, by the word after `=`: it withdraws the beat before it, says that AXI beats went unobserved, or is another
 abbrev pub answer_step : ScoreState → ℕ → List ℕ → LineStep ScoreState
 answer_step state number word =
     if is_withdrawal word
     then command_step state (score_at state number) number command.Withdrawal
-    else (if bytes_eq word (codes "drained") then command_step state (score_at state number) number (command.Seen Drained) else Ok ([], state))
+    else (if bytes_eq word (codes "drained") then command_step state (score_at state number) number (command.Seen Drained) else other_step state number)
 
 -- whether `config` is still to come
 abbrev pub is_opening : Stage Score → Bool

@@ -186,7 +186,7 @@ pub(crate) fn address_line(words: &Words<'_>) -> Result<u32, u32>
     Ok(address)
 }
 
-/// Whether an answer, by the word after `=`, says that the beat before it wasn't taken.
+/// Whether an answer, by the word after `=`, says that the beat straight before it wasn't taken.
 pub fn is_withdrawal(word: &[u8]) -> bool
     ensures { result ≡ is_withdrawal word.now }
 {

@@ -18,11 +18,13 @@ pub(crate) enum Command {
     Seen(Seen),
     /// The byte at an address is asked for.
     Byte(u32),
-    /// The beat before it wasn't taken.
+    /// The beat before it, if it stands straight behind one, wasn't taken.
     Withdrawal,
+    /// Another answer: it settles the beat before it.
+    Answer,
 }
 
-/// A beat on channel A that may still be withdrawn.
+/// A beat on channel A, which the next line may still withdraw.
 #[derive(Clone, Copy, Debug, PartialEq, Eq)]
 pub(crate) struct HeldBeat {
     /// The number of its line.
@@ -155,6 +157,13 @@ impl Score {
         Findings { held, own }
     }
 
+    /// Whether a beat is held.
+    pub(crate) fn holds(&self) -> bool
+        ensures { result ≡ is_some self.now.held }
+    {
+        self.held.is_some()
+    }
+
     /// Withdraws the beat that is held.
     fn withdraw(&mut self)
         ensures { score_of self.new ≡ record (score_of self.old) { held = None } }
@@ -182,6 +191,10 @@ impl Score {
                     own: None,
                 }
             }
+            Command::Answer => Findings {
+                held: self.settle(),
+                own: None,
+            },
         }
     }
 

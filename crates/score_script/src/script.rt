@@ -5,7 +5,7 @@ ghost use Rattle.script_text.specs.Scripts.{EndsAs, text_before_failure, text_of
 ghost use Rattle.script_text.specs.Stages.{MayStand, OpensAs, OpensStage, is_misplaced, with_setup_line};
 ghost use Rattle.script_text.specs.Steps.{TakesRest, TakesStep};
 ghost use Rattle.script_text.specs.declared.keywords.Form.TheVariants as forms;
-ghost use Rattle.score_script.specs.Scores.{answer_step, beat_step, command_step, ending_of, form_step, is_opening, is_silent, opened, opening_state, placed_step, profile_step, score_at, score_reading, takes_profile};
+ghost use Rattle.score_script.specs.Scores.{answer_step, beat_step, command_step, ending_of, form_step, holds, is_opening, is_silent, opened, opening_state, placed_step, profile_step, score_at, score_reading, takes_profile};
 ghost use Rattle.score_script.specs.ScoreStates.{made_score, stage_of, state_of};
 
 use crate::findings::findings_lines;
@@ -69,6 +69,16 @@ impl ScoreScript {
         matches!(self.stage, Stage::Opening)
     }
 
+    /// Whether a beat is held.
+    fn holds(&self) -> bool
+        ensures { result ≡ holds (stage_of self.now.stage) }
+    {
+        match &self.stage {
+            Stage::Running(score) => score.holds(),
+            _ => false,
+        }
+    }
+
     /// Whether a line of this form may not stand here.
     fn is_misplaced(&self, form: Form, words: &Words<'_>) -> bool
         ensures { result ≡ is_misplaced (stage_of self.now.stage) form words.now }
@@ -95,7 +105,20 @@ impl ScoreScript {
     }
 
     /// Makes the board where there is none yet.
+    #[inline]
     fn open(&mut self, alloc: Global, number: u32) -> Result<(), ScriptFault>
+        ensures stage { OpensStage true (score_at (state_of self.old) number) (is_silent (state_of self.old)) (stage_of self.new.stage) result }
+        ensures profile { self.new.profile ≡ self.old.profile }
+    {
+        if let Stage::Running(_) = &self.stage {
+            return Ok(());
+        }
+        self.make(alloc, number)
+    }
+
+    /// Makes the board. It is apart, since a function clears the room for its values at its entry.
+    #[inline(never)]
+    fn make(&mut self, alloc: Global, number: u32) -> Result<(), ScriptFault>
         ensures stage { OpensStage true (score_at (state_of self.old) number) (is_silent (state_of self.old)) (stage_of self.new.stage) result }
         ensures profile { self.new.profile ≡ self.old.profile }
     {
@@ -156,7 +179,10 @@ impl ScoreScript {
         if word == b"drained".as_slice() {
             return self.carry_out(alloc, number, &Command::Seen(Seen::Drained), writer);
         }
-        Ok(false)
+        if !self.holds() {
+            return Ok(false);
+        }
+        self.carry_out(alloc, number, &Command::Answer, writer)
     }
 
     /// Takes a line of a channel.
@@ -182,7 +208,8 @@ impl ScoreScript {
         }
     }
 
-    /// Takes a question.
+    /// Takes a question. It is apart, as the board's making is.
+    #[inline(never)]
     fn take_question<W: Write>(
         &mut self,
         alloc: Global,
@@ -198,7 +225,8 @@ impl ScoreScript {
         }
     }
 
-    /// Takes a line of the set-up; there are no other forms.
+    /// Takes a line of the set-up; there are no other forms. It is apart, as the board's making is.
+    #[inline(never)]
     fn take_setup_line<W: Write>(
         &mut self,
         number: u32,
@@ -226,7 +254,8 @@ impl ScoreScript {
         self.profile.is_none() && matches!(self.stage, Stage::SettingUp(_))
     }
 
-    /// Takes a `profile` line.
+    /// Takes a `profile` line. It is apart, as the board's making is.
+    #[inline(never)]
     fn take_profile<W: Write>(
         &mut self,
         number: u32,
@@ -348,8 +377,9 @@ impl Script for ScoreScript {
 }
 
 /// Judges what was observed at the ports of a bridge, and writes a line for each beat that can't be right, for each question,
-/// and at the end. The answer is whether a beat is wrong. A beat is judged once the next line that isn't skipped was read
-/// without fault, or at the input's end; each line's text stands before more is read.
+/// and at the end. The answer is whether a beat is wrong. A beat on channel A is judged once the line straight behind it, empty
+/// ones and comments aside, was read without fault and doesn't withdraw it, or at the input's end; each other beat with its own
+/// line. Each line's text stands before more is read.
 pub fn score_text<R: Read, W: Write>(
     alloc: Global,
     reader: &mut R,
