@@ -1,5 +1,6 @@
 //! `tlbridge threads`: a script that asks for a run in threads.
-ghost use Rattle.std.specs.Prelude.{◌≡◌, ◌≢◌, Some, take, IfErr, IfOk};
+ghost use Rattle.std.specs.Prelude.{◌≡◌, Some, take, true, IfErr, IfOk};
+ghost use Rattle.std.specs.Result.{result_map_both};
 ghost use Rattle.thread_reports.specs.Reports.{IsReport};
 ghost use Rattle.threads_script.specs.Asked.{IsSoundAsked};
 ghost use Rattle.tlbridge.specs.Threads.{EndsAsRead, FailsToRun, run_fault};
@@ -29,20 +30,30 @@ const LIMITS: Limits = Limits {
 struct OpenGate;
 
 impl Gate for OpenGate {
-    fn pass(&self, _who: Who, _index: u32) -> bool {
+    fn pass(&self, _who: Who, _index: u32) -> bool
+        ensures { result ≡ true }
+    {
         true
     }
 }
 
 /// A fault of the threads; failed allocation is told as such.
 fn run_fault(fault: Fault) -> TextFault
-    requires { fault ≢ Fault.BadConfig }
-    ensures told { result ≡ run_fault fault }
-    ensures fails { FailsToRun result }
+    ensures { result ≡ run_fault fault }
 {
     match fault {
         Fault::NoMemory => TextFault::NoMemory,
         _ => TextFault::Thread(fault),
+    }
+}
+
+/// What a run answered, with its fault as one of a text call.
+fn asked_of(answer: Result<Report, Fault>) -> Result<Report, TextFault>
+    ensures { result ≡ result_map_both (λ report. report) run_fault answer }
+{
+    match answer {
+        Ok(report) => Ok(report),
+        Err(fault) => Err(run_fault(fault)),
     }
 }
 
@@ -55,16 +66,13 @@ fn run_asked<T: Threads + Wait + Sync>(
     requires { IsSoundAsked asked.now }
     ensures report { IfOk result (λ report. (setup : SetupLists) → asked.now.setup ≡ Some setup → IsReport setup (take setup.config.clients asked.now.scripts) report.steps.items report.receipts.items report.world) }
     ensures one_at_a_time { IfOk result (λ report. (setup : SetupLists) → asked.now.setup ≡ Some setup → IsOneAtATime setup report.steps.items (answers_of (opening_world setup) report.steps.items) (handed_in (opening_world setup) report.steps.items) (sent_in (opening_world setup) report.steps.items) (in_flight report.world) (byte_of report.world)) }
-    ensures fault { IfErr result FailsToRun }
+    ensures fault { IfErr result (FailsToRun asked.now) }
 {
     let Some(setup) = asked.setup() else {
         unreachable!();
     };
     let scripts = asked.scripts(setup.config.clients);
-    match run_threads(rt, alloc, setup, scripts, asked.words(), &OpenGate, LIMITS) {
-        Ok(report) => Ok(report),
-        Err(fault) => Err(run_fault(fault)),
-    }
+    asked_of(run_threads(rt, alloc, setup, scripts, asked.words(), &OpenGate, LIMITS))
 }
 
 /// Reads a script to its end, runs what it asks for in threads, and writes the text of the report. Nothing is written before
