@@ -1,5 +1,6 @@
 -- How the program ends (this project's profile).
-use Rattle.std.specs.Prelude.{ℕ, Bool, true, false, Result, Ok, Err}
+use Rattle.std.specs.Prelude.{ℕ, ◌≡◌, ◌≢◌, ◌⊎◌, Bool, true, false, List, [], Option, Some, Result, Ok, Err}
+use Rattle.std.specs.Io.KnownBytes.{Keeps}
 use Rattle.burst_plan.specs.declared.MapFault.TheVariants as map_fault
 use Rattle.script_text.specs.declared.faults.ScriptFault.{ScriptFault}
 use Rattle.script_text.specs.declared.faults.ScriptFault.TheVariants.{Script, Setup, Read, Write, NoMemory}
@@ -7,10 +8,12 @@ use Rattle.subordinate.specs.declared.DeviceFault.TheVariants as device_fault
 use Rattle.world.specs.declared.SetupFault.{SetupFault}
 use Rattle.world.specs.declared.SetupFault.TheVariants as setup
 
--- as the observation did, or with a write fault, whatever it ended with: the flush comes after all of its text
-abbrev pub Flushes : (Result Bool ScriptFault → Type 0) → Result Bool ScriptFault → Type 0
-Flushes EndsWith (Err Write) = (ending : Result Bool ScriptFault) × EndsWith ending
-Flushes EndsWith result = EndsWith result
+-- as the observation did; or with a write fault, whatever it ended with, since the flush comes after all of its text. Where it ended with none, the
+-- writer then held a byte, if it shows what it holds: so a fault before any text stays itself
+abbrev pub Flushes : (Option (List ℕ) → Result Bool ScriptFault → Type 0) → Option (List ℕ) → Result Bool ScriptFault → Type 0
+Flushes EndsWith new (Err Write) =
+    (ending : Result Bool ScriptFault) × (held : Option (List ℕ)) × EndsWith held ending × Keeps held new × ((ending ≡ Err Write) ⊎ (held ≢ Some []))
+Flushes EndsWith new result = EndsWith new result
 
 -- of a refused set-up: 4 for want of memory
 abbrev pub setup_status : SetupFault → ℕ

@@ -1,6 +1,7 @@
 //! How the program ends.
-ghost use Rattle.std.specs.Prelude.{◌≡◌, ◌⊎◌, [], Err};
+ghost use Rattle.std.specs.Prelude.{◌≡◌, ◌≢◌, ◌⊎◌, [], Some, Err};
 ghost use Rattle.std.specs.Io.Buffered.{writer_buffer, writer_contents};
+ghost use Rattle.std.specs.Io.KnownBytes.{Keeps};
 ghost use Rattle.script_text.specs.Scripts.{EndsAs, text_before_failure, text_of};
 ghost use Rattle.score_script.specs.Scores.{opening_state, score_reading};
 ghost use Rattle.tlscore.specs.Endings.{Flushes, status_of};
@@ -13,6 +14,25 @@ use std::io::{BufWriter, Read, Write};
 use subordinate::DeviceFault;
 use world::SetupFault;
 
+/// Flushes the output of an input that ended so, where the buffer isn't empty. Output that can't be flushed is a write fault.
+#[tactic(auto, using(crate::proofs::Held::no_byte))]
+fn flushed<W: Write + Drop>(
+    ending: Result<bool, ScriptFault>,
+    writer: &mut BufWriter<W>,
+) -> Result<bool, ScriptFault>
+    ensures kept { Keeps (writer_contents W.contents writer.old) (writer_contents W.contents writer.new) }
+    ensures told { (result ≡ ending) ⊎ ((result ≡ Err ScriptFault.Write) × (writer_contents W.contents writer.old ≢ Some [])) }
+    ensures flushed { (result ≡ Err ScriptFault.Write) ⊎ (writer_buffer writer.new ≡ []) }
+{
+    if writer.buffer().is_empty() {
+        return ending;
+    }
+    match writer.flush() {
+        Ok(()) => ending,
+        Err(_) => Err(ScriptFault::Write),
+    }
+}
+
 /// Judges an observation, and flushes the output. Output that can't be flushed is a write fault, whatever the input ended
 /// with.
 pub(crate) fn scored<R: Read, W: Write + Drop>(
@@ -20,16 +40,13 @@ pub(crate) fn scored<R: Read, W: Write + Drop>(
     reader: &mut R,
     writer: &mut BufWriter<W>,
 ) -> Result<bool, ScriptFault>
-    ensures ends { Flushes (EndsAs 4294967294 (text_of score_reading opening_state) (text_before_failure score_reading opening_state) (R.remaining reader.old) (R.remaining reader.new) (writer_contents W.contents writer.old) (writer_contents W.contents writer.new)) result }
+    ensures ends { Flushes (λ held. EndsAs 4294967294 (text_of score_reading opening_state) (text_before_failure score_reading opening_state) (R.remaining reader.old) (R.remaining reader.new) (writer_contents W.contents writer.old) held) (writer_contents W.contents writer.new) result }
 
     // Nothing is left in the buffer, but where a write failed.
     ensures flushed { (result ≡ Err ScriptFault.Write) ⊎ (writer_buffer writer.new ≡ []) }
 {
     let ending = score_text(alloc, reader, writer);
-    match writer.flush() {
-        Ok(()) => ending,
-        Err(_) => Err(ScriptFault::Write),
-    }
+    flushed(ending, writer)
 }
 
 /// The exit status of a result: 0 where nothing is wrong, 1 where something is, 2 for a fault of the input or its set-up, 3

@@ -1,6 +1,8 @@
 //! The program: it reads what was observed at the ports of a bridge, and prints each beat that can't be right.
 #![tactic(auto)]
 
+ghost use Rattle.std.specs.Prelude.{◌≤◌, ◌↔◌, IsSomeAnd, IsTrue, vec_len};
+
 mod endings;
 
 use endings::{scored, status_of};
@@ -20,7 +22,9 @@ fn words_given<R: Env + AllocGlobal>(rt: &R) -> Option<Vec<String>> {
 }
 
 /// Whether the program's name is the only word.
-fn is_bare(words: Option<Vec<String>>) -> bool {
+fn is_bare(words: Option<Vec<String>>) -> bool
+    ensures { IsTrue result ↔ IsSomeAnd words (λ given. vec_len given ≤ 1) }
+{
     match words {
         None => false,
         Some(words) => words.len() <= 1,
