@@ -2,3 +2,4 @@ pub mod Endings
 pub mod Modes
 pub mod Results
 pub mod Threads
+pub mod Words

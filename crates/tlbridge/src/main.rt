@@ -9,7 +9,7 @@ mod threads;
 
 use clap::Command;
 use faults::{TextFault, status_of};
-use modes::{Mode, Task, carried_out, carried_out_in_threads};
+use modes::{Mode, Task, carried_out, carried_out_in_threads, task_named};
 use std::alloc::{AllocError, Global};
 use std::env;
 use std::io::{BufWriter, Read, Write};
@@ -37,12 +37,7 @@ fn task_of<'a>(alloc: Global, words: &'a [String]) -> Option<Task> {
     let matches = command.try_get_matches_from(words).ok()?;
     match matches.subcommand_name() {
         None => Some(Task::Script(Mode::Run)),
-        Some(name) => match name.as_bytes() {
-            b"run" => Some(Task::Script(Mode::Run)),
-            b"check" => Some(Task::Script(Mode::Check)),
-            b"threads" => Some(Task::Threads),
-            _ => None,
-        },
+        Some(name) => task_named(name.as_bytes()),
     }
 }
 

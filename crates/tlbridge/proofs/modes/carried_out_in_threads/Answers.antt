@@ -1,7 +1,6 @@
 -- The flush changes nothing of what is known of the output.
-use Rattle.std.proofs.Common.{Bool, Err, List, Ok, Option, Result, ℕ}
+use Rattle.std.proofs.Common.{◌≡◌, ◌≢◌, ◌⊎◌, inl, inr, refl, Bool, Err, List, [], Ok, Option, Some, Result, ℕ}
 use Rattle.std.proofs.KnownBytes.{Appends-kept, Keeps-trans}
-use Rattle.std.specs.Io.Buffered.{writer_contents}
 use Rattle.std.specs.Io.KnownBytes.{Keeps}
 use Rattle.script_text.specs.declared.faults.ScriptFault.{ScriptFault}
 use Rattle.threads_script.specs.Asked.{AskedLists}
@@ -28,20 +27,20 @@ ends_kept : (input rest before old new : Option (List ℕ)) (result : Result Boo
 ends_kept input rest before old new result kept ends =
     record { reading = ends.reading; held = ends.held; read = ends.read; ran = ran_kept ends.reading ends.held old new result kept ends.ran }
 
-flushed : (EndsWith : Result Bool TextFault → Type 0) (ending : Result Bool TextFault) → EndsWith ending → Flushes EndsWith ending
-flushed EndsWith (Ok refused) ends = ends
-flushed EndsWith (Err Write) ends = (Err Write, ends)
-flushed EndsWith (Err (Script line word)) ends = ends
-flushed EndsWith (Err (Setup fault)) ends = ends
-flushed EndsWith (Err Read) ends = ends
-flushed EndsWith (Err NoMemory) ends = ends
-flushed EndsWith (Err (Thread fault)) ends = ends
+as_read : (input rest before old new : Option (List ℕ)) (ending : Result Bool TextFault) → Keeps old new → EndsAsRead input rest before old ending → Flushes (λ held. EndsAsRead input rest before held) new ending
+as_read input rest before old new (Err Write) kept ends = (Err Write, old, ends, kept, inl refl)
+as_read input rest before old new (Ok refused) kept ends = ends_kept input rest before old new (Ok refused) kept ends
+as_read input rest before old new (Err (Script line word)) kept ends = ends_kept input rest before old new (Err (Script line word)) kept ends
+as_read input rest before old new (Err (Setup fault)) kept ends = ends_kept input rest before old new (Err (Setup fault)) kept ends
+as_read input rest before old new (Err Read) kept ends = ends_kept input rest before old new (Err Read) kept ends
+as_read input rest before old new (Err NoMemory) kept ends = ends_kept input rest before old new (Err NoMemory) kept ends
+as_read input rest before old new (Err (Thread fault)) kept ends = ends_kept input rest before old new (Err (Thread fault)) kept ends
+
+flushes : (input rest before old new : Option (List ℕ)) (ending result : Result Bool TextFault) → EndsAsRead input rest before old ending → Keeps old new
+    → (result ≡ ending) ⊎ ((result ≡ Err Write) × (old ≢ Some [])) → Flushes (λ held. EndsAsRead input rest before held) new result
+flushes input rest before old new ending result ends kept (inl same) = rw same (as_read input rest before old new ending kept ends)
+flushes input rest before old new ending result ends kept (inr (fault, some)) = rw fault (ending, old, ends, kept, inr some)
 
 pub returns-clause-ending : goal.returns-clause-ending
 returns-clause-ending g c =
-    flushed
-    (EndsAsRead (g.R.Read.remaining c.args.reader.now) (g.R.Read.remaining c.threads_text-ending.new.reader) (writer_contents g.W.Write.contents c.args.writer.now) (writer_contents g.W.Write.contents c.flush.new.self))
-    c.threads_text-ending.result (ends_kept _ _ _ _ _ c.threads_text-ending.result c.flush.ensures.bytes c.threads_text-ending.ensures)
-
-pub returns-then-is_err-clause-ending : goal.returns-then-is_err-clause-ending
-returns-then-is_err-clause-ending g c = (c.threads_text-ending.result, ends_kept _ _ _ _ _ c.threads_text-ending.result c.flush.ensures.bytes c.threads_text-ending.ensures)
+    flushes _ _ _ _ _ c.threads_text-ending.result c.flushed.result c.threads_text-ending.ensures c.flushed.ensures.kept c.flushed.ensures.told
