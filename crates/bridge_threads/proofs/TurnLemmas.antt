@@ -1,5 +1,7 @@
--- Choices of a memory thread, with one more. What a step does is hidden.
-use Rattle.std.proofs.Common.{◌≡◌, ℕ, List, [], ◌∷◌, ◌++◌, length, refl, sym, ap, ◌∙◌, subst}
+-- Choices of a memory thread, with one more, and when it is done. What a step does is hidden.
+use Rattle.std.proofs.Common.{◌≡◌, ◌==◌, ℕ, zero, suc, Bool, true, false, List, [], ◌∷◌, ◌++◌, length, refl, sym, ap, ◌∙◌, subst, arith}
+use Rattle.std.specs.Prelude.{◌&&◌, ◌||◌, nat_eq}
+use Rattle.std.proofs.lemmas.Bool.{false≢true}
 use Rattle.world.specs.World.{WorldState, after, next}
 use Rattle.world.specs.declared.Step.{Step}
 use Rattle.bridge_threads.specs.SharedStates.{SharedState, turned}
@@ -19,3 +21,9 @@ pub AreChosen-append : (words : List ℕ) (place : ℕ) (state : WorldState) (st
 AreChosen-append words place state [] middle step end here chosen is = (subst (λ k. IsChosen state (word_at words k) step) (sym here) chosen, ap (place_after (length words)) here ∙ sym is)
 AreChosen-append words place state (first ∷ steps) middle step end are chosen is =
     (are.0, AreChosen-append words (place_after (length words) place) (next state first).state steps middle step end are.1 chosen is)
+
+-- where it isn't to stop, and no client is at work, a memory thread is done when nothing is enabled
+pub over_by : (stop : Bool) (working count choices : ℕ) → stop ≡ false → working ≡ 0 → choices ≡ count → nat_eq choices 0 ≡ (stop || working == 0 && count == 0)
+over_by true working count choices going none same = absurd (false≢true (sym going))
+over_by false zero count choices going none same = ap (λ n. n == 0) same
+over_by false (suc working) count choices going none same = absurd (omega (arith, none))

@@ -1,6 +1,6 @@
 -- What a worker does in one hold of the lock: a client's turn, and a memory thread's. It knows the world by what it offers to be done next; how
 -- the bridge and the memory do it is hidden.
-use Rattle.std.specs.Prelude.{ℕ, ◌+◌, ◌%◌, ◌==◌, ◌≡◌, ◌<◌, ◌≤◌, ◌⊎◌, ◌-◌, Bool, List, [], ◌∷◌, ◌++◌, length, Option, Some, None, is_some, slice_get, slice_index_or, if◌then◌else◌, nat_lt}
+use Rattle.std.specs.Prelude.{ℕ, ◌+◌, ◌%◌, ◌==◌, ◌≡◌, ◌<◌, ◌≤◌, ◌⊎◌, ◌-◌, Bool, ◌&&◌, ◌||◌, List, [], ◌∷◌, ◌++◌, length, Option, Some, None, is_some, slice_get, slice_index_or, if◌then◌else◌, nat_lt}
 use Rattle.tl_messages.specs.declared.ABeat.{ABeat}
 use Rattle.bridge_core.specs.HeldRequests.{oldest_done}
 use Rattle.world.specs.World.{WorldState, enabled, next}
@@ -99,6 +99,10 @@ StoppedBy Moved new made = (length made ≡ 16) ⊎ (enabled new.world ≡ [])
 StoppedBy Idle new made = (made ≡ []) × (enabled new.world ≡ [])
 StoppedBy (Failed fault) new made = (fault ≡ HistoryFull) × (new.room ≤ length new.steps)
 StoppedBy Ended new made = ⊥
+
+-- whether a memory thread is done: all are to stop, or no client is at work and nothing is enabled
+abbrev pub is_over : SharedState → Bool
+is_over shared = shared.stop || shared.working == 0 && length (enabled shared.world) == 0
 
 -- ---- turns in a row
 

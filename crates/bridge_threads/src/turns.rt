@@ -1,8 +1,8 @@
 //! What a worker does in one hold of the lock, on the value under it.
-ghost use Rattle.std.specs.Prelude.{◌≡◌, ◌+◌, ◌≤◌, List, [], length, true, false, Ok, IsErr};
+ghost use Rattle.std.specs.Prelude.{◌≡◌, ◌⊎◌, ◌↔◌, ◌+◌, ◌≤◌, List, [], length, true, false, Ok, IsErr, IsTrue};
 ghost use Rattle.world.specs.World.{enabled};
 ghost use Rattle.world.specs.declared.Step.{Step};
-ghost use Rattle.bridge_threads.specs.Turns.{IsChosen, IsHold, StoppedBy, client_move, idle_left, place_after, within_limit, word_at};
+ghost use Rattle.bridge_threads.specs.Turns.{IsChosen, IsHold, StoppedBy, client_move, idle_left, is_over, place_after, within_limit, word_at};
 ghost use Rattle.bridge_threads.specs.SharedStates.{turned};
 ghost use Rattle.bridge_threads.specs.declared.turns.Turn.TheVariants.{Ended};
 
@@ -135,20 +135,32 @@ pub(crate) fn hold(
     Turn::Moved
 }
 
+/// Whether a memory thread is done.
+fn is_over(shared: &Shared) -> bool
+    ensures { result ≡ is_over shared.now }
+{
+    if shared.is_stopped() {
+        return true;
+    }
+    if shared.working() > 0 {
+        return false;
+    }
+    shared.world().choices() == 0
+}
+
 /// One turn of a memory thread: it ends where all are to stop, or where no client is at work and there are no choices; else it
-/// holds the lock for some choices.
+/// makes choices of one hold, by its words from their place on.
 pub(crate) fn memory_turn(
     shared: &mut Shared,
     words: &[u64],
     place: &mut usize,
     reply: &mut ReplyBox,
 ) -> Turn
-    ensures ended { result ≡ Ended → shared.new ≡ shared.old }
+    ensures ended { (result ≡ Ended) ↔ IsTrue (is_over shared.old) }
+    ensures kept { result ≡ Ended → (shared.new ≡ shared.old) × (place.new ≡ place.old) }
+    ensures held { (result ≡ Ended) ⊎ ((made : List Step) × IsHold words.now place.old place.new shared.old shared.new made × StoppedBy result shared.new made) }
 {
-    if shared.is_stopped() {
-        return Turn::Ended;
-    }
-    if shared.working() == 0 && shared.world().choices() == 0 {
+    if is_over(shared) {
         return Turn::Ended;
     }
     hold(shared, words, place, reply)
