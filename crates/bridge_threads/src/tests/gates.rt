@@ -130,3 +130,48 @@ impl Gate for Holding {
         !seen
     }
 }
+
+/// Holds memory thread 1 before its first turn until client 0 asks for its second, and memory thread 0 until memory thread 1
+/// asks for its second.
+#[derive(Drop)]
+pub(crate) struct SecondFirst {
+    offered: AtomicBool,
+    made: AtomicBool,
+    looks: AtomicU64,
+}
+
+impl SecondFirst {
+    pub(crate) fn new() -> SecondFirst {
+        SecondFirst {
+            offered: AtomicBool::new(false),
+            made: AtomicBool::new(false),
+            looks: AtomicU64::new(0),
+        }
+    }
+
+    fn look(&self, flag: &AtomicBool) -> bool {
+        self.looks.fetch_add(1, Ordering::SeqCst);
+        flag.load(Ordering::SeqCst)
+    }
+
+    fn wait(&self, flag: &AtomicBool) {
+        for _ in 0..1_000_000_000u32 {
+            if self.look(flag) {
+                return;
+            }
+        }
+    }
+}
+
+impl Gate for SecondFirst {
+    fn pass(&self, who: Who, index: u32) -> bool {
+        match (who, index) {
+            (Who::Client(0), 1) => self.offered.store(true, Ordering::SeqCst),
+            (Who::Memory(1), 0) => self.wait(&self.offered),
+            (Who::Memory(1), 1) => self.made.store(true, Ordering::SeqCst),
+            (Who::Memory(0), 0) => self.wait(&self.made),
+            _ => {}
+        }
+        true
+    }
+}

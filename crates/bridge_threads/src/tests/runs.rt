@@ -1,5 +1,5 @@
 //! Whole runs in threads.
-use super::gates::{Holding, Meeting, Open, Shut};
+use super::gates::{Holding, Meeting, Open, SecondFirst, Shut};
 use super::given::*;
 use super::same;
 use crate::{Fault, Limits, Who};
@@ -218,4 +218,33 @@ fn faults(rt: HostRuntime) {
     same(&rt, "a shut gate", found, Some(Fault::GateShut));
     let found = ran(&rt, alloc, IMPATIENT, &Holding::new()).err();
     same(&rt, "a gate that holds", found, Some(Fault::IdleLimit));
+}
+
+/// A Get of sixteen bytes.
+const WIDE_GET: ABeat = ABeat {
+    size: 4,
+    address: 16,
+    ..GET
+};
+
+/// The words of memory thread 1, which makes all choices.
+#[test]
+fn words_choose(rt: HostRuntime) {
+    let alloc = rt.alloc();
+    let asked = Asked {
+        scripts: &[&[WIDE_GET]],
+        words: &[&[0], &[1]],
+        ..ONE_SCRIPT
+    };
+    let report = ran(&rt, alloc, asked, &SecondFirst::new()).expect(&rt, "a run ends well");
+    let wanted = [
+        Step::Offer(0, WIDE_GET),
+        Step::Pump,
+        Step::Perform(0, 1),
+        Step::Perform(0, 0),
+        Step::AnswerR(0),
+        Step::AnswerR(0),
+        Step::Take(0),
+    ];
+    same(&rt, "steps", report.steps.as_slice(), wanted.as_slice());
 }
