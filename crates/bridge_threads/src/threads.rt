@@ -9,12 +9,13 @@ ghost use Rattle.world_run.specs.Runs.{answers_of, handed_in, sent_in};
 ghost use Rattle.world.specs.Setups.{SetupLists, lists_of, setup_fault};
 ghost use Rattle.world.specs.World.{byte_of, in_flight, opening_world};
 ghost use Rattle.world.specs.declared.Step.{Step};
-ghost use Rattle.bridge_threads.specs.Faults.{is_mismatch, is_of_worker};
+ghost use Rattle.bridge_threads.specs.Faults.{is_of_worker};
 ghost use Rattle.bridge_threads.specs.RefusedBeats.{IsRefusedBeat, client_limits, limits_of_ports};
 ghost use Rattle.thread_reports.specs.FullHistories.{IsFullHistory};
 ghost use Rattle.thread_reports.specs.Refusals.{is_refused};
 ghost use Rattle.thread_reports.specs.Reports.{items_of, IsReport};
-ghost use Rattle.bridge_threads.specs.declared.threads.Fault.TheVariants.{BadConfig, BeatRefused, HistoryFull, NoMemory};
+ghost use Rattle.bridge_threads.specs.declared.threads.Fault.TheVariants.{BadConfig, BeatRefused, GateShut, HistoryFull, IdleLimit, NoMemory, ReceiptMismatch};
+ghost use Rattle.bridge_threads.specs.declared.turns.WorkerFault.TheVariants as met;
 
 use crate::Shared;
 use crate::clients::{ClientWork, client_turn};
@@ -412,6 +413,8 @@ fn confirmed(
     full: bool,
 ) -> Result<Fault, Mismatch>
     ensures own { IfOk result (λ told. is_of_worker told ≡ true) }
+    ensures shut { fault ≡ met.GateShut → result ≡ Ok GateShut }
+    ensures idle { fault ≡ met.IdleLimit → result ≡ Ok IdleLimit }
     ensures full { result ≡ Ok HistoryFull → full ≡ true }
     ensures beat { (setup : SetupLists) (clients client index : ℕ) (rule : TlRule) → limits_of_ports ports.old.items ≡ client_limits setup.config clients → clients ≤ 256 → result ≡ Ok (BeatRefused client index rule) → IsRefusedBeat setup (items_of scripts.now) client index rule }
     ensures limits { limits_of_ports ports.new.items ≡ limits_of_ports ports.old.items }
@@ -467,8 +470,9 @@ fn told(
     late
 }
 
+/// A mismatch as the fault that tells of it.
 fn mismatched(mismatch: Mismatch) -> Fault
-    ensures { is_mismatch result ≡ true }
+    ensures { result ≡ ReceiptMismatch mismatch.client mismatch.index }
 {
     Fault::ReceiptMismatch {
         client: mismatch.client,
