@@ -1,5 +1,6 @@
 //! What a client's script is on a port of its own.
-ghost use Rattle.std.specs.Prelude.{◌≡◌, None, true, false, IfSome};
+ghost use Rattle.std.specs.Prelude.{◌≡◌, ◌+◌, ◌-◌, ◌^◌, min, None, true, false, IfSome};
+ghost use Rattle.tl_messages.specs.Operations.{beats_of, reply_has_data};
 ghost use Rattle.tl_checker.specs.Ports.{opening_port};
 ghost use Rattle.tl_checker.specs.RequestRules.{first_fault};
 ghost use Rattle.bridge_threads.specs.RefusedBeats.{BreaksRule, front_with};
@@ -16,7 +17,10 @@ pub(crate) struct Room {
 }
 
 /// With the reply to one request more.
-fn with_reply(room: Room, request: &Request) -> Room {
+fn with_reply(room: Room, request: &Request) -> Room
+    ensures replies { result.replies ≡ min (room.replies + 1) (2 ^ 64 - 1) }
+    ensures beats { result.beats ≡ min (room.beats + beats_of request.now.size (reply_has_data request.now.operation)) (2 ^ 64 - 1) }
+{
     let beats = beats_of(request.size(), request.operation().reply_has_data());
     Room {
         replies: room.replies.saturating_add(1),

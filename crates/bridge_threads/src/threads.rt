@@ -11,6 +11,7 @@ ghost use Rattle.world.specs.World.{byte_of, in_flight, opening_world};
 ghost use Rattle.world.specs.declared.Step.{Step};
 ghost use Rattle.bridge_threads.specs.Faults.{is_of_worker};
 ghost use Rattle.bridge_threads.specs.RefusedBeats.{IsRefusedBeat, client_limits, limits_of_ports};
+ghost use Rattle.bridge_threads.specs.SharedStates.{opening_shared};
 ghost use Rattle.thread_reports.specs.FullHistories.{IsFullHistory};
 ghost use Rattle.thread_reports.specs.Refusals.{is_refused};
 ghost use Rattle.thread_reports.specs.Reports.{items_of, IsReport};
@@ -270,6 +271,7 @@ fn prepare(
 ) -> Result<Prepared, AllocError>
     requires { setup_fault (lists_of setup.now) ≡ None }
     ensures fresh { IfOk result (λ room. room.second ≡ opening_world (lists_of setup.now)) }
+    ensures shared { IfOk result (λ room. room.shared ≡ opening_shared (lists_of setup.now) limits.steps) }
     ensures ports { IfOk result (λ room. length scripts.now ≤ 256 → limits_of_ports room.ports.items ≡ client_limits setup.now.config (length scripts.now)) }
 {
     let Ok(second) = SecondWorld::new(alloc, setup) else {

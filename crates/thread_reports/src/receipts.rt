@@ -1,5 +1,6 @@
 //! What a client received.
-ghost use Rattle.std.specs.Prelude.{◌≡◌, ◌+◌, ◌<◌, ◌≤◌, ◌∷◌, ◌++◌, [], length, take, drop, slice_get, Some, true, false, IfOk};
+ghost use Rattle.std.specs.Prelude.{◌≡◌, ◌⊎◌, ◌+◌, ◌<◌, ◌≤◌, ◌∷◌, ◌++◌, [], length, take, drop, slice_get, Some, true, false, IfOk};
+ghost use Rattle.std.specs.Vec.{vec_capacity, vec_len};
 ghost use Rattle.thread_reports.specs.Replays.{HasReceipt};
 
 use std::alloc::{AllocError, Global};
@@ -19,6 +20,7 @@ impl Receipts {
     pub fn new(alloc: Global, replies: usize, beats: usize) -> Result<Receipts, AllocError>
         ensures heads { IfOk result (λ receipts. receipts.heads.items ≡ []) }
         ensures beats { IfOk result (λ receipts. receipts.beats.items ≡ []) }
+        ensures room { IfOk result (λ receipts. (replies ≤ vec_capacity receipts.heads) × (beats ≤ vec_capacity receipts.beats)) }
     {
         let heads = Vec::with_capacity(alloc, replies)?;
         let beats = Vec::with_capacity(alloc, beats)?;
@@ -30,6 +32,7 @@ impl Receipts {
         ensures head { result ≡ true → self.new.heads.items ≡ self.old.heads.items ++ (number, length reply.now) ∷ [] }
         ensures beats { result ≡ true → self.new.beats.items ≡ self.old.beats.items ++ reply.now }
         ensures kept { result ≡ false → (self.new.heads.items ≡ self.old.heads.items) × (self.new.beats.items ≡ self.old.beats.items) }
+        ensures full { result ≡ false → (vec_capacity self.old.heads ≤ vec_len self.old.heads) ⊎ (vec_capacity self.old.beats < vec_len self.old.beats + length reply.now) }
     {
         if self.heads.len() >= self.heads.capacity() {
             return false;
