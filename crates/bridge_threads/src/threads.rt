@@ -1,5 +1,5 @@
 //! The threads, which ask the gate, lock, make a turn and let go.
-ghost use Rattle.std.specs.Prelude.{◌≡◌, ◌≢◌, ◌<◌, ◌≤◌, ◌↔◌, ℕ, List, [], length, None, Some, Ok, Err, true, false, IfOk, IfSome, IsTrue};
+ghost use Rattle.std.specs.Prelude.{◌≡◌, ◌≢◌, ◌⊎◌, ◌<◌, ◌≤◌, ◌↔◌, ℕ, List, [], length, None, Some, Ok, Err, true, false, IfOk, IfSome, IsTrue};
 ghost use Rattle.tl_checker.specs.Ports.{opening_port};
 ghost use Rattle.tl_checker.specs.declared.TlRule.{TlRule};
 ghost use Rattle.tl_checker.specs.declared.TlRule.TheVariants.{SourceBusy};
@@ -9,7 +9,7 @@ ghost use Rattle.world_run.specs.Runs.{answers_of, handed_in, sent_in};
 ghost use Rattle.world.specs.Setups.{SetupLists, lists_of, setup_fault};
 ghost use Rattle.world.specs.World.{byte_of, in_flight, opening_world};
 ghost use Rattle.world.specs.declared.Step.{Step};
-ghost use Rattle.bridge_threads.specs.Faults.{is_of_worker};
+ghost use Rattle.bridge_threads.specs.Faults.{IsConfirmed, IsTold, first_of, is_of_worker};
 ghost use Rattle.bridge_threads.specs.RefusedBeats.{IsRefusedBeat, client_limits, limits_of_ports};
 ghost use Rattle.bridge_threads.specs.SharedStates.{opening_shared};
 ghost use Rattle.thread_reports.specs.FullHistories.{IsFullHistory};
@@ -417,6 +417,7 @@ fn confirmed(
     ensures own { IfOk result (λ told. is_of_worker told ≡ true) }
     ensures shut { fault ≡ met.GateShut → result ≡ Ok GateShut }
     ensures idle { fault ≡ met.IdleLimit → result ≡ Ok IdleLimit }
+    ensures told { IsConfirmed full worker fault result }
     ensures full { result ≡ Ok HistoryFull → full ≡ true }
     ensures beat { (setup : SetupLists) (clients client index : ℕ) (rule : TlRule) → limits_of_ports ports.old.items ≡ client_limits setup.config clients → clients ≤ 256 → result ≡ Ok (BeatRefused client index rule) → IsRefusedBeat setup (items_of scripts.now) client index rule }
     ensures limits { limits_of_ports ports.new.items ≡ limits_of_ports ports.old.items }
@@ -444,6 +445,16 @@ fn confirmed(
     }
 }
 
+/// The first of two faults, the first of which may be missing.
+fn first_of(first: Option<Fault>, later: Fault) -> Option<Fault>
+    ensures { result ≡ first_of first later }
+{
+    match first {
+        Some(_) => first,
+        None => Some(later),
+    }
+}
+
 /// The fault to tell of the workers': the first that holds, else the first that doesn't, as fault 8; none where none met one.
 fn told(
     faults: &[Option<WorkerFault>],
@@ -451,6 +462,7 @@ fn told(
     scripts: &[Vec<ABeat>],
     full: bool,
 ) -> Option<Fault>
+    ensures first { IsTold full 0 faults.now None result }
     ensures own { IfSome result (λ told. is_of_worker told ≡ true) }
     ensures full { result ≡ Some HistoryFull → full ≡ true }
     ensures beat { (setup : SetupLists) (clients client index : ℕ) (rule : TlRule) → limits_of_ports ports.old.items ≡ client_limits setup.config clients → clients ≤ 256 → result ≡ Some (BeatRefused client index rule) → IsRefusedBeat setup (items_of scripts.now) client index rule }
@@ -462,11 +474,7 @@ fn told(
         };
         match confirmed(fault, worker, ports, scripts, full) {
             Ok(fault) => return Some(fault),
-            Err(mismatch) => {
-                if late.is_none() {
-                    late = Some(mismatched(mismatch));
-                }
-            }
+            Err(mismatch) => late = first_of(late, mismatched(mismatch)),
         }
     }
     late
@@ -489,6 +497,7 @@ fn told_at_full(
     scripts: &[Vec<ABeat>],
     full: bool,
 ) -> Fault
+    ensures first { IsTold full 0 faults.now None (Some result) ⊎ (IsTold full 0 faults.now None None × (result ≡ ReceiptMismatch 0 0)) }
     ensures own { is_of_worker result ≡ true }
     ensures full { result ≡ HistoryFull → full ≡ true }
     ensures beat { (setup : SetupLists) (clients client index : ℕ) (rule : TlRule) → limits_of_ports ports.old.items ≡ client_limits setup.config clients → clients ≤ 256 → result ≡ BeatRefused client index rule → IsRefusedBeat setup (items_of scripts.now) client index rule }
