@@ -1,5 +1,5 @@
 -- What is asked is fit to be run, so that its run isn't refused.
-use Rattle.std.proofs.Common.{◌≡◌, ◌≢◌, ◌∙◌, ◌≤◌, ℕ, List, Bool, false, true, Ok, Err, None, Some, Option, Result, take, refl, sym, rules}
+use Rattle.std.proofs.Common.{◌≡◌, ◌≢◌, ◌∙◌, ◌≤◌, ℕ, List, false, true, Ok, Err, None, Some, Result, take, refl, sym, rules}
 use Rattle.std.proofs.lemmas.Bool.{false≢true}
 use Rattle.std.specs.Prelude.{IfErr}
 use Rattle.std.specs.Result.{result_map_both}
