@@ -1,5 +1,10 @@
 //! The table of live requests: which of them may send, and what it shows of them.
-ghost use Rattle.std.specs.Prelude.{◌≡◌, ◌≤◌};
+ghost use Rattle.std.specs.Prelude.{◌≡◌, ◌<◌, ◌≤◌, false, IfSome, IsSome, IsSomeAnd, IsTrue};
+ghost use Rattle.flight_table.specs.Order.{is_ready};
+ghost use Rattle.flight_table.specs.Tables.{request_at, table_of};
+
+mod histories;
+mod plain;
 
 use super::same;
 use burst_plan::Plan;
@@ -338,9 +343,47 @@ fn cases(rt: HostRuntime) -> Result<(), Fail> {
     Ok(())
 }
 
-/// Of a table of eight Puts or Gets of each of eight clients, all of the same bytes, how many are held back by all before
-/// them.
-fn held_in_order(alloc: Global, is_put: bool) -> Result<u8, AllocError> {
+/// Whether a live request has a smaller number than each that may send: so it may not.
+fn is_before_ready(flight: &Flight, key: Key) -> bool
+    requires { IsSome (request_at key flight.now) }
+    ensures { IsTrue result → IfSome (request_at key flight.now) (λ request. is_ready (table_of flight.now) request ≡ false) }
+{
+    let Some(first) = flight.next_ready() else {
+        return true;
+    };
+    flight.number(key) < flight.number(first)
+}
+
+/// The request that holds an ID, where it is seen of it that one of its bursts is unanswered: it isn't settled, and may not
+/// send.
+fn open_of(flight: &Flight, id: u8) -> Option<Key>
+    ensures { IfSome result (λ key. IsSomeAnd (request_at key flight.now) (λ request. request.answered < request.sent)) }
+{
+    let key = flight.of_id(id)?;
+    if flight.is_settled(key) || !is_before_ready(flight, key) {
+        return None;
+    }
+    Some(key)
+}
+
+/// The burst of a request is answered, which is its only one, and the request is done; it holds the ID.
+fn ends(flight: &mut Flight, number: u64, id: u8) -> bool {
+    let Some(key) = open_of(flight, id) else {
+        return false;
+    };
+    flight.answered(key);
+    let Some(key) = flight.key_of(number) else {
+        return false;
+    };
+    if !flight.is_settled(key) {
+        return false;
+    }
+    flight.finished(key);
+    true
+}
+
+/// A table of eight Puts or Gets of each of eight clients, all of the same bytes.
+fn full(alloc: Global, is_put: bool) -> Result<Flight, AllocError> {
     let mut asked = [(Put(0, 3, 0, 0), Usual); 64];
     for number in 0..64u8 {
         let (client, source) = (number / 8, number % 8);
@@ -350,22 +393,31 @@ fn held_in_order(alloc: Global, is_put: bool) -> Result<u8, AllocError> {
             Get(client, 3, source, 0)
         };
     }
-    let flight = filled(alloc, 8, &asked)?;
+    filled(alloc, 8, &asked)
+}
+
+/// How many of the 64 from a number on are held back by all from there to them, or by none.
+fn held(flight: &Flight, first: u8, by_all: bool) -> u8 {
     let mut count = 0u8;
-    for number in 0..64u8 {
-        count = count.saturating_add(u8::from(held_by(&flight, u64::from(number)) == Some(number)));
+    for number in first..64 {
+        let wanted = if by_all { number - first } else { 0 };
+        let is_wanted = held_by(flight, u64::from(number)) == Some(wanted);
+        count = count.saturating_add(u8::from(is_wanted));
     }
-    Ok(count)
+    count
 }
 
 #[test]
 fn puts_are_held_by_those_before(rt: HostRuntime) -> Result<(), Fail> {
-    same(&rt, "Puts", held_in_order(rt.alloc(), true)?, 64);
-    same(
-        &rt,
-        "Gets, but the first",
-        held_in_order(rt.alloc(), false)?,
-        1,
-    );
+    let mut puts = full(rt.alloc(), true)?;
+    same(&rt, "Puts", held(&puts, 0, true), 64);
+    let first = sent(&mut puts, &[(0, true, 0x10000, 0, 0)]);
+    same(&rt, "the first goes alone", first, 2);
+    assert!(rt; ends(&mut puts, 0, 0));
+    same(&rt, "Puts behind the first", held(&puts, 1, true), 63);
+    let second = sent(&mut puts, &[(1, true, 0x10000, 0, 0)]);
+    same(&rt, "the second goes alone", second, 2);
+    let gets = full(rt.alloc(), false)?;
+    same(&rt, "Gets", held(&gets, 0, false), 64);
     Ok(())
 }
