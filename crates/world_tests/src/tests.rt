@@ -2,6 +2,7 @@ mod answers;
 mod atomics;
 mod beats;
 mod bench;
+mod bridge_bench;
 mod choices;
 mod constructors;
 mod errors;

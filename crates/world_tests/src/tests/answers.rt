@@ -1,6 +1,7 @@
 //! A bridge alone: answers that the free memory never gives, those that break a rule, which change nothing, and what a
 //! bridge counts.
 use super::bench::*;
+use super::bridge_bench::BridgeBench;
 use axi_checker::AxiRule;
 
 const SCRIPTS: &[Script] = &[
@@ -41,6 +42,22 @@ const SCRIPTS: &[Script] = &[
             Shows(2, 1, 4, 0, false),
             Payload(0, 1, false),
             Payload(1, 2, false),
+        ],
+    },
+    Script {
+        name: "EXOKAY in a Get of two bursts is refused",
+        lists: PLAIN,
+        events: &[
+            Offer(0, Get(8, 0, 0), Accepted(0)),
+            Read(0, 0, 0x10000, 15, 3),
+            Read(1, 0, 0x10080, 15, 3),
+            R(0, 0, Okay),
+            Work(62),
+            WrongR(0, ExOkay, false, AxiRule::ExOkay),
+            Work(62),
+            ZeroReads(0, 14),
+            LastR(0, 0, Okay),
+            Work(32),
         ],
     },
     Script {

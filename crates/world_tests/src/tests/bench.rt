@@ -1,8 +1,8 @@
-//! The bench: the usual set-ups, and one language of events that drives a world, or a bridge alone.
+//! The bench: the usual set-ups, and one language of events that drives a world, or a bridge alone (`bridge_bench`).
 use axi_beats::{ArBeat, AwBeat, BBeat, BurstBox, RBeat, Resp, WBeat};
 use axi_checker::AxiRule;
-use bridge_core::{Bridge, Config, Offered, Taken};
-use burst_plan::{PageMap, Region};
+use bridge_core::Config;
+use burst_plan::Region;
 use std::alloc::Global;
 use subordinate::PageKind;
 use tl_checker::Level;
@@ -184,6 +184,7 @@ pub(crate) enum Event {
     /// The work that is left; a bridge alone counts each beat as unperformed until its answer has come.
     Work(u64),
 
+    // A bridge alone passes over these, up to the drain.
     /// The memory performs a beat of the burst with a serial.
     Perform(u64, u16, Answer),
     /// It performs so many beats of a burst, from the first on.
@@ -204,7 +205,7 @@ pub(crate) enum Event {
     Choices(u32),
     /// One of these steps.
     Choose(u32, Step),
-    /// A drain, and how many steps it makes.
+    /// A drain, and how many steps it makes. A bridge alone has its reads answered with zeros.
     Drain(u64),
 
     /// A bridge alone is handed a B, and refuses it by this rule.
@@ -332,7 +333,7 @@ fn reads_zeros<D: Driven>(driven: &mut D, id: u8, beats: u16) -> bool {
 }
 
 /// Whether a box holds the burst that an event tells of.
-fn holds(burst: &BurstBox, event: Event) -> bool {
+pub(crate) fn holds(burst: &BurstBox, event: Event) -> bool {
     match event {
         Read(_, id, address, len, size) | Shown(id, address, len, size) => {
             !burst.is_empty()
@@ -363,7 +364,7 @@ fn holds(burst: &BurstBox, event: Event) -> bool {
 }
 
 /// Whether W beat `k` of a box is this; it is the last just where it should be.
-fn holds_data(burst: &BurstBox, k: u16, payload: u64, strobes: u8) -> bool {
+pub(crate) fn holds_data(burst: &BurstBox, k: u16, payload: u64, strobes: u8) -> bool {
     if !burst.is_write() || k >= burst.w_beats() {
         return false;
     }
@@ -377,7 +378,7 @@ fn holds_data(burst: &BurstBox, k: u16, payload: u64, strobes: u8) -> bool {
 }
 
 /// The R beat that an event tells of.
-const fn r_beat(id: u8, payload: u64, resp: Resp, last: bool) -> RBeat {
+pub(crate) const fn r_beat(id: u8, payload: u64, resp: Resp, last: bool) -> RBeat {
     RBeat {
         id,
         payload,
@@ -414,7 +415,7 @@ fn has_payload(reply: &ReplyBox, k: u16, payload: u64, corrupt: bool) -> bool {
 }
 
 /// Whether a reply is as an event tells.
-fn is_replied(reply: &ReplyBox, event: Event) -> bool {
+pub(crate) fn is_replied(reply: &ReplyBox, event: Event) -> bool {
     match event {
         Shows(beats, opcode, size, source, denied) => {
             let fields = DBeat {
@@ -516,116 +517,6 @@ impl WorldBench {
             Choices(count) => self.world.choices() == count,
             Choose(k, step) => k < self.world.choices() && self.world.choose(k) == step,
             Drain(made) => self.world.drain() == made,
-            _ => is_replied(&self.reply, event),
-        }
-    }
-}
-
-/// A bridge alone, the burst that it sent last, how many it sent, and the reply that was taken last.
-#[derive(Drop)]
-pub(crate) struct BridgeBench {
-    bridge: Bridge,
-    burst: Option<BurstBox>,
-    sent: u64,
-    reply: ReplyBox,
-}
-
-/// A bridge's answer to a beat, as a world gives it.
-fn offered(answer: Offered) -> Answer {
-    match answer {
-        Offered::NoClient => NoClient,
-        Offered::Refused(rule) => Refused(rule),
-        Offered::NotReady => NotReady,
-        Offered::Exhausted => Answer::Exhausted,
-        Offered::More => More,
-        Offered::Accepted(number) => Accepted(number),
-    }
-}
-
-/// A bridge's answer to a client that asks for a reply, as a world gives it.
-fn taken(answer: Taken) -> Answer {
-    match answer {
-        Taken::NoClient => NoClient,
-        Taken::Nothing => Nothing,
-        Taken::Reply(number) => Reply(number),
-    }
-}
-
-impl Driven for BridgeBench {
-    fn fresh(alloc: Global, lists: Lists) -> Option<BridgeBench> {
-        let setup = set_up(lists)?;
-        let map = PageMap::new(alloc, setup.regions.as_slice()).ok()?;
-        let bridge = Bridge::new(alloc, setup.config, map).ok()?;
-        let reply = ReplyBox::new(alloc).ok()?;
-        Some(BridgeBench {
-            bridge,
-            burst: None,
-            sent: 0,
-            reply,
-        })
-    }
-
-    fn carries(&mut self, event: Event) -> bool {
-        match event {
-            Offer(client, beat, answer) => {
-                offered(self.bridge.offer(client, &a_beat(beat))) == answer
-            }
-            Read(serial, _, _, _, _) | Write(serial, _, _, _, _) => {
-                self.sends(serial) && self.has_sent(event)
-            }
-            B(id, resp) => self.bridge.on_b(&BBeat { id, resp }).is_ok(),
-            R(id, payload, resp) => self.bridge.on_r(&r_beat(id, payload, resp, false)).is_ok(),
-            LastR(id, payload, resp) => {
-                self.bridge.on_r(&r_beat(id, payload, resp, true)).is_ok()
-            }
-            WrongB(id, resp, rule) => { self.bridge.on_b(&BBeat { id, resp }) == Err(rule) }
-            WrongR(id, resp, last, rule) => {
-                self.bridge.on_r(&r_beat(id, 9, resp, last)) == Err(rule)
-            }
-            Take(client, answer) => { taken(self.bridge.take(client, &mut self.reply)) == answer }
-            _ => self.sees(event),
-        }
-    }
-}
-
-impl BridgeBench {
-    /// Whether a burst goes, and so many went before it; it is kept.
-    fn sends(&mut self, serial: u64) -> bool {
-        if self.sent != serial || !self.bridge.can_pump() || self.bridge.stock() == 0 {
-            return false;
-        }
-        self.burst = self.bridge.pump_box();
-        self.sent = self.sent.wrapping_add(1);
-        true
-    }
-
-    /// Whether the burst that went last is the one that an event tells of.
-    fn has_sent(&self, event: Event) -> bool {
-        match &self.burst {
-            Some(burst) => holds(burst, event),
-            None => false,
-        }
-    }
-
-    /// Whether no burst goes.
-    fn is_idle(&mut self) -> bool {
-        !self.bridge.can_pump() && self.bridge.pump_box().is_none()
-    }
-
-    /// Whether the bridge shows what an event tells.
-    fn sees(&mut self, event: Event) -> bool {
-        match event {
-            Data(k, payload, strobes) => match &self.burst {
-                Some(burst) => holds_data(burst, k, payload, strobes),
-                None => false,
-            },
-            Idle => self.is_idle(),
-            FirstDone(client, done) => self.bridge.first_done(client) == done,
-            InFlight(count) => self.bridge.in_flight() == count,
-            Work(work) => self.bridge.work_left() == work,
-            CanPump(can) => self.bridge.can_pump() == can,
-            Unsent(work) => self.bridge.unsent_work() == work,
-            Stock(count) => self.bridge.stock() == count,
             _ => is_replied(&self.reply, event),
         }
     }

@@ -135,6 +135,7 @@ const SCRIPTS: &[&[Script]] = &[
     choices::SCRIPTS,
     atomics::SCRIPTS,
     errors::SCRIPTS,
+    errors::DENIED,
     narrow::SCRIPTS,
 ];
 

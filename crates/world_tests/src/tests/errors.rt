@@ -1,5 +1,6 @@
 //! Pages and words that answer with errors, and requests that are denied at once.
 use super::bench::*;
+use super::bridge_bench::BridgeBench;
 use burst_plan::Region;
 use subordinate::PageKind;
 use tl_checker::TlRule;
@@ -194,6 +195,10 @@ pub(crate) const SCRIPTS: &[Script] = &[
             Payload(0, 0, true),
         ],
     },
+];
+
+/// Requests that send nothing.
+pub(crate) const DENIED: &[Script] = &[
     Script {
         name: "corrupt requests are denied, and Intents answered",
         lists: PLAIN,
@@ -246,6 +251,8 @@ pub(crate) const SCRIPTS: &[Script] = &[
 #[test]
 fn scripts(rt: HostRuntime) {
     assert_eq!(rt; failing::<WorldBench>(rt.alloc(), SCRIPTS), None);
+    assert_eq!(rt; failing::<WorldBench>(rt.alloc(), DENIED), None);
+    assert_eq!(rt; failing::<BridgeBench>(rt.alloc(), DENIED), None);
 }
 
 /// A region that permits nothing.

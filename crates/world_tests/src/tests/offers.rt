@@ -1,5 +1,6 @@
 //! Beats that aren't taken.
 use super::bench::*;
+use super::bridge_bench::BridgeBench;
 use tl_checker::{Level, TlRule};
 
 /// One live request of each client.
@@ -81,6 +82,7 @@ pub(crate) const SCRIPTS: &[Script] = &[
 #[test]
 fn scripts(rt: HostRuntime) {
     assert_eq!(rt; failing::<WorldBench>(rt.alloc(), SCRIPTS), None);
+    assert_eq!(rt; failing::<BridgeBench>(rt.alloc(), SCRIPTS), None);
 }
 
 /// Client 0 is at TL-UL, client 1 at TL-UH.
@@ -130,6 +132,12 @@ fn beats_that_break_a_rule_change_nothing(rt: HostRuntime) {
         let events = refused(*client, *beat, *rule);
         let done = carried::<WorldBench>(rt.alloc(), TWO_LEVELS, &events);
         assert_eq!(rt; done, Some(events.len()), "{client} {beat:?}");
+        let done = carried::<BridgeBench>(rt.alloc(), TWO_LEVELS, &events);
+        assert_eq!(rt;
+            done,
+            Some(events.len()),
+            "{client} {beat:?}, a bridge alone"
+        );
     }
 }
 

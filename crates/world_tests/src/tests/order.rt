@@ -1,5 +1,6 @@
 //! Requests that wait for others, and requests that don't.
 use super::bench::*;
+use super::bridge_bench::BridgeBench;
 
 /// Bursts of at most two transfers.
 const SHORT: Lists = Lists {
@@ -224,4 +225,5 @@ pub(crate) const SCRIPTS: &[Script] = &[
 #[test]
 fn scripts(rt: HostRuntime) {
     assert_eq!(rt; failing::<WorldBench>(rt.alloc(), SCRIPTS), None);
+    assert_eq!(rt; failing::<BridgeBench>(rt.alloc(), SCRIPTS), None);
 }
