@@ -184,7 +184,7 @@ pub(crate) enum Event {
     /// The work that is left; a bridge alone counts each beat as unperformed until its answer has come.
     Work(u64),
 
-    // A bridge alone passes over these, up to the drain.
+    // These are for a world. A bridge alone passes over `Perform`, `NoR`, `Word` and `Choices`, and plays the drain.
     /// The memory performs a beat of the burst with a serial.
     Perform(u64, u16, Answer),
     /// It performs so many beats of a burst, from the first on.
