@@ -1,7 +1,7 @@
 //! A script of `tlbridge run`: what its commands do to a world, and what they write.
-ghost use Rattle.std.specs.Prelude.{◌≡◌, OnOk};
+ghost use Rattle.std.specs.Prelude.{◌≡◌, OnOk, if◌then◌else◌};
 ghost use Rattle.std.specs.Io.KnownBytes.{Appends};
-ghost use Rattle.world.specs.World.{next};
+ghost use Rattle.world.specs.World.{is_reply, next};
 ghost use Rattle.script_text.specs.Scripts.{EndsAs, text_of, text_before_failure};
 ghost use Rattle.script_text.specs.Stages.{Opening};
 ghost use Rattle.run_script.specs.Run.{before_answer, commanded, event_text, run_reading};
@@ -32,6 +32,16 @@ fn offered_beat<W: Write>(step: &Step, writer: &mut W) -> Result<(), WriteFault>
     }
 }
 
+/// Makes a step. It is apart for the prover: what is written rests on this alone of what a world promises of a step.
+#[inline(always)]
+fn made(world: &mut World, step: &Step, reply: &mut ReplyBox) -> Answer
+    ensures answer { result ≡ (next world.old step.now).answer }
+    ensures state { world.new ≡ (next world.old step.now).state }
+    ensures reply { reply.new ≡ (if is_reply result then (next world.old step.now).reply else reply.old) }
+{
+    world.step(step, reply)
+}
+
 /// Carries out an event and writes what it gave: the beat that was offered, the answer, and the burst that was sent or
 /// the reply.
 fn event<W: Write>(
@@ -44,7 +54,7 @@ fn event<W: Write>(
     ensures state { OnOk result (world.new ≡ (next world.old step.now).state) }
 {
     offered_beat(step, writer)?;
-    let answer = world.step(step, reply);
+    let answer = made(world, step, reply);
     answer_line(&answer, writer)?;
     match (step, &answer) {
         (Step::Pump, Answer::Sent(_)) => burst_lines(world.last_burst(), writer),
