@@ -36,7 +36,7 @@ Numbers are natural numbers without a bound, lists are lists, and `Option` is Ru
 | capture | keep a read beat's bytes and response, as they are when it is performed, until its R |
 | gather | collect what the memory's answers say of one reply |
 | outline | what a reply needs of its request: what was asked, by which source, and of which bytes |
-| carried out | of a request: all of its effect at once, reply and bytes, atomically, as `meaning` of world_run has it; of a script's line: what it asks for is done, and its text is written |
+| carried out | of a request: all of its effect at once, reply and bytes, atomically, as `meaning` of the crate meaning has it; of a script's line: what it asks for is done, and its text is written |
 | box, stock | a box has the room for one burst, or one reply, and is made once; those that the bridge holds are its stock |
 | serial | the number of a burst among all that were sent, reads and writes together, from 0 |
 | set-up, world, step | a set-up has the limits of the bridge, its regions, and the memory's pages and bad words; a world is a bridge and a memory that were made of one; a step, or event, is one thing that happens to a world |
@@ -74,7 +74,7 @@ STATEMENTS = (
         "`world_run::run`, clause `one_at_a_time`.",
         (
             ("world_run", "Headline", "IsOneAtATime"),
-            ("world", "Setups", "lists_of"),
+            ("setups", "Setups", "lists_of"),
             ("world_run", "Runs", "handed_of"),
             ("world", "World", "in_flight"),
             ("world", "World", "byte_of"),
@@ -88,8 +88,8 @@ STATEMENTS = (
             ("world_run", "InOrder", "KeepsOrder"),
             ("world_run", "InOrder", "IsForeseen"),
             ("world_run", "Serial", "Order"),
-            ("world", "Setups", "faults_of"),
-            ("world", "Setups", "lists_of"),
+            ("setups", "Setups", "faults_of"),
+            ("setups", "Setups", "lists_of"),
         ),
     ),
     ("What `drain` does", "`world::World::drain`, clause `drains`.", (("world", "Laws", "IsDrained"),)),
@@ -123,8 +123,8 @@ STATEMENTS = (
     ),
     (
         "What is seen of a run",
-        "`scoreboard::observed`, clause `shows`; clause `right` says that it is right, as above.",
-        (("scoreboard", "SeenRuns", "observed"),),
+        "`observed_run::observed`, clause `shows`; clause `right` says that it is right, as above.",
+        (("observed_run", "SeenRuns", "observed"),),
     ),
     (
         "What the scoreboard says",

@@ -16,9 +16,9 @@ use Rattle.flight_table.specs.Laws.{IsSoundRequest}
 use Rattle.flight_table.specs.LiveRequests.{LiveRequest, bursts_of, phase_pieces, planned, read_pieces, with_answered}
 use Rattle.flight_table.proofs.PhaseLaws.{read_at}
 use Rattle.bridge_core.specs.Bridge.{BridgeState, b_fault, r_fault}
-use Rattle.bridge_core.specs.Configs.{axi_port_of, table_limits_of}
+use Rattle.config.specs.Configs.{axi_port_of}
+use Rattle.bridge_core.specs.HeldRequests.{table_limits_of, BridgedRequest, RequestTable, holder, holds, outline_in}
 use Rattle.bridge_core.specs.Laws.{IsPartWay, IsServed, IsSoundBridge, IsSoundRequestTable, answered_pieces, beats_in, came_of, came_of_next, open_read, open_reads, open_writes, outstanding, outstanding_of}
-use Rattle.bridge_core.specs.HeldRequests.{BridgedRequest, RequestTable, holder, holds, outline_in}
 use Rattle.responses.specs.Gathered.{reads_of}
 use Rattle.bridge_core.proofs.NextSending.{present}
 use Rattle.bridge_core.proofs.ReadCounts.{reads_counted}

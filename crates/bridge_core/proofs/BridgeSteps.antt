@@ -19,10 +19,10 @@ use Rattle.axi_beats.specs.Bursts.{Burst}
 use Rattle.tl_checker.specs.Ports.{PortState}
 use Rattle.axi_checker.specs.declared.AxiRule.{AxiRule}
 use Rattle.bridge_core.specs.Bridge.{BridgeState, StockedBridge, after_b_beat, after_pump, after_r_beat, after_sent, after_take, b_fault, boxes_of, front_of, r_fault}
-use Rattle.bridge_core.specs.Configs.{axi_port_of}
+use Rattle.config.specs.Configs.{axi_port_of}
 use Rattle.bridge_core.specs.Inside.{ArePorts, AwaitsAnswer, AwaitsBeat, bridge_kept}
 use Rattle.bridge_core.specs.Sending.{Sending, next_sending}
-use Rattle.bridge_core.specs.declared.Config.{Config}
+use Rattle.config.specs.declared.Config.{Config}
 use Rattle.bridge_core.proofs.AnswerLinks.{answered_reader, answered_writer}
 use Rattle.bridge_core.proofs.ReadLinks.{linked_read}
 use Rattle.bridge_core.proofs.ResponseLinks.{filled_response, linked_response}

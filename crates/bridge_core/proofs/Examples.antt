@@ -15,9 +15,9 @@ use Rattle.axi_checker.specs.declared.AxiRule.{AxiRule}
 use Rattle.axi_checker.specs.declared.AxiRule.TheVariants.{IdRange, BWithoutWrite, RWithoutRead, RLast, ExOkay}
 use Rattle.burst_plan.specs.declared.Region.{Region}
 use Rattle.bridge_core.specs.Bridge.{BridgeState, after_b_beat, after_pump, after_r_beat, after_take, b_fault, boxes_of, burst_to_send, in_flight, offered, opening_bridge, opening_state, r_fault, reply_taken, taken, work_left}
-use Rattle.bridge_core.specs.Configs.{is_valid, port_of}
+use Rattle.config.specs.Configs.{is_valid, port_of}
 use Rattle.bridge_core.specs.HeldRequests.{reply_beats}
-use Rattle.bridge_core.specs.declared.Config.{Config}
+use Rattle.config.specs.declared.Config.{Config}
 use Rattle.bridge_core.specs.declared.Offered.{Offered}
 use Rattle.bridge_core.specs.declared.Offered.TheVariants as offer
 use Rattle.bridge_core.specs.declared.Taken.TheVariants as take

@@ -6,17 +6,17 @@ use Rattle.flight_table.specs.Laws.{IsSound, AreLimits}
 use Rattle.flight_table.specs.Tables.{KeyedRequest, KeyedTable, is_done_of, request_at, without_key, with_entry}
 use Rattle.bridge_core.specs.Inside.{IsFirstAt, IsKept, KeptTable, bridged, held_in, joined, shown_table, HeldRequest}
 use Rattle.bridge_core.specs.Laws.{IsServed, IsSoundRequestTable}
-use Rattle.bridge_core.specs.HeldRequests.{BridgedRequest, RequestTable, is_done_for, without_done, address_of, newly_live, range_at, range_of}
+use Rattle.bridge_core.specs.HeldRequests.{BridgedRequest, RequestTable, is_done_for, without_done, newly_live, range_at, range_of, table_limits_of}
+use Rattle.burst_plan.specs.PageMap.{address_of, IsPageMap}
 use Rattle.bridge_core.proofs.TableSteps.{without_by_key, without_joined, added_joined, all-held, kept_put, Shows, shows}
 use Rattle.tl_messages.specs.Requests.{HeldMessage, request_of}
 use Rattle.tl_checker.specs.Sound as checker
-use Rattle.burst_plan.specs.PageMap.{IsPageMap}
 use Rattle.burst_plan.specs.Pieces.{PlannedRange}
 use Rattle.flight_table.specs.LiveRequests.{flight_for}
 use Rattle.responses.specs.Gathered.{gathering_of, outline_of}
-use Rattle.bridge_core.specs.Configs.{is_valid, port_of, table_limits_of}
+use Rattle.config.specs.Configs.{is_valid, port_of}
 use Rattle.bridge_core.specs.HeldRequests as requests
-use Rattle.bridge_core.specs.declared.Config.{Config}
+use Rattle.config.specs.declared.Config.{Config}
 use Rattle.bridge_core.proofs.ReadCounts.{config_parts}
 use Rattle.bridge_core.proofs.ServedRequests.{served_new}
 

@@ -12,9 +12,8 @@ use Rattle.flight_table.specs.Laws.{IsSoundRequest}
 use Rattle.flight_table.specs.LiveRequests.{next_burst, planned}
 use Rattle.flight_table.specs.Order.{id_for}
 use Rattle.flight_table.proofs.Steps.{IsReady, ready_parts}
-use Rattle.bridge_core.specs.Configs.{table_limits_of}
+use Rattle.bridge_core.specs.HeldRequests.{table_limits_of, BridgedRequest, RequestTable, flight_table_of, flights_of, may_send}
 use Rattle.bridge_core.specs.Laws.{IsServed, IsSoundRequestTable}
-use Rattle.bridge_core.specs.HeldRequests.{BridgedRequest, RequestTable, flight_table_of, flights_of, may_send}
 use Rattle.bridge_core.specs.Sending.{Sending, burst_for, burst_of_piece, next_sending, sending_of}
 use Rattle.bridge_core.proofs.SendingLinks.{sound_requests}
 

@@ -26,7 +26,7 @@ use Rattle.bridge_core.specs.declared.Offered.TheVariants as offer
 use Rattle.bridge_core.proofs.BridgeSteps.{state_in, free_accepted}
 use Rattle.bridge_core.proofs.PortPlaces.{IsPort, are_ports_set, port_at}
 use Rattle.bridge_core.proofs.SendingLinks.{linked_accepted}
-use Rattle.bridge_core.specs.declared.Config.{Config}
+use Rattle.config.specs.declared.Config.{Config}
 
 -- ---- what is asked of the client's port
 

@@ -9,11 +9,11 @@ use Rattle.tl_checker.specs.Ports.{PortState, opening_port}
 use Rattle.burst_plan.specs.declared.Region.{Region}
 use Rattle.axi_checker.specs.OpenBursts.{OpenBursts, nothing_open}
 use Rattle.bridge_core.specs.Bridge.{boxes_of, opening_bridge, opening_requests, opening_state}
-use Rattle.bridge_core.specs.Configs.{is_valid, port_of}
+use Rattle.config.specs.Configs.{is_valid, port_of}
 use Rattle.bridge_core.specs.Inside.{ArePorts, ArePortsFrom, bridge_kept, ports_from}
 use Rattle.bridge_core.specs.Laws.{IsSoundBridge}
 use Rattle.bridge_core.specs.HeldRequests.{RequestTable}
-use Rattle.bridge_core.specs.declared.Config.{Config}
+use Rattle.config.specs.declared.Config.{Config}
 
 pub are_ports_from : (config : Config) (first count : ℕ) → ArePortsFrom config first (ports_from config first count)
 are_ports_from config first zero = tt

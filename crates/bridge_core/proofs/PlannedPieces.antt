@@ -16,10 +16,10 @@ use Rattle.burst_plan.specs.declared.Region.{Region}
 use Rattle.burst_plan.proofs.PieceLaws.{divides_evenly, length-pieces}
 use Rattle.burst_plan.proofs.PlanLaws.{some_bursts}
 use Rattle.flight_table.specs.LiveRequests.{LiveRequest, reads_then_writes, plan_for, read_pieces, write_pieces}
-use Rattle.bridge_core.specs.Configs.{is_valid, port_of}
+use Rattle.config.specs.Configs.{is_valid, port_of}
 use Rattle.bridge_core.specs.Laws.{IsOfMessage}
 use Rattle.bridge_core.specs.HeldRequests.{BridgedRequest, range_of}
-use Rattle.bridge_core.specs.declared.Config.{Config}
+use Rattle.config.specs.declared.Config.{Config}
 use Rattle.bridge_core.proofs.NextSending.{present}
 use Rattle.bridge_core.proofs.ReadCounts.{config_parts, itself, plannable, range_known}
 

@@ -3,9 +3,9 @@ use Rattle.std.proofs.Common.{◌≡◌, ℕ, ◌+◌, ◌<◌, List, [], ◌∷
 use Rattle.std.proofs.lemmas.List.{length-set}
 use Rattle.std.specs.Prelude.{slice_get, slice_set}
 use Rattle.tl_checker.specs.Ports.{PortState}
-use Rattle.bridge_core.specs.Configs.{port_of}
+use Rattle.config.specs.Configs.{port_of}
 use Rattle.bridge_core.specs.Inside.{ArePorts, ArePortsFrom}
-use Rattle.bridge_core.specs.declared.Config.{Config}
+use Rattle.config.specs.declared.Config.{Config}
 
 -- the port of a client
 pub record IsPort (config : Config) (ports : List PortState) (client k : ℕ) : Type 0 where

@@ -11,7 +11,7 @@ use Rattle.tl_messages.specs.Requests.{HeldMessage, WholeRequest, request_of}
 use Rattle.tl_messages.specs.declared.Operation.{Operation}
 use Rattle.tl_checker.specs.Sound.{IsSound}
 use Rattle.axi_beats.specs.Transfers.{IsBusWidth}
-use Rattle.burst_plan.specs.PageMap.{IsPageMap, LeadsTo, translated_address}
+use Rattle.burst_plan.specs.PageMap.{IsPageMap, LeadsTo, translated_address, address_of}
 use Rattle.burst_plan.specs.Pieces.{IsPlannable, PlannedRange, beat_size, is_max_len, pieces}
 use Rattle.burst_plan.specs.declared.Piece.{Piece}
 use Rattle.burst_plan.specs.declared.Region.{Region}
@@ -22,10 +22,10 @@ use Rattle.flight_table.specs.Laws.{AreLimits}
 use Rattle.flight_table.specs.LiveRequests.{plan_for, read_pieces}
 use Rattle.responses.specs.Gathered.{reads_of}
 use Rattle.bridge_core.specs.Bridge.{boxes_of}
-use Rattle.bridge_core.specs.Configs.{is_valid, port_of, table_limits_of}
+use Rattle.config.specs.Configs.{is_valid, port_of}
+use Rattle.bridge_core.specs.HeldRequests.{table_limits_of, BridgedRequest, outline_in, range_at, range_of}
 use Rattle.bridge_core.specs.Laws.{IsServed, beats_in}
-use Rattle.bridge_core.specs.HeldRequests.{BridgedRequest, address_of, outline_in, range_at, range_of}
-use Rattle.bridge_core.specs.declared.Config.{Config}
+use Rattle.config.specs.declared.Config.{Config}
 
 -- ---- a valid configuration
 

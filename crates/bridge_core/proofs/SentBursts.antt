@@ -9,7 +9,7 @@ use Rattle.tl_messages.specs.Requests.{HeldMessage, byte_given, bytes_given, giv
 use Rattle.tl_messages.specs.declared.MaskedWord.{MaskedWord}
 use Rattle.tl_messages.specs.declared.Operation.{Operation}
 use Rattle.tl_messages.specs.declared.Operation.TheVariants.{PutFull, PutPartial, Atomic, Get, Intent}
-use Rattle.data_unit.specs.Atomics.{atomic_result}
+use Rattle.data_unit.specs.Atomics.{atomic_result, operand_of}
 use Rattle.data_unit.specs.Words.{bytes_of}
 use Rattle.data_unit.proofs.NumberLaws.{All-bytes_of, lane_byte-lt}
 use Rattle.axi_beats.specs.Bursts.{Burst, IsLegal}
@@ -26,11 +26,11 @@ use Rattle.flight_table.specs.LiveRequests.{LiveRequest, next_burst, pieces_plan
 use Rattle.flight_table.proofs.PhaseLaws.{piece_planned}
 use Rattle.flight_table.proofs.Steps.{takes_id}
 use Rattle.bridge_core.specs.Bridge.{BridgeState}
-use Rattle.bridge_core.specs.Configs.{axi_port_of, is_valid, table_limits_of}
+use Rattle.config.specs.Configs.{axi_port_of, is_valid}
+use Rattle.bridge_core.specs.HeldRequests.{table_limits_of, BridgedRequest, RequestTable, flights_of, holder}
 use Rattle.bridge_core.specs.Laws.{IsLinked, IsServed, IsSoundBridge, IsSoundRequestTable, came_of, open_reads, open_writes, outstanding, outstanding_of}
-use Rattle.bridge_core.specs.HeldRequests.{BridgedRequest, RequestTable, flights_of, holder}
-use Rattle.bridge_core.specs.Sending.{Sending, burst_of_piece, bytes_to_write, bytes_written, next_sending, operand_of}
-use Rattle.bridge_core.specs.declared.Config.{Config}
+use Rattle.bridge_core.specs.Sending.{Sending, burst_of_piece, bytes_to_write, bytes_written, next_sending}
+use Rattle.config.specs.declared.Config.{Config}
 use Rattle.bridge_core.proofs.NextSending.{next_found, next_served, next_sound}
 use Rattle.bridge_core.proofs.ReadCounts.{config_parts, range_served}
 use Rattle.bridge_core.proofs.ReadCounts as counts

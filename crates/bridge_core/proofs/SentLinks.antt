@@ -21,9 +21,8 @@ use Rattle.flight_table.proofs.Steps.{takes_id}
 use Rattle.axi_checker.specs.OpenBursts.{OpenBursts, read_of_id, write_of_id}
 use Rattle.axi_checker.specs.Rules.{open_with_burst}
 use Rattle.bridge_core.specs.Bridge.{BridgeState, after_sent}
-use Rattle.bridge_core.specs.Configs.{table_limits_of}
+use Rattle.bridge_core.specs.HeldRequests.{table_limits_of, BridgedRequest, RequestTable, after_sending, flights_of, holder, holds, is_numbered, may_send}
 use Rattle.bridge_core.specs.Laws.{AreLinked, IsLinked, IsPartWay, IsSoundBridge, IsSoundRequestTable, came_of, came_of_next, open_reads, open_writes, outstanding, outstanding_of}
-use Rattle.bridge_core.specs.HeldRequests.{BridgedRequest, RequestTable, after_sending, flights_of, holder, holds, is_numbered, may_send}
 use Rattle.bridge_core.specs.Sending.{Sending, burst_of_piece, next_sending}
 use Rattle.bridge_core.proofs.NextSending.{IsNext, next_found, next_served, next_sound}
 use Rattle.bridge_core.proofs.ResponseLinks.{part_way-zero}

@@ -13,7 +13,7 @@ use Rattle.tl_messages.specs.declared.Operation.{Operation}
 use Rattle.tl_checker.specs.Sound.{IsSound}
 use Rattle.axi_beats.specs.declared.RBeat.{RBeat}
 use Rattle.axi_beats.specs.declared.Resp.{Resp}
-use Rattle.burst_plan.specs.PageMap.{IsPageMap}
+use Rattle.burst_plan.specs.PageMap.{IsPageMap, address_of}
 use Rattle.burst_plan.specs.Pieces.{PlannedRange, pieces}
 use Rattle.burst_plan.specs.declared.Piece.{Piece}
 use Rattle.burst_plan.specs.declared.Region.{Region}
@@ -23,10 +23,10 @@ use Rattle.flight_table.specs.declared.TableLimits.{TableLimits}
 use Rattle.flight_table.proofs.PhaseLaws.{length_bursts, length_reading, length_writing, read_at, write_at}
 use Rattle.responses.specs.Gathered.{Gathering, after_b, after_r, old_value, reads_of}
 use Rattle.responses.specs.Gathered as gathered
-use Rattle.bridge_core.specs.Configs.{is_valid, port_of}
+use Rattle.config.specs.Configs.{is_valid, port_of}
 use Rattle.bridge_core.specs.Laws.{IsOfMessage, IsPartWay, IsServed, answered_pieces, beats_in, came_of_next, outstanding}
-use Rattle.bridge_core.specs.HeldRequests.{BridgedRequest, RequestTable, address_of, after_read, after_response, after_sending, newly_live, outline_in, range_of, settled, value_found}
-use Rattle.bridge_core.specs.declared.Config.{Config}
+use Rattle.bridge_core.specs.HeldRequests.{BridgedRequest, RequestTable, after_read, after_response, after_sending, newly_live, outline_in, range_of, settled, value_found}
+use Rattle.config.specs.declared.Config.{Config}
 use Rattle.bridge_core.proofs.AnswerLinks.{answered_next}
 use Rattle.bridge_core.proofs.PlannedPieces.{HasPlan, atomic_plan, live_plan, plan_known, some_pieces}
 use Rattle.bridge_core.proofs.ResponseLinks.{part_way-zero}

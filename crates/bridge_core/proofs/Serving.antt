@@ -13,10 +13,10 @@ use Rattle.flight_table.specs.Order.{holds_id}
 use Rattle.flight_table.specs.Tables.{KeyedTable, change_key, request_at}
 use Rattle.flight_table.specs.declared.TableLimits.{TableLimits}
 use Rattle.responses.specs.Gathered.{outline_of, reads_of}
-use Rattle.bridge_core.specs.Configs.{is_valid, table_limits_of}
+use Rattle.config.specs.Configs.{is_valid}
+use Rattle.bridge_core.specs.HeldRequests.{table_limits_of, BridgedRequest, RequestTable, after_read, after_response, holder, holds, settled, value_found}
 use Rattle.bridge_core.specs.Inside.{AwaitsAnswer, AwaitsBeat, HeldRequest, IsFirstAt, IsKept, IsUndone, KeptTable, answered_flight, beat_held, bridged, held_in, responded, settled_flight, shown_table, value_held}
 use Rattle.bridge_core.specs.Laws.{IsServed, IsSoundRequestTable}
-use Rattle.bridge_core.specs.HeldRequests.{BridgedRequest, RequestTable, after_read, after_response, holder, holds, settled, value_found}
 use Rattle.bridge_core.proofs.TableSteps.{found_apart, IsChanged, IsStep, all-held, changed_table, held_at, shown_at}
 use Rattle.bridge_core.proofs.KeyChanges.{change_none}
 use Rattle.bridge_core.proofs.SendingLinks.{sound_requests}

@@ -12,7 +12,7 @@ use Rattle.bus_words.proofs.MappedPlaces.{all-mapped}
 use Rattle.flight_table.specs.Laws.{HaveOwnKeys, AreRising, IsSound}
 use Rattle.flight_table.specs.LiveRequests.{LiveRequest}
 use Rattle.flight_table.specs.Tables.{KeyedRequest, change_entry, has_key, request_in, requests_of, KeyedTable, change_key, has_number, key_where, table_of}
-use Rattle.bridge_core.specs.Configs.{is_valid}
+use Rattle.config.specs.Configs.{is_valid}
 use Rattle.bridge_core.specs.Inside.{HeldRequest, bridged, held_in, joined, nothing_held, with_held, IsFirstAt, IsKept, KeptTable, shown_table}
 use Rattle.bridge_core.specs.HeldRequests.{BridgedRequest, RequestTable, flights_of, flight_table_of}
 use Rattle.flight_table.proofs.KeyLaws.{named}

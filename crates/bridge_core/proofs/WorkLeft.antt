@@ -16,10 +16,9 @@ use Rattle.flight_table.specs.Work.{answers_of_burst, beats_of_burst, unsent, un
 use Rattle.flight_table.specs.declared.TableLimits.{TableLimits}
 use Rattle.axi_checker.specs.OpenBursts.{OpenBursts, OpenRead, OpenWrite, read_of_id, write_of_id}
 use Rattle.bridge_core.specs.Bridge.{BridgeState, answered_reads}
-use Rattle.bridge_core.specs.Configs.{table_limits_of}
+use Rattle.bridge_core.specs.HeldRequests.{table_limits_of, BridgedRequest, flight_table_of, flights_of, holder, holds}
 use Rattle.bridge_core.specs.Laws.{AreLinked, IsPartWay, IsServed, IsSoundBridge, came_of, came_of_next, open_read, open_reads, open_write, open_writes, outstanding, outstanding_of}
-use Rattle.bridge_core.specs.HeldRequests.{BridgedRequest, flight_table_of, flights_of, holder, holds}
-use Rattle.bridge_core.specs.declared.Config.{Config}
+use Rattle.config.specs.declared.Config.{Config}
 use Rattle.burst_plan.specs.declared.Region.{Region}
 use Rattle.bridge_core.proofs.ResponseLinks.{part_way-zero}
 use Rattle.bridge_core.proofs.SendingLinks.{sound_requests}

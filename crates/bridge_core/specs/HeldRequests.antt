@@ -11,11 +11,11 @@ use Rattle.burst_plan.specs.declared.Region.{Region}
 use Rattle.flight_table.specs.LiveRequests.{LiveRequest, finished, flight_for, is_settled, with_answered, with_sent, with_write}
 use Rattle.flight_table.specs.Order.{holds_id, is_ready}
 use Rattle.flight_table.specs.Tables.{FlightTable, has_number, is_done_of}
+use Rattle.flight_table.specs.declared.TableLimits.{TableLimits}
 use Rattle.responses.specs.Gathered.{Gathering, after_b, after_r, gathered, gathering_of, old_value, outline_of}
 use Rattle.responses.specs.Shown.{shown}
 use Rattle.responses.specs.declared.gather.Outline.{Outline}
-use Rattle.bridge_core.specs.Configs.{table_limits_of}
-use Rattle.bridge_core.specs.declared.Config.{Config}
+use Rattle.config.specs.declared.Config.{Config}
 
 -- a live request: its place in the order of bursts, the message that asks for it, and what its answers have told so far
 pub record BridgedRequest : Type 0 where
@@ -30,6 +30,10 @@ pub record RequestTable : Type 0 where
   pub accepted : ℕ
   pub live : List BridgedRequest
 
+-- what the table of live requests allows
+abbrev pub table_limits_of : Config → TableLimits
+table_limits_of config = record { clients = config.clients; quota = config.quota; ids = config.ids; depth = config.depth }
+
 -- as the order of bursts sees them
 abbrev pub flights_of : List BridgedRequest → List LiveRequest
 flights_of live = map (λ request. request.flight) live
@@ -43,10 +47,6 @@ abbrev pub outline_in : BridgedRequest → Outline
 outline_in request = outline_of (request_of request.message)
 
 -- ---- a request is accepted
-
--- the AXI address of a request that isn't corrupt and that the region of its page permits; without one it is denied and sends nothing
-abbrev pub address_of : List Region → WholeRequest → Option ℕ
-address_of regions q = if q.corrupt then None else translated_address regions q
 
 -- its range on the AXI side, with the way it is cut into bursts
 abbrev pub range_at : Config → WholeRequest → ℕ → PlannedRange

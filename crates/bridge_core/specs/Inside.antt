@@ -20,11 +20,11 @@ use Rattle.tl_checker.specs.declared.Progress.{Progress}
 use Rattle.tl_checker.specs.declared.Progress.TheVariants.{More, Whole}
 use Rattle.tl_checker.specs.declared.TlRule.{TlRule}
 use Rattle.bridge_core.specs.Bridge.{StockedBridge}
-use Rattle.bridge_core.specs.Configs.{port_of, table_limits_of}
+use Rattle.config.specs.Configs.{port_of}
+use Rattle.bridge_core.specs.HeldRequests.{table_limits_of, BridgedRequest, RequestTable, flight_table_of, outline_in}
 use Rattle.bridge_core.specs.Laws.{answered_pieces, beats_in}
-use Rattle.bridge_core.specs.HeldRequests.{BridgedRequest, RequestTable, flight_table_of, outline_in}
 use Rattle.bridge_core.specs.Sending.{bytes_written}
-use Rattle.bridge_core.specs.declared.Config.{Config}
+use Rattle.config.specs.declared.Config.{Config}
 use Rattle.bridge_core.specs.declared.Offered.{Offered}
 use Rattle.bridge_core.specs.declared.Offered.TheVariants.{Exhausted, NotReady}
 

@@ -11,9 +11,9 @@ use Rattle.burst_plan.specs.PageMap.{IsPageMap}
 use Rattle.burst_plan.specs.declared.Region.{Region}
 use Rattle.flight_table.specs.Tables.{is_busy}
 use Rattle.bridge_core.specs.Bridge.{BridgeState, front_of}
-use Rattle.bridge_core.specs.Configs.{is_valid, port_of}
+use Rattle.config.specs.Configs.{is_valid, port_of}
 use Rattle.bridge_core.specs.HeldRequests.{BridgedRequest, RequestTable, flight_table_of, holder, range_of, value_found}
-use Rattle.bridge_core.specs.declared.Config.{Config}
+use Rattle.config.specs.declared.Config.{Config}
 
 -- the transfers of bursts
 abbrev pub beats_in : List Piece → ℕ

@@ -1,4 +1,3 @@
-pub mod Configs
 pub mod HeldRequests
 pub mod Sending
 pub mod Bridge

@@ -12,12 +12,7 @@ use Rattle.burst_plan.specs.declared.Piece.{Piece}
 use Rattle.flight_table.specs.LiveRequests.{next_burst, with_sent}
 use Rattle.flight_table.specs.Order.{IsSmallestReady, id_for, next_ready}
 use Rattle.flight_table.specs.Tables.{change_number}
-use Rattle.bridge_core.specs.Configs.{table_limits_of}
-use Rattle.bridge_core.specs.HeldRequests.{BridgedRequest, RequestTable, flight_table_of, flights_of, may_send, value_found}
-
--- the number of a request's bytes, where those that aren't given count as zero
-abbrev pub operand_of : WholeRequest → ℕ
-operand_of q = value (map (λ byte. unwrap_or byte 0) q.bytes)
+use Rattle.bridge_core.specs.HeldRequests.{table_limits_of, BridgedRequest, RequestTable, flight_table_of, flights_of, may_send, value_found}
 
 -- the bytes that a request writes: those that it gives, or an atomic's result from the old value
 abbrev pub bytes_written : WholeRequest → Operation → ℕ → List (Option ℕ)

@@ -32,7 +32,7 @@ impl Model for Bridge {
     ghost use Rattle.std.specs.Prelude.{◌≡◌, ◌≤◌};
     ghost use Rattle.std.specs.Vec.{vec_capacity, vec_len};
     ghost use Rattle.bridge_core.specs.Bridge.{StockedBridge, boxes_of};
-    ghost use Rattle.bridge_core.specs.Configs.{axi_port_of};
+    ghost use Rattle.config.specs.Configs.{axi_port_of};
     ghost use Rattle.bridge_core.specs.Inside.{ArePorts, bridge_kept};
     ghost use Rattle.bridge_core.specs.Laws.{IsSoundBridge};
 
@@ -64,7 +64,7 @@ impl Bridge {
     ghost use Rattle.flight_table.specs.Order.{IsSmallestDone, next_ready};
     ghost use Rattle.flight_table.specs.Work as flight_work;
     ghost use Rattle.bridge_core.specs.Bridge.{after_b_beat, after_pump, after_r_beat, after_take, b_fault, boxes_of, burst_to_send, in_flight, offered, opening_bridge, r_fault, refuses_beat, reply_taken, taken, work_left};
-    ghost use Rattle.bridge_core.specs.Configs.{axi_port_of, is_valid};
+    ghost use Rattle.config.specs.Configs.{axi_port_of, is_valid};
     ghost use Rattle.bridge_core.specs.Laws.{IsSoundBridge};
     ghost use Rattle.bridge_core.specs.HeldRequests.{oldest_done, flight_table_of, outline_in, reply_beats};
     ghost use Rattle.bridge_core.specs.Sending.{SendsSmallest, next_sending};

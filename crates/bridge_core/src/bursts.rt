@@ -6,16 +6,14 @@ ghost use Rattle.tl_messages.specs.Requests.{request_of};
 ghost use Rattle.axi_beats.specs.Boxes.{aw_of, w_beats_of, with_w_beat};
 ghost use Rattle.axi_beats.specs.Bursts.{WriteBurst};
 ghost use Rattle.axi_beats.specs.Transfers.{fits_bus, transfer_address, IsBusWidth};
-ghost use Rattle.data_unit.specs.Atomics.{atomic_result, modulus};
 ghost use Rattle.data_unit.specs.Words.{bytes_of};
 ghost use Rattle.burst_plan.specs.Pieces.{pieces, IsPlannable};
 ghost use Rattle.burst_plan.specs.PlannedBursts.{given_by_word, read_of, w_beat, write_of};
-ghost use Rattle.bridge_core.specs.Sending.{operand_of};
 
 use axi_beats::{ArBeat, AwBeat, BurstBox, transfer_address};
 use burst_plan::{Piece, Plan, w_beat};
-use data_unit::{apply, cut, full_mask, merge, place};
-use tl_messages::{AtomicOp, MaskedWord, Request};
+use data_unit::{full_mask, place};
+use tl_messages::{MaskedWord, Request};
 
 /// The type of a burst whose addresses rise, INCR (AXI4, A3.4.1).
 const INCR: u8 = 1;
@@ -110,20 +108,4 @@ pub(crate) fn set_number(burst: &mut BurstBox, id: u8, plan: &Plan, piece: Piece
     for k in 0..u16::from(piece.len) + 1 {
         push_transfer(burst, bus_bytes, piece, k, word);
     }
-}
-
-/// What an atomic leaves of the old value (TileLink 1.8, ArithmeticData and LogicalData). Its operand is the number that the
-/// request's bytes make, where those that aren't given count as zero.
-pub fn atomic_number(op: AtomicOp, request: &Request, old: u64) -> u64
-    requires data { IsTrue (has_data request.now.operation) }
-    requires beats { length request.now.beats ≡ 1 }
-    requires size { request.now.size ≤ 3 }
-    requires aligned { request.now.address % 2 ^ request.now.size ≡ 0 }
-    requires old_fits { old < modulus (2 ^ request.now.size) }
-    ensures value { result ≡ atomic_result op (2 ^ request.now.size) old (operand_of (request_of request.now)) }
-    ensures fits { result < modulus (2 ^ request.now.size) }
-{
-    let word = merge(0, request.word(0), request.mask(0));
-    let operand = cut(word, request.address(), request.size());
-    apply(op, 1 << request.size(), old, operand)
 }

@@ -1,7 +1,7 @@
 //! The clients' ports.
 ghost use Rattle.std.specs.Prelude.{◌≡◌, true, None, IfOk, IfSome, IsSomeAnd, slice_get, slice_set};
 ghost use Rattle.tl_checker.specs.Ports.{judged, opening_port, port_after};
-ghost use Rattle.bridge_core.specs.Configs.{is_valid};
+ghost use Rattle.config.specs.Configs.{is_valid};
 ghost use Rattle.bridge_core.specs.Inside.{CanAccept, ports_from};
 ghost use Rattle.bridge_core.specs.Laws.{IsSoundRequestTable};
 ghost use Rattle.bridge_core.specs.HeldRequests.{with_request};

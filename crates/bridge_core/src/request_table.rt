@@ -12,7 +12,7 @@ ghost use Rattle.responses.specs.Gathered.{gathered};
 ghost use Rattle.responses.specs.RightReplies.{ShowsReply};
 ghost use Rattle.axi_beats.specs.Transfers.{IsBusWidth};
 ghost use Rattle.bridge_core.specs.Bridge.{opening_requests};
-ghost use Rattle.bridge_core.specs.Configs.{is_valid, port_of};
+ghost use Rattle.config.specs.Configs.{is_valid, port_of};
 ghost use Rattle.bridge_core.specs.Inside.{AwaitsAnswer, AwaitsBeat, IsFirstAt, IsUndone, answered_flight, settled_flight};
 ghost use Rattle.bridge_core.specs.Laws.{IsSoundRequestTable};
 ghost use Rattle.bridge_core.specs.HeldRequests.{oldest_done, flight_table_of, holder, may_send, outline_in, range_of, reply_beats, with_read, with_request, with_response, with_sent_burst, without_done};

@@ -5,8 +5,8 @@ use Rattle.std.proofs.lemmas.List.FromFn.{get_or-map-range_with_len, length-map-
 use Rattle.std.proofs.lemmas.Option.{get_or_from_slice_get, same_Some, slice_get-map, slice_get_within}
 use Rattle.tl_checker.specs.Ports.{PortState}
 use Rattle.tl_checker.specs.RequestRules.{TlPortLimits}
-use Rattle.bridge_core.specs.Configs.{port_of}
-use Rattle.bridge_core.specs.declared.Config.{Config}
+use Rattle.config.specs.Configs.{port_of}
+use Rattle.config.specs.declared.Config.{Config}
 use Rattle.bridge_threads.specs.RefusedBeats.{client_limits, limits_of_ports}
 
 -- a port in whose place stands one of the same limits

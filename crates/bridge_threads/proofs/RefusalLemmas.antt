@@ -6,9 +6,9 @@ use Rattle.std.proofs.lemmas.Bool.{eqb-true, false≢true, leb-true, not-false}
 use Rattle.bus_words.specs.Lanes.{is_between}
 use Rattle.tl_messages.specs.declared.ABeat.{ABeat}
 use Rattle.burst_plan.specs.Pieces.{is_max_len}
-use Rattle.bridge_core.specs.Configs.{is_valid}
-use Rattle.world.specs.Setups.{SetupLists, setup_fault}
-use Rattle.world.proofs.SetupFaults.{valid_of}
+use Rattle.config.specs.Configs.{is_valid}
+use Rattle.setups.specs.Setups.{SetupLists, setup_fault}
+use Rattle.setups.proofs.SetupFaults.{valid_of}
 use Rattle.thread_reports.specs.Refusals.{is_refused}
 
 -- where none of some tests holds, the first two don't

@@ -6,9 +6,9 @@ use Rattle.tl_messages.specs.declared.ABeat.{ABeat}
 use Rattle.tl_checker.specs.Ports.{PortState, joined}
 use Rattle.tl_checker.specs.RequestRules.{TlPortLimits, first_fault}
 use Rattle.tl_checker.specs.declared.TlRule.{TlRule}
-use Rattle.bridge_core.specs.Configs.{port_of}
-use Rattle.bridge_core.specs.declared.Config.{Config}
-use Rattle.world.specs.Setups.{SetupLists}
+use Rattle.config.specs.Configs.{port_of}
+use Rattle.config.specs.declared.Config.{Config}
+use Rattle.setups.specs.Setups.{SetupLists}
 
 -- what a port holds of a message that has begun, after one beat more
 abbrev pub front_with : TlPortLimits → Option HeldMessage → ABeat → Option HeldMessage

@@ -1,7 +1,7 @@
 -- What is kept under the lock: the world with its history, and what the workers tell one another. It knows the steps that changed the world; which
 -- worker made each, and when, is told by nothing.
 use Rattle.std.specs.Prelude.{ℕ, Bool, false, List, [], ◌∷◌, ◌++◌, if◌then◌else◌}
-use Rattle.world.specs.Setups.{SetupLists}
+use Rattle.setups.specs.Setups.{SetupLists}
 use Rattle.world.specs.World.{WorldState, Outcome, leaves_all, next, opening_world}
 use Rattle.world.specs.declared.Step.{Step}
 

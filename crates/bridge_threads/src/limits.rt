@@ -1,7 +1,7 @@
 //! What a threaded run is refused for before it starts.
 ghost use Rattle.std.specs.Prelude.{◌≡◌, length, nat_lt};
 ghost use Rattle.std.specs.List.{list_any};
-ghost use Rattle.world.specs.Setups.{lists_of};
+ghost use Rattle.setups.specs.Setups.{lists_of};
 ghost use Rattle.thread_reports.specs.Refusals.{is_refused};
 ghost use Rattle.thread_reports.specs.Reports.{items_of};
 

@@ -2,9 +2,9 @@
 ghost use Rattle.std.specs.Prelude.{◌≡◌, ◌⊎◌, ◌↔◌, ◌≤◌, ◌-◌, true, length, Some, IfErr, IfOk, IfSome, IsErr, IsTrue, if◌then◌else◌};
 ghost use Rattle.bridge_threads.specs.SharedStates.{opening_shared, turned};
 ghost use Rattle.thread_reports.specs.Histories.{IsHistory};
-ghost use Rattle.world.specs.Setups.{lists_of, setup_fault};
+ghost use Rattle.setups.specs.Setups.{lists_of, setup_fault};
 ghost use Rattle.world.specs.World.{is_reply, leaves_all, next, opening_world};
-ghost use Rattle.world.specs.declared.SetupFault.TheVariants.{NoMemory};
+ghost use Rattle.setups.specs.declared.SetupFault.TheVariants.{NoMemory};
 
 use std::alloc::Global;
 use std::marker::Model;
@@ -36,7 +36,7 @@ impl Model for Shared {
     ghost use Rattle.std.specs.Vec.{vec_capacity, vec_len};
     ghost use Rattle.bridge_threads.specs.SharedStates.{SharedState};
     ghost use Rattle.thread_reports.specs.Histories.{IsHistory};
-    ghost use Rattle.world.specs.Setups.{lists_of};
+    ghost use Rattle.setups.specs.Setups.{lists_of};
     ghost use Rattle.world.specs.World.{opening_world};
 
     ghost Value = { SharedState };

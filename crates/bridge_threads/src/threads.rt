@@ -3,10 +3,10 @@ ghost use Rattle.std.specs.Prelude.{◌≡◌, ◌≢◌, ◌⊎◌, ◌<◌, �
 ghost use Rattle.tl_checker.specs.Ports.{opening_port};
 ghost use Rattle.tl_checker.specs.declared.TlRule.{TlRule};
 ghost use Rattle.tl_checker.specs.declared.TlRule.TheVariants.{SourceBusy};
-ghost use Rattle.bridge_core.specs.Configs.{is_valid, port_of};
+ghost use Rattle.config.specs.Configs.{is_valid, port_of};
 ghost use Rattle.world_run.specs.Headline.{IsOneAtATime};
 ghost use Rattle.world_run.specs.Runs.{answers_of, handed_in, sent_in};
-ghost use Rattle.world.specs.Setups.{SetupLists, lists_of, setup_fault};
+ghost use Rattle.setups.specs.Setups.{SetupLists, lists_of, setup_fault};
 ghost use Rattle.world.specs.World.{byte_of, in_flight, opening_world};
 ghost use Rattle.world.specs.declared.Step.{Step};
 ghost use Rattle.bridge_threads.specs.Faults.{IsConfirmed, IsTold, first_of, is_of_worker};

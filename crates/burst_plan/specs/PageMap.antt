@@ -39,6 +39,10 @@ translated regions operation address =
 abbrev pub translated_address : List Region → WholeRequest → Option ℕ
 translated_address regions request = translated regions request.operation request.address
 
+-- the AXI address of a request that isn't corrupt and that the region of its page permits; without one it is denied and sends nothing
+abbrev pub address_of : List Region → WholeRequest → Option ℕ
+address_of regions q = if q.corrupt then None else translated_address regions q
+
 -- whether two regions share a TileLink page
 abbrev pub share_a_page : Region → Region → Bool
 share_a_page a b =

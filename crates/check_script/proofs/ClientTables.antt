@@ -1,7 +1,7 @@
 -- The ports of one client more.
 use Rattle.std.proofs.Common.{◌≡◌, ℕ, suc, ◌+◌, [], ◌∷◌, ◌++◌, arith}
-use Rattle.bridge_core.specs.Configs.{port_of}
-use Rattle.bridge_core.specs.declared.Config.{Config}
+use Rattle.config.specs.Configs.{port_of}
+use Rattle.config.specs.declared.Config.{Config}
 use Rattle.script_text.proofs.PageLists.{map_range-suc}
 use Rattle.check_script.specs.ClientPorts.{opening_clients, opening_sources}
 

@@ -1,9 +1,9 @@
 -- `tlbridge check`: what each line of its script does (this project's profile).
 use Rattle.std.specs.Prelude.{ℕ, Bool, true, false, List, [], ◌∷◌, Result, Ok, Err}
-use Rattle.bridge_core.specs.Configs.{is_valid}
-use Rattle.bridge_core.specs.declared.Config.{Config as Limits}
-use Rattle.world.specs.declared.SetupFault.{SetupFault}
-use Rattle.world.specs.declared.SetupFault.TheVariants.{BadConfig}
+use Rattle.config.specs.Configs.{is_valid}
+use Rattle.config.specs.declared.Config.{Config as Limits}
+use Rattle.setups.specs.declared.SetupFault.{SetupFault}
+use Rattle.setups.specs.declared.SetupFault.TheVariants.{BadConfig}
 use Rattle.line_text.specs.Fields.{read_as, byte_field}
 use Rattle.script_text.specs.Forms.{told_as}
 use Rattle.line_text.specs.OfferLines.{offer_line}

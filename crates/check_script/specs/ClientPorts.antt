@@ -9,8 +9,8 @@ use Rattle.tl_checker.specs.RequestRules.{TlPortLimits}
 use Rattle.tl_checker.specs.declared.Progress.{Progress}
 use Rattle.tl_checker.specs.declared.Progress.TheVariants.{More, Whole}
 use Rattle.tl_checker.specs.declared.TlRule.{TlRule}
-use Rattle.bridge_core.specs.Configs.{port_of}
-use Rattle.bridge_core.specs.declared.Config.{Config}
+use Rattle.config.specs.Configs.{port_of}
+use Rattle.config.specs.declared.Config.{Config}
 use Rattle.line_text.specs.Traces.{answer_line, refused_text}
 use Rattle.check_script.specs.declared.lines.CheckCommand.{CheckCommand}
 use Rattle.check_script.specs.declared.lines.CheckCommand.TheVariants.{Offer, Free}

@@ -1,10 +1,10 @@
 //! The ports of `tlbridge check`.
 ghost use Rattle.std.specs.Prelude.{◌≡◌, true, false, replicate, IfOk, slice_get};
-ghost use Rattle.bridge_core.specs.Configs.{is_valid, port_of};
+ghost use Rattle.config.specs.Configs.{is_valid, port_of};
 ghost use Rattle.check_script.specs.ClientPorts.{beat_verdict, with_changed, after_beat, without_busy, free_verdict};
 
 use crate::lines::CheckCommand;
-use bridge_core::Config;
+use config::Config;
 use std::alloc::{AllocError, Global};
 use std::marker::Model;
 use tl_checker::{Port, Progress, TlRule};

@@ -12,7 +12,7 @@ use line_text::{Words, WriteFault, a_line, refused_line, write_text};
 use script_text::{Form, Kind, ScriptFault, StagedScript, read_script};
 use std::alloc::Global;
 use std::io::{Read, Write};
-use world::{Setup, SetupFault};
+use setups::{Setup, SetupFault};
 
 /// A script of `tlbridge check`.
 #[derive(Drop)]

@@ -2,10 +2,14 @@
 use Rattle.std.proofs.Common.{ℕ, ◌+◌, ◌*◌, ◌<◌, Bool, true, false, if◌then◌else◌, arith}
 use Rattle.std.specs.Prelude.{nat_lt, int_lt}
 use Rattle.std.proofs.lemmas.Nat.{and_le_l, or_lt, xor_lt}
+use Rattle.std.proofs.Math.Pow.{pow_mono}
 use Rattle.tl_messages.specs.declared.AtomicOp.{AtomicOp}
 use Rattle.tl_messages.specs.declared.AtomicOp.TheVariants.{Min, Max, MinU, MaxU, Add, Xor, Or, And, Swap}
 use Rattle.data_unit.specs.Atomics.{modulus, signed, atomic_result}
 use Rattle.data_unit.proofs.NumberLaws.{mod-modulus-lt}
+
+pub modulus-some : (bytes : ℕ) → 0 < modulus bytes
+modulus-some bytes = omega (arith, pow_mono {i = 0} {j = 8 * bytes} (omega arith))
 
 either-lt : (b : Bool) (old operand top : ℕ) → old < top → operand < top → (if b then operand else old) < top
 either-lt true old operand top old_fits operand_fits = operand_fits

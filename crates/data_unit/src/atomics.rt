@@ -1,9 +1,11 @@
 //! What atomics leave, from the old value and their operand (TileLink 1.8, ArithmeticData and LogicalData).
-ghost use Rattle.std.specs.Prelude.{◌≡◌, ◌+◌, ◌<◌, ◌≤◌, ◌%◌, int_lt, if◌then◌else◌};
-ghost use Rattle.data_unit.specs.Atomics.{modulus, signed, atomic_result};
+ghost use Rattle.std.specs.Prelude.{◌≡◌, ◌+◌, ◌<◌, ◌≤◌, ◌%◌, ◌^◌, IsTrue, int_lt, if◌then◌else◌, length};
+ghost use Rattle.tl_messages.specs.Operations.{has_data};
+ghost use Rattle.tl_messages.specs.Requests.{request_of};
+ghost use Rattle.data_unit.specs.Atomics.{atomic_result, modulus, operand_of, signed};
 
-use crate::words::largest;
-use tl_messages::AtomicOp;
+use crate::words::{cut, largest, merge};
+use tl_messages::{AtomicOp, Request};
 
 /// What an atomic leaves, from the old value and its operand (TileLink 1.8, ArithmeticData and LogicalData). Both have so
 /// many bytes: 1, 2, 4 or 8 in this project's profile; any number from 1 to 8 is taken. Min and Max compare signed
@@ -27,6 +29,22 @@ pub fn apply(op: AtomicOp, operand_bytes: u8, old: u64, operand: u64) -> u64
         AtomicOp::And => old & operand,
         AtomicOp::Swap => operand,
     }
+}
+
+/// What an atomic leaves of the old value (TileLink 1.8, ArithmeticData and LogicalData). Its operand is the number that the
+/// request's bytes make, where those that aren't given count as zero.
+pub fn atomic_number(op: AtomicOp, request: &Request, old: u64) -> u64
+    requires data { IsTrue (has_data request.now.operation) }
+    requires beats { length request.now.beats ≡ 1 }
+    requires size { request.now.size ≤ 3 }
+    requires aligned { request.now.address % 2 ^ request.now.size ≡ 0 }
+    requires old_fits { old < modulus (2 ^ request.now.size) }
+    ensures value { result ≡ atomic_result op (2 ^ request.now.size) old (operand_of (request_of request.now)) }
+    ensures fits { result < modulus (2 ^ request.now.size) }
+{
+    let word = merge(0, request.word(0), request.mask(0));
+    let operand = cut(word, request.address(), request.size());
+    apply(op, 1 << request.size(), old, operand)
 }
 
 /// The operand where it replaces the old value, and else the old value.

@@ -5,5 +5,5 @@
 mod atomics;
 mod words;
 
-pub use atomics::apply;
+pub use atomics::{apply, atomic_number};
 pub use words::{cut, full_mask, merge, place};

@@ -15,7 +15,7 @@ use Rattle.tl_messages.specs.declared.DBeat.{DBeat}
 use Rattle.burst_plan.specs.declared.Region.{Region}
 use Rattle.responses.specs.Shown.{Reply, address_in_word, beat_of_word, beat_without_data, lacks_a_byte, shown}
 use Rattle.subordinate.specs.Faults.{Faults}
-use Rattle.world_run.specs.Meaning.{Bytes, meaning}
+use Rattle.meaning.specs.Meaning.{Bytes, meaning}
 use Rattle.racing_board.specs.Orders.{reply_beats}
 use Rattle.racing_board.specs.Races.{Racer}
 use Rattle.racing_board.proofs.Lengths.{length-shown}

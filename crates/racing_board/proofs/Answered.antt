@@ -13,7 +13,7 @@ use Rattle.tl_checker.specs.declared.Progress.TheVariants.{More, Whole}
 use Rattle.tl_checker.specs.declared.TlRule.{TlRule}
 use Rattle.tl_messages.specs.Requests.{HeldMessage, request_of}
 use Rattle.tl_messages.specs.declared.ABeat.{ABeat}
-use Rattle.world_run.specs.Meaning.{Bytes}
+use Rattle.meaning.specs.Meaning.{Bytes}
 use Rattle.racing_board.specs.Boards.{RacingBoard, RacingState, answer_to, after_request, bytes_after, client_after, races_after, racing_board, slot_of}
 use Rattle.racing_board.specs.InsideBoards.{IsAnswered, KeepSlots}
 use Rattle.racing_board.specs.InsideRaces.{RacesState, races_of}

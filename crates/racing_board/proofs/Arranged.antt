@@ -10,7 +10,7 @@ use Rattle.tl_checker.specs.Ports.{joined}
 use Rattle.tl_checker.specs.declared.Progress.{Progress}
 use Rattle.tl_checker.specs.declared.Progress.TheVariants.{More, Whole}
 use Rattle.tl_checker.specs.declared.TlRule.{TlRule}
-use Rattle.world.specs.Setups.{SetupLists}
+use Rattle.setups.specs.Setups.{SetupLists}
 use Rattle.scoreboard.specs.Boards.{ClientBoard}
 use Rattle.scoreboard.specs.declared.Seen.{Seen}
 use Rattle.scoreboard.specs.declared.Seen.TheVariants.{A, D, Aw, W, B, Ar, R, Drained}

@@ -17,8 +17,8 @@ use Rattle.tl_checker.specs.declared.TlRule.{TlRule}
 use Rattle.burst_plan.specs.declared.Region.{Region}
 use Rattle.responses.specs.Shown.{shown}
 use Rattle.subordinate.specs.Faults.{Faults}
-use Rattle.world_run.specs.Meaning.{Bytes, bytes_after_all, meaning, zeros}
-use Rattle.world.specs.Setups.{SetupLists, faults_of}
+use Rattle.meaning.specs.Meaning.{Bytes, bytes_after_all, meaning, zeros}
+use Rattle.setups.specs.Setups.{SetupLists, faults_of}
 use Rattle.scoreboard.specs.Boards as strict
 use Rattle.scoreboard.specs.Boards.{ClientBoard, DueBoard, due_of, none_left, reply_rules, wrong_by}
 use Rattle.scoreboard.specs.declared.ReplyRule.{ReplyRule}

@@ -4,12 +4,12 @@ use Rattle.std.specs.Option.{option_or, option_map}
 use Rattle.std.proofs.Math.Path.{fun_ext}
 use Rattle.std.proofs.lemmas.List.FromFn.{length-map-range_with_len}
 use Rattle.axi_checker.specs.OpenBursts.{nothing_open}
-use Rattle.bridge_core.specs.Configs.{is_valid}
+use Rattle.config.specs.Configs.{is_valid}
 use Rattle.subordinate.specs.Faults.{device_fault}
 use Rattle.subordinate.specs.declared.DeviceFault.{DeviceFault}
-use Rattle.world.specs.Setups.{SetupLists, setup_fault}
-use Rattle.world.specs.declared.SetupFault.{SetupFault}
-use Rattle.world.specs.declared.SetupFault.TheVariants.{BadConfig, Device}
+use Rattle.setups.specs.Setups.{SetupLists, setup_fault}
+use Rattle.setups.specs.declared.SetupFault.{SetupFault}
+use Rattle.setups.specs.declared.SetupFault.TheVariants.{BadConfig, Device}
 use Rattle.scoreboard.specs.Boards.{ClientBoard, opening_board, opening_client}
 use Rattle.scoreboard.specs.SerialMemory.{SerialState}
 use Rattle.racing_board.specs.Boards.{RacingState, opening_races, opening_racing, racing_board}

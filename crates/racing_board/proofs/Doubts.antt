@@ -9,8 +9,8 @@ use Rattle.std.proofs.lemmas.List.Folds.{list_any_more}
 use Rattle.bus_words.specs.Lanes.{given_at, has_lane, lane_byte}
 use Rattle.tl_messages.specs.Lanes.{in_lanes}
 use Rattle.subordinate.specs.Effects.{strobes_byte}
-use Rattle.world_run.specs.Meaning.{Bytes}
-use Rattle.world_run.proofs.BytesLeft.{given_before, given_past}
+use Rattle.meaning.specs.Meaning.{Bytes}
+use Rattle.meaning.proofs.GivenBytes.{given_before, given_past}
 use Rattle.scoreboard.specs.InsideSerial.{data_of, put_in_word, write_at}
 use Rattle.scoreboard.proofs.PutWords.{in_word, out_of_word}
 use Rattle.racing_board.specs.Races.{Racer, covers, depends_on, doubts_after, doubts_beside, is_fixed, meets, no_racer}

@@ -7,7 +7,7 @@ use Rattle.tl_messages.specs.declared.DBeat.{DBeat}
 use Rattle.burst_plan.specs.declared.Region.{Region}
 use Rattle.responses.specs.Shown.{shown}
 use Rattle.subordinate.specs.Faults.{Faults}
-use Rattle.world_run.specs.Meaning.{Bytes, meaning}
+use Rattle.meaning.specs.Meaning.{Bytes, meaning}
 use Rattle.racing_board.specs.Boards.{slot_of}
 use Rattle.racing_board.specs.Orders.{Entry, Order, has_ended}
 use Rattle.racing_board.specs.Races.{Racer}

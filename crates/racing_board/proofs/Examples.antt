@@ -8,7 +8,7 @@ use Rattle.tl_messages.specs.declared.DBeat.{DBeat}
 use Rattle.tl_checker.specs.declared.Level.TheVariants.{Uh}
 use Rattle.subordinate.specs.Pages.{zero_words}
 use Rattle.subordinate.specs.declared.PageKind.TheVariants.{Good}
-use Rattle.world.specs.Setups.{SetupLists}
+use Rattle.setups.specs.Setups.{SetupLists}
 use Rattle.scoreboard.proofs.Reached.{right_nothing}
 use Rattle.scoreboard.specs.Boards as strict
 use Rattle.scoreboard.specs.Boards.{Board, ClientBoard, opening_board, opening_client}

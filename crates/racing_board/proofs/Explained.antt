@@ -8,10 +8,10 @@ use Rattle.std.proofs.lemmas.Bool.{cases_eq}
 use Rattle.std.proofs.lemmas.List.{length-replicate, length-set}
 use Rattle.std.proofs.lemmas.List.FromFn.{length-map-range_with_len}
 use Rattle.tl_messages.specs.declared.DBeat.{DBeat}
-use Rattle.bridge_core.specs.declared.Config.{Config}
-use Rattle.world_run.specs.Meaning.{zeros}
-use Rattle.world.specs.Setups.{SetupLists}
-use Rattle.world_run.proofs.OrderOpens.{zero_byte}
+use Rattle.config.specs.declared.Config.{Config}
+use Rattle.meaning.specs.Meaning.{zeros}
+use Rattle.setups.specs.Setups.{SetupLists}
+use Rattle.subordinate.proofs.ZeroBytes.{zero_byte}
 use Rattle.scoreboard.specs.Boards.{ClientBoard, DueBoard, none_left, opening_client}
 use Rattle.racing_board.specs.Boards.{RacingBoard, opening_racing}
 use Rattle.racing_board.specs.Orders.{Order, begun_to}

@@ -4,7 +4,7 @@ use Rattle.std.specs.List.{list_any}
 use Rattle.std.proofs.lemmas.Bool.{both_ways, cases_eq, cases_lt, eq-eqb, false_from_ne_true, le-leb, leb-true, ne_eqb, or_from, or_left, or_right}
 use Rattle.std.proofs.lemmas.List.{get_or_append_left, get_or_at, length-append, length-map, map-append}
 use Rattle.tl_messages.specs.Requests.{no_message}
-use Rattle.world.specs.Setups.{SetupLists}
+use Rattle.setups.specs.Setups.{SetupLists}
 use Rattle.scoreboard.specs.declared.Seen.{Seen}
 use Rattle.racing_board.specs.Boards.{after_all, after_seen, opening_racing, RacingBoard}
 use Rattle.racing_board.specs.Orders.{Entry, GoesOn, IsOrderFrom, IsOrderOf, IsPutIn, Order, after_beat, begun_to, board_after, has_ended, is_due, reply_beats, with_beat}

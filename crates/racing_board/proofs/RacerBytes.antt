@@ -5,7 +5,7 @@ use Rattle.std.proofs.Math.Path.{fun_ext}
 use Rattle.std.proofs.Math.Pow.{pow_mono}
 use Rattle.std.proofs.lemmas.Bool.{and_parts, leb-true, ltb-true}
 use Rattle.std.proofs.lemmas.Bool.Decides.{nat_tests}
-use Rattle.world_run.proofs.SerialReplies.{in_page}
+use Rattle.meaning.proofs.SerialReplies.{in_page}
 use Rattle.scoreboard.specs.InsideSerial.{IsMemoryRange}
 use Rattle.racing_board.specs.InsideRaces.{RacerState, racer_of, settled_in}
 use Rattle.racing_board.specs.Races.{Racer, beside, covers, may_write, no_racer}

@@ -8,7 +8,7 @@ use Rattle.std.proofs.lemmas.List.Edits.{length-swap}
 use Rattle.std.proofs.lemmas.Option.{slice_get_within}
 use Rattle.bus_words.proofs.StoredPlaces.{there_is}
 use Rattle.tl_messages.specs.declared.DBeat.{DBeat}
-use Rattle.world_run.specs.Meaning.{Bytes, zeros}
+use Rattle.meaning.specs.Meaning.{Bytes, zeros}
 use Rattle.scoreboard.specs.Boards.{ClientBoard, DueBoard, after_begun, after_reply_beat, due_of, has_source, none_left}
 use Rattle.racing_board.specs.Boards.{RacingBoard, after_reply, beginning, ending, slot_of}
 use Rattle.racing_board.specs.Orders.{Order, after_beat, begun_to, has_begun, has_ended, is_due, with_beat}

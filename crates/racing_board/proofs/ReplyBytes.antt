@@ -12,12 +12,11 @@ use Rattle.tl_messages.specs.Operations.{reply_has_data}
 use Rattle.tl_messages.specs.Requests.{WholeRequest}
 use Rattle.tl_messages.specs.declared.Operation.{Operation}
 use Rattle.tl_messages.specs.declared.Operation.TheVariants.{PutFull, PutPartial, Atomic, Get, Intent}
-use Rattle.burst_plan.specs.PageMap.{address_in, holds_page, permits, translated_address}
+use Rattle.burst_plan.specs.PageMap.{address_in, holds_page, permits, translated_address, address_of}
 use Rattle.burst_plan.specs.declared.Region.{Region}
-use Rattle.bridge_core.specs.HeldRequests.{address_of}
 use Rattle.responses.specs.Shown.{Reply}
 use Rattle.subordinate.specs.Faults.{Faults, Standing, IsGood, IsSlaveError, IsAbsent, is_bad, standing_at}
-use Rattle.world_run.specs.Meaning.{Bytes, Effect, acknowledged, bytes_at, denied, effect, meaning, no_byte_given}
+use Rattle.meaning.specs.Meaning.{Bytes, Effect, acknowledged, bytes_at, denied, effect, meaning, no_byte_given}
 use Rattle.scoreboard.specs.SerialMemory.{on_good_page}
 use Rattle.scoreboard.proofs.Meanings.{meaning_none, meaning_some}
 

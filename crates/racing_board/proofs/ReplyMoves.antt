@@ -7,7 +7,7 @@ use Rattle.tl_messages.specs.declared.DBeat.{DBeat}
 use Rattle.burst_plan.specs.declared.Region.{Region}
 use Rattle.responses.specs.Shown.{shown}
 use Rattle.subordinate.specs.Faults.{Faults}
-use Rattle.world_run.specs.Meaning.{Bytes, meaning}
+use Rattle.meaning.specs.Meaning.{Bytes, meaning}
 use Rattle.scoreboard.specs.Boards.{none_left}
 use Rattle.racing_board.specs.Boards.{slot_of}
 use Rattle.racing_board.specs.Orders.{Entry, Order, begun_to, has_begun, has_ended, is_due, reply_beats, with_beat}

@@ -5,7 +5,7 @@ use Rattle.std.specs.List.{AllByRecursion, list_any}
 use Rattle.std.proofs.lemmas.Bool.{cases_eq, eqb-true}
 use Rattle.std.proofs.lemmas.List.{get_or-set_other, length-set}
 use Rattle.tl_messages.specs.Requests.{HeldMessage}
-use Rattle.world_run.specs.Meaning.{Bytes, zeros}
+use Rattle.meaning.specs.Meaning.{Bytes, zeros}
 use Rattle.scoreboard.specs.Boards.{ClientBoard, DueBoard, due_of, none_left}
 use Rattle.racing_board.specs.Boards.{RacingBoard, ending, slot_of}
 use Rattle.racing_board.specs.Orders.{Order, with_beat}

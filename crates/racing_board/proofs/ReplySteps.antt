@@ -5,7 +5,7 @@ use Rattle.std.specs.List.{AllByRecursion, list_any}
 use Rattle.std.proofs.lemmas.Bool.{and_from, and_parts, both_ways, eq-eqb, eqb-true, false_from_ne_true, lt-ltb, ltb-true, ne_eqb, not-true, not_from_false, or_cases, or_from, or_left, or_right}
 use Rattle.tl_messages.specs.declared.DBeat.{DBeat}
 use Rattle.responses.specs.Shown.{Reply, shown}
-use Rattle.world_run.specs.Meaning.{Bytes, meaning, zeros}
+use Rattle.meaning.specs.Meaning.{Bytes, meaning, zeros}
 use Rattle.scoreboard.specs.Boards.{has_source, none_left}
 use Rattle.racing_board.specs.Boards.{RacingBoard, slot_of}
 use Rattle.racing_board.specs.Orders.{Entry, Order, begun_to, has_begun, has_ended, is_due, with_beat}

@@ -18,10 +18,10 @@ use Rattle.data_unit.specs.Atomics.{atomic_result}
 use Rattle.data_unit.specs.Words.{value, bytes_of}
 use Rattle.data_unit.proofs.NumberLaws.{lane_byte-lt, length-bytes_of, get_or-bytes_of}
 use Rattle.burst_plan.specs.declared.Region.{Region}
-use Rattle.bridge_core.specs.HeldRequests.{address_of}
+use Rattle.burst_plan.specs.PageMap.{address_of}
 use Rattle.subordinate.specs.Faults.{Faults, Standing, IsGood, IsSlaveError, IsAbsent, is_bad, is_good, standing_at}
-use Rattle.world_run.specs.Meaning.{Bytes, Effect, atomic_bytes, bytes_at, effect, meaning, with_bytes}
-use Rattle.world_run.proofs.BytesLeft.{given_before, given_past}
+use Rattle.meaning.specs.Meaning.{Bytes, Effect, atomic_bytes, bytes_at, effect, meaning, with_bytes}
+use Rattle.meaning.proofs.GivenBytes.{given_before, given_past}
 use Rattle.scoreboard.specs.SerialMemory.{on_good_page}
 use Rattle.scoreboard.proofs.Meanings.{meaning_none, meaning_some}
 use Rattle.racing_board.specs.Races.{Racer, alone, covers}

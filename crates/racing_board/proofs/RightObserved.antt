@@ -6,9 +6,9 @@ use Rattle.std.proofs.lemmas.Option.{slice_get_within}
 use Rattle.bus_words.proofs.StoredPlaces.{get_set, get_set-other}
 use Rattle.axi_checker.specs.OpenBursts.{nothing_open}
 use Rattle.axi_checker.specs.Rules.{open_after_all}
-use Rattle.bridge_core.specs.Configs.{axi_port_of}
-use Rattle.world_run.specs.Headline.{bytes_of_all}
-use Rattle.world.specs.Setups.{SetupLists, faults_of}
+use Rattle.config.specs.Configs.{axi_port_of}
+use Rattle.meaning.specs.InTurn.{bytes_of_all}
+use Rattle.setups.specs.Setups.{SetupLists, faults_of}
 use Rattle.scoreboard.specs.Boards.{ClientBoard}
 use Rattle.scoreboard.specs.Observed.{Observed, nothing_observed, requests_in}
 use Rattle.scoreboard.proofs.BoardOf.{IsClientOf, board_opens}

@@ -4,7 +4,7 @@ use Rattle.std.specs.Prelude.{◌≢◌, slice_get}
 use Rattle.std.proofs.Math.Seq.{set_out}
 use Rattle.std.proofs.lemmas.List.{length-set}
 use Rattle.tl_messages.specs.declared.DBeat.{DBeat}
-use Rattle.world.specs.Setups.{SetupLists}
+use Rattle.setups.specs.Setups.{SetupLists}
 use Rattle.scoreboard.specs.Boards.{ClientBoard, DueBoard, after_reply_beat}
 use Rattle.scoreboard.specs.Observed.{Observed, with_reply_beat}
 use Rattle.scoreboard.specs.Right.{IsContiguous, IsRightNow, replies_to}

@@ -1,6 +1,5 @@
 -- A beat on channel A that is right: what a racing board holds with it.
-use Rattle.std.proofs.Common.{◌≡◌, ℕ, ◌<◌, ◌≤◌, Bool, true, false, List, [], ◌∷◌, ◌++◌, Option, Some, None, Result, Ok, Err}
-use Rattle.std.proofs.Common.{◌⊎◌, inl, inr, refl, sym, ◌∙◌, ap, subst, arith}
+use Rattle.std.proofs.Common.{◌≡◌, ℕ, ◌<◌, ◌≤◌, Bool, true, false, List, [], ◌∷◌, ◌++◌, Option, Some, None, Result, Ok, Err, ◌⊎◌, inl, inr, refl, sym, ◌∙◌, ap, subst, arith}
 use Rattle.std.specs.Prelude.{◌≢◌, slice_get}
 use Rattle.std.proofs.lemmas.Bool.{ne_eqb}
 use Rattle.std.proofs.lemmas.List.{length-set}
@@ -15,10 +14,10 @@ use Rattle.tl_checker.specs.declared.Progress.TheVariants.{More, Whole}
 use Rattle.tl_checker.specs.declared.TlRule.{TlRule}
 use Rattle.tl_checker.proofs.Taking.{held-append}
 use Rattle.responses.specs.Shown.{Reply, shown}
-use Rattle.bridge_core.specs.Configs.{port_of}
-use Rattle.world_run.specs.Headline.{bytes_of_all}
-use Rattle.world_run.specs.Meaning.{meaning, zeros}
-use Rattle.world.specs.Setups.{SetupLists, faults_of}
+use Rattle.config.specs.Configs.{port_of}
+use Rattle.meaning.specs.InTurn.{bytes_of_all}
+use Rattle.meaning.specs.Meaning.{meaning, zeros}
+use Rattle.setups.specs.Setups.{SetupLists, faults_of}
 use Rattle.scoreboard.specs.Boards as strict
 use Rattle.scoreboard.specs.Boards.{ClientBoard, DueBoard, has_source, is_busy, with_due, wrong_request}
 use Rattle.scoreboard.specs.Observed.{Observed, requests_in, with_begun, with_message, with_request_beat}

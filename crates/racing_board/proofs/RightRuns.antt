@@ -10,8 +10,8 @@ use Rattle.tl_checker.specs.declared.TlRule.{TlRule}
 use Rattle.axi_checker.specs.OpenBursts.{AxiBeat, OnAr, OnAw, OnB, OnR, OnW, OpenBursts, nothing_open}
 use Rattle.axi_checker.specs.Rules.{AxiPortLimits, axi_fault, open_after_all}
 use Rattle.axi_checker.specs.declared.AxiRule.{AxiRule}
-use Rattle.bridge_core.specs.Configs.{axi_port_of}
-use Rattle.world.specs.Setups.{SetupLists}
+use Rattle.config.specs.Configs.{axi_port_of}
+use Rattle.setups.specs.Setups.{SetupLists}
 use Rattle.scoreboard.specs.Boards as strict
 use Rattle.scoreboard.specs.Boards.{ClientBoard, bursts_after, wrong_axi, wrong_request}
 use Rattle.scoreboard.specs.InsideBoards.{HasSource}

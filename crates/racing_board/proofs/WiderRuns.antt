@@ -8,15 +8,14 @@ use Rattle.tl_checker.specs.declared.Progress.{Progress}
 use Rattle.tl_checker.specs.declared.Progress.TheVariants.{More, Whole}
 use Rattle.tl_checker.specs.declared.TlRule.{TlRule}
 use Rattle.axi_checker.specs.OpenBursts.{AxiBeat, OnAr, OnAw, OnB, OnR, OnW}
-use Rattle.world.specs.Setups.{SetupLists}
+use Rattle.setups.specs.Setups.{SetupLists}
 use Rattle.scoreboard.specs.Boards as strict
 use Rattle.scoreboard.specs.Boards.{Board, ClientBoard, opening_board, with_client}
 use Rattle.scoreboard.specs.SerialMemory.{SerialState}
 use Rattle.scoreboard.specs.declared.Seen.{Seen}
 use Rattle.scoreboard.specs.declared.Seen.TheVariants.{A, D, Aw, W, B, Ar, R, Drained}
 use Rattle.scoreboard.specs.declared.Wrong.{Wrong}
-use Rattle.racing_board.specs.Boards.{after_all, after_axi, after_reply, after_request, after_seen, opening_racing, wrong_at, IsReached, RacingBoard}
-use Rattle.racing_board.specs.Boards.{bytes_after, client_after, races_after}
+use Rattle.racing_board.specs.Boards.{after_all, after_axi, after_reply, after_request, after_seen, opening_racing, wrong_at, IsReached, RacingBoard, bytes_after, client_after, races_after}
 use Rattle.racing_board.specs.EarlyData.{PortBoard}
 use Rattle.racing_board.specs.Races.{Races}
 use Rattle.racing_board.specs.Wider.{IsFollowed, TellsNoMore, IsWiderAlong, racing_on, tells_apart, tells_busy}

@@ -11,8 +11,8 @@ use Rattle.tl_checker.specs.declared.Progress.{Progress}
 use Rattle.tl_checker.specs.declared.Progress.TheVariants.{More, Whole}
 use Rattle.tl_checker.specs.declared.TlRule.{TlRule}
 use Rattle.responses.specs.Shown.{shown}
-use Rattle.world_run.specs.Meaning.{Bytes, Effect, bytes_after_all, meaning, zeros}
-use Rattle.world.specs.Setups.{SetupLists, faults_of}
+use Rattle.meaning.specs.Meaning.{Bytes, Effect, bytes_after_all, meaning, zeros}
+use Rattle.setups.specs.Setups.{SetupLists, faults_of}
 use Rattle.scoreboard.specs.Boards as strict
 use Rattle.scoreboard.specs.Boards.{ClientBoard}
 use Rattle.scoreboard.specs.declared.Seen.{Seen}

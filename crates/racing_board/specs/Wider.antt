@@ -1,7 +1,7 @@
 -- What a racing board says of beats, beside a scoreboard that compares each byte: no more than this one, and nothing of beats that are right.
 use Rattle.std.specs.Prelude.{◌≡◌, ◌⊎◌, Bool, true, false, ◌||◌, List, [], ◌∷◌, ◌++◌, Option, Some, None}
 use Rattle.tl_checker.specs.declared.TlRule.TheVariants.{SourceBusy}
-use Rattle.world.specs.Setups.{SetupLists}
+use Rattle.setups.specs.Setups.{SetupLists}
 use Rattle.scoreboard.specs.Boards as strict
 use Rattle.scoreboard.specs.Boards.{Board, opening_board}
 use Rattle.scoreboard.specs.InsideSerial.{bytes_in}

@@ -1,22 +1,22 @@
 //! The racing board.
 ghost use Rattle.std.specs.Prelude.{◌≡◌, ◌<◌, ◌≤◌, ◌⊎◌, ◌*◌, List, length, map, sum_by, if◌then◌else◌, None, Some, Err, IfErr, IfOk, IfSome, slice_get, true};
 ghost use Rattle.std.specs.List.{range_with_len};
-ghost use Rattle.bridge_core.specs.Configs.{is_valid};
-ghost use Rattle.world.specs.Setups.{lists_of, setup_fault};
-ghost use Rattle.world.specs.declared.SetupFault.TheVariants.{NoMemory};
+ghost use Rattle.config.specs.Configs.{is_valid};
+ghost use Rattle.setups.specs.Setups.{lists_of, setup_fault};
+ghost use Rattle.setups.specs.declared.SetupFault.TheVariants.{NoMemory};
 ghost use Rattle.scoreboard.specs.Boards.{opening_client, replies_left};
 ghost use Rattle.racing_board.specs.InsideRaces.{races_of};
 
 use crate::clients::Client;
 use crate::port::RacingPort;
 use crate::races::Races;
-use bridge_core::Config;
 use burst_plan::PageMap;
+use config::Config;
 use scoreboard::{Seen, SerialMemory, Wrong};
 use std::alloc::{AllocError, Global};
 use std::marker::Model;
 use tl_messages::{ABeat, DBeat};
-use world::{Setup, SetupFault, setup_fault};
+use setups::{Setup, SetupFault, setup_fault};
 
 /// Tells of each beat that was observed at the ports of a bridge whether it can be right, if requests in flight together may
 /// take effect in any order: a reply's byte is compared only where it is the same in every order in which a request whose whole

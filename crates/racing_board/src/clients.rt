@@ -1,13 +1,13 @@
 //! A client as a racing board sees it: what it has begun to ask, and the replies that are due to it.
 ghost use Rattle.std.specs.Prelude.{◌≡◌, ◌≤◌, ◌<◌, ◌+◌, ◌*◌, true, IfOk, if◌then◌else◌, length, map};
-ghost use Rattle.bridge_core.specs.Configs.{is_valid};
+ghost use Rattle.config.specs.Configs.{is_valid};
 ghost use Rattle.scoreboard.specs.Boards.{opening_client, replies_left, wrong_request};
 ghost use Rattle.racing_board.specs.Boards.{slot_of};
 ghost use Rattle.racing_board.specs.InsideRaces.{racer_of, races_of};
 
 use crate::payloads::wrong_reply;
 use crate::races::Races;
-use bridge_core::Config;
+use config::Config;
 use scoreboard::{DueReplies, SerialMemory, Wrong};
 use std::alloc::{AllocError, Global};
 use std::marker::Model;

@@ -2,13 +2,13 @@
 ghost use Rattle.std.specs.Prelude.{◌≡◌, true, IfOk};
 ghost use Rattle.std.specs.VecDeque.{deque_capacity};
 ghost use Rattle.axi_checker.specs.OpenBursts.{OnAr, OnAw, OnB, OnR, OnW, nothing_open};
-ghost use Rattle.bridge_core.specs.Configs.{axi_port_of, is_valid};
+ghost use Rattle.config.specs.Configs.{axi_port_of, is_valid};
 ghost use Rattle.scoreboard.specs.Boards.{open_count};
 ghost use Rattle.racing_board.specs.EarlyData.{drained, none_early, port_after, port_wrong, taking, tells_no_write};
 
 use axi_beats::{ArBeat, AwBeat, BBeat, RBeat, WBeat};
 use axi_checker::AxiRule;
-use bridge_core::Config;
+use config::Config;
 use scoreboard::{AxiPort, Wrong};
 use std::alloc::{AllocError, Global};
 use std::collections::VecDeque;

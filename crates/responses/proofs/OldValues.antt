@@ -10,7 +10,9 @@ use Rattle.bus_words.specs.Lanes.{lane_byte}
 use Rattle.tl_messages.specs.Lanes.{lane_of}
 use Rattle.data_unit.specs.Words.{bytes_of, operand_in, value}
 use Rattle.data_unit.proofs.AlignedLanes.{aligned_within}
-use Rattle.data_unit.proofs.WordLaws.{bytes_of-operand_in}
+use Rattle.data_unit.specs.Atomics.{modulus}
+use Rattle.data_unit.proofs.AtomicLaws.{modulus-some}
+use Rattle.data_unit.proofs.WordLaws.{bytes_of-operand_in, operand_in-lt}
 use Rattle.responses.specs.Answers.{number_of}
 use Rattle.responses.specs.Gathered.{Gathering, byte_gathered, gathered, holds_number, is_atomic, old_value}
 use Rattle.tl_messages.specs.Operations.{reply_has_data}
@@ -115,3 +117,7 @@ old_number outline gathering atomic granted holds =
     by_word None there = sym (ap number_of (bytes_by None there) ∙ number_none 0 (2 ^ outline.size) (pow_pos outline.size))
     by_word (Some w) there =
         sym (ap number_of (bytes_by (Some w) there) ∙ number_given (λ i. lane_byte w (lane_of (outline.address + i))) 0 (2 ^ outline.size))
+
+-- the old value is a number of the operands' size
+pub old_small : (outline : Outline) (gathering : Gathering) → outline.size ≤ 3 → outline.address % 2 ^ outline.size ≡ 0 → unwrap_or (old_value outline gathering) 0 < modulus (2 ^ outline.size)
+old_small outline gathering small aligned = grind (arith, modulus-some (2 ^ outline.size), λ (word : ℕ). operand_in-lt word outline.address outline.size small aligned)

@@ -1,6 +1,6 @@
 -- Worked scripts, by the definitions alone.
 use Rattle.std.specs.Prelude.{◌≡◌, Bool, false, List, [], ◌∷◌, ◌++◌, ℕ, Ok, Err, refl, codes, flat_map, replicate}
-use Rattle.world.specs.declared.SetupFault.TheVariants.{BadConfig, Map, Device}
+use Rattle.setups.specs.declared.SetupFault.TheVariants.{BadConfig, Map, Device}
 use Rattle.burst_plan.specs.declared.MapFault.TheVariants.{RegionOverlap}
 use Rattle.subordinate.specs.declared.DeviceFault.TheVariants.{BadWord}
 use Rattle.script_text.specs.Stages.{Opening}

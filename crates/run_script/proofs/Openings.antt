@@ -1,13 +1,13 @@
 -- The world of a set-up is made as its definition says.
 use Rattle.std.proofs.Common.{◌≡◌, ◌⊎◌, inl, inr, true, Option, None, Some, IfSome, IfOk, IfErr, Result, Ok, Err, refl, sym, ap, rules}
 use Rattle.burst_plan.specs.PageMap.{region_fault}
-use Rattle.bridge_core.specs.Configs.{is_valid}
+use Rattle.config.specs.Configs.{is_valid}
 use Rattle.subordinate.specs.Faults.{device_fault}
-use Rattle.world.specs.Setups.{SetupLists, setup_fault}
+use Rattle.setups.specs.Setups.{SetupLists, setup_fault}
 use Rattle.world.specs.World.{WorldState, opening_world}
-use Rattle.world.specs.declared.SetupFault.{SetupFault}
-use Rattle.world.specs.declared.SetupFault.TheVariants.{BadConfig, Map, Device, NoMemory}
-use Rattle.world.proofs.SetupFaults.{memory_never}
+use Rattle.setups.specs.declared.SetupFault.{SetupFault}
+use Rattle.setups.specs.declared.SetupFault.TheVariants.{BadConfig, Map, Device, NoMemory}
+use Rattle.setups.proofs.SetupFaults.{memory_never}
 use Rattle.script_text.specs.Stages.{OpensAs}
 use Rattle.run_script.specs.Run.{opened}
 

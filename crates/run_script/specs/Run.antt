@@ -1,9 +1,9 @@
 -- `tlbridge run`: what each line of its script does (this project's profile).
 use Rattle.std.specs.Prelude.{ℕ, Bool, true, false, List, [], ◌∷◌, ◌++◌, Option, Some, None, Result, Ok, Err}
 use Rattle.tl_messages.specs.Lines.{a_text}
-use Rattle.world.specs.Setups.{SetupLists, setup_fault}
+use Rattle.setups.specs.Setups.{SetupLists, setup_fault}
 use Rattle.world.specs.World.{WorldState, Outcome, opening_world, next, byte_of, drained, work_left}
-use Rattle.world.specs.declared.SetupFault.{SetupFault}
+use Rattle.setups.specs.declared.SetupFault.{SetupFault}
 use Rattle.world.specs.declared.Step.{Step}
 use Rattle.world.specs.declared.Step.TheVariants as step
 use Rattle.line_text.specs.Fields.{read_as, byte_field, short_field, address_field}

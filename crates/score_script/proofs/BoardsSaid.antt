@@ -13,7 +13,7 @@ use Rattle.tl_checker.specs.declared.Progress.TheVariants.{More, Whole}
 use Rattle.tl_checker.specs.declared.TlRule.{TlRule}
 use Rattle.tl_messages.specs.declared.ABeat.{ABeat}
 use Rattle.tl_messages.specs.declared.DBeat.{DBeat}
-use Rattle.world_run.specs.Meaning.{Bytes}
+use Rattle.meaning.specs.Meaning.{Bytes}
 
 pub wrong_said : (board : Board) (seen : Seen) → wrong_at board seen ≡ wrong_in (seen_board board) seen
 wrong_said board (A client beat) = refl

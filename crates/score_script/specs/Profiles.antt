@@ -11,7 +11,7 @@ use Rattle.score_script.specs.declared.profiles.Profile.{Profile}
 use Rattle.score_script.specs.declared.profiles.Profile.TheVariants.{Bridge, TileLink}
 use Rattle.scoreboard.specs.declared.Seen.{Seen}
 use Rattle.scoreboard.specs.declared.Wrong.{Wrong}
-use Rattle.world.specs.Setups.{SetupLists}
+use Rattle.setups.specs.Setups.{SetupLists}
 
 -- ---- profile PROFILE
 

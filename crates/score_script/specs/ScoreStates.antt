@@ -11,8 +11,8 @@ use Rattle.score_script.specs.declared.script.ScoreScript.{ScoreScript}
 use Rattle.score_script.specs.declared.script.Stage.{Stage as HeldStage}
 use Rattle.score_script.specs.declared.script.Stage.TheVariants as held
 use Rattle.script_text.specs.Stages.{Opening, Running, SettingUp, Stage}
-use Rattle.world.specs.Setups.{lists_of}
-use Rattle.world.specs.declared.SetupFault.{SetupFault}
+use Rattle.setups.specs.Setups.{lists_of}
+use Rattle.setups.specs.declared.SetupFault.{SetupFault}
 
 -- a board, said by its bytes
 abbrev pub board_of : HeldBoard → ProfileBoard

@@ -23,8 +23,8 @@ use Rattle.script_text.specs.declared.faults.ScriptFault.TheVariants.{Script}
 use Rattle.script_text.specs.declared.keywords.Form.{Form}
 use Rattle.script_text.specs.declared.keywords.Form.TheVariants as form
 use Rattle.script_text.specs.declared.setup_parser.SetupLine.{SetupLine}
-use Rattle.world.specs.Setups.{SetupLists, setup_fault}
-use Rattle.world.specs.declared.SetupFault.{SetupFault}
+use Rattle.setups.specs.Setups.{SetupLists, setup_fault}
+use Rattle.setups.specs.declared.SetupFault.{SetupFault}
 
 -- the board; the beat that is held, which is that of the last line, where that is an A line; and how many beats were judged, and how many of them
 -- are wrong

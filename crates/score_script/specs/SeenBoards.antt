@@ -17,8 +17,8 @@ use Rattle.tl_checker.specs.declared.TlRule.{TlRule}
 use Rattle.tl_messages.specs.Requests.{HeldMessage, request_of}
 use Rattle.tl_messages.specs.declared.ABeat.{ABeat}
 use Rattle.tl_messages.specs.declared.DBeat.{DBeat}
-use Rattle.world_run.specs.Meaning.{Bytes, Effect, meaning}
-use Rattle.world.specs.Setups.{SetupLists}
+use Rattle.meaning.specs.Meaning.{Bytes, Effect, meaning}
+use Rattle.setups.specs.Setups.{SetupLists}
 
 -- each client by its number; where addresses lead, the pages, and their bytes as the accepted requests leave them; and what is outstanding on
 -- the AXI4 port

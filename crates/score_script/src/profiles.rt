@@ -2,8 +2,8 @@
 ghost use Rattle.std.specs.Prelude.{◌≡◌, ◌<◌, ◌⊎◌, Err, IfErr, IfOk, IfSome, Some};
 ghost use Rattle.line_text.specs.Fields.{Reads};
 ghost use Rattle.line_text.specs.Words.{word_at};
-ghost use Rattle.world.specs.Setups.{lists_of, setup_fault};
-ghost use Rattle.world.specs.declared.SetupFault.TheVariants.{NoMemory};
+ghost use Rattle.setups.specs.Setups.{lists_of, setup_fault};
+ghost use Rattle.setups.specs.declared.SetupFault.TheVariants.{NoMemory};
 ghost use Rattle.score_script.specs.Profiles.{after_seen, bursts_open, byte_in, opening_board, profile_field, profile_in, profile_line, replies_open, wrong_in};
 ghost use Rattle.score_script.specs.ScoreStates.{board_of};
 ghost use Rattle.score_script.specs.SeenBoards.{after_seen as after_compared, seen_board, wrong_in as wrong_compared};
@@ -12,7 +12,7 @@ use line_text::Words;
 use racing_board::RacingBoard;
 use scoreboard::{Scoreboard, Seen, Wrong};
 use std::alloc::Global;
-use world::{Setup, SetupFault};
+use setups::{Setup, SetupFault};
 
 /// What is asked of a bridge.
 #[derive(Clone, Copy, Debug, PartialEq, Eq)]

@@ -1,6 +1,6 @@
 //! An observation, as it is read.
 ghost use Rattle.std.specs.Prelude.{◌≡◌, ◌≢◌, false, true};
-ghost use Rattle.world.specs.Setups.{lists_of, setup_fault};
+ghost use Rattle.setups.specs.Setups.{lists_of, setup_fault};
 ghost use Rattle.script_text.specs.Scripts.{EndsAs, text_before_failure, text_of};
 ghost use Rattle.script_text.specs.Stages.{MayStand, OpensAs, OpensStage, is_misplaced, with_setup_line};
 ghost use Rattle.script_text.specs.Steps.{TakesRest, TakesStep};
@@ -20,7 +20,7 @@ use script_text::{
 };
 use std::alloc::Global;
 use std::io::{Read, Write};
-use world::{Setup, SetupFault};
+use setups::{Setup, SetupFault};
 
 /// The most lines of an observation, so that the line after the last has a number.
 const MOST_LINES: u32 = 4_294_967_294;

@@ -4,7 +4,7 @@ mod racing;
 
 use axi_beats::{ArBeat, AwBeat, BBeat, RBeat, Resp, WBeat};
 use axi_checker::AxiRule;
-use bridge_core::Config;
+use config::Config;
 use burst_plan::{MapFault, PageMap, Region};
 use scoreboard::{ReplyRule, Scoreboard, Seen, SerialMemory, Wrong, observed};
 use std::alloc::Global;
@@ -14,7 +14,8 @@ use std::test::Fail;
 use subordinate::{PageKind, device_fault};
 use tl_checker::{Level, Port, Progress, TlRule};
 use tl_messages::{ABeat, DBeat, ReplyBox};
-use world::{Setup, SetupFault, Step};
+use setups::{Setup, SetupFault};
+use world::Step;
 
 /// Has the test fail where two values differ; `case` says of what they are.
 fn same<C: Debug + Drop, T: Debug + Drop + PartialEq>(rt: &impl Abort, case: C, got: T, wanted: T) {

@@ -3,10 +3,10 @@ use Rattle.std.proofs.Common.{◌≡◌, ℕ, ◌≤◌, length, map, Option, So
 use Rattle.std.specs.List.{range_with_len}
 use Rattle.std.proofs.lemmas.List.FromFn.{length-map-range_with_len}
 use Rattle.tl_messages.specs.declared.ABeat.{ABeat}
-use Rattle.bridge_core.specs.Configs.{is_valid}
+use Rattle.config.specs.Configs.{is_valid}
 use Rattle.bridge_core.proofs.JoinedRequests.{limits_made}
-use Rattle.world.specs.Setups.{SetupLists, setup_fault}
-use Rattle.world.proofs.SetupFaults.{valid_of}
+use Rattle.setups.specs.Setups.{SetupLists, setup_fault}
+use Rattle.setups.proofs.SetupFaults.{valid_of}
 use Rattle.scoreboard.specs.Boards.{Board, ClientBoard, IsAfterA, IsAnswered, answer_to, opening_client, with_client}
 
 -- there are at most eight clients

@@ -12,11 +12,11 @@ use Rattle.tl_checker.proofs.Fronts.{none_front}
 use Rattle.axi_checker.specs.OpenBursts.{nothing_open}
 use Rattle.axi_checker.specs.Rules.{open_after_all}
 use Rattle.responses.specs.Shown.{Reply, address_in_word, beat_of_word, beat_without_data, lacks_a_byte, shown}
-use Rattle.bridge_core.specs.Configs.{axi_port_of, port_of}
-use Rattle.world_run.specs.Headline.{bytes_of_all, replies_of}
-use Rattle.world_run.specs.Meaning.{meaning, zeros}
-use Rattle.world.specs.Setups.{SetupLists, faults_of}
-use Rattle.world_run.proofs.OrderOpens.{zero_byte}
+use Rattle.config.specs.Configs.{axi_port_of, port_of}
+use Rattle.meaning.specs.InTurn.{bytes_of_all, replies_of}
+use Rattle.meaning.specs.Meaning.{meaning, zeros}
+use Rattle.setups.specs.Setups.{SetupLists, faults_of}
+use Rattle.subordinate.proofs.ZeroBytes.{zero_byte}
 use Rattle.scoreboard.specs.Boards.{Board, ClientBoard, opening_board, opening_client, opening_due}
 use Rattle.scoreboard.specs.InsideSerial.{bytes_in}
 use Rattle.scoreboard.specs.Observed.{Observed, nothing_observed, requests_in}

@@ -11,7 +11,7 @@ use Rattle.tl_messages.specs.Requests.{HeldMessage, WholeRequest, request_of}
 use Rattle.tl_messages.specs.Operations.{beats_of, has_data}
 use Rattle.tl_messages.specs.declared.AtomicOp.{AtomicOp}
 use Rattle.tl_messages.specs.declared.AtomicOp.TheVariants.{Min, Max, MinU, MaxU, Add, Xor, Or, And, Swap}
-use Rattle.bridge_core.proofs.HeldBytes.{single_beat}
+use Rattle.data_unit.proofs.Operands.{single_beat}
 use Rattle.tl_messages.specs.declared.MaskedWord.{MaskedWord}
 use Rattle.tl_messages.specs.declared.Operation.TheVariants.{Atomic}
 use Rattle.data_unit.specs.Words.{bytes_of, full_mask, placed_at, value}
@@ -23,10 +23,10 @@ use Rattle.responses.specs.Gathered.{GatherState, gathering_of, old_value, reads
 use Rattle.subordinate.specs.Effects.{HasGoodPages}
 use Rattle.subordinate.specs.Faults.{Faults, IsAbsent, IsGood, IsSlaveError, Standing, read_response, read_response_on}
 use Rattle.subordinate.specs.InsidePages.{PagesState}
-use Rattle.world_run.specs.Meaning.{Bytes, bytes_at, effect, with_bytes}
-use Rattle.world_run.proofs.SerialOldValues.{old_value_at}
-use Rattle.world_run.proofs.SerialReplies.{outline_as}
-use Rattle.world_run.proofs.BytesLeft.{given_before, given_past}
+use Rattle.meaning.specs.Meaning.{Bytes, bytes_at, effect, with_bytes}
+use Rattle.meaning.proofs.SerialOldValues.{old_value_at}
+use Rattle.meaning.proofs.SerialReplies.{outline_as}
+use Rattle.meaning.proofs.GivenBytes.{given_before, given_past}
 use Rattle.scoreboard.specs.InsideSerial.{IsFresh, IsMemoryRange, bytes_in, put_in_word, words_read, word_read}
 use Rattle.scoreboard.proofs.PutWords.{given_or, in_word, out_of_word}
 use Rattle.scoreboard.specs.SerialMemory.{IsCheckedRequest}

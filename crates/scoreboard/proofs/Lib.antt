@@ -4,7 +4,6 @@ pub mod BoardClients
 pub mod BoardOf
 pub mod Changes
 pub mod DueLists
-pub mod LiveReplies
 pub mod Meanings
 pub mod Owed
 pub mod PutWords
@@ -13,10 +12,7 @@ pub mod ReplySteps
 pub mod RequestBeats
 pub mod RequestSteps
 pub mod RequestWords
-pub mod RunsSeen
-pub mod SeenBeats
 pub mod SeenLists
-pub mod SeenSteps
 pub mod Told
 pub mod WordRanges
 pub mod WordReads

@@ -13,8 +13,8 @@ use Rattle.tl_messages.specs.declared.MaskedWord.{MaskedWord}
 use Rattle.axi_beats.specs.Transfers.{transfer_end, transfer_has}
 use Rattle.burst_plan.proofs.RequestWrites.{given_at-bytes_given}
 use Rattle.subordinate.specs.Effects.{strobes_byte}
-use Rattle.world_run.specs.Meaning.{Bytes, with_bytes}
-use Rattle.world_run.proofs.BytesLeft.{given_before, given_past}
+use Rattle.meaning.specs.Meaning.{Bytes, with_bytes}
+use Rattle.meaning.proofs.GivenBytes.{given_before, given_past}
 use Rattle.scoreboard.specs.InsideSerial.{data_of, put_below, put_in_word, write_at}
 
 pub length-bytes_given : (held : HeldMessage) → length (bytes_given held) ≡ 2 ^ held.size

@@ -9,8 +9,8 @@ use Rattle.bus_words.proofs.StoredPlaces.{there_is}
 use Rattle.tl_messages.specs.declared.ABeat.{ABeat}
 use Rattle.tl_messages.specs.declared.DBeat.{DBeat}
 use Rattle.axi_checker.specs.OpenBursts.{OnAr, OnAw, OnB, OnR, OnW}
-use Rattle.world_run.specs.Headline.{bytes_of_all}
-use Rattle.world.specs.Setups.{SetupLists}
+use Rattle.meaning.specs.InTurn.{bytes_of_all}
+use Rattle.setups.specs.Setups.{SetupLists}
 use Rattle.scoreboard.specs.Boards.{Board, ClientBoard, IsAfter, IsAfterA, IsReached, a_wrong, after_d, answer_to, d_wrong, opening_board, wrong_at}
 use Rattle.scoreboard.specs.InsideBoards.{HasSource}
 use Rattle.scoreboard.specs.InsideSerial.{bytes_in}

@@ -9,8 +9,8 @@ use Rattle.tl_messages.specs.declared.DBeat.{DBeat}
 use Rattle.axi_checker.specs.OpenBursts.{AxiBeat, nothing_open}
 use Rattle.axi_checker.specs.Rules.{axi_fault, first_axi_fault}
 use Rattle.axi_checker.specs.declared.AxiRule.{AxiRule}
-use Rattle.world.specs.Setups.{SetupLists}
-use Rattle.bridge_core.specs.Configs.{axi_port_of}
+use Rattle.setups.specs.Setups.{SetupLists}
+use Rattle.config.specs.Configs.{axi_port_of}
 use Rattle.scoreboard.specs.Boards.{Board, ClientBoard, after_axi, after_reply_beat, axi_wrong, has_source, next_reply, with_client, wrong_axi, wrong_reply}
 use Rattle.scoreboard.specs.Observed.{Observed, with_axi_beat, with_reply_beat}
 use Rattle.scoreboard.specs.Right.{IsFree, IsPartly, IsRightNow, IsTold, left_of, replies_to}

@@ -18,11 +18,10 @@ use Rattle.tl_checker.specs.declared.TlRule.{TlRule}
 use Rattle.tl_checker.proofs.Fronts.{none_front}
 use Rattle.tl_checker.proofs.Taking.{held-append}
 use Rattle.responses.specs.Shown.{Reply, shown}
-use Rattle.bridge_core.specs.Configs.{port_of}
-use Rattle.world_run.specs.Headline.{IsSpelled, bytes_of_all}
-use Rattle.world_run.specs.Meaning.{Effect, meaning}
-use Rattle.world_run.specs.Runs.{AcceptedMessage}
-use Rattle.world.specs.Setups.{SetupLists, faults_of}
+use Rattle.config.specs.Configs.{port_of}
+use Rattle.meaning.specs.InTurn.{IsSpelled, bytes_of_all, AcceptedMessage}
+use Rattle.meaning.specs.Meaning.{Effect, meaning}
+use Rattle.setups.specs.Setups.{SetupLists, faults_of}
 use Rattle.scoreboard.specs.Boards.{Board, ClientBoard, IsAfterRequest, IsAnswered, answer_to, has_source, is_busy, with_client, with_due, wrong_request}
 use Rattle.scoreboard.specs.Observed.{Observed, is_complete, requests_in, with_begun, with_message, with_request_beat}
 use Rattle.scoreboard.specs.Right.{IsFree, IsRightNow, IsTold, is_of, left_of, replies_to}

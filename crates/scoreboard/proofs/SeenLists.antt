@@ -13,8 +13,8 @@ use Rattle.axi_checker.proofs.Judging.{first_axi_fault-none, first_axi_fault-som
 use Rattle.burst_plan.specs.declared.Region.{Region}
 use Rattle.responses.specs.Shown.{Reply, shown}
 use Rattle.subordinate.specs.Faults.{Faults}
-use Rattle.world_run.specs.Meaning.{Bytes, bytes_after_all, meaning, replies_in_order}
-use Rattle.world_run.specs.Runs.{AcceptedMessage, request_in, requests_of}
+use Rattle.meaning.specs.Meaning.{Bytes, bytes_after_all, meaning, replies_in_order}
+use Rattle.meaning.specs.InTurn.{AcceptedMessage, request_in, requests_of}
 use Rattle.scoreboard.specs.Observed.{Observed, with_all, with_seen}
 use Rattle.scoreboard.specs.Right.{all_beats, is_of, last_of, left_of, shown_to}
 use Rattle.scoreboard.specs.declared.Seen.{Seen}

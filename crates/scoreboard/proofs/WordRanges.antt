@@ -5,7 +5,7 @@ use Rattle.std.proofs.lemmas.Bool.{eq-eqb}
 use Rattle.std.proofs.lemmas.Nat.{pow_pos}
 use Rattle.axi_beats.specs.Transfers.{fits_bus}
 use Rattle.subordinate.specs.InsidePages.{IsTransferOf}
-use Rattle.world_run.proofs.SerialReplies.{in_page}
+use Rattle.meaning.proofs.SerialReplies.{in_page}
 use Rattle.scoreboard.specs.InsideSerial.{IsWordAt}
 
 pub word_below : (address size place : ℕ) → IsWordAt address size place → place * 8 < 2 ^ size

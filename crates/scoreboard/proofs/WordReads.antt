@@ -26,8 +26,8 @@ use Rattle.subordinate.specs.Faults.{is_bad, read_response, standing_at, write_r
 use Rattle.subordinate.specs.FreeMemory.{FreeMemory}
 use Rattle.subordinate.specs.InsidePages.{PagesState}
 use Rattle.subordinate.proofs.EffectLaws.{is_captured}
-use Rattle.world_run.specs.Meaning.{effect}
-use Rattle.world_run.proofs.SerialReplies.{IsAnsweredAs, is_put, outline_as, reply_at}
+use Rattle.meaning.specs.Meaning.{effect}
+use Rattle.meaning.proofs.SerialReplies.{IsAnsweredAs, is_put, outline_as, reply_at}
 use Rattle.scoreboard.specs.InsideSerial.{IsMemoryRange, IsWordAt, bytes_in, read_of_word, word_read, words_read}
 use Rattle.scoreboard.proofs.WordRanges.{one_transfer, word_aligned}
 

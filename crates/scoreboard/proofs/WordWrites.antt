@@ -16,7 +16,7 @@ use Rattle.subordinate.specs.FreeMemory.{FreeMemory, bytes_written}
 use Rattle.subordinate.specs.InsidePages.{PagesState}
 use Rattle.subordinate.proofs.EffectLaws.{is_written}
 use Rattle.std.proofs.lemmas.Nat.{div-add-mod', pow_pos}
-use Rattle.world_run.proofs.SerialReplies.{in_page, standing_of}
+use Rattle.meaning.proofs.SerialReplies.{in_page, standing_of}
 use Rattle.scoreboard.specs.InsideSerial.{IsWithinWord, bytes_in, data_of, put_in_word, write_at}
 use Rattle.scoreboard.proofs.WordRanges.{one_transfer}
 

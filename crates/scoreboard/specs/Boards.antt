@@ -15,9 +15,9 @@ use Rattle.axi_checker.specs.OpenBursts.{AxiBeat, OpenBursts, OnAr, OnAw, OnB, O
 use Rattle.axi_checker.specs.Rules.{AxiPortLimits, axi_fault}
 use Rattle.axi_checker.specs.declared.AxiRule.{AxiRule}
 use Rattle.responses.specs.Shown.{shown}
-use Rattle.bridge_core.specs.Configs.{axi_port_of, port_of}
-use Rattle.bridge_core.specs.declared.Config.{Config}
-use Rattle.world.specs.Setups.{SetupLists}
+use Rattle.config.specs.Configs.{axi_port_of, port_of}
+use Rattle.config.specs.declared.Config.{Config}
+use Rattle.setups.specs.Setups.{SetupLists}
 use Rattle.scoreboard.specs.SerialMemory.{IsCarriedOut, SerialState, meaning_now, opening_serial}
 use Rattle.scoreboard.specs.declared.ReplyRule.{ReplyRule}
 use Rattle.scoreboard.specs.declared.ReplyRule.TheVariants as rule

@@ -16,7 +16,7 @@ use Rattle.subordinate.specs.Faults.{read_response}
 use Rattle.subordinate.specs.FreeMemory.{byte_in_lane}
 use Rattle.subordinate.specs.InsidePages.{PagesState}
 use Rattle.subordinate.specs.Pages.{byte_at_address}
-use Rattle.world_run.specs.Meaning.{Bytes, with_bytes}
+use Rattle.meaning.specs.Meaning.{Bytes, with_bytes}
 
 -- the bytes of pages; one that isn't good counts as zero
 abbrev pub bytes_in : PagesState → Bytes

@@ -4,5 +4,4 @@ pub mod InsideSerial
 pub mod Names
 pub mod Observed
 pub mod Right
-pub mod SeenRuns
 pub mod SerialMemory

@@ -8,10 +8,10 @@ use Rattle.tl_messages.specs.declared.DBeat.{DBeat}
 use Rattle.tl_checker.specs.RequestRules.{IsFront}
 use Rattle.axi_checker.specs.OpenBursts.{nothing_open}
 use Rattle.axi_checker.specs.Rules.{first_axi_fault}
-use Rattle.bridge_core.specs.Configs.{axi_port_of, port_of}
+use Rattle.config.specs.Configs.{axi_port_of, port_of}
 use Rattle.responses.specs.Shown.{Reply, shown}
-use Rattle.world_run.specs.Headline.{IsSpelled, replies_of}
-use Rattle.world.specs.Setups.{SetupLists}
+use Rattle.meaning.specs.InTurn.{IsSpelled, replies_of}
+use Rattle.setups.specs.Setups.{SetupLists}
 use Rattle.scoreboard.specs.Observed.{Observed, observed_in, requests_in}
 use Rattle.scoreboard.specs.declared.Seen.{Seen}
 use Rattle.scoreboard.specs.declared.Seen.TheVariants.{A, D}

@@ -2,13 +2,13 @@
 ghost use Rattle.std.specs.Prelude.{◌≡◌, true, IfOk};
 ghost use Rattle.axi_checker.specs.OpenBursts.{OnAr, OnAw, OnB, OnR, OnW, nothing_open};
 ghost use Rattle.axi_checker.specs.Rules.{axi_fault};
-ghost use Rattle.bridge_core.specs.Configs.{axi_port_of, is_valid};
+ghost use Rattle.config.specs.Configs.{axi_port_of, is_valid};
 ghost use Rattle.scoreboard.specs.Boards.{bursts_after, open_count, wrong_axi};
 
 use crate::Wrong;
 use axi_beats::{ArBeat, AwBeat, BBeat, RBeat, WBeat};
 use axi_checker::Monitor;
-use bridge_core::Config;
+use config::Config;
 use std::alloc::{AllocError, Global};
 use std::marker::Model;
 

@@ -1,11 +1,11 @@
 //! The scoreboard.
 ghost use Rattle.std.specs.Prelude.{◌≡◌, ◌<◌, ◌≤◌, ◌⊎◌, ◌↔◌, List, [], ◌∷◌, ◌++◌, true, length, map, sum_by, if◌then◌else◌, None, Some, Err, IfErr, IfOk, IfSome, slice_get};
 ghost use Rattle.std.specs.List.{range_with_len};
-ghost use Rattle.bridge_core.specs.Configs.{is_valid};
+ghost use Rattle.config.specs.Configs.{is_valid};
 ghost use Rattle.subordinate.specs.Faults.{is_good, standing_at};
-ghost use Rattle.world_run.specs.Headline.{bytes_of_all};
-ghost use Rattle.world.specs.Setups.{SetupLists, lists_of, setup_fault};
-ghost use Rattle.world.specs.declared.SetupFault.TheVariants.{NoMemory};
+ghost use Rattle.meaning.specs.InTurn.{bytes_of_all};
+ghost use Rattle.setups.specs.Setups.{SetupLists, lists_of, setup_fault};
+ghost use Rattle.setups.specs.declared.SetupFault.TheVariants.{NoMemory};
 ghost use Rattle.scoreboard.specs.Boards.{opening_client, replies_left};
 ghost use Rattle.scoreboard.specs.InsideSerial.{bytes_in};
 
@@ -13,12 +13,12 @@ use crate::axi_port::AxiPort;
 use crate::clients::Client;
 use crate::serial::SerialMemory;
 use crate::{Seen, Wrong};
-use bridge_core::Config;
 use burst_plan::PageMap;
+use config::Config;
 use std::alloc::{AllocError, Global};
 use std::marker::Model;
 use tl_messages::{ABeat, DBeat};
-use world::{Setup, SetupFault, setup_fault};
+use setups::{Setup, SetupFault, setup_fault};
 
 /// Tells of each beat that was observed at the ports of a bridge whether it can be right: that the requests and the AXI4
 /// beats keep their rules, and that the replies are those of the accepted requests, carried out whole, one at a time, in

@@ -1,12 +1,12 @@
 //! A client as a scoreboard sees it: what it has begun to ask, and the replies that are due to it.
 ghost use Rattle.std.specs.Prelude.{◌≡◌, ◌≤◌, true, IfOk};
-ghost use Rattle.bridge_core.specs.Configs.{is_valid};
+ghost use Rattle.config.specs.Configs.{is_valid};
 ghost use Rattle.scoreboard.specs.Boards.{wrong_request};
 
 use crate::Wrong;
 use crate::replies::DueReplies;
 use crate::serial::SerialMemory;
-use bridge_core::Config;
+use config::Config;
 use std::alloc::{AllocError, Global};
 use std::marker::Model;
 use tl_checker::{Port, Progress, TlRule};

@@ -6,7 +6,6 @@ mod board;
 mod clients;
 mod names;
 mod replies;
-mod runs;
 mod serial;
 
 use axi_beats::{ArBeat, AwBeat, BBeat, RBeat, WBeat};
@@ -14,7 +13,6 @@ use axi_checker::AxiRule;
 pub use axi_port::AxiPort;
 pub use board::Scoreboard;
 pub use replies::DueReplies;
-pub use runs::observed;
 pub use serial::{SerialMemory, put_word};
 use tl_checker::TlRule;
 use tl_messages::{ABeat, DBeat};

@@ -1,8 +1,8 @@
 -- A set-up line that may stand has room.
 use Rattle.std.proofs.Common.{◌≡◌, ◌<◌, ◌≤◌, ℕ, ◌+◌, List, [], ◌∷◌, length, Bool, true, false, ◌&&◌, ◌||◌, nat_lt, nat_le, Option, None, Some, Result, Ok, Err, refl, sym, ap, arith, if◌then◌else◌, rules}
 use Rattle.std.proofs.lemmas.Bool.Decides.{nat_tests}
-use Rattle.bridge_core.specs.declared.Config.{Config as Limits}
-use Rattle.world.specs.Setups.{SetupLists}
+use Rattle.config.specs.declared.Config.{Config as Limits}
+use Rattle.setups.specs.Setups.{SetupLists}
 use Rattle.line_text.specs.Fields.{first_wrong, read_as, unless_wrong, address_field}
 use Rattle.script_text.specs.Forms.{told_as, count_field, kind_field}
 use Rattle.script_text.specs.SetupLines.{config_in, config_fields, region_in, region_fields, page_fields, kind_in}

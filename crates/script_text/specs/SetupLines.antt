@@ -5,10 +5,10 @@ use Rattle.std.specs.Str.{bytes_eq}
 use Rattle.tl_checker.specs.declared.Level.{Level}
 use Rattle.tl_checker.specs.declared.Level.TheVariants.{Ul, Uh}
 use Rattle.burst_plan.specs.declared.Region.{Region as MapRegion}
-use Rattle.bridge_core.specs.declared.Config.{Config as Limits}
+use Rattle.config.specs.declared.Config.{Config as Limits}
 use Rattle.subordinate.specs.declared.PageKind.{PageKind}
 use Rattle.subordinate.specs.declared.PageKind.TheVariants.{Good, SlaveError}
-use Rattle.world.specs.Setups.{SetupLists}
+use Rattle.setups.specs.Setups.{SetupLists}
 use Rattle.line_text.specs.Fields.{Field, byte_field, short_field, long_field, address_field, read_as}
 use Rattle.script_text.specs.Forms.{levels_field, permissions_field, count_field, kind_field}
 use Rattle.line_text.specs.Words.{word_at, dec_at, hex_at}

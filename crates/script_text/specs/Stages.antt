@@ -1,9 +1,9 @@
 -- What every kind of script has in common: a `config` line, other set-up lines, and then commands (this project's profile).
 use Rattle.std.specs.Prelude.{◌≡◌, ◌≢◌, ◌<◌, ◌≤◌, ◌+◌, ◌^◌, ⊤, ℕ, Bool, true, false, not, List, [], length, Option, Some, None, Result, Ok, Err, IsOk, if◌then◌else◌, nat_le}
 use Rattle.std.specs.Io.KnownBytes.{Appends}
-use Rattle.world.specs.Setups.{SetupLists, lists_of}
-use Rattle.world.specs.declared.SetupFault.{SetupFault}
-use Rattle.world.specs.declared.SetupFault.TheVariants as refused
+use Rattle.setups.specs.Setups.{SetupLists, lists_of}
+use Rattle.setups.specs.declared.SetupFault.{SetupFault}
+use Rattle.setups.specs.declared.SetupFault.TheVariants as refused
 use Rattle.script_text.specs.Forms.{told_as, form_of}
 use Rattle.script_text.specs.Scripts.{LineStep, Reading, TextResult, ended}
 use Rattle.script_text.specs.SetupLines.{config_line, region_line, page_line, bad_line, too_many_pages, with_config, with_line}

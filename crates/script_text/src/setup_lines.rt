@@ -1,6 +1,6 @@
 //! The set-up lines that may stand, what each says, and the set-up that they add up to.
 ghost use Rattle.std.specs.Prelude.{◌≡◌, ◌≤◌, ◌+◌, ◌++◌, ◌^◌, length};
-ghost use Rattle.world.specs.Setups.{lists_of};
+ghost use Rattle.setups.specs.Setups.{lists_of};
 ghost use Rattle.script_text.specs.SetupLines.{pages_from, too_many_pages, with_line};
 ghost use Rattle.script_text.specs.Stages.{HasRoomFor, has_no_room, is_setup_form, setup_line};
 
@@ -8,7 +8,7 @@ use crate::keywords::Form;
 use crate::setup_parser::{SetupLine, bad_line, config_line, page_count, page_line, region_line};
 use line_text::Words;
 use subordinate::PageKind;
-use world::Setup;
+use setups::Setup;
 
 /// The most pages of a set-up.
 const MOST_PAGES: usize = 64;

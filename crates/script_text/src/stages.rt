@@ -1,6 +1,6 @@
 //! What every kind of script has in common: a `config` line, other set-up lines, and then commands.
 ghost use Rattle.std.specs.Prelude.{◌≡◌, ◌≢◌, ◌<◌, ◌++◌, [], false, true};
-ghost use Rattle.world.specs.Setups.{lists_of};
+ghost use Rattle.setups.specs.Setups.{lists_of};
 ghost use Rattle.script_text.specs.Stages.{MayStand, OpensAs, Opening, OpensStage, Writes, WritesEnd, command_step, is_misplaced, is_setup_form, line_of_form, nothing_written, reading_of, stage_ending, step_of_line, with_setup_line, world_at};
 ghost use Rattle.script_text.specs.Steps.{TakesRest, TakesStep};
 
@@ -13,7 +13,7 @@ use line_text::{Words, WriteFault};
 use std::alloc::Global;
 use std::io::Write;
 use std::marker::Model;
-use world::{Setup, SetupFault};
+use setups::{Setup, SetupFault};
 
 /// A kind of script: the lines that it has, and what its commands do.
 pub trait Kind {

@@ -21,3 +21,4 @@ pub mod PerformedBeats
 pub mod QueueRows
 pub mod SoundDevices
 pub mod TransferWords
+pub mod ZeroBytes

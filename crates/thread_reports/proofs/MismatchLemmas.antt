@@ -8,7 +8,7 @@ use Rattle.std.proofs.lemmas.Option.{same_Some, slice_get_within}
 use Rattle.tl_messages.specs.declared.ABeat.{ABeat}
 use Rattle.world.specs.Laws.{AreSoundAlong}
 use Rattle.world_run.specs.Runs.{HandedReply}
-use Rattle.world.specs.Setups.{SetupLists}
+use Rattle.setups.specs.Setups.{SetupLists}
 use Rattle.world.specs.World.{WorldState, in_flight, opening_world}
 use Rattle.world.specs.declared.Step.{Step}
 use Rattle.thread_reports.specs.Mismatches.{EndsAt, IsMismatch, IsUnsettled}

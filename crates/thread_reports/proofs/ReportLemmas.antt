@@ -10,10 +10,11 @@ use Rattle.std.proofs.lemmas.Option.{slice_get_within}
 use Rattle.tl_messages.specs.Requests.{WholeRequest}
 use Rattle.tl_messages.specs.declared.ABeat.{ABeat}
 use Rattle.responses.specs.Shown.{Reply}
-use Rattle.world_run.specs.Headline.{IsOneAtATime, IsReplyTo, replies_of}
+use Rattle.world_run.specs.Headline.{IsOneAtATime, IsReplyTo}
+use Rattle.meaning.specs.InTurn.{replies_of}
 use Rattle.world.specs.Laws.{AreSoundAlong}
 use Rattle.world_run.specs.Runs.{HandedReply, accepted_in, accepted_numbers, answers_of, handed_in, sent_in}
-use Rattle.world.specs.Setups.{SetupLists, setup_fault}
+use Rattle.setups.specs.Setups.{SetupLists, setup_fault}
 use Rattle.world.specs.World.{WorldState, after, byte_of, in_flight, opening_world}
 use Rattle.world.specs.declared.Answer.{Answer}
 use Rattle.world.specs.declared.Answer.TheVariants.{Accepted}

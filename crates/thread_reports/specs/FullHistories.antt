@@ -1,7 +1,7 @@
 -- A history that has no room for a step more. It knows steps and scripts alone.
 use Rattle.std.specs.Prelude.{ℕ, ◌≡◌, List, ◌++◌, length, Some, slice_get, IsTrue}
 use Rattle.tl_messages.specs.declared.ABeat.{ABeat}
-use Rattle.world.specs.Setups.{SetupLists}
+use Rattle.setups.specs.Setups.{SetupLists}
 use Rattle.world.specs.World.{opening_world}
 use Rattle.world.specs.declared.Step.{Step}
 use Rattle.thread_reports.specs.Histories.{all_change}

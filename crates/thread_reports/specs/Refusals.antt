@@ -2,7 +2,7 @@
 use Rattle.std.specs.Prelude.{ℕ, ◌==◌, Bool, ◌&&◌, ◌||◌, not, List, length, is_some, nat_le, nat_lt}
 use Rattle.std.specs.List.{list_any}
 use Rattle.tl_messages.specs.declared.ABeat.{ABeat}
-use Rattle.world.specs.Setups.{SetupLists, setup_fault}
+use Rattle.setups.specs.Setups.{SetupLists, setup_fault}
 
 -- whether a run is refused before it starts: its set-up is, there isn't one script for each client, a script has over 4,096 beats, there aren't one
 -- to four lists of words, more than 1,000,000 steps may be stored, or a limit is 0

@@ -7,7 +7,7 @@ use Rattle.std.specs.declared.vec.Vec.{Vec}
 use Rattle.tl_messages.specs.declared.ABeat.{ABeat}
 use Rattle.tl_messages.specs.declared.DBeat.{DBeat}
 use Rattle.world_run.specs.Runs.{HandedReply, accepted_in, answers_of, handed_in}
-use Rattle.world.specs.Setups.{SetupLists, setup_fault}
+use Rattle.setups.specs.Setups.{SetupLists, setup_fault}
 use Rattle.world.specs.World.{WorldState, IsQuiet, opening_world}
 use Rattle.world.specs.declared.Answer.{Answer}
 use Rattle.world.specs.declared.Answer.TheVariants.{More, Accepted}

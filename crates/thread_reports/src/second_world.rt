@@ -3,9 +3,9 @@ ghost use Rattle.std.specs.Prelude.{◌≡◌, ◌⊎◌, ◌<◌, ◌≤◌, �
 ghost use Rattle.tl_messages.specs.declared.ABeat.{ABeat};
 ghost use Rattle.world_run.specs.Headline.{IsOneAtATime};
 ghost use Rattle.world_run.specs.Runs.{answers_of, handed_in, sent_in};
-ghost use Rattle.world.specs.Setups.{SetupLists, lists_of, setup_fault};
+ghost use Rattle.setups.specs.Setups.{SetupLists, lists_of, setup_fault};
 ghost use Rattle.world.specs.World.{WorldState, byte_of, in_flight, opening_world};
-ghost use Rattle.world.specs.declared.SetupFault.TheVariants.{NoMemory};
+ghost use Rattle.setups.specs.declared.SetupFault.TheVariants.{NoMemory};
 ghost use Rattle.thread_reports.specs.FullHistories.{IsFullHistory};
 ghost use Rattle.thread_reports.specs.Mismatches.{IsMismatch};
 ghost use Rattle.thread_reports.specs.Reports.{IsReport, items_of};

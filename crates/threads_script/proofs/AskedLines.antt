@@ -3,7 +3,7 @@ use Rattle.std.proofs.Common.{◌≡◌, ◌<◌, ℕ, Bool, true, false, ◌&&�
 use Rattle.std.specs.Prelude.{nat_le}
 use Rattle.std.proofs.lemmas.Bool.{false≢true}
 use Rattle.tl_messages.specs.declared.ABeat.{ABeat}
-use Rattle.world.specs.Setups.{SetupLists}
+use Rattle.setups.specs.Setups.{SetupLists}
 use Rattle.line_text.specs.Fields.{byte_field, unless_wrong}
 use Rattle.line_text.specs.OfferLines.{offer_line}
 use Rattle.script_text.specs.Stages.{has_no_room, is_setup_form}

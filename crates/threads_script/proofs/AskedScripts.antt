@@ -1,8 +1,8 @@
 -- A script that asks writes nothing while it is read, and one that ends has a set-up that isn't refused.
 use Rattle.std.proofs.Common.{◌≡◌, ◌∙◌, ℕ, ◌+◌, Bool, true, false, List, [], ◌∷◌, Option, Some, None, Result, Ok, Err, refl, sym, ap, rules, if◌then◌else◌}
 use Rattle.std.specs.Prelude.{⊤, ◌||◌, nat_lt, not}
-use Rattle.world.specs.Setups.{SetupLists, setup_fault}
-use Rattle.world.specs.declared.SetupFault.{SetupFault}
+use Rattle.setups.specs.Setups.{SetupLists, setup_fault}
+use Rattle.setups.specs.declared.SetupFault.{SetupFault}
 use Rattle.script_text.specs.Scripts.{LineStep, TextResult, after_step, line_step, lines_result}
 use Rattle.line_text.specs.Words.{is_plain_line, is_skipped, words_of}
 use Rattle.script_text.specs.declared.faults.ScriptFault.{ScriptFault}

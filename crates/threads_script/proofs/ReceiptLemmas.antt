@@ -10,7 +10,7 @@ use Rattle.axi_beats.proofs.Ranges.{range_with_len-append-range_with_len}
 use Rattle.tl_messages.specs.declared.ABeat.{ABeat}
 use Rattle.tl_messages.specs.declared.DBeat.{DBeat}
 use Rattle.world_run.specs.Runs.{HandedReply}
-use Rattle.world.specs.Setups.{SetupLists}
+use Rattle.setups.specs.Setups.{SetupLists}
 use Rattle.world.specs.World.{WorldState, opening_world}
 use Rattle.world.specs.declared.Step.{Step}
 use Rattle.thread_reports.specs.Reports.{IsReport, beats_of_all, head_of}

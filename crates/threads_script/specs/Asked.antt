@@ -1,8 +1,8 @@
 -- `tlbridge threads`: what the lines of its script ask for (this project's profile).
 use Rattle.std.specs.Prelude.{ℕ, ◌+◌, ◌≡◌, ◌≤◌, Bool, true, false, ◌&&◌, ◌||◌, not, List, [], ◌∷◌, ◌++◌, length, max, replicate, Option, Some, None, option_map, Result, Ok, Err, if◌then◌else◌, nat_le}
 use Rattle.tl_messages.specs.declared.ABeat.{ABeat}
-use Rattle.world.specs.Setups.{SetupLists, setup_fault}
-use Rattle.world.specs.declared.SetupFault.{SetupFault}
+use Rattle.setups.specs.Setups.{SetupLists, setup_fault}
+use Rattle.setups.specs.declared.SetupFault.{SetupFault}
 use Rattle.line_text.specs.Fields.{Field, address_field, byte_field, read_as}
 use Rattle.script_text.specs.Forms.{form_of, told_as}
 use Rattle.line_text.specs.OfferLines.{offer_line}

@@ -4,7 +4,7 @@ use Rattle.std.specs.List.{range_with_len}
 use Rattle.line_text.specs.Traces.{client_text, mem_text, ok_text, reply_line_text, reply_text}
 use Rattle.world_run.specs.Headline.{IsOneAtATime}
 use Rattle.world_run.specs.Runs.{HandedReply, answers_of, handed_in, sent_in}
-use Rattle.world.specs.Setups.{SetupLists}
+use Rattle.setups.specs.Setups.{SetupLists}
 use Rattle.world.specs.World.{WorldState, byte_of, in_flight, opening_world}
 use Rattle.world.specs.declared.Step.{Step}
 use Rattle.thread_reports.specs.Reports.{AreReceiptsOf, IsReport, handed_to}

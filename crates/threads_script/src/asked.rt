@@ -1,6 +1,6 @@
 //! What a script asks for, line by line.
 ghost use Rattle.std.specs.Prelude.{◌≡◌, ◌≤◌, false, true, IfOk, option_map, length, take};
-ghost use Rattle.world.specs.Setups.{lists_of};
+ghost use Rattle.setups.specs.Setups.{lists_of};
 ghost use Rattle.thread_reports.specs.Reports.{items_of};
 ghost use Rattle.script_text.specs.Stages.{is_setup_form};
 ghost use Rattle.script_text.specs.declared.keywords.Form.TheVariants as form;
@@ -14,7 +14,7 @@ use script_text::{Form, SetupLine, add_setup_line, has_no_room, is_setup_form, s
 use std::alloc::{AllocError, Global};
 use std::marker::Model;
 use tl_messages::ABeat;
-use world::Setup;
+use setups::Setup;
 
 /// The most clients.
 const MOST_CLIENTS: usize = 8;
@@ -56,7 +56,7 @@ impl Model for Asked {
     ghost use Rattle.thread_reports.specs.Reports.{items_of};
     ghost use Rattle.threads_script.specs.Asked.{AskedLists};
     ghost use Rattle.threads_script.specs.Lists.{AreShort, HaveRoom};
-    ghost use Rattle.world.specs.Setups.{lists_of};
+    ghost use Rattle.setups.specs.Setups.{lists_of};
 
     ghost Value = { AskedLists };
 

@@ -5,7 +5,7 @@ ghost use Rattle.std.specs.List.{range_with_len};
 ghost use Rattle.tl_messages.specs.declared.ABeat.{ABeat};
 ghost use Rattle.line_text.specs.Traces.{mem_text};
 ghost use Rattle.world_run.specs.Runs.{HandedReply};
-ghost use Rattle.world.specs.Setups.{SetupLists};
+ghost use Rattle.setups.specs.Setups.{SetupLists};
 ghost use Rattle.world.specs.World.{WorldState, byte_of, opening_world};
 ghost use Rattle.world.specs.declared.Step.{Step};
 ghost use Rattle.thread_reports.specs.Reports.{AreReceiptsOf, IsReport};

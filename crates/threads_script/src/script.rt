@@ -5,7 +5,7 @@ use line_text::Words;
 use script_text::{Script, ScriptFault};
 use std::alloc::Global;
 use std::io::Write;
-use world::setup_fault;
+use setups::setup_fault;
 
 impl Script for Asked {
     ghost use Rattle.std.specs.Prelude.{true};

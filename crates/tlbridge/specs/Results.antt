@@ -4,8 +4,8 @@ use Rattle.bridge_threads.specs.declared.threads.Fault.{Fault}
 use Rattle.bridge_threads.specs.declared.threads.Fault.TheVariants as thread
 use Rattle.burst_plan.specs.declared.MapFault.TheVariants as map_fault
 use Rattle.subordinate.specs.declared.DeviceFault.TheVariants as device_fault
-use Rattle.world.specs.declared.SetupFault.{SetupFault}
-use Rattle.world.specs.declared.SetupFault.TheVariants as setup
+use Rattle.setups.specs.declared.SetupFault.{SetupFault}
+use Rattle.setups.specs.declared.SetupFault.TheVariants as setup
 use Rattle.tlbridge.specs.declared.faults.TextFault.{TextFault}
 use Rattle.tlbridge.specs.declared.faults.TextFault.TheVariants.{Script, Setup, Read, Write, NoMemory, Thread}
 

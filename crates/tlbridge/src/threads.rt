@@ -6,7 +6,7 @@ ghost use Rattle.threads_script.specs.Asked.{IsSoundAsked};
 ghost use Rattle.tlbridge.specs.Threads.{EndsAsRead, FailsToRun, run_fault};
 ghost use Rattle.world_run.specs.Headline.{IsOneAtATime};
 ghost use Rattle.world_run.specs.Runs.{answers_of, handed_in, sent_in};
-ghost use Rattle.world.specs.Setups.{SetupLists};
+ghost use Rattle.setups.specs.Setups.{SetupLists};
 ghost use Rattle.world.specs.World.{byte_of, in_flight, opening_world};
 
 use crate::faults::TextFault;

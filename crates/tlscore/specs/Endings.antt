@@ -5,8 +5,8 @@ use Rattle.burst_plan.specs.declared.MapFault.TheVariants as map_fault
 use Rattle.script_text.specs.declared.faults.ScriptFault.{ScriptFault}
 use Rattle.script_text.specs.declared.faults.ScriptFault.TheVariants.{Script, Setup, Read, Write, NoMemory}
 use Rattle.subordinate.specs.declared.DeviceFault.TheVariants as device_fault
-use Rattle.world.specs.declared.SetupFault.{SetupFault}
-use Rattle.world.specs.declared.SetupFault.TheVariants as setup
+use Rattle.setups.specs.declared.SetupFault.{SetupFault}
+use Rattle.setups.specs.declared.SetupFault.TheVariants as setup
 
 -- as the observation did; or with a write fault, whatever it ended with, since the flush comes after all of its text. Where it ended with none, the
 -- writer then held a byte, if it shows what it holds: so a fault before any text stays itself

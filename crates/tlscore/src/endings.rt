@@ -12,7 +12,7 @@ use script_text::ScriptFault;
 use std::alloc::Global;
 use std::io::{BufWriter, Read, Write};
 use subordinate::DeviceFault;
-use world::SetupFault;
+use setups::SetupFault;
 
 /// Flushes the output of an input that ended so, where the buffer isn't empty. Output that can't be flushed is a write fault.
 #[tactic(auto, using(crate::proofs::Held::no_byte))]

@@ -24,13 +24,13 @@ use Rattle.flight_table.specs.Laws.{IsSoundRequest}
 use Rattle.flight_table.specs.Tables.{has_room}
 use Rattle.bridge_core.specs.declared.Offered.{Offered}
 use Rattle.responses.specs.Gathered.{Gathering, after_b, after_r}
-use Rattle.bridge_core.specs.Configs.{is_valid, table_limits_of}
-use Rattle.bridge_core.specs.declared.Config.{Config}
+use Rattle.config.specs.Configs.{is_valid}
+use Rattle.bridge_core.specs.HeldRequests.{table_limits_of, BridgedRequest, after_read, after_response, after_sending, flight_table_of, holds, is_done_for, newly_live, with_request, is_numbered, outline_in, settled}
+use Rattle.config.specs.declared.Config.{Config}
 use Rattle.burst_plan.specs.declared.Region.{Region}
 use Rattle.flight_table.specs.declared.TableLimits.{TableLimits}
 use Rattle.bridge_core.specs.Bridge.{BridgeState, after_b_beat, after_r_beat, after_sent, after_take, message_with, offered, offered_after, verdict_on}
 use Rattle.bridge_core.specs.Laws.{IsServed, IsSoundBridge}
-use Rattle.bridge_core.specs.HeldRequests.{BridgedRequest, after_read, after_response, after_sending, flight_table_of, holds, is_done_for, newly_live, with_request, is_numbered, outline_in, settled}
 use Rattle.bridge_core.specs.Sending.{Sending, next_sending}
 use Rattle.bridge_core.proofs.NextSending.{next_found}
 use Rattle.bridge_core.proofs.SentLinks.{found_by_number}

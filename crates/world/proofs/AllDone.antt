@@ -21,9 +21,8 @@ use Rattle.flight_table.specs.Order.{free_id, holds_back, holds_id, id_for, is_h
 use Rattle.flight_table.specs.Tables.{is_undone}
 use Rattle.flight_table.specs.Work.{unsent_work}
 use Rattle.bridge_core.specs.Bridge.{BridgeState, burst_to_send}
-use Rattle.bridge_core.specs.Configs.{table_limits_of}
+use Rattle.bridge_core.specs.HeldRequests.{table_limits_of, BridgedRequest, RequestTable, flights_of, holder, holds, may_send}
 use Rattle.bridge_core.specs.Laws.{IsPartWay, IsServed, IsSoundBridge, IsSoundRequestTable, came_of, came_of_next, open_read, open_reads, open_writes, outstanding, outstanding_of}
-use Rattle.bridge_core.specs.HeldRequests.{BridgedRequest, RequestTable, flights_of, holder, holds, may_send}
 use Rattle.bridge_core.proofs.AnswerLinks.{holder_known}
 use Rattle.bridge_core.proofs.NextSending.{next_sending-some}
 use Rattle.bridge_core.proofs.JoinedRequests.{limits_made}

@@ -9,16 +9,16 @@ use Rattle.axi_beats.specs.Bursts.{Burst, WriteBurst, ReadBurst}
 use Rattle.axi_beats.specs.declared.Resp.TheVariants.{Okay}
 use Rattle.burst_plan.specs.declared.MapFault.TheVariants.{RegionOverlap}
 use Rattle.burst_plan.specs.declared.Region.{Region}
-use Rattle.bridge_core.specs.declared.Config.{Config}
+use Rattle.config.specs.declared.Config.{Config}
 use Rattle.subordinate.specs.FreeMemory.{bytes_written}
 use Rattle.subordinate.specs.Pages.{zero_words}
 use Rattle.subordinate.specs.declared.DeviceFault.TheVariants.{BadWord}
 use Rattle.subordinate.specs.declared.PageKind.TheVariants.{Good}
-use Rattle.world.specs.Setups.{SetupLists, setup_fault}
+use Rattle.setups.specs.Setups.{SetupLists, setup_fault}
 use Rattle.world.specs.World.{WorldState, Drains, after, byte_of, drained, enabled, in_flight, next, opening_world, work_left}
 use Rattle.world.specs.declared.Answer.{Answer}
 use Rattle.world.specs.declared.Answer.TheVariants.{Accepted, NotReady, Refused, NoClient, Sent, Idle, Done, NoSuch, Already, B, Nothing, Reply}
-use Rattle.world.specs.declared.SetupFault.TheVariants.{BadConfig, Map, Device}
+use Rattle.setups.specs.declared.SetupFault.TheVariants.{BadConfig, Map, Device}
 use Rattle.world.specs.declared.Step.{Step}
 use Rattle.world.specs.declared.Step.TheVariants.{Offer, Pump, Perform, AnswerB, AnswerR, Take}
 

@@ -12,9 +12,8 @@ use Rattle.flight_table.specs.LiveRequests.{LiveRequest, planned}
 use Rattle.flight_table.specs.Order.{next_ready}
 use Rattle.flight_table.specs.Tables.{FlightTable}
 use Rattle.bridge_core.specs.Bridge.{BridgeState, after_r_beat, burst_to_send, r_fault}
-use Rattle.bridge_core.specs.Configs.{table_limits_of}
+use Rattle.bridge_core.specs.HeldRequests.{table_limits_of, BridgedRequest, after_read, flight_table_of, flights_of, holds}
 use Rattle.bridge_core.specs.Laws.{IsSoundBridge}
-use Rattle.bridge_core.specs.HeldRequests.{BridgedRequest, after_read, flight_table_of, flights_of, holds}
 use Rattle.bridge_core.proofs.AnswerLinks.{answered_reader}
 use Rattle.bridge_core.proofs.Pumps.{ready_goes}
 use Rattle.bridge_core.proofs.ResponseLinks.{not_so}

@@ -12,7 +12,6 @@ pub mod OpenWork
 pub mod Passing
 pub mod Serials
 pub mod Settled
-pub mod SetupFaults
 pub mod Sums
 pub mod TakesAll
 pub mod Taking

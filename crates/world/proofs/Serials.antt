@@ -10,10 +10,10 @@ use Rattle.burst_plan.specs.PlannedTransfers.{beat_bytes, burst_beats, burst_byt
 use Rattle.burst_plan.specs.declared.Piece.{Piece}
 use Rattle.burst_plan.proofs.PieceLaws.{burst_count, divides_evenly, length-pieces}
 use Rattle.burst_plan.specs.declared.Region.{Region}
-use Rattle.bridge_core.specs.Configs.{is_valid}
+use Rattle.config.specs.Configs.{is_valid}
 use Rattle.bridge_core.specs.Laws.{IsServed}
 use Rattle.bridge_core.specs.HeldRequests.{BridgedRequest}
-use Rattle.bridge_core.specs.declared.Config.{Config}
+use Rattle.config.specs.declared.Config.{Config}
 use Rattle.bridge_core.proofs.SentBursts.{plannable}
 use Rattle.flight_table.specs.LiveRequests.{LiveRequest, all_sent, pieces_planned, planned, read_pieces}
 use Rattle.flight_table.proofs.PhaseLaws.{length_reading, length_writing}

@@ -5,7 +5,7 @@ use Rattle.std.proofs.Common.{◌≡◌, ℕ, List, Option, None, Some, refl, ar
 use Rattle.burst_plan.specs.declared.Region.{Region}
 use Rattle.bridge_core.specs.Bridge.{StockedBridge, opening_bridge, BridgeState, after_take, boxes_of, offered, reply_taken, taken}
 use Rattle.bridge_core.specs.Laws.{IsSoundBridge}
-use Rattle.bridge_core.specs.declared.Config.{Config}
+use Rattle.config.specs.declared.Config.{Config}
 use Rattle.subordinate.specs.Device.{DeviceState, opening_device}
 use Rattle.subordinate.specs.Laws.{IsSoundMemory}
 use Rattle.subordinate.specs.declared.PageKind.{PageKind}

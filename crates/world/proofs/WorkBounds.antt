@@ -14,10 +14,10 @@ use Rattle.burst_plan.proofs.PlanLaws.{beats_counted}
 use Rattle.tl_messages.specs.Operations.{has_data, reply_has_data}
 use Rattle.flight_table.specs.LiveRequests.{LiveRequest, bursts_of, phase_pieces, pieces_planned, read_pieces, write_pieces}
 use Rattle.flight_table.specs.Work.{answers_of_burst, beats_of_burst, later_work, unsent_work, work_of_bursts}
-use Rattle.bridge_core.specs.Configs.{is_valid}
+use Rattle.config.specs.Configs.{is_valid}
 use Rattle.bridge_core.specs.Laws.{IsServed, beats_in}
 use Rattle.bridge_core.specs.HeldRequests.{BridgedRequest, flights_of}
-use Rattle.bridge_core.specs.declared.Config.{Config}
+use Rattle.config.specs.declared.Config.{Config}
 use Rattle.world.specs.Laws.{IsSoundWorld}
 use Rattle.world.specs.World.{WorldState, work_left}
 use Rattle.world.proofs.OpenWork.{work_open_few}

@@ -15,7 +15,7 @@ use Rattle.subordinate.specs.FreeMemory.{FreeMemory, opening, with_burst, perfor
 use Rattle.subordinate.specs.Pages.{byte_at_address}
 use Rattle.subordinate.specs.declared.Performed.{Performed}
 use Rattle.subordinate.specs.declared.Performed.TheVariants as perform
-use Rattle.world.specs.Setups.{SetupLists}
+use Rattle.setups.specs.Setups.{SetupLists}
 use Rattle.world.specs.declared.Answer.{Answer}
 use Rattle.world.specs.declared.Answer.TheVariants.{More, Accepted, NotReady, Exhausted, Refused, NoClient, Sent, Idle, Done, NoSuch, Already, B, R, Nothing, Reply}
 use Rattle.world.specs.declared.Step.{Step}

@@ -3,49 +3,13 @@
 
 mod choices;
 mod parts;
-mod setups;
 mod world;
 
-use arrayvec::ArrayVec;
 use axi_beats::{BBeat, RBeat};
-use bridge_core::Config;
-use burst_plan::{MapFault, Region};
-pub use setups::setup_fault;
-use subordinate::{DeviceFault, PageKind};
-use thiserror::Error;
+pub use setups::{Setup, SetupFault, setup_fault};
 use tl_checker::TlRule;
 use tl_messages::ABeat;
 pub use world::World;
-
-/// What a world is made of: the bridge's limits, its regions, and the memory's pages and bad words.
-#[derive(Drop)]
-pub struct Setup {
-    /// The bridge's limits.
-    pub config: Config,
-    /// The regions of TileLink pages, each leading to AXI pages.
-    pub regions: ArrayVec<Region, 16>,
-    /// The memory's pages with their kinds; other pages are absent.
-    pub pages: ArrayVec<(u32, PageKind), 64>,
-    /// The addresses of eight-byte words of good pages that went bad.
-    pub bad_words: ArrayVec<u32, 64>,
-}
-
-/// Why a set-up is refused.
-#[derive(Clone, Copy, Debug, PartialEq, Eq, Error)]
-pub enum SetupFault {
-    /// A limit isn't in its range.
-    #[error("BadConfig 0")]
-    BadConfig,
-    /// The page map is refused.
-    #[error(transparent)]
-    Map(MapFault),
-    /// The memory is refused.
-    #[error(transparent)]
-    Device(DeviceFault),
-    /// Memory was refused.
-    #[error("out of memory")]
-    NoMemory,
-}
 
 /// One event.
 #[derive(Clone, Copy, Debug, PartialEq, Eq)]

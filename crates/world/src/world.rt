@@ -1,8 +1,8 @@
 //! The world: a bridge and a memory, one event at a time.
 ghost use Rattle.std.specs.Prelude.{◌≡◌, ◌+◌, ◌≤◌, ◌<◌, ◌⊎◌, length, map, None, Some, option_map, slice_get, IfErr, IfOk, IfSome, IsTrue, if◌then◌else◌};
 ghost use Rattle.world.specs.Laws.{IsSoundWorld, TakeAll};
-ghost use Rattle.world.specs.Setups.{lists_of, setup_fault};
-ghost use Rattle.world.specs.declared.SetupFault.TheVariants.{NoMemory};
+ghost use Rattle.setups.specs.Setups.{lists_of, setup_fault};
+ghost use Rattle.setups.specs.declared.SetupFault.TheVariants.{NoMemory};
 ghost use Rattle.world.specs.declared.Step.TheVariants.{Offer, Pump, Perform, AnswerB, AnswerR, Take};
 
 use crate::parts::{give_b, give_r, send};

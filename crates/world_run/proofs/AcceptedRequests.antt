@@ -17,12 +17,13 @@ use Rattle.tl_checker.proofs.Fronts.{none_front}
 use Rattle.tl_checker.proofs.Taking.{held-append, reads, whole_by}
 use Rattle.flight_table.specs.Tables.{is_busy}
 use Rattle.bridge_core.specs.Bridge.{BridgeState, front_of, message_with, verdict_on, with_front}
-use Rattle.bridge_core.specs.Configs.{port_of}
+use Rattle.config.specs.Configs.{port_of}
 use Rattle.bridge_core.specs.HeldRequests.{flight_table_of}
-use Rattle.bridge_core.specs.declared.Config.{Config}
+use Rattle.config.specs.declared.Config.{Config}
 use Rattle.bridge_core.proofs.Openings.{nothing_begun}
-use Rattle.world_run.specs.Runs.{Heard, heard_nothing, with_heard, AcceptedMessage, messages_from, requests_of, accepted_in, answers_of}
-use Rattle.world.specs.Setups.{SetupLists}
+use Rattle.world_run.specs.Runs.{Heard, heard_nothing, with_heard, messages_from, accepted_in, answers_of}
+use Rattle.meaning.specs.InTurn.{AcceptedMessage, requests_of}
+use Rattle.setups.specs.Setups.{SetupLists}
 use Rattle.world.specs.World.{WorldState, Outcome, opening_world, next, leaves_all}
 use Rattle.world.specs.declared.Answer.{Answer}
 use Rattle.world.specs.declared.Answer.TheVariants.{More, Accepted}

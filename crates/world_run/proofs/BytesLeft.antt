@@ -15,28 +15,20 @@ use Rattle.tl_messages.specs.declared.AtomicOp.{AtomicOp}
 use Rattle.tl_messages.specs.declared.Operation.{Operation}
 use Rattle.tl_messages.specs.declared.Operation.TheVariants.{PutFull, PutPartial, Atomic, Get, Intent}
 use Rattle.data_unit.specs.Words.{bytes_of, value}
-use Rattle.data_unit.specs.Atomics.{atomic_result}
+use Rattle.data_unit.specs.Atomics.{atomic_result, operand_of}
 use Rattle.data_unit.proofs.NumberLaws.{length-bytes_of}
-use Rattle.burst_plan.specs.PageMap.{translated_address}
+use Rattle.burst_plan.specs.PageMap.{translated_address, address_of}
 use Rattle.burst_plan.specs.declared.Region.{Region}
 use Rattle.burst_plan.specs.Pieces.{IsPlannable, PlannedRange}
 use Rattle.burst_plan.specs.PlannedTransfers.{HasAddress}
 use Rattle.burst_plan.proofs.PieceLaws.{range_in_page}
-use Rattle.bridge_core.specs.HeldRequests.{address_of, BridgedRequest, value_found}
-use Rattle.bridge_core.specs.Sending.{bytes_written, operand_of}
+use Rattle.bridge_core.specs.HeldRequests.{BridgedRequest, value_found}
+use Rattle.bridge_core.specs.Sending.{bytes_written}
 use Rattle.subordinate.specs.Faults.{Faults, Standing, IsGood, standing_at, is_bad, is_good, lists_page, standing_of_listed}
-use Rattle.world_run.specs.Meaning.{Bytes, atomic_bytes, bytes_after_all, bytes_at, denied, effect, effect_at, meaning, replies_in_order, zeros}
+use Rattle.meaning.specs.Meaning.{Bytes, atomic_bytes, bytes_after_all, bytes_at, denied, effect, effect_at, meaning, replies_in_order, zeros}
 use Rattle.world_run.specs.Serial.{Order, after_one, asked, bytes_before, gives_byte, is_intent, touches, touches_byte, touches_from, writes, writes_byte, writes_from, byte_left}
 
 -- ---- bytes of a list
-
-pub given_before : (bytes : List (Option ℕ)) (start x : ℕ) → x < start → given_at bytes start x ≡ None
-given_before bytes start x below = let out : nat_le start x ≡ false = grind (arith, nat_tests) in rw out refl
-
-pub given_past : (bytes : List (Option ℕ)) (start x : ℕ) → start + length bytes ≤ x → given_at bytes start x ≡ None
-given_past bytes start x above =
-    let after : nat_le start x ≡ true = grind (arith, nat_tests) in
-    rw (after, slice_get_past bytes (x - start) (omega (arith, above))) refl
 
 not_given : (o : Option ℕ) (d : ℕ) → is_some o ≡ false → unwrap_or o d ≡ d
 not_given None d none = refl

@@ -2,14 +2,13 @@
 -- (OrderedRuns).
 use Rattle.std.proofs.Common.{List, subst, sym}
 use Rattle.world.specs.Laws.{AreSoundAlong}
-use Rattle.world.specs.Setups.{SetupLists}
-use Rattle.world.specs.World.{opening_world}
+use Rattle.setups.specs.Setups.{SetupLists}
+use Rattle.world.specs.World.{opening_world, WorldState, byte_of, in_flight}
 use Rattle.world.specs.declared.Step.{Step}
 use Rattle.tl_messages.specs.declared.DBeat.{DBeat}
 use Rattle.world_run.specs.Headline.{IsOneAtATime}
 use Rattle.world_run.specs.InOrder.{IsOrdered, order_of}
 use Rattle.world_run.specs.Runs.{IsRunOf, handed_of}
-use Rattle.world.specs.World.{WorldState, byte_of, in_flight}
 use Rattle.world.specs.declared.Answer.{Answer}
 use Rattle.world_run.specs.declared.Handed.{Handed}
 use Rattle.world_run.specs.declared.SentBeat.{SentBeat}

@@ -25,20 +25,20 @@ use Rattle.flight_table.specs.LiveRequests.{LiveRequest, plan_for, is_settled, w
 use Rattle.flight_table.specs.Order.{holds_back, is_get, is_held, share_bytes, is_id}
 use Rattle.flight_table.specs.Laws.{AreRising, IsSoundRequest}
 use Rattle.bridge_core.specs.Laws.{IsOfMessage, IsServed, IsSoundRequestTable}
-use Rattle.bridge_core.specs.HeldRequests.{BridgedRequest, RequestTable, address_of, flights_of, is_numbered, range_at, range_of, after_read, after_response, after_sending, holds, is_done_for, newly_live, outline_in, settled, value_found, with_read, with_request, with_response, with_sent_burst, without_done}
-use Rattle.bridge_core.specs.declared.Config.{Config}
+use Rattle.bridge_core.specs.HeldRequests.{BridgedRequest, RequestTable, flights_of, is_numbered, range_at, range_of, after_read, after_response, after_sending, holds, is_done_for, newly_live, outline_in, settled, value_found, with_read, with_request, with_response, with_sent_burst, without_done, table_limits_of}
+use Rattle.burst_plan.specs.PageMap.{address_of}
+use Rattle.config.specs.declared.Config.{Config}
 use Rattle.bridge_core.specs.Bridge.{message_with}
-use Rattle.bridge_core.specs.Configs.{table_limits_of}
 use Rattle.bridge_core.proofs.SentLinks.{found_by_number, numbers}
 use Rattle.subordinate.specs.Faults.{Faults, is_good, standing_at}
 use Rattle.world.specs.Laws.{IsSoundWorld}
-use Rattle.world.specs.Setups.{SetupLists}
+use Rattle.setups.specs.Setups.{SetupLists}
 use Rattle.world.specs.World.{Outcome, WorldState, next, opening_world}
 use Rattle.world.specs.declared.Step.{Step}
 use Rattle.world.proofs.Events.{each_way}
 use Rattle.world_run.specs.InOrder.{HoldsBack, is_finished, has_begun, is_over, started, IsForeseen, IsForeseenBy, IsInOrder, KeepsOrder, IsHistory}
 use Rattle.world_run.specs.Serial.{Order, asked, gives_byte, is_intent, touches, touches_byte, touches_from, writes, writes_byte, writes_from}
-use Rattle.world_run.specs.Meaning.{Bytes}
+use Rattle.meaning.specs.Meaning.{Bytes}
 use Rattle.world_run.proofs.BytesLeft.{message_touches}
 use Rattle.world_run.proofs.History.{history_moves}
 

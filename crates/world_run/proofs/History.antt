@@ -4,7 +4,7 @@ use Rattle.std.proofs.Common.{◌≡◌, ℕ, ◌+◌, ◌-◌, ◌==◌, ◌<�
 use Rattle.std.proofs.lemmas.Bool.Decides.{nat_tests}
 use Rattle.std.proofs.lemmas.Bool.{cases_lt, cases_Bool}
 use Rattle.world_run.specs.InOrder.{IsCut, IsHistory, HoldsBack}
-use Rattle.world_run.specs.Meaning.{Bytes}
+use Rattle.meaning.specs.Meaning.{Bytes}
 
 -- ---- where a request stands
 

@@ -10,8 +10,6 @@ pub mod OrderSteps
 pub mod OrderedRuns
 pub mod RunLemmas
 pub mod RunLoop
-pub mod SerialOldValues
-pub mod SerialReplies
 pub mod Told
 pub mod bursts
 pub mod events

@@ -24,14 +24,14 @@ use Rattle.axi_checker.proofs.Judging.{first_axi_fault-none}
 use Rattle.responses.specs.Gathered.{after_b, after_r}
 use Rattle.flight_table.specs.Laws.{AreRising, IsSoundRequest}
 use Rattle.flight_table.specs.LiveRequests.{LiveRequest, with_answered}
-use Rattle.bridge_core.specs.Configs.{table_limits_of, axi_port_of}
-use Rattle.bridge_core.specs.HeldRequests.{BridgedRequest, RequestTable, after_read, after_response, after_sending, oldest_done, flights_of, holds, is_done_for, is_numbered, newly_live, outline_in, settled}
+use Rattle.bridge_core.specs.HeldRequests.{table_limits_of, BridgedRequest, RequestTable, after_read, after_response, after_sending, oldest_done, flights_of, holds, is_done_for, is_numbered, newly_live, outline_in, settled}
+use Rattle.config.specs.Configs.{axi_port_of}
 use Rattle.bridge_core.specs.Bridge.{message_with, b_fault, r_fault}
 use Rattle.bridge_core.specs.Sending.{Sending, next_sending}
-use Rattle.bridge_core.specs.declared.Config.{Config}
+use Rattle.config.specs.declared.Config.{Config}
 use Rattle.subordinate.specs.FreeMemory.{b_of, r_of}
 use Rattle.world.specs.Laws.{AreSoundAlong, IsSoundWorld, GoesWell}
-use Rattle.world.specs.Setups.{SetupLists}
+use Rattle.setups.specs.Setups.{SetupLists}
 use Rattle.world.specs.World.{WorldState, Outcome, leaves_all, next, opening_world, taken, outcomes, IsQuiet, after, byte_of, in_flight}
 use Rattle.world.specs.declared.Answer.{Answer}
 use Rattle.world.specs.declared.Answer.TheVariants.{Reply, Sent, B, R}
@@ -40,7 +40,8 @@ use Rattle.world.specs.declared.Step.TheVariants.{Take}
 use Rattle.world.proofs.Events.{each_way}
 use Rattle.world.proofs.TakesAll.{takes_all}
 use Rattle.world_run.specs.Runs.{HandedReply, handed_at, handed_in, bursts_in, sent_in, pumps_told, axi_history, answers_of, IsRunOf, accepted_in, handed_of}
-use Rattle.world_run.specs.Headline.{IsLegalTraffic, IsOneAtATime, IsReplyTo, replies_of, bytes_of_all, byte_shown}
+use Rattle.world_run.specs.Headline.{IsLegalTraffic, IsOneAtATime, IsReplyTo, byte_shown}
+use Rattle.meaning.specs.InTurn.{replies_of, bytes_of_all}
 use Rattle.world_run.specs.declared.Handed.{Handed}
 use Rattle.world_run.specs.declared.SentBeat.{SentBeat}
 use Rattle.world_run.proofs.AcceptedRequests.{config_next}

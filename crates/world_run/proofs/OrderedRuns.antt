@@ -14,17 +14,18 @@ use Rattle.flight_table.specs.Laws.{IsSoundRequest}
 use Rattle.flight_table.specs.Tables.{is_undone}
 use Rattle.responses.specs.Shown.{Reply as ReplyGiven, shown}
 use Rattle.bridge_core.specs.Bridge.{message_with, reply_taken}
-use Rattle.bridge_core.specs.Configs.{table_limits_of}
+use Rattle.bridge_core.specs.HeldRequests.{table_limits_of, BridgedRequest, oldest_done, flights_of, is_done_for, is_numbered, reply_beats}
 use Rattle.bridge_core.specs.Laws.{IsServed}
-use Rattle.bridge_core.specs.HeldRequests.{BridgedRequest, address_of, oldest_done, flights_of, is_done_for, is_numbered, reply_beats}
+use Rattle.burst_plan.specs.PageMap.{address_of}
 use Rattle.subordinate.specs.Faults.{Faults, is_good, standing_at}
-use Rattle.world_run.specs.Headline.{IsReplyTo, byte_shown, bytes_of_all, replies_of}
+use Rattle.world_run.specs.Headline.{IsReplyTo, byte_shown}
+use Rattle.meaning.specs.InTurn.{bytes_of_all, replies_of, AcceptedMessage, requests_of}
 use Rattle.world_run.specs.InOrder.{IsGathered, IsForeseen, IsForeseenBy, IsInOrder, IsOrdered, KeepsOrder, is_finished, is_over, memory_bytes, order_of, started}
 use Rattle.world.specs.Laws.{AreSoundAlong, IsSoundWorld}
-use Rattle.world_run.specs.Meaning.{Bytes, bytes_after_all, meaning, replies_in_order, zeros}
-use Rattle.world_run.specs.Runs.{AcceptedMessage, HandedReply, answers_of, handed_at, handed_in, messages_in, requests_of}
+use Rattle.meaning.specs.Meaning.{Bytes, bytes_after_all, meaning, replies_in_order, zeros}
+use Rattle.world_run.specs.Runs.{HandedReply, answers_of, handed_at, handed_in, messages_in}
 use Rattle.world_run.specs.Serial.{Order, asked, bytes_before, touches, writes}
-use Rattle.world.specs.Setups.{SetupLists}
+use Rattle.setups.specs.Setups.{SetupLists}
 use Rattle.world.specs.World.{IsQuiet, Outcome, WorldState, after, byte_of, leaves_all, next, opening_world}
 use Rattle.world.specs.declared.Answer.{Answer}
 use Rattle.world.specs.declared.Answer.TheVariants.{Accepted, Reply}

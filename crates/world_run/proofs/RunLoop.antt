@@ -7,7 +7,7 @@ use Rattle.tl_messages.specs.declared.DBeat.{DBeat}
 use Rattle.axi_beats.specs.declared.WBeat.{WBeat}
 use Rattle.world.specs.Laws.{IsSoundWorld, AreSoundAlong}
 use Rattle.world_run.specs.Runs.{handed_at, piece_of, handed_of, AreCutFrom, recorded_beats, IsRunOf}
-use Rattle.world.specs.Setups.{SetupLists}
+use Rattle.setups.specs.Setups.{SetupLists}
 use Rattle.world.specs.World.{WorldState, Outcome, next, after, opening_world, leaves_all, is_reply}
 use Rattle.world.specs.declared.Answer.{Answer}
 use Rattle.world.specs.declared.Answer.TheVariants.{Sent, Reply}

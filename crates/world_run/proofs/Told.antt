@@ -7,10 +7,10 @@ use Rattle.tl_messages.specs.Requests.{request_of}
 use Rattle.tl_messages.specs.declared.ABeat.{ABeat}
 use Rattle.tl_messages.specs.declared.DBeat.{DBeat}
 use Rattle.bridge_core.specs.Bridge.{BridgeState, message_with}
-use Rattle.bridge_core.specs.declared.Config.{Config}
-use Rattle.world_run.specs.Headline.{IsSpelled}
-use Rattle.world_run.specs.Runs.{Heard, heard_nothing, HandedReply, AcceptedMessage, messages_from, messages_in, requests_of, accepted_numbers, accepted_in, answers_of, whose, replies_told, handed_at, handed_by, handed_in}
-use Rattle.world.specs.Setups.{SetupLists}
+use Rattle.config.specs.declared.Config.{Config}
+use Rattle.meaning.specs.InTurn.{IsSpelled, AcceptedMessage, requests_of}
+use Rattle.world_run.specs.Runs.{Heard, heard_nothing, HandedReply, messages_from, messages_in, accepted_numbers, accepted_in, answers_of, whose, replies_told, handed_at, handed_by, handed_in}
+use Rattle.setups.specs.Setups.{SetupLists}
 use Rattle.world.specs.World.{WorldState, Outcome, opening_world, outcomes, next, leaves_all}
 use Rattle.world.specs.declared.Answer.{Answer}
 use Rattle.world.specs.declared.Answer.TheVariants.{Accepted, Reply}

@@ -4,28 +4,20 @@
 use Rattle.std.specs.Prelude.{ℕ, ◌≡◌, ◌<◌, List, map, zip, length, Option, Some, None, if◌then◌else◌, nat_eq, slice_get, flat_map, IsTrue}
 use Rattle.std.specs.List.{IsDistinct, AllByRecursion, list_all, range_with_len}
 use Rattle.tl_messages.specs.Requests.{WholeRequest}
-use Rattle.tl_checker.specs.RequestRules.{Spells}
 use Rattle.axi_beats.specs.Bursts.{Burst, is_legal}
 use Rattle.axi_checker.specs.OpenBursts.{nothing_open}
 use Rattle.axi_checker.specs.Order.{IsInOrder}
 use Rattle.axi_checker.specs.Rules.{first_axi_fault, open_after_all}
 use Rattle.responses.specs.Shown.{Reply, shown}
-use Rattle.bridge_core.specs.Configs.{axi_port_of, port_of}
+use Rattle.config.specs.Configs.{axi_port_of}
 use Rattle.subordinate.specs.Faults.{standing_at, is_good}
-use Rattle.world_run.specs.Meaning.{Bytes, zeros, replies_in_order, bytes_after_all}
-use Rattle.world_run.specs.Runs.{AcceptedMessage, HandedReply, messages_in, accepted_in, accepted_numbers, whose, replies_told, recorded_beats, pumps_told, axi_history}
-use Rattle.world.specs.Setups.{SetupLists, faults_of}
+use Rattle.meaning.specs.InTurn.{IsSpelled, bytes_of_all, replies_of}
+use Rattle.meaning.specs.Meaning.{Bytes}
+use Rattle.world_run.specs.Runs.{HandedReply, messages_in, accepted_in, accepted_numbers, whose, replies_told, recorded_beats, pumps_told, axi_history}
+use Rattle.setups.specs.Setups.{SetupLists, faults_of}
 use Rattle.world.specs.declared.Answer.{Answer}
 use Rattle.world_run.specs.declared.SentBeat.{SentBeat}
 use Rattle.world.specs.declared.Step.{Step}
-
--- the replies to the accepted requests, carried out one at a time from zero
-abbrev pub replies_of : SetupLists → List WholeRequest → List Reply
-replies_of setup requests = replies_in_order (faults_of setup) setup.regions requests zeros
-
--- the bytes that the accepted requests leave, carried out one at a time from zero
-abbrev pub bytes_of_all : SetupLists → List WholeRequest → Bytes
-bytes_of_all setup requests = bytes_after_all (faults_of setup) setup.regions requests zeros
 
 -- a reply handed out is that of the accepted request of its number, and goes to that request's client
 pub record IsReplyTo (requests : List WholeRequest) (replies : List Reply) (handed : HandedReply) : Type 0 where
@@ -35,11 +27,6 @@ pub record IsReplyTo (requests : List WholeRequest) (replies : List Reply) (hand
   pub carried_out : slice_get replies handed.number ≡ Some reply
   pub client : handed.client ≡ request.client
   pub beats : handed.beats ≡ shown request reply
-
--- an accepted message came from a client of the set-up, and spells its request on that client's port
-pub record IsSpelled (setup : SetupLists) (accepted : AcceptedMessage × WholeRequest) : Type 0 where
-  pub client : accepted.0.client < setup.config.clients
-  pub spells : Spells (port_of setup.config accepted.0.client) accepted.0.beats accepted.1
 
 -- the byte that a memory with these bytes shows at an address
 abbrev pub byte_shown : SetupLists → Bytes → ℕ → Option ℕ

@@ -19,16 +19,17 @@ use Rattle.responses.specs.Answers.{IsReadAt, gathering_after}
 use Rattle.responses.specs.Gathered.{gathering_of}
 use Rattle.bridge_core.specs.Bridge.{BridgeState, message_with}
 use Rattle.bridge_core.specs.Laws.{outstanding}
-use Rattle.bridge_core.specs.HeldRequests.{BridgedRequest, RequestTable, address_of, holder, is_numbered, outline_in}
+use Rattle.bridge_core.specs.HeldRequests.{BridgedRequest, RequestTable, holder, is_numbered, outline_in}
+use Rattle.burst_plan.specs.PageMap.{address_of}
 use Rattle.subordinate.specs.Faults.{is_good, read_response, standing_at, write_response}
 use Rattle.subordinate.specs.FreeMemory.{Pending, is_read_of, is_waiting, is_write_of}
 use Rattle.subordinate.specs.declared.BeatState.{BeatState}
 use Rattle.subordinate.specs.declared.BeatState.TheVariants.{Captured, Waiting}
 use Rattle.world.specs.Laws.{IsSoundWorld}
-use Rattle.world_run.specs.Meaning.{Bytes}
+use Rattle.meaning.specs.Meaning.{Bytes}
 use Rattle.world_run.specs.Runs.{accepted_in}
 use Rattle.world_run.specs.Serial.{Order, asked, byte_left, bytes_before, touches, writes}
-use Rattle.world.specs.Setups.{SetupLists, faults_of}
+use Rattle.setups.specs.Setups.{SetupLists, faults_of}
 use Rattle.world.specs.World.{WorldState, byte_of, next}
 use Rattle.world.specs.declared.Answer.{Answer}
 use Rattle.world.specs.declared.Answer.TheVariants.{Accepted}

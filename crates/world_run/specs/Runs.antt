@@ -2,13 +2,14 @@
 -- states only by what they hand out.
 use Rattle.std.specs.Prelude.{ℕ, ◌+◌, ◌==◌, ◌≡◌, List, [], ◌∷◌, ◌++◌, map, zip, length, Option, Some, None, if◌then◌else◌, option_map, slice_range, flat_map}
 use Rattle.std.specs.List.{cons_option}
-use Rattle.tl_messages.specs.Requests.{WholeRequest, held_of, request_of}
+use Rattle.tl_messages.specs.Requests.{WholeRequest}
 use Rattle.tl_messages.specs.declared.ABeat.{ABeat}
 use Rattle.tl_messages.specs.declared.DBeat.{DBeat}
 use Rattle.axi_beats.specs.Bursts.{Burst, WriteBurst, ReadBurst}
 use Rattle.axi_checker.specs.OpenBursts.{AxiBeat, OnB, OnR}
 use Rattle.axi_checker.specs.Rules.{beats_sent}
-use Rattle.world.specs.Setups.{SetupLists}
+use Rattle.meaning.specs.InTurn.{AcceptedMessage, requests_of}
+use Rattle.setups.specs.Setups.{SetupLists}
 use Rattle.world.specs.World.{WorldState, Outcome, opening_world, outcomes, after}
 use Rattle.world.specs.declared.Answer.{Answer}
 use Rattle.world.specs.declared.Answer.TheVariants.{More, Accepted, Sent, B, R, Reply}
@@ -32,11 +33,6 @@ heard_nothing client = []
 abbrev pub with_heard : ℕ → List ABeat → Heard → Heard
 with_heard client beats heard other = if other == client then beats else heard other
 
--- the beats of an accepted request, with its client: those answered More, followed by the one answered Accepted
-pub record AcceptedMessage : Type 0 where
-  pub client : ℕ
-  pub beats : List ABeat
-
 -- the messages that events complete, by number, after what was heard before them
 abbrev pub messages_from : Heard → List (Step × Answer) → List AcceptedMessage
 messages_from heard [] = []
@@ -48,15 +44,6 @@ messages_from heard (_ ∷ rest) = messages_from heard rest
 -- the accepted messages by number
 abbrev pub messages_in : List Step → List Answer → List AcceptedMessage
 messages_in steps answers = messages_from heard_nothing (zip steps answers)
-
--- the request that an accepted message spells
-abbrev pub request_in : AcceptedMessage → Option WholeRequest
-request_in message = option_map request_of (held_of message.client message.beats)
-
--- the requests that messages spell
-abbrev pub requests_of : List AcceptedMessage → List WholeRequest
-requests_of [] = []
-requests_of (message ∷ messages) = cons_option (request_in message) (requests_of messages)
 
 -- the accepted requests by number
 abbrev pub accepted_in : List Step → List Answer → List WholeRequest

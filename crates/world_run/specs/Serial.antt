@@ -7,9 +7,9 @@ use Rattle.tl_messages.specs.Requests.{WholeRequest}
 use Rattle.tl_messages.specs.declared.Operation.{Operation}
 use Rattle.tl_messages.specs.declared.Operation.TheVariants.{PutFull, PutPartial, Atomic, Get, Intent}
 use Rattle.burst_plan.specs.declared.Region.{Region}
-use Rattle.bridge_core.specs.HeldRequests.{address_of}
+use Rattle.burst_plan.specs.PageMap.{address_of}
 use Rattle.subordinate.specs.Faults.{Faults, standing_at, is_bad, is_good}
-use Rattle.world_run.specs.Meaning.{Bytes, meaning, zeros}
+use Rattle.meaning.specs.Meaning.{Bytes, meaning, zeros}
 
 -- all requests in the order of acceptance, over a page map and the faults of a memory
 pub record Order : Type 0 where

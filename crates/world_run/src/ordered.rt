@@ -1,9 +1,9 @@
 //! A world that is driven one step at a time, with the order of acceptance in the contract.
 ghost use Rattle.std.specs.Prelude.{◌≡◌, ◌⊎◌, Some, IfErr, IfOk, IfSome, IsTrue, if◌then◌else◌};
 ghost use Rattle.world.specs.Laws.{IsSoundWorld, TakeAll};
-ghost use Rattle.world.specs.Setups.{faults_of, lists_of, setup_fault};
+ghost use Rattle.setups.specs.Setups.{faults_of, lists_of, setup_fault};
 ghost use Rattle.world.specs.World.{is_reply, leaves_all, next, opening_world};
-ghost use Rattle.world.specs.declared.SetupFault.TheVariants.{NoMemory};
+ghost use Rattle.setups.specs.declared.SetupFault.TheVariants.{NoMemory};
 ghost use Rattle.world_run.specs.InOrder.{IsForeseen, KeepsOrder};
 ghost use Rattle.world_run.specs.Serial.{Order};
 

@@ -5,10 +5,10 @@ ghost use Rattle.world_run.specs.Headline.{IsOneAtATime};
 ghost use Rattle.world_run.specs.InOrder.{IsOrdered, order_of};
 ghost use Rattle.world.specs.Laws.{AreSoundAlong, IsSoundWorld};
 ghost use Rattle.world_run.specs.Runs.{handed_of, recorded_beats, IsRunOf};
-ghost use Rattle.world.specs.Setups.{SetupLists, lists_of, setup_fault};
+ghost use Rattle.setups.specs.Setups.{SetupLists, lists_of, setup_fault};
 ghost use Rattle.world.specs.World.{byte_of, in_flight, opening_world};
 ghost use Rattle.world_run.specs.declared.SentBeat.TheVariants.{W};
-ghost use Rattle.world.specs.declared.SetupFault.TheVariants.{NoMemory};
+ghost use Rattle.setups.specs.declared.SetupFault.TheVariants.{NoMemory};
 ghost use Rattle.world.specs.declared.Step.{Step};
 
 use crate::{Handed, SentBeat, opened, ordered_step};

@@ -5,7 +5,7 @@ use script_text::ScriptFault;
 use std::alloc::{AllocError, Global};
 use std::process::Abort;
 use std::test::Fail;
-use world::SetupFault;
+use setups::SetupFault;
 
 const CONFIG: &str = "config 2 4 16 2 16 12 hh\n";
 

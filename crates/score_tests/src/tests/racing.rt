@@ -9,7 +9,7 @@ use racing_board::RacingBoard;
 use scoreboard::{ReplyRule, Seen, Wrong};
 use std::alloc::Global;
 use tl_checker::TlRule;
-use world::{Setup, SetupFault};
+use setups::{Setup, SetupFault};
 
 /// Puts that race with Gets: bytes that a Put in flight may write are read before it or after it.
 const GETS: [History; 5] = [

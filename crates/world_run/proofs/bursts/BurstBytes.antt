@@ -18,7 +18,7 @@ use Rattle.axi_beats.specs.Transfers.{transfer_has}
 use Rattle.axi_beats.specs.declared.Resp.{Resp}
 use Rattle.axi_beats.specs.declared.WBeat.{WBeat}
 use Rattle.data_unit.specs.Words.{value}
-use Rattle.burst_plan.specs.PageMap.{IsPageMap}
+use Rattle.burst_plan.specs.PageMap.{IsPageMap, address_of}
 use Rattle.burst_plan.specs.Pieces.{IsPlannable, PlannedRange, pieces}
 use Rattle.burst_plan.specs.PlannedBursts.{PutsBytes, w_beat}
 use Rattle.burst_plan.specs.PlannedTransfers.{HasAddress, HoldsEachByteOnce, piece_of, transfer_of}
@@ -28,11 +28,11 @@ use Rattle.burst_plan.proofs.TransferPlaces.{holds_each_byte_once}
 use Rattle.burst_plan.proofs.WriteLaws.{puts_given_bytes}
 use Rattle.flight_table.specs.LiveRequests.{LiveRequest, reads_then_writes, next_burst, plan_for, planned, write_pieces, pieces_planned}
 use Rattle.flight_table.proofs.PhaseLaws.{write_at, write_planned, piece_planned}
-use Rattle.bridge_core.specs.Configs.{is_valid}
+use Rattle.config.specs.Configs.{is_valid}
 use Rattle.bridge_core.specs.Laws.{IsServed, outstanding}
-use Rattle.bridge_core.specs.HeldRequests.{BridgedRequest, address_of, range_at, range_of, value_found, RequestTable, holder, holds, is_numbered}
+use Rattle.bridge_core.specs.HeldRequests.{BridgedRequest, range_at, range_of, value_found, RequestTable, holder, holds, is_numbered}
 use Rattle.bridge_core.specs.Sending.{burst_of_piece, bytes_to_write}
-use Rattle.bridge_core.specs.declared.Config.{Config}
+use Rattle.config.specs.declared.Config.{Config}
 use Rattle.bridge_core.proofs.ReadCounts.{planned_range}
 use Rattle.bridge_core.proofs.SentBursts.{IsListed, piece_of_plan, plannable, written_are_bytes}
 use Rattle.bridge_core.proofs.ServedRequests.{atomic_both}
@@ -45,7 +45,7 @@ use Rattle.subordinate.specs.declared.BeatState.TheVariants.{Captured, Waiting}
 use Rattle.world.specs.Laws.{IsSoundWorld}
 use Rattle.world.specs.World.{WorldState}
 use Rattle.world_run.specs.InOrder.{IsBurstOf, IsReadOf, IsWriteOf, PutsSerially, IsInOrder, AreBurstsOf, AreOfHolder, is_finished, has_begun, is_of_id, is_over, started}
-use Rattle.world_run.specs.Meaning.{bytes_at}
+use Rattle.meaning.specs.Meaning.{bytes_at}
 use Rattle.world_run.specs.Serial.{Order, asked, byte_left, bytes_before, gives_byte, is_intent, touches, touches_byte, touches_from, writes, writes_byte, writes_from}
 use Rattle.world_run.proofs.BytesLeft.{FindsSerially, byte_left_is, gives_what_is_left, gives_where_written, gives_within, same_standing, writes_is, writes_nowhere}
 

@@ -21,9 +21,9 @@ use Rattle.burst_plan.specs.declared.Piece.{Piece}
 use Rattle.responses.specs.Gathered.{after_b}
 use Rattle.flight_table.specs.Laws.{IsSoundRequest}
 use Rattle.flight_table.specs.LiveRequests.{planned, with_answered}
-use Rattle.bridge_core.specs.Configs.{table_limits_of}
+use Rattle.bridge_core.specs.HeldRequests.{table_limits_of, BridgedRequest, RequestTable, holder, holds, is_numbered, settled, after_response, after_read}
 use Rattle.bridge_core.specs.Laws.{IsServed, IsSoundRequestTable, outstanding, came_of, came_of_next, open_read, open_reads, outstanding_of}
-use Rattle.bridge_core.specs.HeldRequests.{BridgedRequest, RequestTable, holder, holds, is_numbered, settled, address_of, after_response, after_read}
+use Rattle.burst_plan.specs.PageMap.{address_of}
 use Rattle.bridge_core.specs.Bridge.{after_b_beat, after_r_beat}
 use Rattle.bridge_core.proofs.AnswerLinks.{IsHolder, one_side, AreOf, IsReader, reader_known}
 use Rattle.bridge_core.proofs.ResponseLinks.{holder-other, one_holder, settled-other}

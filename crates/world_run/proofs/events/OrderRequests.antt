@@ -22,9 +22,9 @@ use Rattle.flight_table.specs.Laws.{IsSoundRequest}
 use Rattle.flight_table.specs.LiveRequests.{reads_then_writes, planned}
 use Rattle.flight_table.specs.Order.{is_id}
 use Rattle.flight_table.proofs.PhaseLaws.{write_at, read_at}
-use Rattle.bridge_core.specs.HeldRequests.{BridgedRequest, RequestTable, holder, holds, is_numbered, newly_live, with_request, is_done_for, without_done, address_of, after_sending, may_send}
+use Rattle.bridge_core.specs.HeldRequests.{BridgedRequest, RequestTable, holder, holds, is_numbered, newly_live, with_request, is_done_for, without_done, after_sending, may_send, table_limits_of}
+use Rattle.burst_plan.specs.PageMap.{address_of}
 use Rattle.bridge_core.specs.Bridge.{message_with, after_sent}
-use Rattle.bridge_core.specs.Configs.{table_limits_of}
 use Rattle.bridge_core.specs.Laws.{outstanding, outstanding_of, IsServed}
 use Rattle.bridge_core.specs.Sending.{Sending, burst_of_piece}
 use Rattle.bridge_core.proofs.SendingLinks.{no_holder, sound_requests}
@@ -41,7 +41,7 @@ use Rattle.world.specs.declared.Answer.TheVariants.{Accepted, More, Done}
 use Rattle.world.specs.Laws.{IsSoundWorld}
 use Rattle.world.proofs.Events.{after_accepted, after_begun, sent_from}
 use Rattle.world_run.specs.InOrder.{IsHistory, IsInOrder, KeepsOrder, is_finished, is_of_id, is_over, memory_bytes, started, has_begun, AreBurstsOf, AreOfHolder, IsBurstOf, IsGathered}
-use Rattle.world_run.specs.Meaning.{Bytes}
+use Rattle.meaning.specs.Meaning.{Bytes}
 use Rattle.world_run.specs.Serial.{Order, asked, bytes_before, writes, byte_left, touches}
 use Rattle.world_run.proofs.gathered.GatheredSteps.{gathered-sent, gathered-start}
 use Rattle.world_run.proofs.HeldSteps.{HaveNumbers, HoldsBackIn, MovesOn, found_without, history_changed, numbered_once, unaccepted}

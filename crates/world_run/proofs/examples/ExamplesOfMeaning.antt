@@ -12,16 +12,16 @@ use Rattle.tl_checker.specs.RequestRules.{Spells}
 use Rattle.burst_plan.specs.declared.Region.{Region}
 use Rattle.burst_plan.specs.declared.Piece.{Piece}
 use Rattle.responses.specs.Shown.{Reply}
-use Rattle.bridge_core.specs.Configs.{port_of}
+use Rattle.config.specs.Configs.{port_of}
 use Rattle.bridge_core.specs.HeldRequests.{BridgedRequest, newly_live}
 use Rattle.subordinate.specs.Faults.{Faults}
 use Rattle.subordinate.specs.declared.PageKind.TheVariants.{Good, SlaveError}
 use Rattle.subordinate.specs.FreeMemory.{Pending, newly_pending}
-use Rattle.world.specs.Setups.{faults_of}
+use Rattle.setups.specs.Setups.{faults_of}
 use Rattle.world.proofs.Examples.{a, plain, start, write_of_one}
-use Rattle.world_run.specs.Meaning.{Bytes, Effect, bytes_after_all, meaning, replies_in_order, zeros}
+use Rattle.meaning.specs.Meaning.{Bytes, Effect, bytes_after_all, meaning, replies_in_order, zeros}
 use Rattle.world_run.specs.Serial.{Order, byte_left, bytes_before, touches, writes}
-use Rattle.world_run.specs.Headline.{IsSpelled}
+use Rattle.meaning.specs.InTurn.{IsSpelled}
 use Rattle.world_run.specs.InOrder.{IsInOrder, IsWriteOf}
 
 -- four pages, of which the second is a slave-error page, the third absent, and a word of the first is bad

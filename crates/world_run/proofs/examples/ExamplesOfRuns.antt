@@ -20,7 +20,7 @@ use Rattle.subordinate.specs.FreeMemory.{bytes_written}
 use Rattle.subordinate.specs.Pages.{zero_words}
 use Rattle.subordinate.specs.declared.PageKind.TheVariants.{Good, SlaveError}
 use Rattle.subordinate.specs.Faults.{is_good, standing_of_listed}
-use Rattle.world.specs.Setups.{SetupLists}
+use Rattle.setups.specs.Setups.{SetupLists}
 use Rattle.world.specs.World.{byte_of, in_flight, outcomes, work_left}
 use Rattle.world.specs.declared.Answer.{Answer}
 use Rattle.world.specs.declared.Answer.TheVariants.{More, Accepted, Refused, Sent, Idle, Done, NoSuch, Already, B, R, Nothing, Reply}
@@ -29,7 +29,8 @@ use Rattle.world.specs.declared.Step.TheVariants.{Offer, Pump, Perform, AnswerB,
 use Rattle.world.proofs.Examples.{a, config, end, plain, read, region, start, write_of_one}
 use Rattle.world_run.specs.Runs.{accepted_in, answers_of, bursts_in, handed_in, messages_in, sent_in, HandedReply, axi_history, recorded_beats}
 use Rattle.world_run.specs.declared.SentBeat.TheVariants.{Aw, W, Ar}
-use Rattle.world_run.specs.Headline.{IsLegalTraffic, IsOneAtATime, IsReplyTo, byte_shown, bytes_of_all, replies_of}
+use Rattle.world_run.specs.Headline.{IsLegalTraffic, IsOneAtATime, IsReplyTo, byte_shown}
+use Rattle.meaning.specs.InTurn.{bytes_of_all, replies_of}
 use Rattle.world_run.specs.declared.SentBeat.{SentBeat}
 
 abbrev answers : SetupLists → List Step → List Answer

@@ -18,7 +18,7 @@ use Rattle.axi_beats.specs.declared.Resp.{Resp}
 use Rattle.axi_beats.specs.Responses.{is_okay}
 use Rattle.data_unit.specs.Words.{value}
 use Rattle.tl_checker.specs.Sound.{IsSound}
-use Rattle.burst_plan.specs.PageMap.{IsPageMap, translated_address}
+use Rattle.burst_plan.specs.PageMap.{IsPageMap, translated_address, address_of}
 use Rattle.burst_plan.specs.Pieces.{PlannedRange, pieces, beat_size}
 use Rattle.burst_plan.specs.declared.Region.{Region}
 use Rattle.burst_plan.specs.PlannedTransfers.{beat_bytes, burst_beats, burst_bytes}
@@ -34,10 +34,10 @@ use Rattle.flight_table.specs.Laws.{IsSoundRequest}
 use Rattle.flight_table.specs.LiveRequests.{LiveRequest, pieces_planned, plan_for, planned, read_pieces, write_pieces, is_settled}
 use Rattle.flight_table.specs.declared.TableLimits.{TableLimits}
 use Rattle.flight_table.proofs.PhaseLaws.{length_reading, length_writing, read_at, write_at}
-use Rattle.bridge_core.specs.Configs.{is_valid, port_of}
+use Rattle.config.specs.Configs.{is_valid, port_of}
 use Rattle.bridge_core.specs.Laws.{IsServed, answered_pieces, beats_in}
-use Rattle.bridge_core.specs.HeldRequests.{BridgedRequest, address_of, outline_in, range_at, range_of, reply_beats, value_found, after_read, after_response}
-use Rattle.bridge_core.specs.declared.Config.{Config}
+use Rattle.bridge_core.specs.HeldRequests.{BridgedRequest, outline_in, range_at, range_of, reply_beats, value_found, after_read, after_response}
+use Rattle.config.specs.declared.Config.{Config}
 use Rattle.bridge_core.proofs.PlannedPieces.{plan_known, some_pieces, atomic_plan, live_plan}
 use Rattle.bridge_core.proofs.ServedRequests.{reads_came, IsReading}
 use Rattle.bridge_core.proofs.ReadCounts.{config_parts, leads_there, reads_counted, uncorrupt_address}
@@ -47,10 +47,10 @@ use Rattle.bridge_core.proofs.ResponseLinks.{not_so}
 use Rattle.subordinate.specs.Faults.{Faults, is_bad, is_good, standing_at, IsAbsent, IsGood, IsSlaveError, Standing, read_response, read_response_on, write_response}
 use Rattle.subordinate.proofs.EffectLaws.{okay_is_good}
 use Rattle.world_run.specs.InOrder.{HasGathered, IsGathered, TellsAt, TellsSerially}
-use Rattle.world_run.specs.Meaning.{Bytes, Effect, effect_at, meaning, bytes_at}
+use Rattle.meaning.specs.Meaning.{Bytes, Effect, effect_at, meaning, bytes_at}
 use Rattle.world_run.specs.Serial.{Order, bytes_before}
-use Rattle.world_run.proofs.SerialReplies.{HasAllAnswers, IsAnsweredAs, is_put, reply_at, gathering_told, in_page, standing_of}
-use Rattle.world_run.proofs.SerialOldValues.{old_value_at}
+use Rattle.meaning.proofs.SerialReplies.{HasAllAnswers, IsAnsweredAs, is_put, reply_at, gathering_told, in_page, standing_of}
+use Rattle.meaning.proofs.SerialOldValues.{old_value_at}
 use Rattle.world_run.proofs.BytesLeft.{FindsSerially}
 use Rattle.world_run.proofs.gathered.GatheredSteps.{read_told, response_told, settled_gathered, with_read_told, with_response_told}
 use Rattle.flight_table.specs.LiveRequests as live

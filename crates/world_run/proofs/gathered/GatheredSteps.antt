@@ -16,7 +16,8 @@ use Rattle.responses.specs.Answers.{after_reads, after_writes, gathering_after}
 use Rattle.responses.specs.Gathered.{Gathering, after_b, after_r, gathering_of, reads_of}
 use Rattle.responses.specs.declared.gather.Outline.{Outline}
 use Rattle.flight_table.specs.LiveRequests.{finished, is_settled, with_answered, with_write, planned}
-use Rattle.bridge_core.specs.HeldRequests.{BridgedRequest, RequestTable, address_of, after_sending, newly_live, outline_in, settled, value_found}
+use Rattle.bridge_core.specs.HeldRequests.{BridgedRequest, RequestTable, after_sending, newly_live, outline_in, settled, value_found}
+use Rattle.burst_plan.specs.PageMap.{address_of}
 use Rattle.bridge_core.proofs.ResponseLinks.{not_so}
 use Rattle.bridge_core.proofs.ServedRequests.{atomic_first}
 use Rattle.subordinate.specs.Faults.{read_response, standing_at, write_response}

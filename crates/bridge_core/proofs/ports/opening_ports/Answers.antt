@@ -1,7 +1,7 @@
 use Rattle.std.proofs.Common.{arith}
 use Rattle.std.proofs.lemmas.List.FromFn.{map-range_with_len_more}
 use Rattle.tl_checker.specs.Ports.{opening_port}
-use Rattle.bridge_core.specs.Configs.{port_of}
+use Rattle.config.specs.Configs.{port_of}
 use Rattle.bridge_core.proofs.ports.opening_ports.Goals as goal
 
 pub loop-client-preserved : goal.loop-client-preserved

@@ -1,8 +1,8 @@
 -- The report is that of the replay.
 use Rattle.std.proofs.Common.{◌≡◌, ◌≤◌, ◌∙◌, Some, ap, arith, length, sym}
 use Rattle.std.proofs.lemmas.List.{length-map}
-use Rattle.bridge_core.specs.Configs.{port_of}
-use Rattle.world.specs.Setups.{lists_of}
+use Rattle.config.specs.Configs.{port_of}
+use Rattle.setups.specs.Setups.{lists_of}
 use Rattle.thread_reports.specs.Reports.{items_of}
 use Rattle.bridge_threads.specs.declared.threads.Fault.TheVariants.{BeatRefused, HistoryFull}
 use Rattle.bridge_threads.proofs.FrontLemmas.{never_busy}

@@ -5,7 +5,7 @@ use Rattle.std.proofs.lemmas.List.{map_push}
 use Rattle.std.proofs.lemmas.List.FromFn.{map-range_with_len_more}
 use Rattle.tl_checker.specs.Ports.{PortState}
 use Rattle.tl_checker.specs.RequestRules.{TlPortLimits}
-use Rattle.bridge_core.specs.Configs.{port_of}
+use Rattle.config.specs.Configs.{port_of}
 use Rattle.bridge_threads.specs.RefusedBeats.{limits_of_ports}
 use Rattle.bridge_threads.proofs.threads.seats_of.Goals as goal
 

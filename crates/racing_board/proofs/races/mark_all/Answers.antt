@@ -1,7 +1,7 @@
 -- One byte more.
 use Rattle.std.proofs.Common.{◌≡◌, ◌+◌, ◌^◌, ◌||◌, true, if◌then◌else◌, ◌==◌, refl, ap, arith, ◌∙◌}
 use Rattle.subordinate.specs.Faults.{is_good}
-use Rattle.world_run.proofs.SerialReplies.{standing_of}
+use Rattle.meaning.proofs.SerialReplies.{standing_of}
 use Rattle.racing_board.specs.InsideRaces.{doubt_in}
 use Rattle.racing_board.proofs.Doubts.{among_first, none_of_all, one_more_of_all}
 use Rattle.racing_board.proofs.RacerBytes.{byte_in_page}

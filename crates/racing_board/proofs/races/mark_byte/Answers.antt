@@ -4,7 +4,7 @@ use Rattle.std.specs.Prelude.{is_some}
 use Rattle.bus_words.specs.Lanes.{given_at}
 use Rattle.subordinate.specs.Faults.{is_good}
 use Rattle.tl_messages.specs.Requests.{bytes_given}
-use Rattle.world_run.proofs.SerialReplies.{standing_of}
+use Rattle.meaning.proofs.SerialReplies.{standing_of}
 use Rattle.racing_board.specs.InsideRaces.{doubt_in, racer_of}
 use Rattle.racing_board.proofs.Doubts.{given_marked, not_marked}
 use Rattle.racing_board.proofs.RacerBytes.{byte_in_page}

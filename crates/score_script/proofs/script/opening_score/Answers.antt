@@ -3,7 +3,7 @@ use Rattle.score_script.proofs.Openings.{made, opens_as}
 use Rattle.score_script.specs.ScoreStates.{score_of}
 use Rattle.score_script.specs.Scores.{opened}
 use Rattle.script_text.specs.Stages.{OpensAs}
-use Rattle.world.specs.Setups.{lists_of, setup_fault}
+use Rattle.setups.specs.Setups.{lists_of, setup_fault}
 use Rattle.score_script.proofs.script.opening_score.Goals as goal
 
 pub returns-in-Ok : goal.returns-in-Ok

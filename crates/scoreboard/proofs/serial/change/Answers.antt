@@ -4,13 +4,12 @@ use Rattle.std.specs.Prelude.{unwrap_or}
 use Rattle.tl_messages.specs.Operations.{beats_of, has_data}
 use Rattle.tl_messages.specs.Requests.{request_of}
 use Rattle.tl_messages.specs.declared.Operation.{Operation}
-use Rattle.data_unit.specs.Atomics.{atomic_result, modulus}
+use Rattle.data_unit.specs.Atomics.{atomic_result, modulus, operand_of}
 use Rattle.data_unit.specs.Words.{value}
-use Rattle.bridge_core.specs.Sending.{operand_of}
-use Rattle.bridge_core.proofs.HeldBytes.{old_small}
+use Rattle.responses.proofs.OldValues.{old_small}
 use Rattle.responses.specs.Gathered.{GatherState, old_value, outline_of}
 use Rattle.subordinate.specs.Faults.{is_bad, is_good, standing_at}
-use Rattle.world_run.specs.Meaning.{bytes_at}
+use Rattle.meaning.specs.Meaning.{bytes_at}
 use Rattle.scoreboard.specs.InsideSerial.{bytes_in}
 use Rattle.scoreboard.proofs.Changes.{atomic_beats, found_as, found_there, nothing_left, number_put}
 use Rattle.scoreboard.proofs.RequestWords.{range}

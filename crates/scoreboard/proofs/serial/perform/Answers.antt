@@ -3,7 +3,7 @@ use Rattle.std.proofs.Common.{◌≡◌, true, false, sym, ◌∙◌, ap}
 use Rattle.tl_messages.specs.Operations.{reply_has_data}
 use Rattle.tl_messages.specs.Requests.{request_of}
 use Rattle.responses.specs.Gathered.{GatherState, gathered, outline_of}
-use Rattle.world_run.proofs.SerialReplies.{is_put}
+use Rattle.meaning.proofs.SerialReplies.{is_put}
 use Rattle.scoreboard.proofs.RequestWords.{range}
 use Rattle.scoreboard.proofs.WordReads.{reply_of_words}
 use Rattle.scoreboard.proofs.serial.perform.Goals as goal

@@ -3,7 +3,7 @@ use Rattle.std.proofs.Common.{◌≡◌, ◌+◌, ◌*◌, Some, refl, ◌∙◌
 use Rattle.std.specs.Prelude.{slice_get}
 use Rattle.subordinate.specs.Faults.{is_good}
 use Rattle.tl_messages.specs.declared.MaskedWord.{MaskedWord}
-use Rattle.world_run.proofs.SerialReplies.{standing_of}
+use Rattle.meaning.proofs.SerialReplies.{standing_of}
 use Rattle.scoreboard.specs.InsideSerial.{put_in_word}
 use Rattle.scoreboard.proofs.PutWords.{put_more}
 use Rattle.scoreboard.proofs.RequestWords.{beat_there, mask_within, word_at, word_of}

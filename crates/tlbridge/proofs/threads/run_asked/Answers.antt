@@ -6,7 +6,7 @@ use Rattle.std.specs.Result.{result_map_both}
 use Rattle.tl_messages.specs.declared.ABeat.{ABeat}
 use Rattle.tl_checker.specs.declared.TlRule.{TlRule}
 use Rattle.tl_checker.specs.declared.TlRule.TheVariants.{SourceBusy}
-use Rattle.world.specs.Setups.{SetupLists, lists_of, setup_fault}
+use Rattle.setups.specs.Setups.{SetupLists, lists_of, setup_fault}
 use Rattle.world.specs.declared.Step.{Step}
 use Rattle.thread_reports.specs.FullHistories.{IsFullHistory}
 use Rattle.thread_reports.specs.Refusals.{is_refused}

@@ -1,7 +1,7 @@
 -- A new world is the opening one, where nothing is accepted yet.
 use Rattle.std.proofs.Common.{subst, sym}
 use Rattle.std.proofs.lemmas.Result.{IfOk-weaker}
-use Rattle.world.specs.Setups.{lists_of}
+use Rattle.setups.specs.Setups.{lists_of}
 use Rattle.world_run.specs.InOrder.{KeepsOrder}
 use Rattle.world_run.proofs.OrderOpens.{keeps_opening}
 use Rattle.world_run.proofs.ordered.opened.Goals as goal

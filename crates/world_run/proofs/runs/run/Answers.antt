@@ -3,7 +3,7 @@ use Rattle.std.proofs.Common.{List, subst, sym, take}
 use Rattle.std.proofs.lemmas.List.{take_all, take_more}
 use Rattle.world.specs.Laws.{AreSoundAlong}
 use Rattle.world_run.specs.Runs.{IsRunOf}
-use Rattle.world.specs.Setups.{lists_of, setup_fault}
+use Rattle.setups.specs.Setups.{lists_of, setup_fault}
 use Rattle.world.specs.World.{opening_world}
 use Rattle.world.specs.declared.Step.{Step}
 use Rattle.world_run.proofs.CarriedOut.{run_in_order, run_ordered}

@@ -2,7 +2,7 @@
 use Rattle.std.proofs.Common.{take}
 use Rattle.world.specs.Laws.{AreSoundAlong}
 use Rattle.world_run.specs.Runs.{IsRunOf}
-use Rattle.world.specs.Setups.{lists_of}
+use Rattle.setups.specs.Setups.{lists_of}
 use Rattle.world.specs.World.{opening_world}
 use Rattle.world_run.proofs.runs.run.Given as goal
 

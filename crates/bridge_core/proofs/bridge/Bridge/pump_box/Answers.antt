@@ -4,7 +4,7 @@ use Rattle.std.specs.Vec.{vec_capacity, vec_len}
 use Rattle.axi_beats.specs.Bursts.{Burst, IsLegal}
 use Rattle.axi_checker.specs.Rules.{burst_fault}
 use Rattle.bridge_core.specs.Bridge.{BridgeState, StockedBridge, burst_to_send}
-use Rattle.bridge_core.specs.Configs.{axi_port_of}
+use Rattle.config.specs.Configs.{axi_port_of}
 use Rattle.bridge_core.specs.HeldRequests.{with_sent_burst}
 use Rattle.bridge_core.specs.Sending.{next_sending}
 use Rattle.bridge_core.proofs.BridgeSteps.{IsBridge, monitor_with, pumped, pumped_state, state_in}

@@ -4,13 +4,15 @@ use Rattle.std.specs.Prelude.{unwrap_or}
 use Rattle.tl_messages.specs.Requests.{HeldMessage, request_of}
 use Rattle.tl_messages.specs.declared.Operation.{Operation}
 use Rattle.tl_messages.specs.declared.Operation.TheVariants.{Atomic}
-use Rattle.data_unit.specs.Atomics.{atomic_result}
+use Rattle.data_unit.specs.Atomics.{atomic_result, operand_of}
 use Rattle.data_unit.specs.Words.{bytes_of}
 use Rattle.burst_plan.specs.PlannedBursts.{write_of}
 use Rattle.responses.specs.Gathered.{outline_of}
 use Rattle.bridge_core.specs.Inside.{HeldRequest, bytes_held, value_held}
-use Rattle.bridge_core.specs.Sending.{bytes_written, operand_of}
-use Rattle.bridge_core.proofs.HeldBytes.{old_small, put_bytes, single_beat}
+use Rattle.bridge_core.specs.Sending.{bytes_written}
+use Rattle.bridge_core.proofs.HeldBytes.{put_bytes}
+use Rattle.responses.proofs.OldValues.{old_small}
+use Rattle.data_unit.proofs.Operands.{single_beat}
 use Rattle.bridge_core.proofs.held.Held.fill.Goals as goal
 
 pub atomic_number-number-requires-clause-beats : goal.atomic_number-number-requires-clause-beats

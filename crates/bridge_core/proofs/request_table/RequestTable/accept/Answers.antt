@@ -7,7 +7,7 @@ use Rattle.tl_checker.specs.RequestRules.{TlPortLimits}
 use Rattle.tl_checker.specs.Sound as checker
 use Rattle.flight_table.specs.Tables.{FlightTable, has_room, is_busy, table_of}
 use Rattle.responses.specs.Gathered.{gathering_of, outline_of}
-use Rattle.bridge_core.specs.Configs.{port_of}
+use Rattle.config.specs.Configs.{port_of}
 use Rattle.bridge_core.specs.Inside.{kept_table}
 use Rattle.bridge_core.specs.HeldRequests.{RequestTable, flight_table_of}
 use Rattle.bridge_core.specs.HeldRequests as requests

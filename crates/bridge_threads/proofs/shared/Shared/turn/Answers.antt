@@ -1,7 +1,7 @@
 -- A step that changed the world goes to the end of the history.
 use Rattle.std.proofs.Common.{◌≡◌, false, arith}
 use Rattle.std.proofs.lemmas.Grind.{common_steps}
-use Rattle.world.specs.Setups.{lists_of}
+use Rattle.setups.specs.Setups.{lists_of}
 use Rattle.world.specs.World.{leaves_all, next, opening_world}
 use Rattle.thread_reports.proofs.HistoryLemmas.{history_goes_on}
 use Rattle.bridge_threads.proofs.shared.Shared.turn.Goals as goal

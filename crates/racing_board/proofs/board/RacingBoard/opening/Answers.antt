@@ -1,6 +1,6 @@
 -- Each part is that of the opening.
 use Rattle.std.proofs.Common.{◌≡◌, ◌*◌, ap, refl, sym, ◌∙◌}
-use Rattle.world.specs.Setups.{lists_of}
+use Rattle.setups.specs.Setups.{lists_of}
 use Rattle.scoreboard.specs.Boards.{opening_board}
 use Rattle.scoreboard.specs.SerialMemory.{SerialState}
 use Rattle.scoreboard.proofs.BoardClients.{few_clients}

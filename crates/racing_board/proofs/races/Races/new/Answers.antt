@@ -2,7 +2,7 @@
 use Rattle.std.proofs.Common.{◌==◌, not, ap, length, subst, sym, ◌∙◌}
 use Rattle.std.proofs.lemmas.List.{length-map, length-replicate}
 use Rattle.subordinate.specs.InsidePages.{PagesState}
-use Rattle.world_run.proofs.OrderOpens.{zero_byte}
+use Rattle.subordinate.proofs.ZeroBytes.{zero_byte}
 use Rattle.racing_board.specs.InsideRaces.{AreOnGoodPages, doubt_in, racer_of}
 use Rattle.racing_board.specs.Races.{no_racer}
 use Rattle.racing_board.proofs.Others.{good_none}

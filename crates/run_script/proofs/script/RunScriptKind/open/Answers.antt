@@ -1,4 +1,4 @@
-use Rattle.world.specs.Setups.{lists_of}
+use Rattle.setups.specs.Setups.{lists_of}
 use Rattle.run_script.proofs.Openings.{opens_as}
 use Rattle.run_script.proofs.script.RunScriptKind.open.Goals as goal
 

@@ -1,5 +1,5 @@
 -- There are at most eight clients.
-use Rattle.world.specs.Setups.{lists_of}
+use Rattle.setups.specs.Setups.{lists_of}
 use Rattle.scoreboard.proofs.BoardClients.{few_clients}
 use Rattle.scoreboard.proofs.board.Scoreboard.opening.Goals as goal
 

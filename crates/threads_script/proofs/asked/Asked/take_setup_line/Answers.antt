@@ -1,7 +1,7 @@
 -- A set-up line that may stand has room, and nothing else changes.
 use Rattle.std.proofs.Common.{◌≡◌, ◌∙◌, Ok, Some, false, ap, subst, sym}
 use Rattle.std.specs.Prelude.{option_map}
-use Rattle.world.specs.Setups.{lists_of}
+use Rattle.setups.specs.Setups.{lists_of}
 use Rattle.script_text.proofs.LineRooms.{setup_line-room}
 use Rattle.script_text.specs.Stages.{setup_line}
 use Rattle.threads_script.specs.Asked.{is_misplaced}

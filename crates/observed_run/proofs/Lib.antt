@@ -1,0 +1,4 @@
+pub mod LiveReplies
+pub mod RunsSeen
+pub mod SeenBeats
+pub mod SeenSteps

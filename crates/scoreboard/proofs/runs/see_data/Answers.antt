@@ -1,9 +1,0 @@
--- One W beat more is appended.
-use Rattle.std.proofs.Common.{◌∙◌}
-use Rattle.axi_beats.specs.declared.WBeat.{WBeat}
-use Rattle.scoreboard.specs.declared.Seen.TheVariants.{W}
-use Rattle.scoreboard.proofs.SeenSteps.{shown_more}
-use Rattle.scoreboard.proofs.runs.see_data.Goals as goal
-
-pub loop-k-preserved : goal.loop-k-preserved
-loop-k-preserved c = c.in_ok-put.ensures.beats ∙ shown_more (λ (beat : WBeat). W beat) _ _ _ _ _ c.loop-k.invariant c.w.ensures
