@@ -1,11 +1,10 @@
 -- The bursts that are outstanding on a port, in the order of their addresses (AXI4, A5, transaction ordering).
-use Rattle.std.specs.Prelude.{ℕ, ◌+◌, ◌==◌, Bool, List, [], ◌∷◌, ◌++◌, Option, find, if◌then◌else◌, nat_lt, nat_le}
+use Rattle.std.specs.Prelude.{ℕ, ◌+◌, ◌==◌, Bool, List, [], ◌∷◌, ◌++◌, Option, find, if◌then◌else◌, length, nat_lt, nat_le}
 use Rattle.bus_words.specs.Places.{change_first, without_first}
 use Rattle.axi_beats.specs.declared.AwBeat.{AwBeat}
 use Rattle.axi_beats.specs.declared.ArBeat.{ArBeat}
-use Rattle.axi_beats.specs.declared.WBeat.{WBeat}
-use Rattle.axi_beats.specs.declared.BBeat.{BBeat}
-use Rattle.axi_beats.specs.declared.RBeat.{RBeat}
+pub use Rattle.axi_checker.specs.declared.AxiBeat.{AxiBeat}
+pub use Rattle.axi_checker.specs.declared.AxiBeat.TheVariants.{Aw as OnAw, W as OnW, B as OnB, Ar as OnAr, R as OnR}
 
 -- a write without its B, and how many of its W beats came
 pub record OpenWrite : Type 0 where
@@ -21,14 +20,6 @@ pub record OpenRead : Type 0 where
 pub record OpenBursts : Type 0 where
   pub writes : List OpenWrite
   pub reads : List OpenRead
-
--- a beat on one of the five channels
-pub data AxiBeat : Type 0 where
-  OnAw : AwBeat → AxiBeat
-  OnW : WBeat → AxiBeat
-  OnB : BBeat → AxiBeat
-  OnAr : ArBeat → AxiBeat
-  OnR : RBeat → AxiBeat
 
 -- nothing is outstanding
 abbrev pub nothing_open : OpenBursts
@@ -73,3 +64,7 @@ open_after open_bursts (OnW w) = record open_bursts { writes = change_first lack
 open_after open_bursts (OnB b) = record open_bursts { writes = without_first (write_of_id b.id) open_bursts.writes }
 open_after open_bursts (OnAr ar) = record open_bursts { reads = open_bursts.reads ++ record { ar = ar; came = 0 } ∷ [] }
 open_after open_bursts (OnR r) = record open_bursts { reads = reads_after r.id open_bursts.reads }
+
+-- how many bursts are outstanding, on both sides
+abbrev pub open_count : OpenBursts → ℕ
+open_count open_bursts = length open_bursts.writes + length open_bursts.reads

@@ -15,8 +15,24 @@ mod queue;
 mod row;
 mod rules;
 
+use axi_beats::{ArBeat, AwBeat, BBeat, RBeat, WBeat};
 pub use monitor::Monitor;
 pub use rules::PortLimits;
+
+/// A beat on one of the five channels.
+#[derive(Clone, Copy, Debug, PartialEq, Eq)]
+pub enum AxiBeat {
+    /// On the write address channel.
+    Aw(AwBeat),
+    /// On the write data channel.
+    W(WBeat),
+    /// On the write response channel.
+    B(BBeat),
+    /// On the read address channel.
+    Ar(ArBeat),
+    /// On the read data channel.
+    R(RBeat),
+}
 
 /// The rules on AXI4 beats, 1 to 12.
 #[derive(Clone, Copy, Debug, PartialEq, Eq)]

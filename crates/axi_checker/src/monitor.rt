@@ -3,13 +3,13 @@ ghost use Rattle.std.specs.Prelude.{◌≡◌, ℕ, ◌+◌, ◌∷◌, ◌++◌
 ghost use Rattle.axi_beats.specs.Bursts.{IsLegal};
 ghost use Rattle.axi_beats.specs.Responses.{is_exokay};
 ghost use Rattle.axi_beats.specs.Transfers.{IsBusWidth};
-ghost use Rattle.axi_checker.specs.OpenBursts.{OnAr, OnAw, OnB, OnR, OnW, lacks_data, nothing_open, open_after, read_of_id, write_of_id, write_to_fill};
+ghost use Rattle.axi_checker.specs.OpenBursts.{OnAr, OnAw, OnB, OnR, OnW, lacks_data, nothing_open, open_after, open_count, read_of_id, write_of_id, write_to_fill};
 ghost use Rattle.axi_checker.specs.Order.{lasts_from, read_given, reads_asked, reads_owe, writes_lack};
 ghost use Rattle.axi_checker.specs.Rules.{axi_fault, beats_sent, burst_fault, id_of, open_after_all, open_with_burst, outstanding_beside};
 
-use crate::AxiRule;
 use crate::outstanding::{Reads, Writes};
 use crate::rules::{Address, PortLimits};
+use crate::{AxiBeat, AxiRule};
 use axi_beats::{ArBeat, AwBeat, BBeat, BurstBox, RBeat, Resp, WBeat};
 use std::alloc::{AllocError, Global};
 use std::marker::Model;
@@ -66,6 +66,21 @@ impl Monitor {
             writes,
             reads,
         })
+    }
+
+    /// Takes a beat of any channel, as the call of that channel does.
+    pub fn take(&mut self, beat: &AxiBeat) -> Result<(), AxiRule>
+        ensures answer { MatchOption (axi_fault self.old.port self.old.open_bursts beat.now) (result ≡ Ok tt) (λ rule. result ≡ Err rule) }
+        ensures taken { IsOk result → self.new ≡ record self.old { open_bursts = open_after self.old.open_bursts beat.now } }
+        ensures kept { IsErr result → self.new ≡ self.old }
+    {
+        match beat {
+            AxiBeat::Aw(aw) => self.aw(aw),
+            AxiBeat::W(w) => self.w(w),
+            AxiBeat::B(b) => self.b(b),
+            AxiBeat::Ar(ar) => self.ar(ar),
+            AxiBeat::R(r) => self.r(r),
+        }
     }
 
     /// Takes a write's address (AXI4, A3.4.1): its burst is outstanding until its B.
@@ -194,6 +209,13 @@ impl Monitor {
         } else {
             self.reads.add(burst.ar());
         }
+    }
+
+    /// How many bursts are outstanding, on both sides.
+    pub fn outstanding(&self) -> usize
+        ensures { result ≡ open_count self.now.open_bursts }
+    {
+        self.writes.count() + self.reads.count()
     }
 
     /// How many R beats came of the reads that are outstanding.

@@ -196,6 +196,14 @@ impl Writes {
         })
     }
 
+    /// How many there are, at most 64.
+    pub(crate) fn count(&self) -> usize
+        ensures count { result ≡ length self.now.items }
+        ensures most { result ≤ 64 }
+    {
+        self.entries.len()
+    }
+
     /// How many have this ID.
     pub(crate) fn of_id(&self, id: u8) -> usize
         ensures { result ≡ length (filter (write_of_id id) self.now.items) }
@@ -302,6 +310,14 @@ impl Reads {
             ids,
             came: 0,
         })
+    }
+
+    /// How many there are, at most 64.
+    pub(crate) fn count(&self) -> usize
+        ensures count { result ≡ length self.now.items }
+        ensures most { result ≤ 64 }
+    {
+        self.entries.len()
     }
 
     /// How many have this ID.

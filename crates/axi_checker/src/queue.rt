@@ -63,7 +63,8 @@ impl<T: Copy> Queue<T> {
 
     /// How many there are.
     pub(crate) fn len(&self) -> usize
-        ensures { result ≡ length self.now.items }
+        ensures count { result ≡ length self.now.items }
+        ensures most { result ≤ 64 }
     {
         self.len
     }

@@ -13,14 +13,14 @@ use Rattle.tl_checker.specs.Ports.{joined, judged}
 use Rattle.tl_checker.specs.declared.Progress.{Progress}
 use Rattle.tl_checker.specs.declared.Progress.TheVariants.{More, Whole}
 use Rattle.tl_checker.specs.declared.TlRule.{TlRule}
-use Rattle.axi_checker.specs.OpenBursts.{AxiBeat, OnAr, OnAw, OnB, OnR, OnW}
+use Rattle.axi_checker.specs.OpenBursts.{AxiBeat, OnAr, OnAw, OnB, OnR, OnW, open_count}
 use Rattle.burst_plan.specs.declared.Region.{Region}
 use Rattle.responses.specs.Shown.{shown}
 use Rattle.burst_plan.specs.PageMap.{address_of}
 use Rattle.subordinate.specs.Faults.{Faults, is_good, standing_at}
 use Rattle.meaning.specs.Meaning.{Bytes, Effect, meaning}
 use Rattle.setups.specs.Setups.{SetupLists}
-use Rattle.scoreboard.specs.Boards.{Board, ClientBoard, after_reply_beat, due_of, next_reply, none_left, open_count, opening_board, replies_left, reply_rules, with_due, wrong_by, wrong_request}
+use Rattle.scoreboard.specs.Boards.{Board, ClientBoard, after_reply_beat, due_of, next_reply, none_left, opening_board, replies_left, reply_rules, with_due, wrong_by, wrong_request}
 use Rattle.scoreboard.specs.InsideSerial.{bytes_in}
 use Rattle.scoreboard.specs.SerialMemory.{SerialState, on_good_page}
 use Rattle.scoreboard.specs.declared.ReplyRule.{ReplyRule}

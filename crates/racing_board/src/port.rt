@@ -1,9 +1,8 @@
 //! The AXI4 port as a racing board sees it: the data of a write may come before its address.
 ghost use Rattle.std.specs.Prelude.{◌≡◌, true, IfOk};
 ghost use Rattle.std.specs.VecDeque.{deque_capacity};
-ghost use Rattle.axi_checker.specs.OpenBursts.{OnAr, OnAw, OnB, OnR, OnW, nothing_open};
+ghost use Rattle.axi_checker.specs.OpenBursts.{OnAr, OnAw, OnB, OnR, OnW, nothing_open, open_count};
 ghost use Rattle.config.specs.Configs.{axi_port_of, is_valid};
-ghost use Rattle.scoreboard.specs.Boards.{open_count};
 ghost use Rattle.racing_board.specs.EarlyData.{drained, none_early, port_after, port_wrong, taking, tells_no_write};
 
 use axi_beats::{ArBeat, AwBeat, BBeat, RBeat, WBeat};

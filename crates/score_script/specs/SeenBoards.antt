@@ -1,10 +1,10 @@
 -- A scoreboard whose memory is said by its bytes: what it says of a beat, and what it is after it.
 use Rattle.std.specs.Prelude.{ℕ, List, Option, Some, None, Result, Ok, Err, if◌then◌else◌, slice_get, slice_set, sum_by}
-use Rattle.axi_checker.specs.OpenBursts.{AxiBeat, OnAr, OnAw, OnB, OnR, OnW, OpenBursts, nothing_open}
+use Rattle.axi_checker.specs.OpenBursts.{AxiBeat, OnAr, OnAw, OnB, OnR, OnW, OpenBursts, nothing_open, open_count}
 use Rattle.axi_checker.specs.Rules.{AxiPortLimits, axi_fault}
 use Rattle.burst_plan.specs.declared.Region.{Region}
 use Rattle.responses.specs.Shown.{shown}
-use Rattle.scoreboard.specs.Boards.{Board, ClientBoard, a_wrong, after_reply_beat, answer_to, bursts_after, d_wrong, open_count, opening_board, replies_left, with_due, wrong_axi}
+use Rattle.scoreboard.specs.Boards.{Board, ClientBoard, a_wrong, after_reply_beat, answer_to, bursts_after, d_wrong, opening_board, replies_left, with_due, wrong_axi}
 use Rattle.scoreboard.specs.InsideSerial.{bytes_in}
 use Rattle.scoreboard.specs.declared.Seen.{Seen}
 use Rattle.scoreboard.specs.declared.Seen.TheVariants.{A, D, Aw, W, B, Ar, R, Drained}

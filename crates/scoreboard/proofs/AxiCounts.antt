@@ -11,14 +11,13 @@ use Rattle.axi_beats.specs.declared.WBeat.{WBeat}
 use Rattle.axi_beats.specs.declared.BBeat.{BBeat}
 use Rattle.axi_beats.specs.declared.RBeat.{RBeat}
 use Rattle.axi_checker.specs.Monitors.{IsSoundRead, IsWithinLimits, MonitorState, id_of_read, id_of_write}
-use Rattle.axi_checker.specs.OpenBursts.{AxiBeat, OnAr, OnAw, OnB, OnR, OnW, OpenBursts, OpenRead, OpenWrite, lacks_data, open_after, read_of_id, write_of_id}
+use Rattle.axi_checker.specs.OpenBursts.{AxiBeat, OnAr, OnAw, OnB, OnR, OnW, OpenBursts, OpenRead, OpenWrite, lacks_data, open_after, read_of_id, write_of_id, open_count}
 use Rattle.axi_checker.specs.Rules.{AxiPortLimits, axi_fault}
 use Rattle.axi_checker.specs.declared.AxiRule.{AxiRule}
 use Rattle.axi_checker.proofs.Few.{length-few}
 use Rattle.axi_checker.proofs.InOrder.{finds_read, finds_response}
 use Rattle.axi_checker.proofs.ReadsAfter.{goes_on, one_more, reads_after-closes, reads_after-goes_on}
 use Rattle.axi_checker.proofs.WithinLimits.{within-open_after}
-use Rattle.scoreboard.specs.Boards.{open_count}
 use Rattle.scoreboard.specs.InsideBoards.{IsCounted}
 
 pub count_most : (state : MonitorState) (count : ℕ) → IsCounted state count → count ≤ 128

@@ -202,10 +202,6 @@ replies_left replies = length (filter (λ beats. not (none_left beats)) replies.
 abbrev pub outstanding : Board → ℕ
 outstanding board = sum_by (λ client. replies_left client.replies) board.clients
 
--- how many bursts are outstanding on the AXI4 port
-abbrev pub open_count : OpenBursts → ℕ
-open_count open_bursts = length open_bursts.writes + length open_bursts.reads
-
 -- ---- at the start
 
 abbrev pub opening_due : DueBoard

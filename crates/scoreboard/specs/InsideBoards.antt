@@ -1,7 +1,7 @@
 -- What a scoreboard keeps of the AXI4 port: a count of the outstanding bursts, which are within the port's limits; and what every beat has.
 use Rattle.std.specs.Prelude.{ℕ, ◌≡◌, ◌<◌, ◌≤◌, ⊤}
 use Rattle.axi_checker.specs.Monitors.{IsWithinLimits, MonitorState}
-use Rattle.scoreboard.specs.Boards.{open_count}
+use Rattle.axi_checker.specs.OpenBursts.{open_count}
 use Rattle.scoreboard.specs.declared.Seen.{Seen}
 use Rattle.scoreboard.specs.declared.Seen.TheVariants.{D}
 

@@ -1,9 +1,9 @@
 //! The AXI4 port as a scoreboard sees it.
 ghost use Rattle.std.specs.Prelude.{◌≡◌, true, IfOk};
-ghost use Rattle.axi_checker.specs.OpenBursts.{OnAr, OnAw, OnB, OnR, OnW, nothing_open};
+ghost use Rattle.axi_checker.specs.OpenBursts.{OnAr, OnAw, OnB, OnR, OnW, nothing_open, open_count};
 ghost use Rattle.axi_checker.specs.Rules.{axi_fault};
 ghost use Rattle.config.specs.Configs.{axi_port_of, is_valid};
-ghost use Rattle.scoreboard.specs.Boards.{bursts_after, open_count, wrong_axi};
+ghost use Rattle.scoreboard.specs.Boards.{bursts_after, wrong_axi};
 
 use crate::Wrong;
 use axi_beats::{ArBeat, AwBeat, BBeat, RBeat, WBeat};

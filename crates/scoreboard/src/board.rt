@@ -79,7 +79,8 @@ fn outstanding_of(clients: &[Client]) -> u16
 }
 
 impl Scoreboard {
-    ghost use Rattle.scoreboard.specs.Boards.{IsAfter, IsAfterA, IsReached, a_wrong, after_d, d_wrong, open_count, opening_board, outstanding, wrong_at};
+    ghost use Rattle.scoreboard.specs.Boards.{IsAfter, IsAfterA, IsReached, a_wrong, after_d, d_wrong, opening_board, outstanding, wrong_at};
+    ghost use Rattle.axi_checker.specs.OpenBursts.{open_count};
     ghost use Rattle.scoreboard.specs.InsideBoards.{HasSource};
     ghost use Rattle.scoreboard.specs.Observed.{observed_in, requests_in};
     ghost use Rattle.scoreboard.specs.Right.{IsRight};
