@@ -129,7 +129,12 @@ STATEMENTS = (
     (
         "What the scoreboard says",
         "`scoreboard::Scoreboard::judge`, clauses `answer` and `state`, and the board that `right` begins with.",
-        (("scoreboard", "Boards", "wrong_at"), ("scoreboard", "Boards", "IsAfter"), ("scoreboard", "Boards", "IsReached")),
+        (
+            ("scoreboard", "Boards", "wrong_at"),
+            ("scoreboard", "Boards", "after_seen"),
+            ("scoreboard", "Boards", "board_of"),
+            ("scoreboard", "Boards", "IsReached"),
+        ),
     ),
     (
         "What a racing board says",

@@ -5,7 +5,9 @@ use Rattle.axi_beats.specs.Bursts.{WriteBurst}
 use Rattle.axi_beats.specs.declared.AwBeat.{AwBeat}
 use Rattle.axi_beats.specs.declared.Resp.{Resp}
 use Rattle.axi_beats.specs.declared.Resp.TheVariants.{Okay, ExOkay as ExOkayResp}
-use Rattle.axi_checker.specs.OpenBursts.{OpenBursts, AxiBeat, OnAw, OnW, OnB, OnAr, OnR, nothing_open}
+use Rattle.axi_checker.specs.OpenBursts.{OpenBursts, nothing_open}
+use Rattle.axi_checker.specs.declared.AxiBeat.{AxiBeat}
+use Rattle.axi_checker.specs.declared.AxiBeat.TheVariants.{Aw as OnAw, W as OnW, B as OnB, Ar as OnAr, R as OnR}
 use Rattle.axi_checker.specs.Rules.{AxiPortLimits, axi_fault, first_axi_fault, open_after_all, burst_fault}
 use Rattle.axi_checker.specs.declared.AxiRule.TheVariants.{Size, Cross4K, IdRange, WWithoutAw, Strobe, WLast, BWithoutWrite, RWithoutRead, RLast, ExOkay}
 

@@ -2,7 +2,8 @@
 use Rattle.std.proofs.Common.{◌≡◌, List, [], ◌∷◌, ◌++◌, refl, ap, sym, ◌∙◌}
 use Rattle.std.specs.Prelude.{None}
 use Rattle.axi_beats.specs.Bursts.{Burst}
-use Rattle.axi_checker.specs.OpenBursts.{AxiBeat, OpenBursts, open_after, write_to_fill}
+use Rattle.axi_checker.specs.OpenBursts.{OpenBursts, open_after, write_to_fill}
+use Rattle.axi_checker.specs.declared.AxiBeat.{AxiBeat}
 use Rattle.axi_checker.specs.Rules.{AxiPortLimits, beats_sent, burst_fault, first_axi_fault, open_after_all, open_with_burst}
 use Rattle.axi_checker.proofs.Judging.{first_axi_fault-none}
 use Rattle.axi_checker.proofs.LegalBursts.{head_unbroken, open_after_all-burst, unbroken_burst}

@@ -11,7 +11,9 @@ use Rattle.axi_beats.specs.declared.WBeat.{WBeat}
 use Rattle.axi_beats.specs.declared.BBeat.{BBeat}
 use Rattle.axi_beats.specs.declared.RBeat.{RBeat}
 use Rattle.axi_checker.specs.Monitors.{IsSoundRead, IsWithinLimits}
-use Rattle.axi_checker.specs.OpenBursts.{AxiBeat, OnAr, OnAw, OnB, OnR, OnW, OpenBursts, OpenRead, OpenWrite, lacks_data, nothing_open, oldest_read, oldest_write, open_after, read_of_id, reads_after, write_of_id, write_to_fill}
+use Rattle.axi_checker.specs.OpenBursts.{OpenBursts, OpenRead, OpenWrite, lacks_data, nothing_open, oldest_read, oldest_write, open_after, read_of_id, reads_after, write_of_id, write_to_fill}
+use Rattle.axi_checker.specs.declared.AxiBeat.{AxiBeat}
+use Rattle.axi_checker.specs.declared.AxiBeat.TheVariants.{Ar as OnAr, Aw as OnAw, B as OnB, R as OnR, W as OnW}
 use Rattle.axi_checker.specs.Order.{IsInOrder, closes_write, data_announced, data_given, opens_write, read_given, reads_asked, reads_owe, writes_lack}
 use Rattle.axi_checker.specs.Rules.{AxiPortLimits, awaits_response, axi_fault, data_rules, first_axi_fault, open_after_all, right_last}
 use Rattle.axi_checker.proofs.Judging.{first_axi_fault-none, one_beat_more}

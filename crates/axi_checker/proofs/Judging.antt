@@ -12,7 +12,9 @@ use Rattle.axi_beats.specs.Bursts.{Burst, ReadBurst, WriteBurst}
 use Rattle.axi_beats.specs.declared.AwBeat.{AwBeat}
 use Rattle.axi_beats.specs.declared.WBeat.{WBeat}
 use Rattle.axi_checker.specs.Monitors.{first_data_fault, if_lacking}
-use Rattle.axi_checker.specs.OpenBursts.{AxiBeat, OnAw, OnW, OpenBursts, OpenWrite, lacks_data, open_after, write_of_id, write_to_fill}
+use Rattle.axi_checker.specs.OpenBursts.{OpenBursts, OpenWrite, lacks_data, open_after, write_of_id, write_to_fill}
+use Rattle.axi_checker.specs.declared.AxiBeat.{AxiBeat}
+use Rattle.axi_checker.specs.declared.AxiBeat.TheVariants.{Aw as OnAw, W as OnW}
 use Rattle.axi_checker.specs.Rules.{AxiPortLimits, address_of_write, address_rules, axi_fault, beats_sent, burst_fault, data_rules, first_axi_fault, id_of, outstanding_beside}
 use Rattle.axi_checker.specs.declared.AxiRule.{AxiRule}
 use Rattle.axi_checker.specs.declared.AxiRule.TheVariants.{WLast, WWithoutAw}

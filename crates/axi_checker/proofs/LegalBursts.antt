@@ -12,7 +12,9 @@ use Rattle.axi_beats.specs.Bursts.{Burst, ReadBurst, WriteBurst, IsLegal, is_leg
 use Rattle.axi_beats.specs.declared.AwBeat.{AwBeat}
 use Rattle.axi_beats.specs.declared.WBeat.{WBeat}
 use Rattle.axi_checker.specs.Monitors.{first_data_fault, if_lacking}
-use Rattle.axi_checker.specs.OpenBursts.{AxiBeat, OnAr, OnAw, OnW, OpenBursts, OpenWrite, lacks_data, write_to_fill}
+use Rattle.axi_checker.specs.OpenBursts.{OpenBursts, OpenWrite, lacks_data, write_to_fill}
+use Rattle.axi_checker.specs.declared.AxiBeat.{AxiBeat}
+use Rattle.axi_checker.specs.declared.AxiBeat.TheVariants.{Ar as OnAr, Aw as OnAw, W as OnW}
 use Rattle.axi_checker.specs.Rules.{AxiPortLimits, axi_fault, beats_sent, burst_fault, data_rules, ends_early, first_axi_fault, len_of, open_after_all, open_with_burst}
 use Rattle.axi_checker.specs.declared.AxiRule.{AxiRule}
 use Rattle.axi_checker.specs.declared.AxiRule.TheVariants.{Strobe, WLast}

@@ -5,7 +5,9 @@ use Rattle.axi_beats.specs.Bursts.{Burst}
 use Rattle.axi_beats.specs.declared.AwBeat.{AwBeat}
 use Rattle.axi_beats.specs.declared.ArBeat.{ArBeat}
 use Rattle.axi_checker.specs.Monitors.{IsSoundMonitor, IsWithinLimits, MonitorState, monitor_state}
-use Rattle.axi_checker.specs.OpenBursts.{AxiBeat, OnAr, OnAw, OpenBursts, OpenRead, OpenWrite, open_after, write_to_fill}
+use Rattle.axi_checker.specs.OpenBursts.{OpenBursts, OpenRead, OpenWrite, open_after, write_to_fill}
+use Rattle.axi_checker.specs.declared.AxiBeat.{AxiBeat}
+use Rattle.axi_checker.specs.declared.AxiBeat.TheVariants.{Ar as OnAr, Aw as OnAw}
 use Rattle.axi_checker.specs.Rules.{axi_fault, burst_fault, open_with_burst}
 use Rattle.axi_checker.proofs.Taking.{within-open_with_burst}
 use Rattle.axi_checker.proofs.WithinLimits.{room_for_read, room_for_write, within-open_after}

@@ -14,7 +14,8 @@ use Rattle.axi_beats.specs.declared.AwBeat.{AwBeat}
 use Rattle.axi_beats.specs.declared.ArBeat.{ArBeat}
 use Rattle.axi_beats.specs.declared.WBeat.{WBeat}
 use Rattle.axi_checker.specs.Monitors.{IsWithinLimits, first_data_fault}
-use Rattle.axi_checker.specs.OpenBursts.{OnAr, OnAw, OnW, OpenBursts, OpenWrite, lacks_data, write_of_id, write_to_fill}
+use Rattle.axi_checker.specs.OpenBursts.{OpenBursts, OpenWrite, lacks_data, write_of_id, write_to_fill}
+use Rattle.axi_checker.specs.declared.AxiBeat.TheVariants.{Ar as OnAr, Aw as OnAw, W as OnW}
 use Rattle.axi_checker.specs.Rules.{AxiPortLimits, BurstAddress, address_of_read, address_of_write, address_rules, axi_fault, beats_sent, burst_fault, first_axi_fault, id_of, open_after_all, open_with_burst, outstanding_beside}
 use Rattle.axi_checker.specs.declared.AxiRule.{AxiRule}
 use Rattle.axi_checker.proofs.InOrder.{within-open_after_all}

@@ -10,7 +10,9 @@ use Rattle.axi_beats.specs.Transfers.{fits_bus, in_one_page}
 use Rattle.axi_beats.specs.declared.AwBeat.{AwBeat}
 use Rattle.axi_beats.specs.declared.ArBeat.{ArBeat}
 use Rattle.axi_checker.specs.Monitors.{HasFewOfEach, IsSoundRead, IsSoundWrite, IsWithinLimits, id_of_read, id_of_write}
-use Rattle.axi_checker.specs.OpenBursts.{AxiBeat, OnAr, OnAw, OnB, OnR, OnW, OpenBursts, OpenRead, OpenWrite, lacks_data, open_after, read_of_id, reads_after, write_of_id}
+use Rattle.axi_checker.specs.OpenBursts.{OpenBursts, OpenRead, OpenWrite, lacks_data, open_after, read_of_id, reads_after, write_of_id}
+use Rattle.axi_checker.specs.declared.AxiBeat.{AxiBeat}
+use Rattle.axi_checker.specs.declared.AxiBeat.TheVariants.{Ar as OnAr, Aw as OnAw, B as OnB, R as OnR, W as OnW}
 use Rattle.axi_checker.specs.Rules.{AxiPortLimits, BurstAddress, address_of_read, address_of_write, address_rules, axi_fault}
 use Rattle.axi_checker.proofs.Few.{few-append, few-change_first, few-without_first, of_id, room_for_one}
 use Rattle.axi_checker.proofs.ReadsAfter.{goes_on, one_more}

@@ -3,8 +3,8 @@ use Rattle.std.specs.Prelude.{ℕ, ◌+◌, ◌==◌, Bool, List, [], ◌∷◌,
 use Rattle.bus_words.specs.Places.{change_first, without_first}
 use Rattle.axi_beats.specs.declared.AwBeat.{AwBeat}
 use Rattle.axi_beats.specs.declared.ArBeat.{ArBeat}
-pub use Rattle.axi_checker.specs.declared.AxiBeat.{AxiBeat}
-pub use Rattle.axi_checker.specs.declared.AxiBeat.TheVariants.{Aw as OnAw, W as OnW, B as OnB, Ar as OnAr, R as OnR}
+use Rattle.axi_checker.specs.declared.AxiBeat.{AxiBeat}
+use Rattle.axi_checker.specs.declared.AxiBeat.TheVariants.{Aw as OnAw, W as OnW, B as OnB, Ar as OnAr, R as OnR}
 
 -- a write without its B, and how many of its W beats came
 pub record OpenWrite : Type 0 where

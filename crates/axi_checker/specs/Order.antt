@@ -2,7 +2,9 @@
 -- owe, is together what the addresses asked for, in their order. Data are seen by their `last` flags.
 use Rattle.std.specs.Prelude.{◌≡◌, ℕ, ◌+◌, ◌-◌, ◌==◌, Bool, false, List, [], ◌∷◌, ◌++◌, filter, flat_map, length, map, if◌then◌else◌}
 use Rattle.std.specs.List.{range_with_len}
-use Rattle.axi_checker.specs.OpenBursts.{AxiBeat, OnAw, OnW, OnB, OnAr, OnR, OpenBursts, OpenRead, OpenWrite, read_of_id, write_of_id}
+use Rattle.axi_checker.specs.OpenBursts.{OpenBursts, OpenRead, OpenWrite, read_of_id, write_of_id}
+use Rattle.axi_checker.specs.declared.AxiBeat.{AxiBeat}
+use Rattle.axi_checker.specs.declared.AxiBeat.TheVariants.{Aw as OnAw, W as OnW, B as OnB, Ar as OnAr, R as OnR}
 
 -- the `last` flags of a burst's transfers from number `came` on, counted from 0
 abbrev pub lasts_from : ℕ → ℕ → List Bool

@@ -9,7 +9,9 @@ use Rattle.axi_beats.specs.Transfers.{fits_bus, in_one_page}
 use Rattle.axi_beats.specs.declared.ArBeat.{ArBeat}
 use Rattle.axi_beats.specs.declared.AwBeat.{AwBeat}
 use Rattle.axi_beats.specs.declared.WBeat.{WBeat}
-use Rattle.axi_checker.specs.OpenBursts.{OpenBursts, OpenWrite, OpenRead, AxiBeat, OnAw, OnW, OnB, OnAr, OnR, lacks_data, write_of_id, read_of_id, write_to_fill, oldest_write, oldest_read, open_after}
+use Rattle.axi_checker.specs.OpenBursts.{OpenBursts, OpenWrite, OpenRead, lacks_data, write_of_id, read_of_id, write_to_fill, oldest_write, oldest_read, open_after}
+use Rattle.axi_checker.specs.declared.AxiBeat.{AxiBeat}
+use Rattle.axi_checker.specs.declared.AxiBeat.TheVariants.{Aw as OnAw, W as OnW, B as OnB, Ar as OnAr, R as OnR}
 use Rattle.axi_checker.specs.declared.AxiRule.{AxiRule}
 use Rattle.axi_checker.specs.declared.AxiRule.TheVariants.{Size, BurstKind, Cross4K, IdRange, Depth, WWithoutAw, Strobe, WLast, BWithoutWrite, RWithoutRead, RLast, ExOkay}
 

@@ -12,7 +12,8 @@ use Rattle.flight_table.specs.Tables.{has_source, is_busy}
 use Rattle.bridge_core.specs.Laws.{IsFreeFront, AreLinked, IsSoundBridge, IsSoundRequestTable}
 use Rattle.bridge_core.specs.HeldRequests.{BridgedRequest, RequestTable, after_read, after_response, flight_table_of, flights_of, is_done_for, newly_live, with_read, with_request, with_response, with_sent_burst, without_done, holder}
 use Rattle.axi_beats.specs.declared.BBeat.{BBeat}
-use Rattle.axi_checker.specs.OpenBursts.{AxiBeat, OpenBursts, write_to_fill}
+use Rattle.axi_checker.specs.OpenBursts.{OpenBursts, write_to_fill}
+use Rattle.axi_checker.specs.declared.AxiBeat.{AxiBeat}
 use Rattle.axi_checker.specs.Rules.{AxiPortLimits, axi_fault, open_with_burst}
 use Rattle.axi_checker.specs.Monitors.{MonitorState}
 use Rattle.axi_beats.specs.Bursts.{Burst}

@@ -10,7 +10,8 @@ use Rattle.tl_checker.specs.Ports.{joined, judged}
 use Rattle.tl_checker.specs.declared.Progress.{Progress}
 use Rattle.tl_checker.specs.declared.Progress.TheVariants.{More, Whole}
 use Rattle.tl_checker.specs.declared.TlRule.{TlRule}
-use Rattle.axi_checker.specs.OpenBursts.{OpenBursts, OnB, OnR, nothing_open, open_after}
+use Rattle.axi_checker.specs.OpenBursts.{OpenBursts, nothing_open, open_after}
+use Rattle.axi_checker.specs.declared.AxiBeat.TheVariants.{B as OnB, R as OnR}
 use Rattle.axi_checker.specs.Rules.{axi_fault, open_with_burst}
 use Rattle.axi_checker.specs.declared.AxiRule.{AxiRule}
 use Rattle.burst_plan.specs.declared.Region.{Region}

@@ -5,7 +5,7 @@ use Rattle.tl_messages.specs.Requests.{HeldMessage, WholeRequest, request_of}
 use Rattle.tl_messages.specs.declared.DBeat.{DBeat}
 use Rattle.axi_beats.specs.declared.RBeat.{RBeat}
 use Rattle.axi_beats.specs.declared.Resp.{Resp}
-use Rattle.burst_plan.specs.PageMap.{translated_address}
+use Rattle.burst_plan.specs.PageMap.{address_of}
 use Rattle.burst_plan.specs.Pieces.{PlannedRange}
 use Rattle.burst_plan.specs.declared.Region.{Region}
 use Rattle.flight_table.specs.LiveRequests.{LiveRequest, finished, flight_for, is_settled, with_answered, with_sent, with_write}

@@ -9,9 +9,10 @@ ghost use Rattle.bridge_core.specs.Inside.{CanFill, beat_held, bytes_held, respo
 ghost use Rattle.responses.specs.RightReplies.{ShowsReply};
 ghost use Rattle.responses.specs.Shown.{shown};
 
-use crate::bursts::{atomic_number, set_number, set_put};
+use crate::bursts::{set_number, set_put};
 use axi_beats::{BurstBox, RBeat, Resp};
 use burst_plan::{Piece, Plan};
+use data_unit::atomic_number;
 use responses::Gather;
 use std::alloc::{AllocError, Global};
 use std::marker::Model;

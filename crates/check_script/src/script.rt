@@ -10,9 +10,9 @@ use crate::client_ports::{ClientPorts, Verdict};
 use crate::lines::{CheckCommand, check_command};
 use line_text::{Words, WriteFault, a_line, refused_line, write_text};
 use script_text::{Form, Kind, ScriptFault, StagedScript, read_script};
+use setups::{Setup, SetupFault};
 use std::alloc::Global;
 use std::io::{Read, Write};
-use setups::{Setup, SetupFault};
 
 /// A script of `tlbridge check`.
 #[derive(Drop)]

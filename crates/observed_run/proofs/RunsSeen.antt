@@ -18,7 +18,9 @@ use Rattle.tl_checker.specs.declared.Progress.TheVariants.{More as Begins}
 use Rattle.tl_checker.proofs.Taken.{front_exact}
 use Rattle.axi_beats.specs.declared.BBeat.{BBeat}
 use Rattle.axi_beats.specs.declared.RBeat.{RBeat}
-use Rattle.axi_checker.specs.OpenBursts.{AxiBeat, OnB, OnR, OpenBursts, nothing_open}
+use Rattle.axi_checker.specs.OpenBursts.{OpenBursts, nothing_open}
+use Rattle.axi_checker.specs.declared.AxiBeat.{AxiBeat}
+use Rattle.axi_checker.specs.declared.AxiBeat.TheVariants.{B as OnB, R as OnR}
 use Rattle.axi_checker.specs.Rules.{AxiPortLimits, beats_sent, first_axi_fault, open_after_all}
 use Rattle.axi_checker.proofs.Histories.{first_axi_fault-append}
 use Rattle.axi_checker.proofs.Judging.{first_axi_fault-none}
@@ -56,14 +58,14 @@ use Rattle.scoreboard.specs.Observed.{Observed, nothing_observed, observed_in, r
 use Rattle.scoreboard.specs.Right.{HasClient, IsContiguous, IsFree, IsPartly, IsRight, IsRightNow, left_of, replies_to, shown_to}
 use Rattle.observed_run.specs.SeenRuns.{observed, seen_from, seen_of, seen_of_reply}
 use Rattle.scoreboard.specs.declared.Seen.{Seen}
-use Rattle.scoreboard.specs.declared.Seen.TheVariants.{A}
+use Rattle.scoreboard.specs.declared.Seen.TheVariants.{A, Axi}
 use Rattle.scoreboard.proofs.BoardOf.{shown_source}
 use Rattle.observed_run.proofs.LiveReplies.{IsTakenOut, asks, owed, owed_accepted, owed_before, owed_beside, owed_changed, owed_left, owed_none, owed_taken, owed_to, read_same, response_same, sent_same}
 use Rattle.scoreboard.proofs.Owed.{AreOf, eqb_same, same_or_not}
 use Rattle.scoreboard.proofs.Reached.{right_nothing, right_with}
 use Rattle.scoreboard.proofs.RequestBeats.{front_lacks, spelling_complete}
 use Rattle.scoreboard.proofs.RequestSteps.{IsCompleted, client_of, other_replies, own_begun, own_replies, requests_whole, right_whole, with_whole}
-use Rattle.observed_run.proofs.SeenBeats.{IsToldMore, burst_on_axi, now_of, observed-more, observed_on_axi, open_after_more, right_on_axi, right_told, seen_on_axi, told_beats, told_more}
+use Rattle.observed_run.proofs.SeenBeats.{IsToldMore, burst_on_axi, now_of, observed-more, observed_on_axi, open_after_more, right_on_axi, right_told, told_beats, told_more}
 use Rattle.scoreboard.proofs.SeenLists.{last_of-append, observed-append}
 use Rattle.observed_run.proofs.SeenSteps.{quiet_seen}
 use Rattle.scoreboard.proofs.Told.{TellsOn, told-reply, told_nothing}
@@ -326,11 +328,11 @@ module _ (setup : SetupLists) (requests past : List WholeRequest) (before : List
   axi_seen : (bridge : BridgeState) (beats : List AxiBeat) → first_axi_fault (axi_port_of state.bridge.requests.config) state.bridge.open_bursts beats ≡ None
       → open_after_all state.bridge.open_bursts beats ≡ bridge.open_bursts → bridge.requests.accepted ≡ state.bridge.requests.accepted → IsHeard setup.config bridge old.begun
       → ((client source : ℕ) → owed (shown_at setup requests) bridge.requests.live client source ≡ owed (shown_at setup requests) state.bridge.requests.live client source)
-      → Accords setup requests past (before ++ map seen_on_axi beats) bridge
+      → Accords setup requests past (before ++ map Axi beats) bridge
   axi_seen bridge beats none opens as_many heard same =
       record {
         right = right_on_axi setup before beats accords.right fine;
-        seen = subst (λ (o : Observed). IsSeen setup requests past o bridge) (sym (observed-more nothing_observed before (map seen_on_axi beats) ∙ observed_on_axi old beats)) (record {
+        seen = subst (λ (o : Observed). IsSeen setup requests past o bridge) (sym (observed-more nothing_observed before (map Axi beats) ∙ observed_on_axi old beats)) (record {
           accepted = accords.seen.accepted;
           count = accords.seen.count ∙ sym as_many;
           heard = heard;

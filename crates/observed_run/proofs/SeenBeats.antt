@@ -8,17 +8,19 @@ use Rattle.tl_messages.specs.declared.ABeat.{ABeat}
 use Rattle.tl_messages.specs.declared.DBeat.{DBeat}
 use Rattle.axi_beats.specs.Bursts.{Burst, ReadBurst, WriteBurst}
 use Rattle.axi_beats.specs.declared.WBeat.{WBeat}
-use Rattle.axi_checker.specs.OpenBursts.{AxiBeat, OnAr, OnAw, OnB, OnR, OnW, OpenBursts, nothing_open, open_after}
+use Rattle.axi_checker.specs.OpenBursts.{OpenBursts, nothing_open, open_after}
+use Rattle.axi_checker.specs.declared.AxiBeat.{AxiBeat}
+use Rattle.axi_checker.specs.declared.AxiBeat.TheVariants.{Aw as OnAw, W as OnW}
 use Rattle.axi_checker.specs.Rules.{AxiPortLimits, beats_sent, first_axi_fault, open_after_all}
 use Rattle.axi_checker.proofs.Judging.{first_axi_fault-none}
 use Rattle.axi_checker.proofs.LegalBursts.{head_unbroken}
 use Rattle.config.specs.Configs.{axi_port_of}
 use Rattle.setups.specs.Setups.{SetupLists}
 use Rattle.scoreboard.specs.Observed.{Observed, nothing_observed, observed_in, with_all, with_axi_beat, with_reply_beat, with_seen}
-use Rattle.scoreboard.specs.Right.{HasClient, IsContiguous, IsFree, IsPartly, IsRight, IsRightNow, IsTold, left_of, replies_to}
+use Rattle.scoreboard.specs.Right.{IsContiguous, IsFree, IsPartly, IsRight, IsRightNow, IsTold, left_of, replies_to}
 use Rattle.observed_run.specs.SeenRuns.{seen_of_burst, seen_of_reply}
 use Rattle.scoreboard.specs.declared.Seen.{Seen}
-use Rattle.scoreboard.specs.declared.Seen.TheVariants.{D, Aw, W, B, Ar, R}
+use Rattle.scoreboard.specs.declared.Seen.TheVariants.{Axi, D}
 use Rattle.scoreboard.proofs.Owed.{AreOf, same_or_not}
 use Rattle.scoreboard.proofs.Reached.{right_with}
 use Rattle.scoreboard.proofs.ReplySteps.{told_other, told_own}
@@ -36,49 +38,19 @@ now_of setup before right = right.always before [] (sym (append-nil before))
 
 -- ---- beats of the AXI4 port
 
--- a beat of the AXI4 port as it is seen
-abbrev pub seen_on_axi : AxiBeat → Seen
-seen_on_axi (OnAw aw) = Aw aw
-seen_on_axi (OnW w) = W w
-seen_on_axi (OnB b) = B b
-seen_on_axi (OnAr ar) = Ar ar
-seen_on_axi (OnR r) = R r
-
 -- a burst is seen as the beats with which it is sent
-pub burst_on_axi : (burst : Burst) → seen_of_burst (Some burst) ≡ map seen_on_axi (beats_sent burst)
-burst_on_axi (WriteBurst aw data_beats) = ap (λ (rest : List Seen). Aw aw ∷ rest) (sym (map-map seen_on_axi (λ (w : WBeat). OnW w) data_beats))
+pub burst_on_axi : (burst : Burst) → seen_of_burst (Some burst) ≡ map Axi (beats_sent burst)
+burst_on_axi (WriteBurst aw data_beats) = ap (λ (rest : List Seen). Axi (OnAw aw) ∷ rest) (sym (map-map Axi (λ (w : WBeat). OnW w) data_beats))
 burst_on_axi (ReadBurst ar) = refl
-
-with_axi : (observed : Observed) (beat : AxiBeat) → with_seen observed (seen_on_axi beat) ≡ with_axi_beat beat observed
-with_axi observed (OnAw aw) = refl
-with_axi observed (OnW w) = refl
-with_axi observed (OnB b) = refl
-with_axi observed (OnAr ar) = refl
-with_axi observed (OnR r) = refl
-
-any_client : (clients : ℕ) (beat : AxiBeat) → HasClient clients (seen_on_axi beat)
-any_client clients (OnAw aw) = tt
-any_client clients (OnW w) = tt
-any_client clients (OnB b) = tt
-any_client clients (OnAr ar) = tt
-any_client clients (OnR r) = tt
-
-any_contiguous : (setup : SetupLists) (observed : Observed) (beat : AxiBeat) → IsContiguous setup observed (seen_on_axi beat)
-any_contiguous setup observed (OnAw aw) = tt
-any_contiguous setup observed (OnW w) = tt
-any_contiguous setup observed (OnB b) = tt
-any_contiguous setup observed (OnAr ar) = tt
-any_contiguous setup observed (OnR r) = tt
 
 -- what was observed, with beats of the AXI4 port more
 abbrev pub with_axi_beats : List AxiBeat → Observed → Observed
 with_axi_beats beats observed = record observed { axi = observed.axi ++ beats }
 
-pub observed_on_axi : (observed : Observed) (beats : List AxiBeat) → with_all observed (map seen_on_axi beats) ≡ with_axi_beats beats observed
+pub observed_on_axi : (observed : Observed) (beats : List AxiBeat) → with_all observed (map Axi beats) ≡ with_axi_beats beats observed
 observed_on_axi observed [] = ap (λ (axi : List AxiBeat). record observed { axi = axi }) (sym (append-nil observed.axi))
 observed_on_axi observed (beat ∷ beats) =
-    ap (λ (seen : Observed). with_all seen (map seen_on_axi beats)) (with_axi observed beat)
-    ∙ observed_on_axi (with_axi_beat beat observed) beats
+    observed_on_axi (with_axi_beat beat observed) beats
     ∙ ap (λ (axi : List AxiBeat). record observed { axi = axi }) (append_assoc observed.axi (beat ∷ []) beats)
 
 -- the outstanding bursts after beats and others
@@ -101,13 +73,13 @@ right_axi setup observed beats right none =
 
 -- beats of the AXI4 port of which none breaks a rule are right, one after another
 pub right_on_axi : (setup : SetupLists) (before : List Seen) (beats : List AxiBeat) → IsRight setup before → first_axi_fault (axi_port_of setup.config) nothing_open ((observed_in before).axi ++ beats) ≡ None
-    → IsRight setup (before ++ map seen_on_axi beats)
+    → IsRight setup (before ++ map Axi beats)
 right_on_axi setup before [] right none = subst (IsRight setup) (sym (append-nil before)) right
 right_on_axi setup before (beat ∷ beats) right none =
-    subst (IsRight setup) (append_assoc before (seen_on_axi beat ∷ []) (map seen_on_axi beats))
-    (right_on_axi setup (before ++ seen_on_axi beat ∷ []) beats
-    (right_with setup before (seen_on_axi beat) right (any_client setup.config.clients beat) (any_contiguous setup (observed_in before) beat) (subst (IsRightNow setup) (sym (with_axi (observed_in before) beat)) now))
-    (ap (λ (seen : Observed). first_axi_fault (axi_port_of setup.config) nothing_open (seen.axi ++ beats)) (observed-append nothing_observed before (seen_on_axi beat) ∙ with_axi (observed_in before) beat) ∙ all))
+    subst (IsRight setup) (append_assoc before (Axi beat ∷ []) (map Axi beats))
+    (right_on_axi setup (before ++ Axi beat ∷ []) beats
+    (right_with setup before (Axi beat) right tt tt now)
+    (ap (λ (seen : Observed). first_axi_fault (axi_port_of setup.config) nothing_open (seen.axi ++ beats)) (observed-append nothing_observed before (Axi beat)) ∙ all))
   where
     all : first_axi_fault (axi_port_of setup.config) nothing_open (((observed_in before).axi ++ beat ∷ []) ++ beats) ≡ None
     all = ap (first_axi_fault (axi_port_of setup.config) nothing_open) (append_assoc (observed_in before).axi (beat ∷ []) beats) ∙ none

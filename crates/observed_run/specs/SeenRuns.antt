@@ -3,6 +3,7 @@
 use Rattle.std.specs.Prelude.{ℕ, List, [], ◌∷◌, ◌++◌, map, Option, Some, None}
 use Rattle.tl_messages.specs.declared.DBeat.{DBeat}
 use Rattle.axi_beats.specs.Bursts.{Burst, WriteBurst, ReadBurst}
+use Rattle.axi_checker.specs.declared.AxiBeat.TheVariants.{Ar as OnAr, Aw as OnAw, B as OnB, R as OnR, W as OnW}
 use Rattle.setups.specs.Setups.{SetupLists}
 use Rattle.world.specs.World.{Outcome, WorldState, next, opening_world}
 use Rattle.world.specs.declared.Answer.{Answer}
@@ -10,13 +11,13 @@ use Rattle.world.specs.declared.Answer.TheVariants as answer
 use Rattle.world.specs.declared.Step.{Step}
 use Rattle.world.specs.declared.Step.TheVariants as step
 use Rattle.scoreboard.specs.declared.Seen.{Seen}
-use Rattle.scoreboard.specs.declared.Seen.TheVariants.{A, D, Aw, W, B, Ar, R}
+use Rattle.scoreboard.specs.declared.Seen.TheVariants.{A, D, Axi}
 
 -- the beats of a burst as it is sent, if one is
 abbrev pub seen_of_burst : Option Burst → List Seen
 seen_of_burst None = []
-seen_of_burst (Some (WriteBurst aw data_beats)) = Aw aw ∷ map (λ beat. W beat) data_beats
-seen_of_burst (Some (ReadBurst ar)) = Ar ar ∷ []
+seen_of_burst (Some (WriteBurst aw data_beats)) = Axi (OnAw aw) ∷ map (λ beat. Axi (OnW beat)) data_beats
+seen_of_burst (Some (ReadBurst ar)) = Axi (OnAr ar) ∷ []
 
 -- the beats of a reply on its client's channel D
 abbrev pub seen_of_reply : ℕ → List DBeat → List Seen
@@ -28,8 +29,8 @@ abbrev pub seen_by : Step → Answer → Option Burst → List DBeat → List Se
 seen_by (step.Offer client beat) answer.More burst reply = A client beat ∷ []
 seen_by (step.Offer client beat) (answer.Accepted number) burst reply = A client beat ∷ []
 seen_by step.Pump (answer.Sent serial) burst reply = seen_of_burst burst
-seen_by (step.AnswerB id) (answer.B b) burst reply = B b ∷ []
-seen_by (step.AnswerR id) (answer.R r) burst reply = R r ∷ []
+seen_by (step.AnswerB id) (answer.B b) burst reply = Axi (OnB b) ∷ []
+seen_by (step.AnswerR id) (answer.R r) burst reply = Axi (OnR r) ∷ []
 seen_by (step.Take client) (answer.Reply number) burst reply = seen_of_reply client reply
 seen_by _ _ burst reply = []
 

@@ -7,9 +7,11 @@ ghost use Rattle.world.specs.World.{next};
 ghost use Rattle.setups.specs.declared.SetupFault.TheVariants.{NoMemory};
 ghost use Rattle.scoreboard.specs.Right.{IsRight};
 ghost use Rattle.observed_run.specs.SeenRuns.{observed, seen_by, seen_of, seen_of_burst, seen_of_reply};
-ghost use Rattle.scoreboard.specs.declared.Seen.TheVariants.{W};
+ghost use Rattle.axi_checker.specs.declared.AxiBeat.TheVariants.{W as OnW};
+ghost use Rattle.scoreboard.specs.declared.Seen.TheVariants.{Axi};
 
 use axi_beats::BurstBox;
+use axi_checker::AxiBeat;
 use scoreboard::Seen;
 use std::alloc::Global;
 use tl_messages::ReplyBox;
@@ -29,10 +31,10 @@ fn put(seen: &mut Vec<Seen>, beat: Seen) -> Result<(), SetupFault>
 /// Appends the W beats of a burst.
 fn see_data(seen: &mut Vec<Seen>, burst: &BurstBox) -> Result<(), SetupFault>
     ensures want { IfErr result (λ fault. fault ≡ NoMemory) }
-    ensures beats { OnOk result (seen.new.items ≡ seen.old.items ++ map (λ beat. W beat) (w_beats_of burst.now)) }
+    ensures beats { OnOk result (seen.new.items ≡ seen.old.items ++ map (λ beat. Axi (OnW beat)) (w_beats_of burst.now)) }
 {
     for k in 0..burst.w_beats() {
-        put(seen, Seen::W(burst.w(k)))?;
+        put(seen, Seen::Axi(AxiBeat::W(burst.w(k))))?;
     }
     Ok(())
 }
@@ -46,9 +48,9 @@ fn see_burst(seen: &mut Vec<Seen>, burst: &BurstBox) -> Result<(), SetupFault>
         return Ok(());
     }
     if !burst.is_write() {
-        return put(seen, Seen::Ar(burst.ar()));
+        return put(seen, Seen::Axi(AxiBeat::Ar(burst.ar())));
     }
-    put(seen, Seen::Aw(burst.aw()))?;
+    put(seen, Seen::Axi(AxiBeat::Aw(burst.aw())))?;
     see_data(seen, burst)
 }
 
@@ -79,8 +81,8 @@ fn see_answer(
             put(seen, Seen::A(client, beat))
         }
         (Step::Pump, Answer::Sent(_)) => see_burst(seen, burst),
-        (Step::AnswerB(_), Answer::B(beat)) => put(seen, Seen::B(beat)),
-        (Step::AnswerR(_), Answer::R(beat)) => put(seen, Seen::R(beat)),
+        (Step::AnswerB(_), Answer::B(beat)) => put(seen, Seen::Axi(AxiBeat::B(beat))),
+        (Step::AnswerR(_), Answer::R(beat)) => put(seen, Seen::Axi(AxiBeat::R(beat))),
         (Step::Take(client), Answer::Reply(_)) => see_reply(seen, client, reply),
         _ => Ok(()),
     }

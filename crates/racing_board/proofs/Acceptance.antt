@@ -13,10 +13,10 @@ use Rattle.burst_plan.specs.PageMap.{address_of}
 use Rattle.subordinate.specs.Faults.{Faults}
 use Rattle.meaning.specs.Meaning.{Bytes, meaning, zeros}
 use Rattle.scoreboard.specs.Boards.{ClientBoard, DueBoard, due_of, none_left, with_due}
-use Rattle.scoreboard.specs.SerialMemory.{on_good_page}
-use Rattle.racing_board.specs.Boards.{RacingBoard, joining_as, meaning_in, slot_of}
+use Rattle.scoreboard.specs.SerialMemory.{carried_out, meaning_in, on_good_page, place_in}
+use Rattle.racing_board.specs.Boards.{RacingBoard, joined_as, slot_of}
 use Rattle.racing_board.specs.Orders.{Entry, Order, begun_to, has_ended, reply_beats}
-use Rattle.racing_board.specs.Races.{Racer, alone, beside_all, covers, joining, may_write, no_racer}
+use Rattle.racing_board.specs.Races.{Footprint, alone, beside_all, covers, joining, may_write, no_footprint}
 use Rattle.racing_board.proofs.CheckedRequests.{front_none}
 use Rattle.racing_board.proofs.DuePlaces.{due_at, due_from, due_set_other, due_set_same, replies_at, replies_other, replies_same, same_client, same_place, slot_below}
 use Rattle.racing_board.proofs.Entries.{Each, IsElsewhere, Stands, all_after, all_before, carry, distinct_after, distinct_with, none_ended, place_of, slot}
@@ -25,29 +25,29 @@ use Rattle.racing_board.proofs.Insertion.{each_still, known_now}
 use Rattle.racing_board.proofs.Lengths.{live_left, some_beats}
 use Rattle.racing_board.proofs.ReplyMoves.{waits_for}
 use Rattle.racing_board.proofs.RequestActs.{IsWell, acts}
-use Rattle.racing_board.proofs.Slots.{IsJoining, at, joined_apart, joined_either, racers_with}
+use Rattle.racing_board.proofs.Slots.{IsJoining, at, joined_apart, joined_either, footprints_with}
 
 -- ---- the one that joins
 
 -- what none of all does, none does
-none_at : (test : Racer → Bool) (racers : List Racer) → test no_racer ≡ false → list_any test racers ≡ false → (i : ℕ) → test (at racers i) ≡ false
+none_at : (test : Footprint → Bool) (footprints : List Footprint) → test no_footprint ≡ false → list_any test footprints ≡ false → (i : ℕ) → test (at footprints i) ≡ false
 none_at test [] nobody none i = nobody
-none_at test (racer ∷ racers) nobody none zero = (or_parts (test racer) (list_any test racers) none).0
-none_at test (racer ∷ racers) nobody none (suc i) = none_at test racers nobody (or_parts (test racer) (list_any test racers) none).1 i
+none_at test (footprint ∷ footprints) nobody none zero = (or_parts (test footprint) (list_any test footprints) none).0
+none_at test (footprint ∷ footprints) nobody none (suc i) = none_at test footprints nobody (or_parts (test footprint) (list_any test footprints) none).1 i
 
-pub joins_right : (faults : Faults) (regions : List Region) (doubtful : ℕ → Bool) (racers : List Racer) (q : WholeRequest) → IsWell q
-    → IsJoining doubtful racers (beside_all (alone doubtful (on_good_page faults (address_of regions q)) q) racers) q.bytes
-joins_right faults regions doubtful racers q well =
+pub joins_right : (faults : Faults) (regions : List Region) (indeterminate : ℕ → Bool) (footprints : List Footprint) (q : WholeRequest) → IsWell q
+    → IsJoining indeterminate footprints (beside_all (alone indeterminate (on_good_page faults (address_of regions q)) q) footprints) q.bytes
+joins_right faults regions indeterminate footprints q well =
     record {
-      alone = λ i x settled.
-          none_at (λ other. may_write other x) racers refl
-          (not-true (list_any (λ other. may_write other x) racers) (and_parts (own_settled x) (not (list_any (λ other. may_write other x) racers)) settled).1)
+      alone = λ i x determined.
+          none_at (λ other. may_write other x) footprints refl
+          (not-true (list_any (λ other. may_write other x) footprints) (and_parts (own_determined x) (not (list_any (λ other. may_write other x) footprints)) determined).1)
           i;
-      known = λ x reads settled.
-          let here = (and_parts (own_settled x) (not (list_any (λ other. may_write other x) racers)) settled).0 in
+      known = λ x reads determined.
+          let here = (and_parts (own_determined x) (not (list_any (λ other. may_write other x) footprints)) determined).0 in
           let sure = (and_parts (nat_le (unwrap_or place 0) x && nat_lt x (unwrap_or place 0 + 2 ^ q.size))
-          (not (is_some place && reply_has_data q.operation && doubtful x)) here).1 in
-          certain (is_some place && reply_has_data q.operation) (doubtful x) reads sure;
+          (not (is_some place && reply_has_data q.operation && indeterminate x)) here).1 in
+          certain (is_some place && reply_has_data q.operation) (indeterminate x) reads sure;
       full = (acts faults regions q well).full;
       within = (acts faults regions q well).within;
     }
@@ -55,8 +55,8 @@ joins_right faults regions doubtful racers q well =
     place : Option ℕ
     place = on_good_page faults (address_of regions q)
 
-    own_settled : ℕ → Bool
-    own_settled x = (alone doubtful place q).settled x
+    own_determined : ℕ → Bool
+    own_determined x = (alone indeterminate place q).determined x
 
     certain : (reads doubted : Bool) → reads ≡ true → not (reads && doubted) ≡ true → doubted ≡ false
     certain true false is sure = refl
@@ -76,12 +76,12 @@ place_small entry small = by_came (entry.came == 0)
     by_came false = omega arith
 
 -- where nothing is due nobody stands
-pub all_elsewhere : (faults : Faults) (regions : List Region) (count : ℕ) (racers : List Racer) (due : ℕ → ℕ → List DBeat) (number place : ℕ) → place ≤ 256
+pub all_elsewhere : (faults : Faults) (regions : List Region) (count : ℕ) (footprints : List Footprint) (due : ℕ → ℕ → List DBeat) (number place : ℕ) → place ≤ 256
     → none_left (due number place) ≡ true
-    → (order : Order) (m : Bytes) → Each faults regions (Stands faults regions count racers due) m order
+    → (order : Order) (m : Bytes) → Each faults regions (Stands faults regions count footprints due) m order
     → AllByRecursion (IsElsewhere (slot_of number place)) order
-all_elsewhere faults regions count racers due number place small none [] m each = tt
-all_elsewhere faults regions count racers due number place small none (entry ∷ order) m each = (
+all_elsewhere faults regions count footprints due number place small none [] m each = tt
+all_elsewhere faults regions count footprints due number place small none (entry ∷ order) m each = (
   (λ live same.
       let was = each.0.live live in
       let client = same_client entry.client (place_of entry) number place (place_small entry was.source) small same in
@@ -89,7 +89,7 @@ all_elsewhere faults regions count racers due number place small none (entry ∷
       let left : due number place ≡ drop entry.came (shown entry.request (meaning faults regions entry.request was.made_of).reply) =
       sym (ap (due number) there) ∙ sym (ap (λ c. due c (place_of entry)) client) ∙ was.left in
       both_ways (none_left (due number place)) (ap none_left left ∙ live_left entry (meaning faults regions entry.request was.made_of).reply live) none),
-  all_elsewhere faults regions count racers due number place small none order (carry faults regions entry.request m) each.1,
+  all_elsewhere faults regions count footprints due number place small none order (carry faults regions entry.request m) each.1,
 )
 
 -- ---- some of an order with one more
@@ -114,7 +114,7 @@ module _ (board : RacingBoard) (number : ℕ) (client : ClientBoard) (message : 
   q = request_of message
 
   abbrev beats : List DBeat
-  beats = shown q (meaning_in board q).reply
+  beats = shown q (meaning_in board.memory q).reply
 
   abbrev changed : ClientBoard
   changed = with_due client message.source beats
@@ -123,15 +123,15 @@ module _ (board : RacingBoard) (number : ℕ) (client : ClientBoard) (message : 
   accepted_on =
       record board {
         clients = set board.clients number changed;
-        bytes = (meaning_in board q).after;
-        races = joining_as board number message;
+        memory = carried_out board.memory q;
+        races = joined_as board.memory board.races number message;
       }
 
   abbrev pub entry_for : Entry
   entry_for = record { client = number; request = q; came = 0 }
 
-  abbrev racer : Racer
-  racer = joining board.races (on_good_page board.faults (address_of board.regions q)) q
+  abbrev footprint : Footprint
+  footprint = joining board.races (place_in board.memory q) q
 
   new_entry : has_ended entry_for ≡ false
   new_entry = lt-leb (reply_beats q) 0 (some_beats q)
@@ -171,26 +171,26 @@ module _ (board : RacingBoard) (number : ℕ) (client : ClientBoard) (message : 
     explains_accepted before after well free none explains =
         record {
           clients =
-              clients_with board.clients racers (racers_with racers (slot entry_for) racer) number client changed there explains.clients
-              (length-set (map (λ other. Rattle.racing_board.specs.Races.beside other racer) racers) (slot entry_for) racer
-              ∙ length-map racers (λ (other : Racer). Rattle.racing_board.specs.Races.beside other racer))
+              clients_with board.clients footprints (footprints_with footprints (slot entry_for) footprint) number client changed there explains.clients
+              (length-set (map (λ other. Rattle.racing_board.specs.Races.beside other footprint) footprints) (slot entry_for) footprint
+              ∙ length-map footprints (λ (other : Footprint). Rattle.racing_board.specs.Races.beside other footprint))
               (length-set client.replies.due message.source beats ∙ sources) (front_none changed refl);
-          small = (acts board.faults board.regions q well).small board.bytes explains.small;
-          apart = joined_apart racers (slot entry_for) racer doubtful q.bytes below explains.apart joins;
-          either = joined_either doubtful racers racer q.bytes joins (slot entry_for) below explains.apart explains.either;
+          small = (acts board.memory.faults board.memory.regions q well).small board.memory.bytes explains.small;
+          apart = joined_apart footprints (slot entry_for) footprint indeterminate q.bytes below explains.apart joins;
+          either = joined_either indeterminate footprints footprint q.bytes joins (slot entry_for) below explains.apart explains.either;
           distinct = distinct_with before after entry_for explains.distinct elsewhere;
           entries =
-              subst (λ (n : ℕ). Each board.faults board.regions
-              (Stands board.faults board.regions n (racers_with racers (slot entry_for) racer) new_due) zeros (before ++ entry_for ∷ after))
+              subst (λ (n : ℕ). Each board.memory.faults board.memory.regions
+              (Stands board.memory.faults board.memory.regions n (footprints_with footprints (slot entry_for) footprint) new_due) zeros (before ++ entry_for ∷ after))
               (sym (length-set board.clients number changed))
-              (each_still board.faults board.regions (length board.clients) racers due new_due doubtful board.bytes entry_for racer new_entry well refl joins
+              (each_still board.memory.faults board.memory.regions (length board.clients) footprints due new_due indeterminate board.memory.bytes entry_for footprint new_entry well refl joins
               below explains.apart explains.either
               other_due before after zeros explains.entries (none_ended after none) (all_before (IsElsewhere (slot entry_for)) before after elsewhere)
               (all_after (IsElsewhere (slot entry_for)) before after elsewhere)
               (distinct_after before after explains.distinct) explains.known is_client small explains.small own_due);
           known = λ x certain.
-              known_now board.faults board.regions
-              (length board.clients) racers due new_due doubtful board.bytes entry_for racer new_entry well refl joins below explains.apart
+              known_now board.memory.faults board.memory.regions
+              (length board.clients) footprints due new_due indeterminate board.memory.bytes entry_for footprint new_entry well refl joins below explains.apart
               explains.either
               other_due before after zeros explains.entries (none_ended after none)
               (all_after (IsElsewhere (slot entry_for)) before after elsewhere) explains.known x certain;
@@ -201,11 +201,11 @@ module _ (board : RacingBoard) (number : ℕ) (client : ClientBoard) (message : 
               (λ same. let is = same_place c 256 number message.source (omega arith) (omega (arith, small)) same in omega (arith, is, small)))) ∙ some));
         }
       where
-        racers : List Racer
-        racers = board.races.racers
+        footprints : List Footprint
+        footprints = board.races.footprints
 
-        doubtful : ℕ → Bool
-        doubtful = board.races.doubtful
+        indeterminate : ℕ → Bool
+        indeterminate = board.races.indeterminate
 
         due : ℕ → ℕ → List DBeat
         due = due_at board.clients
@@ -216,19 +216,19 @@ module _ (board : RacingBoard) (number : ℕ) (client : ClientBoard) (message : 
         is_client : number < length board.clients
         is_client = Rattle.std.proofs.lemmas.Option.slice_get_within board.clients number client there
 
-        below : slot entry_for < length racers
+        below : slot entry_for < length footprints
         below = let low = slot_below number message.source (length board.clients) is_client (omega (arith, small)) in
             omega (arith, low, explains.clients.slots)
 
-        joins : IsJoining doubtful racers racer q.bytes
-        joins = joins_right board.faults board.regions doubtful racers q well
+        joins : IsJoining indeterminate footprints footprint q.bytes
+        joins = joins_right board.memory.faults board.memory.regions indeterminate footprints q well
 
         nothing : none_left (due number message.source) ≡ true
         nothing = ap none_left (of_source (replies_at board.clients number) message.source small)
             ∙ ap (λ (r : DueBoard). none_left (due_of r message.source)) replies_were ∙ free
 
         elsewhere : AllByRecursion (IsElsewhere (slot entry_for)) (before ++ after)
-        elsewhere = all_elsewhere board.faults board.regions (length board.clients) racers due number message.source (omega (arith, small)) nothing
+        elsewhere = all_elsewhere board.memory.faults board.memory.regions (length board.clients) footprints due number message.source (omega (arith, small)) nothing
             (before ++ after) zeros explains.entries
 
         waits : (c source : ℕ) → c ≡ number → source ≡ message.source → waits_for c source entry_for ≡ true

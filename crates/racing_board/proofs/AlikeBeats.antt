@@ -1,4 +1,4 @@
--- The beats that are left of a reply made of some bytes, and of one made of others: they are alike, where the bytes are the same where they are settled.
+-- The beats that are left of a reply made of some bytes, and of one made of others: they are alike, where the bytes are the same where they are determined.
 use Rattle.std.proofs.Common.{◌≡◌, ℕ, ◌+◌, ◌-◌, ◌*◌, ◌%◌, ◌^◌, ◌<◌, ◌≤◌, Bool, true, false, ◌&&◌, List, ◌∷◌, map, length, drop, Option, Some, None, if◌then◌else◌, refl, sym, ◌∙◌, ap, subst₂, arith}
 use Rattle.std.specs.Prelude.{is_none, nat_le, nat_lt, unwrap_or}
 use Rattle.std.specs.List.{list_any, range_with_len}
@@ -17,20 +17,20 @@ use Rattle.responses.specs.Shown.{Reply, address_in_word, beat_of_word, beat_wit
 use Rattle.subordinate.specs.Faults.{Faults}
 use Rattle.meaning.specs.Meaning.{Bytes, meaning}
 use Rattle.racing_board.specs.Orders.{reply_beats}
-use Rattle.racing_board.specs.Races.{Racer}
+use Rattle.racing_board.specs.Races.{Footprint}
 use Rattle.racing_board.proofs.Lengths.{length-shown}
 use Rattle.racing_board.proofs.ReplyBytes.{Kind, Fixed, Told, kind, told_at, told_bytes}
 use Rattle.racing_board.proofs.RequestActs.{AreBytes, own}
 
--- two beats differ at most in their payloads, and there at most where a request isn't settled
-pub record Alike (racer : Racer) (k : ℕ) (beat other : DBeat) : Type 0 where
+-- two beats differ at most in their payloads, and there at most where a request isn't determined
+pub record Alike (footprint : Footprint) (k : ℕ) (beat other : DBeat) : Type 0 where
   pub source : beat.source ≡ other.source
   pub opcode : beat.opcode ≡ other.opcode
   pub param : beat.param ≡ other.param
   pub size : beat.size ≡ other.size
   pub denied : beat.denied ≡ other.denied
   pub corrupt : beat.corrupt ≡ other.corrupt
-  pub payload : (lane : ℕ) → lane < 8 → racer.settled (word_address racer.address + 8 * k + lane) ≡ true
+  pub payload : (lane : ℕ) → lane < 8 → footprint.determined (word_address footprint.address + 8 * k + lane) ≡ true
       → lane_byte beat.payload lane ≡ lane_byte other.payload lane
 
 -- ---- a word of a reply
@@ -86,10 +86,10 @@ place_in_word : (a address j lane : ℕ) → a % 8 ≡ address % 8 → address �
     → a + (word_address address + 8 * j + lane - address) ≡ word_address a + 8 * j + lane
 place_in_word a address j lane same low = omega (arith, same, low)
 
-words_alike : (racer : Racer) (hidden : ℕ → Bool) (m n : Bytes) (a : ℕ) (q : WholeRequest) (j : ℕ) → racer.address ≡ a → a % 8 ≡ q.address % 8 → AreBytes m
+words_alike : (footprint : Footprint) (hidden : ℕ → Bool) (m n : Bytes) (a : ℕ) (q : WholeRequest) (j : ℕ) → footprint.address ≡ a → a % 8 ≡ q.address % 8 → AreBytes m
     → AreBytes n
-    → ((x : ℕ) → racer.settled x ≡ true → m x ≡ n x) → Alike racer j (beat_of_word q (reply_of hidden m a q) j) (beat_of_word q (reply_of hidden n a q) j)
-words_alike racer hidden m n a q j place lanes bytes others agree = by_lacks (lacks_a_byte q (reply_of hidden m a q) j) refl
+    → ((x : ℕ) → footprint.determined x ≡ true → m x ≡ n x) → Alike footprint j (beat_of_word q (reply_of hidden m a q) j) (beat_of_word q (reply_of hidden n a q) j)
+words_alike footprint hidden m n a q j place lanes bytes others agree = by_lacks (lacks_a_byte q (reply_of hidden m a q) j) refl
   where
     byte : Bytes → ℕ → Option ℕ
     byte k lane = given_at (told_bytes hidden k a (2 ^ q.size)) q.address (address_in_word q j lane)
@@ -98,17 +98,17 @@ words_alike racer hidden m n a q j place lanes bytes others agree = by_lacks (la
     told k = record (beat_without_data q (reply_of hidden k a q)) { payload = payload_of (byte k) }
 
     by_lacks : (l : Bool) → lacks_a_byte q (reply_of hidden m a q) j ≡ l
-        → Alike racer j (beat_of_word q (reply_of hidden m a q) j) (beat_of_word q (reply_of hidden n a q) j)
+        → Alike footprint j (beat_of_word q (reply_of hidden m a q) j) (beat_of_word q (reply_of hidden n a q) j)
     by_lacks true is =
         let first : beat_of_word q (reply_of hidden m a q) j ≡ record (beat_without_data q (reply_of hidden m a q)) { corrupt = true } = rw is refl in
         let second : beat_of_word q (reply_of hidden n a q) j ≡ record (beat_without_data q (reply_of hidden n a q)) { corrupt = true } =
         rw (sym (lacks_same hidden m n a q j) ∙ is) refl in
-        subst₂ (Alike racer j) (sym first) (sym second)
-        (record { source = refl; opcode = refl; param = refl; size = refl; denied = refl; corrupt = refl; payload = λ lane below settled. refl })
+        subst₂ (Alike footprint j) (sym first) (sym second)
+        (record { source = refl; opcode = refl; param = refl; size = refl; denied = refl; corrupt = refl; payload = λ lane below determined. refl })
     by_lacks false is =
         let first : beat_of_word q (reply_of hidden m a q) j ≡ told m = rw is refl in
         let second : beat_of_word q (reply_of hidden n a q) j ≡ told n = rw (sym (lacks_same hidden m n a q j) ∙ is) refl in
-        subst₂ (Alike racer j) (sym first) (sym second)
+        subst₂ (Alike footprint j) (sym first) (sym second)
         (record {
           source = refl;
           opcode = refl;
@@ -116,13 +116,13 @@ words_alike racer hidden m n a q j place lanes bytes others agree = by_lacks (la
           size = refl;
           denied = refl;
           corrupt = refl;
-          payload = λ lane below settled.
+          payload = λ lane below determined.
               lane_byte-payload_of (byte m) lane
               (record { at = λ l within. told_small hidden m a (2 ^ q.size) q.address (address_in_word q j l) bytes }) below
               ∙ told_same hidden m n a (2 ^ q.size) q.address (address_in_word q j lane)
               (λ low.
               let there = place_in_word a q.address j lane lanes low in
-              ap m there ∙ agree (word_address a + 8 * j + lane) (ap (λ (p : ℕ). racer.settled (word_address p + 8 * j + lane)) (sym place) ∙ settled)
+              ap m there ∙ agree (word_address a + 8 * j + lane) (ap (λ (p : ℕ). footprint.determined (word_address p + 8 * j + lane)) (sym place) ∙ determined)
               ∙ sym (ap n there))
               ∙ sym (lane_byte-payload_of (byte n) lane
               (record { at = λ l within. told_small hidden n a (2 ^ q.size) q.address (address_in_word q j l) others }) below);
@@ -131,11 +131,11 @@ words_alike racer hidden m n a q j place lanes bytes others agree = by_lacks (la
 -- ---- the beats that are left
 
 -- they are the same, or the next ones are alike: those with a number among the beats of a reply with data
-pub data LeftAlike (racer : Racer) (mine theirs : List DBeat) : Type 0 where
-  Same : mine ≡ theirs → LeftAlike racer mine theirs
-  Words : (k : ℕ) (due other : DBeat) (rest others : List DBeat) → mine ≡ due ∷ rest → theirs ≡ other ∷ others → Alike racer k due other
-      → beats_of racer.size true - length (due ∷ rest) ≡ k
-      → LeftAlike racer mine theirs
+pub data LeftAlike (footprint : Footprint) (mine theirs : List DBeat) : Type 0 where
+  Same : mine ≡ theirs → LeftAlike footprint mine theirs
+  Words : (k : ℕ) (due other : DBeat) (rest others : List DBeat) → mine ≡ due ∷ rest → theirs ≡ other ∷ others → Alike footprint k due other
+      → beats_of footprint.size true - length (due ∷ rest) ≡ k
+      → LeftAlike footprint mine theirs
 
 -- the beats that are left of a reply with data, the next first
 word_left : (q : WholeRequest) (reply : Reply) (came : ℕ) → reply_has_data q.operation ≡ true → came < beats_of q.size true
@@ -150,21 +150,21 @@ word_left q reply came carries below =
     ∙ ap (λ (first : DBeat). first ∷ drop (came + 1) (map (beat_of_word q reply) (range_with_len 0 (beats_of q.size true))))
     (get_or-map-range_with_len (beat_of_word q reply) 0 (beats_of q.size true) came came none below (omega arith))
 
-module _ (faults : Faults) (regions : List Region) (q : WholeRequest) (racer : Racer) (came : ℕ) (m n : Bytes) (below : came < reply_beats q)
-    (acting : racer ≡ record (own faults regions q) { settled = racer.settled }) (bytes : AreBytes m) (others : AreBytes n)
-    (agree : (x : ℕ) → (own faults regions q).reads ≡ true → racer.settled x ≡ true → m x ≡ n x) where
+module _ (faults : Faults) (regions : List Region) (q : WholeRequest) (footprint : Footprint) (came : ℕ) (m n : Bytes) (below : came < reply_beats q)
+    (acting : footprint ≡ record (own faults regions q) { determined = footprint.determined }) (bytes : AreBytes m) (others : AreBytes n)
+    (agree : (x : ℕ) → (own faults regions q).reads ≡ true → footprint.determined x ≡ true → m x ≡ n x) where
   -- the beats that are left of the reply made of some bytes
   abbrev left_with : Bytes → List DBeat
   left_with k = drop came (shown q (meaning faults regions q k).reply)
 
-  pub left_alike : LeftAlike racer (drop came (shown q (meaning faults regions q m).reply)) (drop came (shown q (meaning faults regions q n).reply))
+  pub left_alike : LeftAlike footprint (drop came (shown q (meaning faults regions q m).reply)) (drop came (shown q (meaning faults regions q n).reply))
   left_alike = by_kind (kind faults regions q)
     where
-      by_kind : Kind faults regions q → LeftAlike racer (left_with m) (left_with n)
+      by_kind : Kind faults regions q → LeftAlike footprint (left_with m) (left_with n)
       by_kind (Fixed reply same) = Same (ap (λ (r : Reply). drop came (shown q r)) (same m ∙ sym (same n)))
       by_kind (Told tells) =
           Words came (word m) (word n) (rest m) (rest n) (left m) (left n)
-          (words_alike racer tells.hidden m n tells.place q came address tells.lanes bytes others (λ x settled. agree x reads settled)) place
+          (words_alike footprint tells.hidden m n tells.place q came address tells.lanes bytes others (λ x determined. agree x reads determined)) place
         where
           word : Bytes → DBeat
           word k = beat_of_word q (reply_of tells.hidden k tells.place q) came
@@ -180,18 +180,18 @@ module _ (faults : Faults) (regions : List Region) (q : WholeRequest) (racer : R
               ap (λ (r : Reply). drop came (shown q r)) (tells.reply k)
               ∙ word_left q (reply_of tells.hidden k tells.place q) came tells.carries (omega (arith, below, count))
 
-          address : racer.address ≡ tells.place
-          address = ap (λ (r : Racer). r.address) acting ∙ ap (λ (o : Option ℕ). unwrap_or o 0) tells.acts
+          address : footprint.address ≡ tells.place
+          address = ap (λ (r : Footprint). r.address) acting ∙ ap (λ (o : Option ℕ). unwrap_or o 0) tells.acts
 
           reads : (own faults regions q).reads ≡ true
           reads = rw (tells.acts, tells.carries) refl
 
-          place : beats_of racer.size true - length (word m ∷ rest m) ≡ came
+          place : beats_of footprint.size true - length (word m ∷ rest m) ≡ came
           place =
-              let size : racer.size ≡ q.size = ap (λ (r : Racer). r.size) acting in
+              let size : footprint.size ≡ q.size = ap (λ (r : Footprint). r.size) acting in
               let long : length (word m ∷ rest m) ≡ reply_beats q - came =
               sym (ap (λ (beats : List DBeat). length beats) (left m))
               ∙ length-drop came (shown q (meaning faults regions q m).reply)
               ∙ ap (λ (k : ℕ). k - came) (length-shown q (meaning faults regions q m).reply) in
-              let whole : beats_of racer.size true ≡ reply_beats q = ap (λ (s : ℕ). beats_of s true) size ∙ sym count in
+              let whole : beats_of footprint.size true ≡ reply_beats q = ap (λ (s : ℕ). beats_of s true) size ∙ sym count in
               omega (arith, long, whole, below)

@@ -1,16 +1,14 @@
 -- A racing board blames rightly: a beat on channel D that it blames is wrong in every order of what was accepted.
-use Rattle.std.proofs.Common.{◌≡◌, ℕ, ◌-◌, ◌<◌, ◌==◌, Bool, true, false, ◌&&◌, not, List, [], ◌∷◌, ◌++◌, length, drop, map, Result, Ok, Err, Option, Some, None, if◌then◌else◌, ◌⊎◌, inl, inr, refl, sym, ◌∙◌, ap, ap₂, subst, subst₂, arith}
+use Rattle.std.proofs.Common.{◌≡◌, ℕ, ◌-◌, ◌<◌, ◌==◌, Bool, true, false, ◌&&◌, not, List, [], ◌∷◌, length, drop, map, Result, Ok, Err, Option, Some, None, if◌then◌else◌, ◌⊎◌, inl, inr, refl, sym, ◌∙◌, ap, ap₂, subst, subst₂, arith}
 use Rattle.std.specs.Prelude.{slice_get}
 use Rattle.std.specs.List.{AllByRecursion, list_any}
 use Rattle.std.proofs.lemmas.Bool.{and_from, and_parts, both_ways, cases_lt, eqb-true, true_from_ne_false}
-use Rattle.std.proofs.lemmas.List.{append-nil, get_or_past}
+use Rattle.std.proofs.lemmas.List.{get_or_past}
 use Rattle.bus_words.specs.Tables.{first_broken}
 use Rattle.bus_words.proofs.StoredPlaces.{there_is}
 use Rattle.tl_messages.specs.Operations.{beats_of}
-use Rattle.tl_messages.specs.Requests.{HeldMessage, request_of}
 use Rattle.tl_messages.specs.declared.ABeat.{ABeat}
 use Rattle.tl_messages.specs.declared.DBeat.{DBeat}
-use Rattle.tl_checker.specs.Ports.{joined}
 use Rattle.tl_checker.specs.declared.Progress.{Progress}
 use Rattle.tl_checker.specs.declared.Progress.TheVariants.{More, Whole}
 use Rattle.tl_checker.specs.declared.TlRule.{TlRule}
@@ -24,13 +22,14 @@ use Rattle.scoreboard.specs.Boards.{ClientBoard, DueBoard, due_of, none_left, re
 use Rattle.scoreboard.specs.declared.ReplyRule.{ReplyRule}
 use Rattle.scoreboard.specs.declared.ReplyRule.TheVariants.{Unasked}
 use Rattle.scoreboard.specs.declared.Seen.{Seen}
-use Rattle.scoreboard.specs.declared.Seen.TheVariants.{A, D, Aw, W, B, Ar, R, Drained}
+use Rattle.scoreboard.specs.declared.Seen.TheVariants.{A, D, Axi as OnAxi, Drained}
 use Rattle.scoreboard.specs.declared.Wrong.{Wrong}
 use Rattle.scoreboard.specs.declared.Wrong.TheVariants.{Axi, NoClient, Reply, Request}
-use Rattle.racing_board.specs.Boards.{after_all, after_reply, after_request, after_seen, answer_to, d_wrong, opening_racing, slot_of, tells_otherwise, unless_unsettled, wrong_at, wrong_reply, IsReached, RacingBoard}
+use Rattle.racing_board.specs.Boards.{after_all, after_reply, after_request, after_seen, answer_to, d_wrong, opening_racing, slot_of, tells_otherwise, unless_indeterminate, wrong_at, wrong_reply, IsReached, RacingBoard}
 use Rattle.racing_board.specs.EarlyData.{PortBoard}
-use Rattle.racing_board.specs.Orders.{BlamesByRule, BlamesRightly, Entry, GoesOn, HasByteSource, HasOrder, IsAfterA, IsAnsweredIn, IsOrderFrom, IsOrderOf, IsWrongAs, IsWrongIn, KnowsBytes, Order, after_beat, begun_to, board_after, due_beats, is_due_in, has_begun, has_ended, is_due, left_of, meaning_on}
-use Rattle.racing_board.specs.Races.{Racer}
+use Rattle.racing_board.specs.Orders.{Entry, HasByteSource, IsWrongAs, IsWrongIn, Order, begun_to, board_after, due_beats, is_due_in, has_begun, has_ended, is_due, left_of, meaning_on}
+use Rattle.racing_board.proofs.StepOrders.{BlamesByRule, GoesOn, IsOrderFrom, IsOrderOf, KnowsBytes}
+use Rattle.racing_board.specs.Races.{Footprint}
 use Rattle.racing_board.proofs.Acceptance.{of_source}
 use Rattle.racing_board.proofs.DuePlaces.{due_at, replies_at, replies_in}
 use Rattle.racing_board.proofs.AlikeBeats.{left_alike}
@@ -41,39 +40,39 @@ use Rattle.racing_board.proofs.ReplyBeats.{explains_reply}
 use Rattle.racing_board.proofs.ReplyMoves.{waits_for}
 use Rattle.racing_board.proofs.ReplySteps.{any_all, at_begun, at_source, begun_as, begun_parts, waits_live}
 use Rattle.racing_board.proofs.RequestActs.{AreBytes, acts}
-use Rattle.racing_board.proofs.RequestSeen.{explains_request}
+use Rattle.racing_board.proofs.RequestSeen.{answered_on, explains_request}
 use Rattle.racing_board.proofs.Slots.{at}
 use Rattle.racing_board.proofs.Verdicts.{IsBroken, left_broken}
 
 -- ---- the reply that is due in an order
 
 -- the entry to which it is due, with the bytes before it
-pub record Found (setup : SetupLists) (count : ℕ) (racers : List Racer) (due : ℕ → ℕ → List DBeat) (test : Entry → Bool) (left : List DBeat) : Type 0 where
+pub record Found (setup : SetupLists) (count : ℕ) (footprints : List Footprint) (due : ℕ → ℕ → List DBeat) (test : Entry → Bool) (left : List DBeat) : Type 0 where
   pub entry : Entry
   pub before : Bytes
   pub bytes : AreBytes before
-  pub stands : Stands (faults_of setup) setup.regions count racers due entry before
+  pub stands : Stands (faults_of setup) setup.regions count footprints due entry before
   pub passes : test entry ≡ true
   pub is : left ≡ drop entry.came (shown entry.request (meaning_on setup entry.request before).reply)
 
 -- or there is none
-abbrev pub Looked : SetupLists → ℕ → List Racer → (ℕ → ℕ → List DBeat) → (Entry → Bool) → Order → List DBeat → Type 0
-Looked setup count racers due test order left = ((list_any test order ≡ false) × (left ≡ [])) ⊎ Found setup count racers due test left
+abbrev pub Looked : SetupLists → ℕ → List Footprint → (ℕ → ℕ → List DBeat) → (Entry → Bool) → Order → List DBeat → Type 0
+Looked setup count footprints due test order left = ((list_any test order ≡ false) × (left ≡ [])) ⊎ Found setup count footprints due test left
 
-looked : (setup : SetupLists) (count : ℕ) (racers : List Racer) (due : ℕ → ℕ → List DBeat) (test : Entry → Bool) (order : Order) (m : Bytes) → AreBytes m
-    → Each (faults_of setup) setup.regions (Stands (faults_of setup) setup.regions count racers due) m order
-    → Looked setup count racers due test order (left_of setup test m order)
-looked setup count racers due test [] m bytes each = inl (refl, refl)
-looked setup count racers due test (entry ∷ order) m bytes each =
+looked : (setup : SetupLists) (count : ℕ) (footprints : List Footprint) (due : ℕ → ℕ → List DBeat) (test : Entry → Bool) (order : Order) (m : Bytes) → AreBytes m
+    → Each (faults_of setup) setup.regions (Stands (faults_of setup) setup.regions count footprints due) m order
+    → Looked setup count footprints due test order (left_of setup test m order)
+looked setup count footprints due test [] m bytes each = inl (refl, refl)
+looked setup count footprints due test (entry ∷ order) m bytes each =
     by_test (test entry) refl
-    (looked setup count racers due test order (carry (faults_of setup) setup.regions entry.request m)
+    (looked setup count footprints due test order (carry (faults_of setup) setup.regions entry.request m)
     ((acts (faults_of setup) setup.regions entry.request each.0.well).small m bytes) each.1)
   where
     next : Bytes
     next = carry (faults_of setup) setup.regions entry.request m
 
-    by_test : (b : Bool) → test entry ≡ b → Looked setup count racers due test order (left_of setup test next order)
-        → Looked setup count racers due test (entry ∷ order) (left_of setup test m (entry ∷ order))
+    by_test : (b : Bool) → test entry ≡ b → Looked setup count footprints due test order (left_of setup test next order)
+        → Looked setup count footprints due test (entry ∷ order) (left_of setup test m (entry ∷ order))
     by_test true is later = inr (record { entry = entry; before = m; bytes = bytes; stands = each.0; passes = is; is = rw is refl })
     by_test false is (inl none) = inl (rw is none.0, rw is none.1)
     by_test false is (inr found) =
@@ -82,35 +81,35 @@ looked setup count racers due test (entry ∷ order) m bytes each =
 -- ---- what is blamed
 
 -- a beat that is blamed breaks a rule on replies
-blamed_reply : (racer : Racer) (beats : List DBeat) (beat : DBeat) (wrong : Wrong) → wrong_reply racer beats beat ≡ Some wrong → (broken : ReplyRule)
+blamed_reply : (footprint : Footprint) (beats : List DBeat) (beat : DBeat) (wrong : Wrong) → wrong_reply footprint beats beat ≡ Some wrong → (broken : ReplyRule)
     × (told : Option DBeat) × (wrong ≡ Reply broken told)
-blamed_reply racer [] beat wrong is = (Unasked, None, (let same : Reply Unasked None ≡ wrong = cc (is) in sym same))
-blamed_reply racer (due ∷ rest) beat wrong is =
-    by_rule (unless_unsettled (tells_otherwise racer (beats_of racer.size true - length (due ∷ rest)) due beat) (first_broken (reply_rules due beat))) is
+blamed_reply footprint [] beat wrong is = (Unasked, None, (let same : Reply Unasked None ≡ wrong = cc (is) in sym same))
+blamed_reply footprint (due ∷ rest) beat wrong is =
+    by_rule (unless_indeterminate (tells_otherwise footprint (beats_of footprint.size true - length (due ∷ rest)) due beat) (first_broken (reply_rules due beat))) is
   where
     by_rule : (o : Option ReplyRule) → wrong_by due o ≡ Some wrong → (broken : ReplyRule) × (told : Option DBeat) × (wrong ≡ Reply broken told)
     by_rule None none = absurd (cc (none))
     by_rule (Some broken) some = (broken, Some due, (let same : Reply broken (Some due) ≡ wrong = cc (some) in sym same))
 
-unasked_only : (racer : Racer) (beats : List DBeat) (beat : DBeat) (broken : ReplyRule) (told : Option DBeat) → none_left beats ≡ true
-    → wrong_reply racer beats beat ≡ Some (Reply broken told) → broken ≡ Unasked
-unasked_only racer [] beat broken told none is = let same : Unasked ≡ broken = cc (is) in sym same
-unasked_only racer (due ∷ rest) beat broken told none is = absurd (cc (none))
+unasked_only : (footprint : Footprint) (beats : List DBeat) (beat : DBeat) (broken : ReplyRule) (told : Option DBeat) → none_left beats ≡ true
+    → wrong_reply footprint beats beat ≡ Some (Reply broken told) → broken ≡ Unasked
+unasked_only footprint [] beat broken told none is = let same : Unasked ≡ broken = cc (is) in sym same
+unasked_only footprint (due ∷ rest) beat broken told none is = absurd (cc (none))
 
 -- ---- a beat that is blamed, on a board that knows of an order
 
 module _ (setup : SetupLists) (board : RacingBoard) (order : Order) (number : ℕ) (beat : DBeat) (explains : Explains board order)
-    (faults : board.faults ≡ faults_of setup) (regions : board.regions ≡ setup.regions) where
+    (faults : board.memory.faults ≡ faults_of setup) (regions : board.memory.regions ≡ setup.regions) where
   abbrev due : ℕ → ℕ → List DBeat
   due = due_at board.clients
 
   abbrev left : List DBeat
   left = due_beats setup order number beat.source
 
-  search_order : Looked setup (length board.clients) board.races.racers due (is_due_in order number beat.source) order left
+  search_order : Looked setup (length board.clients) board.races.footprints due (is_due_in order number beat.source) order left
   search_order =
-      looked setup (length board.clients) board.races.racers due (is_due_in order number beat.source) order zeros (record { at = λ x. omega arith })
-      (subst₂ (λ (f : Faults) (r : List Region). Each f r (Stands f r (length board.clients) board.races.racers due) zeros order) faults regions
+      looked setup (length board.clients) board.races.footprints due (is_due_in order number beat.source) order zeros (record { at = λ x. omega arith })
+      (subst₂ (λ (f : Faults) (r : List Region). Each f r (Stands f r (length board.clients) board.races.footprints due) zeros order) faults regions
       explains.entries)
 
   -- whose reply has its next beat there is live
@@ -125,7 +124,7 @@ module _ (setup : SetupLists) (board : RacingBoard) (order : Order) (number : �
   no_client : slice_get board.clients number ≡ None → left ≡ []
   no_client none = by_look search_order
     where
-      by_look : Looked setup (length board.clients) board.races.racers due (is_due_in order number beat.source) order left → left ≡ []
+      by_look : Looked setup (length board.clients) board.races.footprints due (is_due_in order number beat.source) order left → left ≡ []
       by_look (inl nowhere) = nowhere.1
       by_look (inr found) =
           let live = live_due (list_any (begun_to number) order) found.entry found.passes in
@@ -195,7 +194,7 @@ module _ (setup : SetupLists) (board : RacingBoard) (order : Order) (number : �
           alive = alive;
         }
 
-    slot_found : (found : Found setup (length board.clients) board.races.racers due (is_due_in order number beat.source) left) → InSlot found.entry
+    slot_found : (found : Found setup (length board.clients) board.races.footprints due (is_due_in order number beat.source) left) → InSlot found.entry
     slot_found found = by_begun (none_left client.replies.begun) refl
       where
         entry : Entry
@@ -222,15 +221,15 @@ module _ (setup : SetupLists) (board : RacingBoard) (order : Order) (number : �
             (ap (λ (r : DueBoard). r.begun) replies ∙ rw some refl) parts.1
 
     broken_in : (broken : ReplyRule) (told : Option DBeat)
-        → wrong_reply (at board.races.racers (slot_of number (if none_left client.replies.begun then beat.source else 256)))
+        → wrong_reply (at board.races.footprints (slot_of number (if none_left client.replies.begun then beat.source else 256)))
         (strict.next_reply client.replies beat.source) beat ≡ Some (Reply broken told)
         → IsBroken left beat broken
     broken_in broken told is = by_look search_order
       where
-        by_look : Looked setup (length board.clients) board.races.racers due (is_due_in order number beat.source) order left → IsBroken left beat broken
+        by_look : Looked setup (length board.clients) board.races.footprints due (is_due_in order number beat.source) order left → IsBroken left beat broken
         by_look (inl nowhere) =
             let unasked =
-            unasked_only (at board.races.racers (slot_of number (if none_left client.replies.begun then beat.source else 256)))
+            unasked_only (at board.races.footprints (slot_of number (if none_left client.replies.begun then beat.source else 256)))
             (strict.next_reply client.replies beat.source) beat broken told
             (nothing_due nowhere.0) is in
             (None, ap (λ (beats : List DBeat). strict.wrong_reply beats beat) nowhere.1 ∙ ap (λ (r : ReplyRule). Some (Reply r None)) (sym unasked))
@@ -238,17 +237,17 @@ module _ (setup : SetupLists) (board : RacingBoard) (order : Order) (number : �
             let place = slot_found found in
             let live = found.stands.live place.alive in
             let entry = found.entry in
-            let blamed : wrong_reply (at board.races.racers (slot found.entry))
+            let blamed : wrong_reply (at board.races.footprints (slot found.entry))
             (drop found.entry.came (shown found.entry.request (meaning (faults_of setup) setup.regions found.entry.request live.made_of).reply))
             beat ≡ Some (Reply broken told) =
-            ap (λ (beats : List DBeat). wrong_reply (at board.races.racers (slot found.entry)) beats beat) (sym live.left ∙ place.due_is)
-            ∙ ap (λ (k : ℕ). wrong_reply (at board.races.racers k) (strict.next_reply client.replies beat.source) beat) place.slot_is ∙ is in
+            ap (λ (beats : List DBeat). wrong_reply (at board.races.footprints (slot found.entry)) beats beat) (sym live.left ∙ place.due_is)
+            ∙ ap (λ (k : ℕ). wrong_reply (at board.races.footprints k) (strict.next_reply client.replies beat.source) beat) place.slot_is ∙ is in
             let alike = left_alike (faults_of setup) setup.regions found.entry.request
-            (at board.races.racers (slot found.entry)) found.entry.came live.made_of found.before
+            (at board.races.footprints (slot found.entry)) found.entry.came live.made_of found.before
             (live_less found.entry place.alive) live.acting live.bytes
             found.bytes live.same in
             let told_there =
-            left_broken (at board.races.racers (slot found.entry))
+            left_broken (at board.races.footprints (slot found.entry))
             (drop found.entry.came (shown found.entry.request (meaning (faults_of setup) setup.regions found.entry.request live.made_of).reply))
             (drop found.entry.came (shown found.entry.request (meaning_on setup found.entry.request found.before).reply)) beat broken told alike blamed in
             (told_there.0, ap (λ (beats : List DBeat). strict.wrong_reply beats beat) found.is ∙ told_there.1)
@@ -262,7 +261,7 @@ module _ (setup : SetupLists) (board : RacingBoard) (order : Order) (number : �
           subst (IsWrongAs setup order number beat) same (no_client none)
       by_client (Some client) there =
           let blamed = sym (ap (λ (o : Option ClientBoard). d_wrong board.races number o beat) there) ∙ is in
-          let reply = blamed_reply (at board.races.racers (slot_of number (if none_left client.replies.begun then beat.source else 256)))
+          let reply = blamed_reply (at board.races.footprints (slot_of number (if none_left client.replies.begun then beat.source else 256)))
           (strict.next_reply client.replies beat.source) beat wrong blamed in
           subst (IsWrongAs setup order number beat) (sym reply.2) (broken_in client there reply.0 reply.1 (blamed ∙ ap (λ (w : Wrong). Some w) reply.2))
 
@@ -289,16 +288,8 @@ explains_next : (board : RacingBoard) (seen : Seen) (old new : Order) → HasByt
 explains_next board (A client beat) old new small goes explains = explains_request board client beat old new small explains goes
 explains_next board (D client beat) old new small goes explains =
     subst (Explains (after_seen board (D client beat))) (sym goes) (explains_reply board old client beat small explains)
-explains_next board (Aw beat) old new small goes explains =
-    subst (Explains (after_seen board (Aw beat))) (sym goes) (explains_axi board old (after_seen board (Aw beat)).axi explains)
-explains_next board (W beat) old new small goes explains =
-    subst (Explains (after_seen board (W beat))) (sym goes) (explains_axi board old (after_seen board (W beat)).axi explains)
-explains_next board (B beat) old new small goes explains =
-    subst (Explains (after_seen board (B beat))) (sym goes) (explains_axi board old (after_seen board (B beat)).axi explains)
-explains_next board (Ar beat) old new small goes explains =
-    subst (Explains (after_seen board (Ar beat))) (sym goes) (explains_axi board old (after_seen board (Ar beat)).axi explains)
-explains_next board (R beat) old new small goes explains =
-    subst (Explains (after_seen board (R beat))) (sym goes) (explains_axi board old (after_seen board (R beat)).axi explains)
+explains_next board (OnAxi beat) old new small goes explains =
+    subst (Explains (after_seen board (OnAxi beat))) (sym goes) (explains_axi board old (after_seen board (OnAxi beat)).axi explains)
 explains_next board Drained old new small goes explains =
     subst (Explains (after_seen board Drained)) (sym goes) (explains_axi board old (after_seen board Drained).axi explains)
 
@@ -310,12 +301,17 @@ explains_all (seen ∷ beats) board now order small goes explains =
 
 -- where addresses lead stays
 record SameSetup (old new : RacingBoard) : Type 0 where
-  faults : new.faults ≡ old.faults
-  regions : new.regions ≡ old.regions
+  faults : new.memory.faults ≡ old.memory.faults
+  regions : new.memory.regions ≡ old.memory.regions
 
 request_setup : (board : RacingBoard) (number : ℕ) (client : Option ClientBoard) (beat : ABeat) → SameSetup board (after_request board number client beat)
 request_setup board number None beat = record { faults = refl; regions = refl }
-request_setup board number (Some client) beat = record { faults = refl; regions = refl }
+request_setup board number (Some client) beat = by_answer (answer_to client beat)
+  where
+    by_answer : (answer : Result Progress TlRule) → SameSetup board (answered_on board number client beat answer)
+    by_answer (Err broken) = record { faults = refl; regions = refl }
+    by_answer (Ok More) = record { faults = refl; regions = refl }
+    by_answer (Ok Whole) = record { faults = refl; regions = refl }
 
 reply_setup : (board : RacingBoard) (number : ℕ) (client : Option ClientBoard) (beat : DBeat) → SameSetup board (after_reply board number client beat)
 reply_setup board number None beat = record { faults = refl; regions = refl }
@@ -324,11 +320,7 @@ reply_setup board number (Some client) beat = record { faults = refl; regions = 
 next_setup : (board : RacingBoard) (seen : Seen) → SameSetup board (after_seen board seen)
 next_setup board (A client beat) = request_setup board client (slice_get board.clients client) beat
 next_setup board (D client beat) = reply_setup board client (slice_get board.clients client) beat
-next_setup board (Aw beat) = record { faults = refl; regions = refl }
-next_setup board (W beat) = record { faults = refl; regions = refl }
-next_setup board (B beat) = record { faults = refl; regions = refl }
-next_setup board (Ar beat) = record { faults = refl; regions = refl }
-next_setup board (R beat) = record { faults = refl; regions = refl }
+next_setup board (OnAxi beat) = record { faults = refl; regions = refl }
 next_setup board Drained = record { faults = refl; regions = refl }
 
 all_setup : (beats : List Seen) (board : RacingBoard) → SameSetup board (after_all board beats)
@@ -337,39 +329,6 @@ all_setup (seen ∷ beats) board =
     let first = next_setup board seen in
     let rest = all_setup beats (after_seen board seen) in
     record { faults = rest.faults ∙ first.faults; regions = rest.regions ∙ first.regions }
-
--- ---- an order of whatever was accepted
-
-some_answer : (client : ℕ) (message : HeldMessage) (answer : Result Progress TlRule) (old : Order) → (new : Order)
-    × IsAnsweredIn client message answer old new
-some_answer client message (Err broken) old = (old, refl)
-some_answer client message (Ok More) old = (old, refl)
-some_answer client message (Ok Whole) old =
-    (old ++ record { client = client; request = request_of message; came = 0 } ∷ [], (old, [], sym (append-nil old), refl, refl))
-
-some_after : (number : ℕ) (client : Option ClientBoard) (beat : ABeat) (old : Order) → (new : Order) × IsAfterA number client beat old new
-some_after number None beat old = (old, refl)
-some_after number (Some client) beat old = some_answer number (joined client.limits client.front beat) (answer_to client beat) old
-
-some_next : (board : RacingBoard) (seen : Seen) (old : Order) → (new : Order) × GoesOn board seen old new
-some_next board (A client beat) old = some_after client (slice_get board.clients client) beat old
-some_next board (D client beat) old = (after_beat old client beat.source, refl)
-some_next board (Aw beat) old = (old, refl)
-some_next board (W beat) old = (old, refl)
-some_next board (B beat) old = (old, refl)
-some_next board (Ar beat) old = (old, refl)
-some_next board (R beat) old = (old, refl)
-some_next board Drained old = (old, refl)
-
-some_from : (beats : List Seen) (board : RacingBoard) (now : Order) → (order : Order) × IsOrderFrom board now beats order
-some_from [] board now = (now, refl)
-some_from (seen ∷ beats) board now =
-    let next = some_next board seen now in
-    let rest = some_from beats (after_seen board seen) next.0 in
-    (rest.0, (next.0, next.1, rest.1))
-
-pub has_order : HasOrder
-has_order setup before = some_from before (opening_racing setup) []
 
 -- ---- the laws
 
@@ -389,10 +348,6 @@ wrong_as_in setup order client beat NoClient is none = absurd (cc (sym (ap (λ (
 wrong_as_in setup order client beat (Request broken) is none = absurd is
 wrong_as_in setup order client beat (Reply broken due) is none = absurd (cc (sym is.1 ∙ none))
 wrong_as_in setup order client beat (Axi broken) is none = absurd is
-
-pub blames_rightly : BlamesRightly
-blames_rightly setup before order client beat wrong small orders blamed =
-    wrong_as_in setup order client beat wrong (blames_by_rule setup before order client beat wrong small orders blamed)
 
 run_all : (setup : SetupLists) (order : Order) (m : Bytes)
     → bytes_after_all (faults_of setup) setup.regions (map (λ entry. entry.request) order) m ≡ run (faults_of setup) setup.regions m order

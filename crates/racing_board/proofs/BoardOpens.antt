@@ -11,11 +11,11 @@ use Rattle.setups.specs.Setups.{SetupLists, setup_fault}
 use Rattle.setups.specs.declared.SetupFault.{SetupFault}
 use Rattle.setups.specs.declared.SetupFault.TheVariants.{BadConfig, Device}
 use Rattle.scoreboard.specs.Boards.{ClientBoard, opening_board, opening_client}
-use Rattle.scoreboard.specs.SerialMemory.{SerialState}
+use Rattle.scoreboard.specs.SerialMemory.{Memory, memory_of}
 use Rattle.racing_board.specs.Boards.{RacingState, opening_races, opening_racing, racing_board}
 use Rattle.racing_board.specs.EarlyData.{PortBoard, none_early}
-use Rattle.racing_board.specs.InsideRaces.{IsOpening, RacesState, racer_of, races_of}
-use Rattle.racing_board.specs.Races.{Racer, Races}
+use Rattle.racing_board.specs.InsideRaces.{IsOpening, RacesState, footprint_of, races_of}
+use Rattle.racing_board.specs.Races.{Footprint, Races}
 
 -- ---- a set-up that isn't refused
 
@@ -45,18 +45,18 @@ count_of setup = length-map-range_with_len (opening_client setup.config) 0 setup
 
 -- for each of them 257 slots
 pub slots_of : (setup : SetupLists) (clients : List ClientBoard) (races : RacesState) (n slots : ℕ) → clients ≡ (opening_board setup).clients → n ≡ setup.config.clients → slots ≡ n * 257
-    → IsOpening races slots setup.pages setup.bad_words → length races.racers ≡ length clients * 257
+    → IsOpening races slots setup.pages setup.bad_words → length races.footprints ≡ length clients * 257
 slots_of setup clients races n slots made count all opens = opens.filled ∙ all ∙ ap (λ k. k * 257) (count ∙ sym (ap length made ∙ count_of setup))
 
 races_open : (races : RacesState) (setup : SetupLists) → IsOpening races (setup.config.clients * 257) setup.pages setup.bad_words → races_of races ≡ opening_races setup.config.clients
 races_open races setup opens =
-    ap {B = Races} (λ (d : ℕ → Bool). record { doubtful = d; racers = map racer_of races.racers }) (fun_ext opens.doubts)
-    ∙ ap {B = Races} (λ (rs : List Racer). record { doubtful = λ x. false; racers = rs }) opens.racers
+    ap {B = Races} (λ (d : ℕ → Bool). record { indeterminate = d; footprints = map footprint_of races.footprints }) (fun_ext opens.doubts)
+    ∙ ap {B = Races} (λ (rs : List Footprint). record { indeterminate = λ x. false; footprints = rs }) opens.footprints
 
-pub opened : (setup : SetupLists) (state : RacingState) → state.clients ≡ (opening_board setup).clients → state.serial ≡ (opening_board setup).serial
+pub opened : (setup : SetupLists) (state : RacingState) → state.clients ≡ (opening_board setup).clients → memory_of state.memory ≡ (opening_board setup).memory
     → IsOpening state.races (setup.config.clients * 257) setup.pages setup.bad_words → state.axi ≡ none_early (opening_board setup).port nothing_open → racing_board state ≡ opening_racing setup
-opened setup state clients serial races axi =
+opened setup state clients memory races axi =
     ap (λ (c : List ClientBoard). racing_board (record state { clients = c })) clients
-    ∙ (ap (λ (s : SerialState). racing_board (record state { clients = (opening_board setup).clients; serial = s })) serial
-    ∙ (ap (λ (r : Races). record (racing_board (record state { clients = (opening_board setup).clients; serial = (opening_board setup).serial })) { races = r }) (races_open state.races setup races)
+    ∙ (ap (λ (m : Memory). record (racing_board (record state { clients = (opening_board setup).clients })) { memory = m }) memory
+    ∙ (ap (λ (r : Races). record (opening_racing setup) { races = r; axi = state.axi }) (races_open state.races setup races)
     ∙ ap (λ (p : PortBoard). record (opening_racing setup) { axi = p }) axi))

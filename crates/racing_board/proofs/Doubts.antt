@@ -1,4 +1,4 @@
--- The bytes in doubt, as one after another is marked.
+-- The bytes indeterminate, as one after another is marked.
 use Rattle.std.proofs.Common.{◌≡◌, ℕ, zero, suc, ◌+◌, ◌%◌, ◌<◌, ◌≤◌, ◌==◌, Bool, true, false, ◌&&◌, ◌||◌, not, List, [], ◌∷◌, Option, None, length, take, get_or, if◌then◌else◌, refl, sym, ◌∙◌, ap, arith, inl, inr}
 use Rattle.std.specs.Prelude.{is_some, nat_le, nat_lt}
 use Rattle.std.specs.List.{list_any}
@@ -13,7 +13,7 @@ use Rattle.meaning.specs.Meaning.{Bytes}
 use Rattle.meaning.proofs.GivenBytes.{given_before, given_past}
 use Rattle.scoreboard.specs.InsideSerial.{data_of, put_in_word, write_at}
 use Rattle.scoreboard.proofs.PutWords.{in_word, out_of_word}
-use Rattle.racing_board.specs.Races.{Racer, covers, depends_on, doubts_after, doubts_beside, is_fixed, meets, no_racer}
+use Rattle.racing_board.specs.Races.{Footprint, covers, depends_on, after_given, beside_dependent, is_fixed, meets, no_footprint}
 
 -- ---- one byte
 
@@ -41,61 +41,61 @@ lane_of_one : (address lane : ℕ) → address % 8 ≡ lane → in_lanes address
 lane_of_one address lane is = rw (same (address % 8) lane is) refl
 
 -- a byte is set where the word of one byte is put
-pub one_marked : (m new : Bytes) (address word mask : ℕ) (doubtful : Bool) → new ≡ put_in_word address 0 (record { word = word; mask = mask }) m
-    → ((lane : ℕ) → lane < 8 → has_lane mask lane ≡ in_lanes address 0 lane) → ((lane : ℕ) → lane < 8 → lane_byte word lane ≡ (if doubtful then 1 else 0)) → (x : ℕ)
-    → not (new x == 0) ≡ (if x == address then doubtful else not (m x == 0))
-one_marked m new address word mask doubtful is lanes flags x = ap (λ (f : Bytes). not (f x == 0)) is ∙ by_side (sides x address)
+pub one_marked : (m new : Bytes) (address word mask : ℕ) (indeterminate : Bool) → new ≡ put_in_word address 0 (record { word = word; mask = mask }) m
+    → ((lane : ℕ) → lane < 8 → has_lane mask lane ≡ in_lanes address 0 lane) → ((lane : ℕ) → lane < 8 → lane_byte word lane ≡ (if indeterminate then 1 else 0)) → (x : ℕ)
+    → not (new x == 0) ≡ (if x == address then indeterminate else not (m x == 0))
+one_marked m new address word mask indeterminate is lanes flags x = ap (λ (f : Bytes). not (f x == 0)) is ∙ by_side (sides x address)
   where
     flag : (d : Bool) → not ((if d then 1 else 0) == 0) ≡ d
     flag true = refl
     flag false = refl
 
-    elsewhere : (x ≡ address → ⊥) → not (put_in_word address 0 (record { word = word; mask = mask }) m x == 0) ≡ (if x == address then doubtful else not (m x == 0))
+    elsewhere : (x ≡ address → ⊥) → not (put_in_word address 0 (record { word = word; mask = mask }) m x == 0) ≡ (if x == address then indeterminate else not (m x == 0))
     elsewhere out =
         let none : strobes_byte 8 (write_at address 0) 1 (data_of (record { word = word; mask = mask })) x ≡ false =
         out_of_word address 0 (record { word = word; mask = mask }) x (omega arith) (λ low high. out (omega (arith, low, high))) in
         rw (none, apart x address out) refl
 
-    by_side : Sides x address → not (put_in_word address 0 (record { word = word; mask = mask }) m x == 0) ≡ (if x == address then doubtful else not (m x == 0))
+    by_side : Sides x address → not (put_in_word address 0 (record { word = word; mask = mask }) m x == 0) ≡ (if x == address then indeterminate else not (m x == 0))
     by_side (Below low) = elsewhere (λ e. omega (arith, low, e))
     by_side (Above high) = elsewhere (λ e. omega (arith, high, e))
     by_side (Here e) =
         let strobe : strobes_byte 8 (write_at address 0) 1 (data_of (record { word = word; mask = mask })) x ≡ true =
         in_word address 0 (record { word = word; mask = mask }) x (omega arith) (omega (arith, e)) (omega (arith, e)) ∙ lanes (x % 8) (omega arith) ∙ lane_of_one address (x % 8) (ap (λ y. y % 8) (sym e)) in
-        rw (strobe, same x address e, flags (x % 8) (omega arith)) (flag doubtful)
+        rw (strobe, same x address e, flags (x % 8) (omega arith)) (flag indeterminate)
 
 -- ---- what a request gives
 
 -- the byte at a place is marked, or stays
-pub given_marked : (d new : ℕ → Bool) (racer : Racer) (bytes : List (Option ℕ)) (i : ℕ) (doubtful : Bool) → doubtful ≡ doubts_after d racer bytes (racer.address + i)
-    → ((x : ℕ) → new x ≡ (if x == racer.address + i then doubtful else d x)) → (x : ℕ) → new x ≡ (if x == racer.address + i then doubts_after d racer bytes x else d x)
-given_marked d new racer bytes i doubtful is each x = each x ∙ by_side (sides x (racer.address + i))
+pub given_marked : (d new : ℕ → Bool) (footprint : Footprint) (bytes : List (Option ℕ)) (i : ℕ) (indeterminate : Bool) → indeterminate ≡ after_given d footprint bytes (footprint.address + i)
+    → ((x : ℕ) → new x ≡ (if x == footprint.address + i then indeterminate else d x)) → (x : ℕ) → new x ≡ (if x == footprint.address + i then after_given d footprint bytes x else d x)
+given_marked d new footprint bytes i indeterminate is each x = each x ∙ by_side (sides x (footprint.address + i))
   where
-    by_side : Sides x (racer.address + i) → (if x == racer.address + i then doubtful else d x) ≡ (if x == racer.address + i then doubts_after d racer bytes x else d x)
-    by_side (Below low) = rw (apart x (racer.address + i) (λ e. omega (arith, low, e))) refl
-    by_side (Above high) = rw (apart x (racer.address + i) (λ e. omega (arith, high, e))) refl
-    by_side (Here e) = rw (same x (racer.address + i) e) (is ∙ ap (doubts_after d racer bytes) (sym e))
+    by_side : Sides x (footprint.address + i) → (if x == footprint.address + i then indeterminate else d x) ≡ (if x == footprint.address + i then after_given d footprint bytes x else d x)
+    by_side (Below low) = rw (apart x (footprint.address + i) (λ e. omega (arith, low, e))) refl
+    by_side (Above high) = rw (apart x (footprint.address + i) (λ e. omega (arith, high, e))) refl
+    by_side (Here e) = rw (same x (footprint.address + i) e) (is ∙ ap (after_given d footprint bytes) (sym e))
 
-pub not_marked : (d : ℕ → Bool) (racer : Racer) (bytes : List (Option ℕ)) (i : ℕ) → d (racer.address + i) ≡ doubts_after d racer bytes (racer.address + i) → (x : ℕ)
-    → d x ≡ (if x == racer.address + i then doubts_after d racer bytes x else d x)
-not_marked d racer bytes i is x = by_side (sides x (racer.address + i))
+pub not_marked : (d : ℕ → Bool) (footprint : Footprint) (bytes : List (Option ℕ)) (i : ℕ) → d (footprint.address + i) ≡ after_given d footprint bytes (footprint.address + i) → (x : ℕ)
+    → d x ≡ (if x == footprint.address + i then after_given d footprint bytes x else d x)
+not_marked d footprint bytes i is x = by_side (sides x (footprint.address + i))
   where
-    by_side : Sides x (racer.address + i) → d x ≡ (if x == racer.address + i then doubts_after d racer bytes x else d x)
-    by_side (Below low) = rw (apart x (racer.address + i) (λ e. omega (arith, low, e))) refl
-    by_side (Above high) = rw (apart x (racer.address + i) (λ e. omega (arith, high, e))) refl
-    by_side (Here e) = rw (same x (racer.address + i) e) (ap d e ∙ is ∙ ap (doubts_after d racer bytes) (sym e))
+    by_side : Sides x (footprint.address + i) → d x ≡ (if x == footprint.address + i then after_given d footprint bytes x else d x)
+    by_side (Below low) = rw (apart x (footprint.address + i) (λ e. omega (arith, low, e))) refl
+    by_side (Above high) = rw (apart x (footprint.address + i) (λ e. omega (arith, high, e))) refl
+    by_side (Here e) = rw (same x (footprint.address + i) e) (ap d e ∙ is ∙ ap (after_given d footprint bytes) (sym e))
 
 -- where nothing is given nothing is marked
-unmarked : (d : ℕ → Bool) (racer : Racer) (bytes : List (Option ℕ)) (x : ℕ) → given_at bytes racer.address x ≡ None → doubts_after d racer bytes x ≡ d x
-unmarked d racer bytes x none = rw none (by_writes racer.writes)
+unmarked : (d : ℕ → Bool) (footprint : Footprint) (bytes : List (Option ℕ)) (x : ℕ) → given_at bytes footprint.address x ≡ None → after_given d footprint bytes x ≡ d x
+unmarked d footprint bytes x none = rw none (by_writes footprint.writes)
   where
-    by_writes : (writes : Bool) → (if writes && false then not (racer.settled x && is_fixed racer) else d x) ≡ d x
+    by_writes : (writes : Bool) → (if writes && false then not (footprint.determined x && is_fixed footprint) else d x) ≡ d x
     by_writes true = refl
     by_writes false = refl
 
 -- all before a place are marked
-abbrev pub marked_to : (ℕ → Bool) → Racer → List (Option ℕ) → ℕ → ℕ → Bool
-marked_to d racer bytes i x = if nat_lt x (racer.address + i) then doubts_after d racer bytes x else d x
+abbrev pub marked_to : (ℕ → Bool) → Footprint → List (Option ℕ) → ℕ → ℕ → Bool
+marked_to d footprint bytes i x = if nat_lt x (footprint.address + i) then after_given d footprint bytes x else d x
 
 less : (x p : ℕ) → x < p → nat_lt x p ≡ true
 less x p is = grind (arith, nat_tests)
@@ -103,37 +103,37 @@ less x p is = grind (arith, nat_tests)
 not_less : (x p : ℕ) → p ≤ x → nat_lt x p ≡ false
 not_less x p is = grind (arith, nat_tests)
 
-pub none_marked : (d : ℕ → Bool) (racer : Racer) (bytes : List (Option ℕ)) (x : ℕ) → d x ≡ marked_to d racer bytes 0 x
-none_marked d racer bytes x = elim (cases_lt x (racer.address + 0)) [
-  | inl low ↦ rw (less x (racer.address + 0) low) (sym (unmarked d racer bytes x (given_before bytes racer.address x (omega (arith, low)))))
-  | inr high ↦ rw (not_less x (racer.address + 0) high) refl
+pub none_marked : (d : ℕ → Bool) (footprint : Footprint) (bytes : List (Option ℕ)) (x : ℕ) → d x ≡ marked_to d footprint bytes 0 x
+none_marked d footprint bytes x = elim (cases_lt x (footprint.address + 0)) [
+  | inl low ↦ rw (less x (footprint.address + 0) low) (sym (unmarked d footprint bytes x (given_before bytes footprint.address x (omega (arith, low)))))
+  | inr high ↦ rw (not_less x (footprint.address + 0) high) refl
 ]
 
-pub one_more_marked : (d now new : ℕ → Bool) (racer : Racer) (bytes : List (Option ℕ)) (i : ℕ) → ((x : ℕ) → now x ≡ marked_to d racer bytes i x)
-    → ((x : ℕ) → new x ≡ (if x == racer.address + i then doubts_after now racer bytes x else now x)) → (x : ℕ) → new x ≡ marked_to d racer bytes (i + 1) x
-one_more_marked d now new racer bytes i before step x = step x ∙ by_side (sides x (racer.address + i))
+pub one_more_marked : (d now new : ℕ → Bool) (footprint : Footprint) (bytes : List (Option ℕ)) (i : ℕ) → ((x : ℕ) → now x ≡ marked_to d footprint bytes i x)
+    → ((x : ℕ) → new x ≡ (if x == footprint.address + i then after_given now footprint bytes x else now x)) → (x : ℕ) → new x ≡ marked_to d footprint bytes (i + 1) x
+one_more_marked d now new footprint bytes i before step x = step x ∙ by_side (sides x (footprint.address + i))
   where
-    after_of : (a b : Bool) → a ≡ b → (if racer.writes && is_some (given_at bytes racer.address x) then not (racer.settled x && is_fixed racer) else a) ≡ (if racer.writes && is_some (given_at bytes racer.address x) then not (racer.settled x && is_fixed racer) else b)
-    after_of a b e = ap (λ z. if racer.writes && is_some (given_at bytes racer.address x) then not (racer.settled x && is_fixed racer) else z) e
+    after_of : (a b : Bool) → a ≡ b → (if footprint.writes && is_some (given_at bytes footprint.address x) then not (footprint.determined x && is_fixed footprint) else a) ≡ (if footprint.writes && is_some (given_at bytes footprint.address x) then not (footprint.determined x && is_fixed footprint) else b)
+    after_of a b e = ap (λ z. if footprint.writes && is_some (given_at bytes footprint.address x) then not (footprint.determined x && is_fixed footprint) else z) e
 
-    by_side : Sides x (racer.address + i) → (if x == racer.address + i then doubts_after now racer bytes x else now x) ≡ marked_to d racer bytes (i + 1) x
+    by_side : Sides x (footprint.address + i) → (if x == footprint.address + i then after_given now footprint bytes x else now x) ≡ marked_to d footprint bytes (i + 1) x
     by_side (Below low) =
-        rw (apart x (racer.address + i) (λ e. omega (arith, low, e)), less x (racer.address + (i + 1)) (omega (arith, low)))
-        (before x ∙ rw (less x (racer.address + i) low) refl)
+        rw (apart x (footprint.address + i) (λ e. omega (arith, low, e)), less x (footprint.address + (i + 1)) (omega (arith, low)))
+        (before x ∙ rw (less x (footprint.address + i) low) refl)
     by_side (Here e) =
-        rw (same x (racer.address + i) e, less x (racer.address + (i + 1)) (omega (arith, e)))
-        (after_of (now x) (d x) (before x ∙ rw (not_less x (racer.address + i) (omega (arith, e))) refl))
+        rw (same x (footprint.address + i) e, less x (footprint.address + (i + 1)) (omega (arith, e)))
+        (after_of (now x) (d x) (before x ∙ rw (not_less x (footprint.address + i) (omega (arith, e))) refl))
     by_side (Above high) =
-        rw (apart x (racer.address + i) (λ e. omega (arith, high, e)), not_less x (racer.address + (i + 1)) (omega (arith, high)))
-        (before x ∙ rw (not_less x (racer.address + i) (omega (arith, high))) refl)
+        rw (apart x (footprint.address + i) (λ e. omega (arith, high, e)), not_less x (footprint.address + (i + 1)) (omega (arith, high)))
+        (before x ∙ rw (not_less x (footprint.address + i) (omega (arith, high))) refl)
 
-pub all_marked : (d now : ℕ → Bool) (racer : Racer) (bytes : List (Option ℕ)) (i : ℕ) → length bytes ≤ i → ((x : ℕ) → now x ≡ marked_to d racer bytes i x) → now ≡ doubts_after d racer bytes
-all_marked d now racer bytes i whole each = fun_ext (λ x. each x ∙ at x)
+pub all_marked : (d now : ℕ → Bool) (footprint : Footprint) (bytes : List (Option ℕ)) (i : ℕ) → length bytes ≤ i → ((x : ℕ) → now x ≡ marked_to d footprint bytes i x) → now ≡ after_given d footprint bytes
+all_marked d now footprint bytes i whole each = fun_ext (λ x. each x ∙ at x)
   where
-    at : (x : ℕ) → marked_to d racer bytes i x ≡ doubts_after d racer bytes x
-    at x = elim (cases_lt x (racer.address + i)) [
-      | inl low ↦ rw (less x (racer.address + i) low) refl
-      | inr high ↦ rw (not_less x (racer.address + i) high) (sym (unmarked d racer bytes x (given_past bytes racer.address x (omega (arith, whole, high)))))
+    at : (x : ℕ) → marked_to d footprint bytes i x ≡ after_given d footprint bytes x
+    at x = elim (cases_lt x (footprint.address + i)) [
+      | inl low ↦ rw (less x (footprint.address + i) low) refl
+      | inr high ↦ rw (not_less x (footprint.address + i) high) (sym (unmarked d footprint bytes x (given_past bytes footprint.address x (omega (arith, whole, high)))))
     ]
 
 -- ---- all bytes of a request
@@ -187,32 +187,32 @@ one_more_of_all d now new address i before step x = step x ∙ by_side (sides x 
 
 -- ---- requests beside another
 
-pub marked_beside : (d now new : ℕ → Bool) (other : Racer) (racers : List Racer) (i : ℕ) → i < length racers → ((x : ℕ) → now x ≡ doubts_beside d other (take i racers) x)
-    → ((x : ℕ) → new x ≡ (now x || depends_on (get_or racers i no_racer) other && covers (get_or racers i no_racer) x)) → (x : ℕ) → new x ≡ doubts_beside d other (take (i + 1) racers) x
-marked_beside d now new other racers i below before step x =
+pub marked_beside : (d now new : ℕ → Bool) (other : Footprint) (footprints : List Footprint) (i : ℕ) → i < length footprints → ((x : ℕ) → now x ≡ beside_dependent d other (take i footprints) x)
+    → ((x : ℕ) → new x ≡ (now x || depends_on (get_or footprints i no_footprint) other && covers (get_or footprints i no_footprint) x)) → (x : ℕ) → new x ≡ beside_dependent d other (take (i + 1) footprints) x
+marked_beside d now new other footprints i below before step x =
     step x
-    ∙ ap (λ b. b || depends_on (get_or racers i no_racer) other && covers (get_or racers i no_racer) x) (before x)
-    ∙ or_or (d x) (list_any (λ racer. depends_on racer other && covers racer x) (take i racers)) (depends_on (get_or racers i no_racer) other && covers (get_or racers i no_racer) x)
-    ∙ ap (λ b. d x || b) (sym (list_any_more (λ racer. depends_on racer other && covers racer x) racers i no_racer below))
+    ∙ ap (λ b. b || depends_on (get_or footprints i no_footprint) other && covers (get_or footprints i no_footprint) x) (before x)
+    ∙ or_or (d x) (list_any (λ footprint. depends_on footprint other && covers footprint x) (take i footprints)) (depends_on (get_or footprints i no_footprint) other && covers (get_or footprints i no_footprint) x)
+    ∙ ap (λ b. d x || b) (sym (list_any_more (λ footprint. depends_on footprint other && covers footprint x) footprints i no_footprint below))
   where
     or_or : (a b c : Bool) → (a || b || c) ≡ (a || (b || c))
     or_or true b c = refl
     or_or false b c = refl
 
-pub nobody_beside : (d : ℕ → Bool) (other : Racer) (x : ℕ) → d x ≡ doubts_beside d other [] x
+pub nobody_beside : (d : ℕ → Bool) (other : Footprint) (x : ℕ) → d x ≡ beside_dependent d other [] x
 nobody_beside d other x = or_none (d x) false refl
 
 -- one that writes nothing leaves all as it is
-pub writes_nothing : (d : ℕ → Bool) (racer : Racer) (bytes : List (Option ℕ)) (racers : List Racer) → racer.writes ≡ false → d ≡ doubts_beside (doubts_after d racer bytes) racer racers
-writes_nothing d racer bytes racers nothing = fun_ext (λ x. or_none (d x) (list_any (λ other. depends_on other racer && covers other x) racers) (none x racers) ∙ rw nothing refl)
+pub writes_nothing : (d : ℕ → Bool) (footprint : Footprint) (bytes : List (Option ℕ)) (footprints : List Footprint) → footprint.writes ≡ false → d ≡ beside_dependent (after_given d footprint bytes) footprint footprints
+writes_nothing d footprint bytes footprints nothing = fun_ext (λ x. or_none (d x) (list_any (λ other. depends_on other footprint && covers other x) footprints) (none x footprints) ∙ rw nothing refl)
   where
     not_on : (reads writes meet covered : Bool) → (reads && writes && false && meet && covered) ≡ false
     not_on true true meet covered = refl
     not_on true false meet covered = refl
     not_on false writes meet covered = refl
 
-    none : (x : ℕ) (others : List Racer) → list_any (λ other. depends_on other racer && covers other x) others ≡ false
+    none : (x : ℕ) (others : List Footprint) → list_any (λ other. depends_on other footprint && covers other x) others ≡ false
     none x [] = refl
     none x (other ∷ others) =
-        let first : (depends_on other racer && covers other x) ≡ false = rw nothing (not_on other.reads other.writes (meets other racer) (covers other x)) in
+        let first : (depends_on other footprint && covers other x) ≡ false = rw nothing (not_on other.reads other.writes (meets other footprint) (covers other x)) in
         rw first (none x others)

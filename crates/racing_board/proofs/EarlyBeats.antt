@@ -4,12 +4,14 @@ use Rattle.std.specs.Prelude.{nat_lt}
 use Rattle.std.specs.Option.{option_or}
 use Rattle.axi_beats.specs.declared.AwBeat.{AwBeat}
 use Rattle.axi_beats.specs.declared.WBeat.{WBeat}
-use Rattle.axi_checker.specs.OpenBursts.{AxiBeat, OnAr, OnAw, OnB, OnR, OnW, OpenBursts}
+use Rattle.axi_checker.specs.OpenBursts.{OpenBursts}
+use Rattle.axi_checker.specs.declared.AxiBeat.{AxiBeat}
+use Rattle.axi_checker.specs.declared.AxiBeat.TheVariants.{Ar as OnAr, Aw as OnAw, B as OnB, R as OnR, W as OnW}
 use Rattle.axi_checker.specs.Rules.{AxiPortLimits, axi_fault}
 use Rattle.axi_checker.specs.declared.AxiRule.{AxiRule}
 use Rattle.scoreboard.specs.Boards.{bursts_after, wrong_axi}
 use Rattle.scoreboard.specs.declared.Wrong.{Wrong}
-use Rattle.racing_board.specs.EarlyData.{Taken, none_early, port_after, port_wrong, taken_by, taking, tells_no_write, wrong_first}
+use Rattle.racing_board.specs.EarlyData.{PortBoard, Taken, is_early, none_early, port_after, port_wrong, taken_by, taking, tells_no_write, wrong_first, wrong_in_order}
 
 -- ---- nothing is early
 
@@ -113,3 +115,13 @@ pub taking_ends : (limits : AxiPortLimits) (open_bursts : OpenBursts) (first : O
     → wrong_first first (taking limits open_bursts []) ≡ record { open_bursts = open_bursts; early = []; wrong = first }
 taking_ends limits open_bursts first =
     ap {B = Taken} (λ (wrong : Option Wrong). record { open_bursts = open_bursts; early = []; wrong = wrong }) (or_none first)
+
+-- ---- a W beat that isn't early
+
+-- its verdict is as it would be in order
+pub not_early : (port : PortBoard) (beat : AxiBeat) (w : WBeat) (verdict : Option Wrong) → beat ≡ OnW w → verdict ≡ wrong_in_order port beat
+    → (tells_no_write verdict && nat_lt (length port.early) 256) ≡ false → verdict ≡ port_wrong port beat
+not_early port beat w verdict is same none =
+    let here : verdict ≡ wrong_in_order port (OnW w) = same ∙ ap (wrong_in_order port) is in
+    let early : is_early port w ≡ false = sym (ap (λ v. tells_no_write v && nat_lt (length port.early) 256) here) ∙ none in
+    here ∙ sym (ap (λ (b : Bool). if b then None else wrong_in_order port (OnW w)) early) ∙ sym (ap (port_wrong port) is)

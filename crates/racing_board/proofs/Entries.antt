@@ -10,7 +10,7 @@ use Rattle.subordinate.specs.Faults.{Faults}
 use Rattle.meaning.specs.Meaning.{Bytes, meaning}
 use Rattle.racing_board.specs.Boards.{slot_of}
 use Rattle.racing_board.specs.Orders.{Entry, Order, has_ended}
-use Rattle.racing_board.specs.Races.{Racer}
+use Rattle.racing_board.specs.Races.{Footprint}
 use Rattle.racing_board.proofs.RequestActs.{AreBytes, IsWell, own}
 use Rattle.racing_board.proofs.Slots.{at}
 
@@ -48,19 +48,19 @@ module _ (faults : Faults) (regions : List Region) where
   Each P m (entry ∷ order) = P entry m × Each P (carry entry.request m) order
 
   -- an entry whose reply hasn't ended: it is in its slot as it acts, and what is left of its reply was made of bytes that are the same, where they
-  -- are settled, as those before it
-  pub record IsLive (clients : ℕ) (racers : List Racer) (due : ℕ → ℕ → List DBeat) (entry : Entry) (m : Bytes) : Type 0 where
+  -- are determined, as those before it
+  pub record IsLive (clients : ℕ) (footprints : List Footprint) (due : ℕ → ℕ → List DBeat) (entry : Entry) (m : Bytes) : Type 0 where
     pub client : entry.client < clients
     pub source : entry.request.source < 256
-    pub acting : at racers (slot entry) ≡ record (own faults regions entry.request) { settled = (at racers (slot entry)).settled }
+    pub acting : at footprints (slot entry) ≡ record (own faults regions entry.request) { determined = (at footprints (slot entry)).determined }
     pub made_of : Bytes
     pub bytes : AreBytes made_of
     pub left : due entry.client (place_of entry) ≡ drop entry.came (shown entry.request (meaning faults regions entry.request made_of).reply)
-    pub same : (x : ℕ) → (own faults regions entry.request).reads ≡ true → (at racers (slot entry)).settled x ≡ true → made_of x ≡ m x
+    pub same : (x : ℕ) → (own faults regions entry.request).reads ≡ true → (at footprints (slot entry)).determined x ≡ true → made_of x ≡ m x
 
-  pub record Stands (clients : ℕ) (racers : List Racer) (due : ℕ → ℕ → List DBeat) (entry : Entry) (m : Bytes) : Type 0 where
+  pub record Stands (clients : ℕ) (footprints : List Footprint) (due : ℕ → ℕ → List DBeat) (entry : Entry) (m : Bytes) : Type 0 where
     pub well : IsWell entry.request
-    pub live : has_ended entry ≡ false → IsLive clients racers due entry m
+    pub live : has_ended entry ≡ false → IsLive clients footprints due entry m
 
   pub run-append : (m : Bytes) (before after : Order) → run m (before ++ after) ≡ run (run m before) after
   run-append m [] after = refl

@@ -2,7 +2,7 @@
 use Rattle.std.proofs.Common.{◌≡◌, ℕ, true, false, List, [], ◌∷◌, ◌++◌, length, Some, None, refl, sym, ◌∙◌, inl, inr, arith}
 use Rattle.std.proofs.lemmas.Bool.{false≢true}
 use Rattle.std.proofs.lemmas.Option.{none-some}
-use Rattle.std.specs.Prelude.{replicate, slice_get, slice_index_or}
+use Rattle.std.specs.Prelude.{replicate}
 use Rattle.tl_messages.specs.declared.ABeat.{ABeat}
 use Rattle.tl_messages.specs.declared.DBeat.{DBeat}
 use Rattle.tl_checker.specs.declared.Level.TheVariants.{Uh}
@@ -11,7 +11,7 @@ use Rattle.subordinate.specs.declared.PageKind.TheVariants.{Good}
 use Rattle.setups.specs.Setups.{SetupLists}
 use Rattle.scoreboard.proofs.Reached.{right_nothing}
 use Rattle.scoreboard.specs.Boards as strict
-use Rattle.scoreboard.specs.Boards.{Board, ClientBoard, opening_board, opening_client}
+use Rattle.scoreboard.specs.Boards.{opening_board}
 use Rattle.scoreboard.specs.Right.{IsRight}
 use Rattle.scoreboard.specs.declared.ReplyRule.TheVariants.{Payload, Unasked}
 use Rattle.scoreboard.specs.declared.Seen.{Seen}
@@ -86,8 +86,8 @@ still_told : wrong_at (board_after setup (race ++ D 0 acknowledged ∷ [])) (D 1
 unfolding zero_words
 still_told = refl
 
--- the byte is in doubt for none of those that come later: the put was alone when it came
-no_doubt : (board_after setup race).races.doubtful 0x1000b ≡ false
+-- the byte is indeterminate for none of those that come later: the put was alone when it came
+no_doubt : (board_after setup race).races.indeterminate 0x1000b ≡ false
 unfolding zero_words
 no_doubt = refl
 
@@ -104,7 +104,7 @@ zero_blamed = refl
 not_before : KeepsRealTime setup apart (1 ∷ 0 ∷ []) → ⊥
 unfolding zero_words
 not_before keeps =
-    keeps.0 0 refl
+    keeps.0.0
     (record { first = put ∷ D 0 acknowledged ∷ []; rest = get ∷ []; parts = refl; accepted = omega arith; ended = refl; not_yet = omega arith })
 
 -- ---- two puts together
@@ -157,42 +157,10 @@ word = record { opcode = 1; param = 0; size = 4; source = 2; denied = false; pay
 abbrev twice : List Seen
 twice = get_two ∷ D 1 word ∷ get_two ∷ D 1 word ∷ []
 
--- a scoreboard after beats, whatever it finds of them
-abbrev follows : Board → List Seen → Board → Type 0
-follows start [] board = board ≡ start
-follows start (seen ∷ rest) board = (next : Board) × strict.IsAfter start seen next × follows next rest board
-
--- client 1 with both words due, then with one
-abbrev asked : Board
-asked = strict.with_client 1 (strict.with_due (opening_client setup.config 1) 2 (word ∷ word ∷ [])) (opening_board setup)
-
-abbrev begun : Board
-begun = strict.after_d asked 1 (slice_get asked.clients 1) word
-
-abbrev ended : Board
-ended = strict.after_d begun 1 (slice_get begun.clients 1) word
-
-is_asked : strict.IsAfter (opening_board setup) get_two asked
-unfolding zero_words
-is_asked =
-    record {
-      changed = strict.with_due (opening_client setup.config 1) 2 (word ∷ word ∷ []);
-      answered = record { carried_out = record { bytes = refl; faults = refl; regions = refl }; due = refl };
-      rest = refl;
-    }
-
-is_refused : strict.IsAfter begun get_two begun
-unfolding zero_words
-is_refused = record { changed = slice_index_or begun.clients 1 (opening_client setup.config 1); answered = (refl, refl); rest = refl }
-
-is_ended : follows (opening_board setup) twice ended
-unfolding zero_words
-is_ended = (asked, is_asked, (begun, refl, (begun, is_refused, (ended, refl, refl))))
-
 -- it finds the reply to the second request unasked, which a racing board has taken: beside one that found a source busy, this board may tell less
-not_behind_busy_sources : ((compared : Board) → follows (opening_board setup) twice compared → TellsNoMore (strict.wrong_at compared (D 1 word)) (wrong_at (board_after setup twice) (D 1 word))) → ⊥
+not_behind_busy_sources : TellsNoMore (strict.wrong_at (strict.after_all (opening_board setup) twice) (D 1 word)) (wrong_at (board_after setup twice) (D 1 word)) → ⊥
 unfolding zero_words
-not_behind_busy_sources law = refuted (law ended is_ended)
+not_behind_busy_sources law = refuted law
   where
     refuted : TellsNoMore (Some (Reply Unasked None)) None → ⊥
     refuted (inl same) = none-some (Reply Unasked None) same

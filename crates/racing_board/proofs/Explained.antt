@@ -1,5 +1,5 @@
--- What a racing board knows of an order: the bytes that aren't in doubt are what the order leaves, and what is left of each reply was made of
--- bytes that are those before its request, where they are settled. And it knows so at the start.
+-- What a racing board knows of an order: the bytes that aren't indeterminate are what the order leaves, and what is left of each reply was made of
+-- bytes that are those before its request, where they are determined. And it knows so at the start.
 use Rattle.std.proofs.Common.{◌≡◌, ℕ, zero, suc, ◌+◌, ◌*◌, ◌<◌, ◌==◌, Bool, true, false, List, [], map, length, get_or, set, Some, if◌then◌else◌, ◌⊎◌, inl, inr, refl, sym, ◌∙◌, ap, subst, arith}
 use Rattle.std.specs.Prelude.{replicate, slice_get}
 use Rattle.std.specs.List.{list_any, range_with_len}
@@ -11,11 +11,10 @@ use Rattle.tl_messages.specs.declared.DBeat.{DBeat}
 use Rattle.config.specs.declared.Config.{Config}
 use Rattle.meaning.specs.Meaning.{zeros}
 use Rattle.setups.specs.Setups.{SetupLists}
-use Rattle.subordinate.proofs.ZeroBytes.{zero_byte}
 use Rattle.scoreboard.specs.Boards.{ClientBoard, DueBoard, none_left, opening_client}
 use Rattle.racing_board.specs.Boards.{RacingBoard, opening_racing}
 use Rattle.racing_board.specs.Orders.{Order, begun_to}
-use Rattle.racing_board.specs.Races.{Racer, no_racer}
+use Rattle.racing_board.specs.Races.{Footprint, no_footprint}
 use Rattle.racing_board.proofs.CheckedRequests.{IsFrontRight, front_none}
 use Rattle.racing_board.proofs.DuePlaces.{due_at, due_from, get_set_other, get_set_same, replies_kept}
 use Rattle.racing_board.proofs.Entries.{AreDistinct, Each, Stands, run}
@@ -24,20 +23,20 @@ use Rattle.racing_board.proofs.RequestActs.{AreBytes}
 use Rattle.racing_board.proofs.Slots.{AreApart, AreEither, at}
 
 -- a slot for each client and source, and what each has begun
-pub record AreClients (clients : List ClientBoard) (racers : List Racer) : Type 0 where
-  pub slots : length racers ≡ length clients * 257
+pub record AreClients (clients : List ClientBoard) (footprints : List Footprint) : Type 0 where
+  pub slots : length footprints ≡ length clients * 257
   pub sources : (number : ℕ) (client : ClientBoard) → slice_get clients number ≡ Some client → length client.replies.due ≡ 256
   pub fronts : (number : ℕ) (client : ClientBoard) → slice_get clients number ≡ Some client → IsFrontRight client
 
 pub record Explains (board : RacingBoard) (order : Order) : Type 0 where
-  pub clients : AreClients board.clients board.races.racers
-  pub small : AreBytes board.bytes
-  pub apart : AreApart board.races.racers
-  pub either : AreEither board.races.doubtful board.races.racers
+  pub clients : AreClients board.clients board.races.footprints
+  pub small : AreBytes board.memory.bytes
+  pub apart : AreApart board.races.footprints
+  pub either : AreEither board.races.indeterminate board.races.footprints
   pub distinct : AreDistinct order
-  pub entries : Each board.faults board.regions
-      (Stands board.faults board.regions (length board.clients) board.races.racers (due_at board.clients)) zeros order
-  pub known : (x : ℕ) → board.races.doubtful x ≡ false → run board.faults board.regions zeros order x ≡ board.bytes x
+  pub entries : Each board.memory.faults board.memory.regions
+      (Stands board.memory.faults board.memory.regions (length board.clients) board.races.footprints (due_at board.clients)) zeros order
+  pub known : (x : ℕ) → board.races.indeterminate x ≡ false → run board.memory.faults board.memory.regions zeros order x ≡ board.memory.bytes x
   pub waiting : (client source : ℕ) → source < 256 → none_left (due_at board.clients client source) ≡ false → list_any (waits_for client source) order ≡ true
   pub begun : (client : ℕ) → none_left (due_at board.clients client 256) ≡ false → list_any (begun_to client) order ≡ true
 
@@ -57,10 +56,10 @@ each_client P clients number old changed is all own other client there = by_numb
         subst P which own
     by_number (inr differ) = all other client (sym (get_set_other clients number other changed differ) ∙ there)
 
-pub clients_with : (clients : List ClientBoard) (racers new_racers : List Racer) (number : ℕ) (old changed : ClientBoard)
-    → slice_get clients number ≡ Some old → AreClients clients racers
-    → length new_racers ≡ length racers → length changed.replies.due ≡ 256 → IsFrontRight changed → AreClients (set clients number changed) new_racers
-clients_with clients racers new_racers number old changed is are count sources front =
+pub clients_with : (clients : List ClientBoard) (footprints new_footprints : List Footprint) (number : ℕ) (old changed : ClientBoard)
+    → slice_get clients number ≡ Some old → AreClients clients footprints
+    → length new_footprints ≡ length footprints → length changed.replies.due ≡ 256 → IsFrontRight changed → AreClients (set clients number changed) new_footprints
+clients_with clients footprints new_footprints number old changed is are count sources front =
     record {
       slots = count ∙ are.slots ∙ ap (λ n. n * 257) (sym (length-set clients number changed));
       sources = each_client (λ (c : ClientBoard). length c.replies.due ≡ 256) clients number old changed is are.sources sources;
@@ -77,17 +76,17 @@ explains_with board order number old changed is same front explains =
     let count : length (set board.clients number changed) ≡ length board.clients = length-set board.clients number changed in
     record {
       clients =
-          clients_with board.clients board.races.racers board.races.racers number old changed is explains.clients refl
+          clients_with board.clients board.races.footprints board.races.footprints number old changed is explains.clients refl
           (ap (λ (replies : DueBoard). length replies.due) same ∙ explains.clients.sources number old is) front;
       small = explains.small;
       apart = explains.apart;
       either = explains.either;
       distinct = explains.distinct;
       entries =
-          subst (λ (n : ℕ). Each board.faults board.regions
-          (Stands board.faults board.regions n board.races.racers (due_at (set board.clients number changed))) zeros order) (sym count)
-          (subst (λ (due : ℕ → ℕ → List DBeat). Each board.faults board.regions
-          (Stands board.faults board.regions (length board.clients) board.races.racers due) zeros order) (sym dues) explains.entries);
+          subst (λ (n : ℕ). Each board.memory.faults board.memory.regions
+          (Stands board.memory.faults board.memory.regions n board.races.footprints (due_at (set board.clients number changed))) zeros order) (sym count)
+          (subst (λ (due : ℕ → ℕ → List DBeat). Each board.memory.faults board.memory.regions
+          (Stands board.memory.faults board.memory.regions (length board.clients) board.races.footprints due) zeros order) (sym dues) explains.entries);
       known = explains.known;
       waiting = λ client source below some.
           explains.waiting client source below (ap (λ (due : ℕ → ℕ → List DBeat). none_left (due client source)) (sym dues) ∙ some);
@@ -96,10 +95,10 @@ explains_with board order number old changed is same front explains =
 
 -- ---- at the start
 
-no_racers : (n i : ℕ) → at (replicate n no_racer) i ≡ no_racer
-no_racers zero i = refl
-no_racers (suc n) zero = refl
-no_racers (suc n) (suc i) = no_racers n i
+no_footprints : (n i : ℕ) → at (replicate n no_footprint) i ≡ no_footprint
+no_footprints zero i = refl
+no_footprints (suc n) zero = refl
+no_footprints (suc n) (suc i) = no_footprints n i
 
 none_at : (n source : ℕ) (none : List DBeat) → get_or (replicate n none) source none ≡ none
 none_at zero source none = refl
@@ -131,20 +130,20 @@ explains_opening setup =
     record {
       clients =
           record {
-            slots = length-replicate (setup.config.clients * 257) no_racer
+            slots = length-replicate (setup.config.clients * 257) no_footprint
                 ∙ ap (λ n. n * 257) (sym (length-map-range_with_len (opening_client setup.config) 0 setup.config.clients));
             sources = λ number client is. let found = opening_at setup.config 0 setup.config.clients number client is in
                 ap (λ (c : ClientBoard). length c.replies.due) found.1;
             fronts = λ number client is. let found = opening_at setup.config 0 setup.config.clients number client is in
                 front_none client (ap (λ (c : ClientBoard). c.front) found.1);
           };
-      small = record { at = λ x. let zero_there = zero_byte setup.pages x in omega (arith, zero_there) };
+      small = record { at = λ x. omega arith };
       apart = record
-          { apart = λ i j x differ settled. absurd (cc (sym (ap (λ (r : Racer). r.settled x) (no_racers (setup.config.clients * 257) i)) ∙ settled)) };
-      either = record { either = λ i reads. absurd (cc (sym (ap (λ (r : Racer). r.reads) (no_racers (setup.config.clients * 257) i)) ∙ reads)) };
+          { apart = λ i j x differ determined. absurd (cc (sym (ap (λ (r : Footprint). r.determined x) (no_footprints (setup.config.clients * 257) i)) ∙ determined)) };
+      either = record { either = λ i reads. absurd (cc (sym (ap (λ (r : Footprint). r.reads) (no_footprints (setup.config.clients * 257) i)) ∙ reads)) };
       distinct = tt;
       entries = tt;
-      known = λ x certain. sym (zero_byte setup.pages x);
+      known = λ x certain. refl;
       waiting = λ client source below some. absurd (cc (sym (ap none_left (opening_due_at setup.config 0 setup.config.clients client source)) ∙ some));
       begun = λ client some. absurd (cc (sym (ap none_left (opening_due_at setup.config 0 setup.config.clients client 256)) ∙ some));
     }

@@ -12,17 +12,17 @@ use Rattle.subordinate.specs.Faults.{Faults}
 use Rattle.meaning.specs.Meaning.{Bytes, meaning}
 use Rattle.racing_board.specs.Boards.{slot_of}
 use Rattle.racing_board.specs.Orders.{Entry, Order, has_ended}
-use Rattle.racing_board.specs.Races.{Racer, beside, covers, doubts_after, depends_on, is_fixed, may_write}
+use Rattle.racing_board.specs.Races.{Footprint, beside, covers, after_given, depends_on, is_fixed, may_write}
 use Rattle.racing_board.proofs.Entries.{AreDistinct, Differ, Each, IsElsewhere, Stands, carry, each_after, each_before, each_joined, place_of, run, run-append, slot}
 use Rattle.racing_board.proofs.RequestActs.{AreBytes, IsWell, acts, gives, own}
-use Rattle.racing_board.proofs.Slots.{AreApart, AreEither, IsDoubtful, IsJoining, IsSettled, at, doubts_with, fixed_settled, given_doubt, joined_apart, joined_either, other_doubt, other_slot, own_slot, racers_with}
+use Rattle.racing_board.proofs.Slots.{AreApart, AreEither, IsDoubtful, IsJoining, IsSettled, at, doubts_with, fixed_determined, given_doubt, joined_apart, joined_either, other_doubt, other_slot, own_slot, footprints_with}
 
 -- where a request acts is where the one in its slot does
-pub acting_writes : (racer own_racer : Racer) (x : ℕ) → racer ≡ record own_racer { settled = racer.settled } → may_write racer x ≡ may_write own_racer x
-acting_writes racer own_racer x is = ap (λ (r : Racer). may_write r x) is
+pub acting_writes : (footprint own_footprint : Footprint) (x : ℕ) → footprint ≡ record own_footprint { determined = footprint.determined } → may_write footprint x ≡ may_write own_footprint x
+acting_writes footprint own_footprint x is = ap (λ (r : Footprint). may_write r x) is
 
-pub acting_covers : (racer own_racer : Racer) (x : ℕ) → racer ≡ record own_racer { settled = racer.settled } → covers racer x ≡ covers own_racer x
-acting_covers racer own_racer x is = ap (λ (r : Racer). covers r x) is
+pub acting_covers : (footprint own_footprint : Footprint) (x : ℕ) → footprint ≡ record own_footprint { determined = footprint.determined } → covers footprint x ≡ covers own_footprint x
+acting_covers footprint own_footprint x is = ap (λ (r : Footprint). covers r x) is
 
 module _ (faults : Faults) (regions : List Region) where
   -- a request that may not write a byte keeps it
@@ -43,44 +43,44 @@ module _ (faults : Faults) (regions : List Region) where
   untouched (entry ∷ order) m x all = untouched order (carry faults regions entry.request m) x all.1 ∙ unwritten_kept entry.request m x all.0.0 all.0.1
 
 -- a request joins those in flight, and stands before some of them that haven't ended
-module _ (faults : Faults) (regions : List Region) (clients : ℕ) (racers : List Racer) (due new_due : ℕ → ℕ → List DBeat) (doubtful : ℕ → Bool)
-    (bytes : Bytes) (entry : Entry) (racer : Racer)
+module _ (faults : Faults) (regions : List Region) (clients : ℕ) (footprints : List Footprint) (due new_due : ℕ → ℕ → List DBeat) (indeterminate : ℕ → Bool)
+    (bytes : Bytes) (entry : Entry) (footprint : Footprint)
     (new : has_ended entry ≡ false) (well : IsWell entry.request)
-    (acting : racer ≡ record (own faults regions entry.request) { settled = racer.settled }) (joining : IsJoining doubtful racers racer entry.request.bytes)
-    (below : slot entry < length racers) (apart : AreApart racers) (either : AreEither doubtful racers)
+    (acting : footprint ≡ record (own faults regions entry.request) { determined = footprint.determined }) (joining : IsJoining indeterminate footprints footprint entry.request.bytes)
+    (below : slot entry < length footprints) (apart : AreApart footprints) (either : AreEither indeterminate footprints)
     (other_due : (client place : ℕ) → (slot_of client place ≡ slot entry → ⊥) → new_due client place ≡ due client place) where
-  abbrev now_racers : List Racer
-  now_racers = racers_with racers (slot entry) racer
+  abbrev now_footprints : List Footprint
+  now_footprints = footprints_with footprints (slot entry) footprint
 
-  abbrev now_doubtful : ℕ → Bool
-  now_doubtful = doubts_with doubtful racers racer entry.request.bytes
+  abbrev now_indeterminate : ℕ → Bool
+  now_indeterminate = doubts_with indeterminate footprints footprint entry.request.bytes
 
   abbrev Held : Entry → Bytes → Type 0
-  Held = Stands faults regions clients racers due
+  Held = Stands faults regions clients footprints due
 
   abbrev HeldNow : Entry → Bytes → Type 0
-  HeldNow = Stands faults regions clients now_racers new_due
+  HeldNow = Stands faults regions clients now_footprints new_due
 
-  now_apart : AreApart now_racers
-  now_apart = joined_apart racers (slot entry) racer doubtful entry.request.bytes below apart joining
+  now_apart : AreApart now_footprints
+  now_apart = joined_apart footprints (slot entry) footprint indeterminate entry.request.bytes below apart joining
 
-  now_either : AreEither now_doubtful now_racers
-  now_either = joined_either doubtful racers racer entry.request.bytes joining (slot entry) below apart either
+  now_either : AreEither now_indeterminate now_footprints
+  now_either = joined_either indeterminate footprints footprint entry.request.bytes joining (slot entry) below apart either
 
   -- ---- the request that joins
 
-  same_gives : (x : ℕ) → gives (own faults regions entry.request) entry.request.bytes x ≡ gives racer entry.request.bytes x
-  same_gives x = ap (λ (r : Racer). gives r entry.request.bytes x) (sym acting)
+  same_gives : (x : ℕ) → gives (own faults regions entry.request) entry.request.bytes x ≡ gives footprint entry.request.bytes x
+  same_gives x = ap (λ (r : Footprint). gives r entry.request.bytes x) (sym acting)
 
-  gives_writes : (x : ℕ) → gives racer entry.request.bytes x ≡ true → may_write racer x ≡ true
+  gives_writes : (x : ℕ) → gives footprint entry.request.bytes x ≡ true → may_write footprint x ≡ true
   gives_writes x given =
-      let parts = and_parts racer.writes (is_some (given_at entry.request.bytes racer.address x)) given in
-      and_from racer.writes (covers racer x) parts.0 (joining.within x parts.1)
+      let parts = and_parts footprint.writes (is_some (given_at entry.request.bytes footprint.address x)) given in
+      and_from footprint.writes (covers footprint x) parts.0 (joining.within x parts.1)
 
-  not_written : (x : ℕ) → may_write racer x ≡ false → gives racer entry.request.bytes x ≡ false
-  not_written x none = false_from_ne_true (gives racer entry.request.bytes x) (λ given. both_ways (may_write racer x) none (gives_writes x given))
+  not_written : (x : ℕ) → may_write footprint x ≡ false → gives footprint entry.request.bytes x ≡ false
+  not_written x none = false_from_ne_true (gives footprint entry.request.bytes x) (λ given. both_ways (may_write footprint x) none (gives_writes x given))
 
-  kept : (m : Bytes) (x : ℕ) → gives racer entry.request.bytes x ≡ false → carry faults regions entry.request m x ≡ m x
+  kept : (m : Bytes) (x : ℕ) → gives footprint entry.request.bytes x ≡ false → carry faults regions entry.request m x ≡ m x
   kept m x none = (acts faults regions entry.request well).keeps m x (same_gives x ∙ none)
 
   -- ---- those behind it
@@ -89,18 +89,18 @@ module _ (faults : Faults) (regions : List Region) (clients : ℕ) (racers : Lis
   pub record InFlight (other : Entry) : Type 0 where
     pub live : has_ended other ≡ false
     pub fits : IsWell other.request
-    pub old_acting : at racers (slot other) ≡ record (own faults regions other.request) { settled = (at racers (slot other)).settled }
-    pub new_acting : at now_racers (slot other) ≡ record (own faults regions other.request) { settled = (at now_racers (slot other)).settled }
+    pub old_acting : at footprints (slot other) ≡ record (own faults regions other.request) { determined = (at footprints (slot other)).determined }
+    pub new_acting : at now_footprints (slot other) ≡ record (own faults regions other.request) { determined = (at now_footprints (slot other)).determined }
     pub elsewhere : slot other ≡ slot entry → ⊥
 
-  acting_now : (other : Entry) → at racers (slot other) ≡ record (own faults regions other.request) { settled = (at racers (slot other)).settled }
+  acting_now : (other : Entry) → at footprints (slot other) ≡ record (own faults regions other.request) { determined = (at footprints (slot other)).determined }
       → (slot other ≡ slot entry → ⊥)
-      → at now_racers (slot other) ≡ record (own faults regions other.request) { settled = (at now_racers (slot other)).settled }
+      → at now_footprints (slot other) ≡ record (own faults regions other.request) { determined = (at now_footprints (slot other)).determined }
   acting_now other is elsewhere =
-      let beside_it = other_slot racers (slot entry) (slot other) racer elsewhere in
+      let beside_it = other_slot footprints (slot entry) (slot other) footprint elsewhere in
       beside_it
-      ∙ ap (λ (r : Racer). beside r racer) is
-      ∙ ap (λ (f : ℕ → Bool). record (own faults regions other.request) { settled = f }) (ap (λ (r : Racer). r.settled) (sym beside_it))
+      ∙ ap (λ (r : Footprint). beside r footprint) is
+      ∙ ap (λ (f : ℕ → Bool). record (own faults regions other.request) { determined = f }) (ap (λ (r : Footprint). r.determined) (sym beside_it))
 
   in_flight : (m : Bytes) (order : Order) → Each faults regions Held m order → AllByRecursion (λ other. has_ended other ≡ false) order
       → AllByRecursion (IsElsewhere (slot entry)) order
@@ -113,21 +113,21 @@ module _ (faults : Faults) (regions : List Region) (clients : ℕ) (racers : Lis
         in_flight (carry faults regions other.request m) order each.1 live.1 elsewhere.1,
       )
 
-  -- what is settled of the one that joins they leave
-  leaves_settled : (order : Order) (x : ℕ) → AllByRecursion InFlight order → racer.settled x ≡ true → AllByRecursion (Leaves faults regions x) order
-  leaves_settled [] x all settled = tt
-  leaves_settled (other ∷ order) x all settled = (
+  -- what is determined of the one that joins they leave
+  leaves_determined : (order : Order) (x : ℕ) → AllByRecursion InFlight order → footprint.determined x ≡ true → AllByRecursion (Leaves faults regions x) order
+  leaves_determined [] x all determined = tt
+  leaves_determined (other ∷ order) x all determined = (
     (
       all.0.fits,
-      sym (acting_writes (at racers (slot other)) (own faults regions other.request) x all.0.old_acting)
-          ∙ joining.alone (slot other) x settled,
+      sym (acting_writes (at footprints (slot other)) (own faults regions other.request) x all.0.old_acting)
+          ∙ joining.alone (slot other) x determined,
     ),
-    leaves_settled order x all.1 settled,
+    leaves_determined order x all.1 determined,
   )
 
   -- the bytes that may not be what they were
   abbrev touched : ℕ → Bool
-  touched x = gives racer entry.request.bytes x || now_doubtful x
+  touched x = gives footprint entry.request.bytes x || now_indeterminate x
 
   run_outside : (order : Order) (m n : Bytes) → AllByRecursion InFlight order → ((x : ℕ) → touched x ≡ false → m x ≡ n x) → (x : ℕ) → touched x ≡ false
       → run faults regions m order x ≡ run faults regions n order x
@@ -136,7 +136,7 @@ module _ (faults : Faults) (regions : List Region) (clients : ℕ) (racers : Lis
       run_outside order (carry faults regions other.request m) (carry faults regions other.request n) all.1
       (λ y outside. one y outside (gives its other.request.bytes y) refl) x out
     where
-      its : Racer
+      its : Footprint
       its = own faults regions other.request
 
       one : (y : ℕ) → touched y ≡ false → (g : Bool) → gives its other.request.bytes y ≡ g
@@ -149,24 +149,24 @@ module _ (faults : Faults) (regions : List Region) (clients : ℕ) (racers : Lis
           parts : (its.writes ≡ true) × (is_some (given_at other.request.bytes its.address y) ≡ true)
           parts = and_parts its.writes (is_some (given_at other.request.bytes its.address y)) given
 
-          covered : covers (at now_racers (slot other)) y ≡ true
-          covered = acting_covers (at now_racers (slot other)) its y all.0.new_acting ∙ (acts faults regions other.request all.0.fits).within y parts.1
+          covered : covers (at now_footprints (slot other)) y ≡ true
+          covered = acting_covers (at now_footprints (slot other)) its y all.0.new_acting ∙ (acts faults regions other.request all.0.fits).within y parts.1
 
-          by_either : IsDoubtful now_doubtful (at now_racers (slot other)) ⊎ IsSettled now_doubtful (at now_racers (slot other)) → (z : ℕ)
+          by_either : IsDoubtful now_indeterminate (at now_footprints (slot other)) ⊎ IsSettled now_indeterminate (at now_footprints (slot other)) → (z : ℕ)
               → covers its z ≡ true → m z ≡ n z
           by_either (inl doubted) z there =
-              absurd (both_ways (now_doubtful y) (or_parts (gives racer entry.request.bytes y) (now_doubtful y) outside).1 (doubted y covered))
-          by_either (inr settled) z there =
-              let has = acting_covers (at now_racers (slot other)) its z all.0.new_acting ∙ there in
+              absurd (both_ways (now_indeterminate y) (or_parts (gives footprint entry.request.bytes y) (now_indeterminate y) outside).1 (doubted y covered))
+          by_either (inr determined) z there =
+              let has = acting_covers (at now_footprints (slot other)) its z all.0.new_acting ∙ there in
               let own_writes =
-              sym (ap (λ (r : Racer). may_write r z) (own_slot racers (slot entry) racer below))
-              ∙ now_apart.apart (slot other) (slot entry) z all.0.elsewhere (settled z has).0 in
-              agree z (or_from (gives racer entry.request.bytes z) (now_doubtful z) (not_written z own_writes) (settled z has).1)
+              sym (ap (λ (r : Footprint). may_write r z) (own_slot footprints (slot entry) footprint below))
+              ∙ now_apart.apart (slot other) (slot entry) z all.0.elsewhere (determined z has).0 in
+              agree z (or_from (gives footprint entry.request.bytes z) (now_indeterminate z) (not_written z own_writes) (determined z has).1)
 
           reading : its.reads ≡ true → (z : ℕ) → covers its z ≡ true → m z ≡ n z
           reading reads =
-              by_either (now_either.either (slot other) (ap (λ (r : Racer). r.reads) all.0.new_acting ∙ reads)
-              (ap (λ (r : Racer). r.writes) all.0.new_acting ∙ parts.0))
+              by_either (now_either.either (slot other) (ap (λ (r : Footprint). r.reads) all.0.new_acting ∙ reads)
+              (ap (λ (r : Footprint). r.writes) all.0.new_acting ∙ parts.0))
 
   -- ---- the bytes that are known
 
@@ -174,53 +174,53 @@ module _ (faults : Faults) (regions : List Region) (clients : ℕ) (racers : Lis
   sure a b none = and_parts a b (not-false (a && b) none)
 
   pub known_still : (before after : Order) (m : Bytes) → AllByRecursion InFlight after
-      → ((x : ℕ) → doubtful x ≡ false → run faults regions m (before ++ after) x ≡ bytes x) → (x : ℕ)
-      → now_doubtful x ≡ false → run faults regions m (before ++ entry ∷ after) x ≡ carry faults regions entry.request bytes x
+      → ((x : ℕ) → indeterminate x ≡ false → run faults regions m (before ++ after) x ≡ bytes x) → (x : ℕ)
+      → now_indeterminate x ≡ false → run faults regions m (before ++ entry ∷ after) x ≡ carry faults regions entry.request bytes x
   known_still before after m all known x certain =
-      ap (λ (f : Bytes). f x) (run-append faults regions m before (entry ∷ after)) ∙ by_given (gives racer entry.request.bytes x) refl
+      ap (λ (f : Bytes). f x) (run-append faults regions m before (entry ∷ after)) ∙ by_given (gives footprint entry.request.bytes x) refl
     where
       mid : Bytes
       mid = run faults regions m before
 
-      known_mid : (y : ℕ) → doubtful y ≡ false → run faults regions mid after y ≡ bytes y
+      known_mid : (y : ℕ) → indeterminate y ≡ false → run faults regions mid after y ≡ bytes y
       known_mid y is = sym (ap (λ (f : Bytes). f y) (run-append faults regions m before after)) ∙ known y is
 
-      settles : doubts_after doubtful racer entry.request.bytes x ≡ false
-      settles = (or_parts (doubts_after doubtful racer entry.request.bytes x) (list_any (λ r. depends_on r racer && covers r x) racers) certain).0
+      determines : after_given indeterminate footprint entry.request.bytes x ≡ false
+      determines = (or_parts (after_given indeterminate footprint entry.request.bytes x) (list_any (λ r. depends_on r footprint && covers r x) footprints) certain).0
 
-      by_given : (g : Bool) → gives racer entry.request.bytes x ≡ g
+      by_given : (g : Bool) → gives footprint entry.request.bytes x ≡ g
           → run faults regions (carry faults regions entry.request mid) after x ≡ carry faults regions entry.request bytes x
       by_given false given =
           run_outside after (carry faults regions entry.request mid) mid all
-          (λ y out. kept mid y (or_parts (gives racer entry.request.bytes y) (now_doubtful y) out).0)
-          x (or_from (gives racer entry.request.bytes x) (now_doubtful x) given certain)
-          ∙ known_mid x (sym (other_doubt doubtful racer entry.request.bytes x given) ∙ settles)
+          (λ y out. kept mid y (or_parts (gives footprint entry.request.bytes y) (now_indeterminate y) out).0)
+          x (or_from (gives footprint entry.request.bytes x) (now_indeterminate x) given certain)
+          ∙ known_mid x (sym (other_doubt indeterminate footprint entry.request.bytes x given) ∙ determines)
           ∙ sym (kept bytes x given)
       by_given true given =
-          let both = sure (racer.settled x) (is_fixed racer) (sym (given_doubt doubtful racer entry.request.bytes x given) ∙ settles) in
-          untouched faults regions after (carry faults regions entry.request mid) x (leaves_settled after x all both.0)
+          let both = sure (footprint.determined x) (is_fixed footprint) (sym (given_doubt indeterminate footprint entry.request.bytes x given) ∙ determines) in
+          untouched faults regions after (carry faults regions entry.request mid) x (leaves_determined after x all both.0)
           ∙ (acts faults regions entry.request well).same mid bytes x (same_gives x ∙ given)
           (λ reads y covered.
-          let does = ap (λ (r : Racer). r.reads) acting ∙ reads in
-          let settled = fixed_settled racer y both.1 does (acting_covers racer (own faults regions entry.request) y acting ∙ covered) in
-          sym (untouched faults regions after mid y (leaves_settled after y all settled)) ∙ known_mid y (joining.known y does settled))
+          let does = ap (λ (r : Footprint). r.reads) acting ∙ reads in
+          let determined = fixed_determined footprint y both.1 does (acting_covers footprint (own faults regions entry.request) y acting ∙ covered) in
+          sym (untouched faults regions after mid y (leaves_determined after y all determined)) ∙ known_mid y (joining.known y does determined))
 
   -- ---- the entries
 
-  settled_before : (other : Entry) (x : ℕ) → (slot other ≡ slot entry → ⊥) → (at now_racers (slot other)).settled x ≡ true
-      → ((at racers (slot other)).settled x ≡ true) × (may_write racer x ≡ false)
-  settled_before other x elsewhere settled =
-      let parts = and_parts ((at racers (slot other)).settled x) (not (may_write racer x))
-      (sym (ap (λ (r : Racer). r.settled x) (other_slot racers (slot entry) (slot other) racer elsewhere)) ∙ settled) in
-      (parts.0, not-true_of (may_write racer x) parts.1)
+  determined_before : (other : Entry) (x : ℕ) → (slot other ≡ slot entry → ⊥) → (at now_footprints (slot other)).determined x ≡ true
+      → ((at footprints (slot other)).determined x ≡ true) × (may_write footprint x ≡ false)
+  determined_before other x elsewhere determined =
+      let parts = and_parts ((at footprints (slot other)).determined x) (not (may_write footprint x))
+      (sym (ap (λ (r : Footprint). r.determined x) (other_slot footprints (slot entry) (slot other) footprint elsewhere)) ∙ determined) in
+      (parts.0, not-true_of (may_write footprint x) parts.1)
     where
       not-true_of : (b : Bool) → not b ≡ true → b ≡ false
       not-true_of false is = refl
       not-true_of true is = absurd (cc (is))
 
-  -- one that stood, with bytes that are the same where it is settled now
+  -- one that stood, with bytes that are the same where it is determined now
   stands_still : (other : Entry) (m n : Bytes) → IsElsewhere (slot entry) other → Held other m
-      → (has_ended other ≡ false → (x : ℕ) → (at now_racers (slot other)).settled x ≡ true → m x ≡ n x) → HeldNow other n
+      → (has_ended other ≡ false → (x : ℕ) → (at now_footprints (slot other)).determined x ≡ true → m x ≡ n x) → HeldNow other n
   stands_still other m n elsewhere held agree =
       record {
         well = held.well;
@@ -234,7 +234,7 @@ module _ (faults : Faults) (regions : List Region) (clients : ℕ) (racers : Lis
               made_of = was.made_of;
               bytes = was.bytes;
               left = other_due other.client (place_of other) away ∙ was.left;
-              same = λ x reads settled. was.same x reads (settled_before other x away settled).0 ∙ agree alive x settled;
+              same = λ x reads determined. was.same x reads (determined_before other x away determined).0 ∙ agree alive x determined;
             };
       }
 
@@ -242,21 +242,21 @@ module _ (faults : Faults) (regions : List Region) (clients : ℕ) (racers : Lis
       → Each faults regions HeldNow m order
   each_stands [] m elsewhere each = tt
   each_stands (other ∷ order) m elsewhere each =
-      (stands_still other m m elsewhere.0 each.0 (λ alive x settled. refl), each_stands order (carry faults regions other.request m) elsewhere.1 each.1)
+      (stands_still other m m elsewhere.0 each.0 (λ alive x determined. refl), each_stands order (carry faults regions other.request m) elsewhere.1 each.1)
 
-  -- bytes that are the same where one of those behind is settled
+  -- bytes that are the same where one of those behind is determined
   abbrev Agree : Bytes → Bytes → Entry → Type 0
-  Agree m n other = (x : ℕ) → (at now_racers (slot other)).settled x ≡ true → m x ≡ n x
+  Agree m n other = (x : ℕ) → (at now_footprints (slot other)).determined x ≡ true → m x ≡ n x
 
   agree_next : (first : Entry) (order : Order) (m n : Bytes) → InFlight first → AllByRecursion InFlight order → AllByRecursion (Differ first) order
       → AllByRecursion (Agree m n) order
       → AllByRecursion (Agree (carry faults regions first.request m) (carry faults regions first.request n)) order
   agree_next first [] m n mine all distinct agree = tt
   agree_next first (other ∷ order) m n mine all distinct agree = (
-    (λ x settled.
-        let leaves = sym (acting_writes (at now_racers (slot first)) (own faults regions first.request) x mine.new_acting)
-        ∙ now_apart.apart (slot other) (slot first) x (λ same. distinct.0 mine.live all.0.live (sym same)) settled in
-        unwritten_kept faults regions first.request m x mine.fits leaves ∙ agree.0 x settled
+    (λ x determined.
+        let leaves = sym (acting_writes (at now_footprints (slot first)) (own faults regions first.request) x mine.new_acting)
+        ∙ now_apart.apart (slot other) (slot first) x (λ same. distinct.0 mine.live all.0.live (sym same)) determined in
+        unwritten_kept faults regions first.request m x mine.fits leaves ∙ agree.0 x determined
         ∙ sym (unwritten_kept faults regions first.request n x mine.fits leaves)),
     agree_next first order m n mine all.1 distinct.1 agree.1,
   )
@@ -273,11 +273,11 @@ module _ (faults : Faults) (regions : List Region) (clients : ℕ) (racers : Lis
   agree_first : (order : Order) (m : Bytes) → AllByRecursion InFlight order → AllByRecursion (Agree m (carry faults regions entry.request m)) order
   agree_first [] m all = tt
   agree_first (other ∷ order) m all =
-      ((λ x settled. sym (kept m x (not_written x (settled_before other x all.0.elsewhere settled).1))), agree_first order m all.1)
+      ((λ x determined. sym (kept m x (not_written x (determined_before other x all.0.elsewhere determined).1))), agree_first order m all.1)
 
   pub each_still : (before after : Order) (m : Bytes) → Each faults regions Held m (before ++ after) → AllByRecursion (λ other. has_ended other ≡ false) after
       → AllByRecursion (IsElsewhere (slot entry)) before → AllByRecursion (IsElsewhere (slot entry)) after → AreDistinct after
-      → ((x : ℕ) → doubtful x ≡ false → run faults regions m (before ++ after) x ≡ bytes x)
+      → ((x : ℕ) → indeterminate x ≡ false → run faults regions m (before ++ after) x ≡ bytes x)
       → entry.client < clients → entry.request.source < 256 → AreBytes bytes
       → new_due entry.client (place_of entry) ≡ drop entry.came (shown entry.request (meaning faults regions entry.request bytes).reply)
       → Each faults regions HeldNow m (before ++ entry ∷ after)
@@ -294,8 +294,8 @@ module _ (faults : Faults) (regions : List Region) (clients : ℕ) (racers : Lis
       all : AllByRecursion InFlight after
       all = in_flight mid after each_mid live last
 
-      in_place : at now_racers (slot entry) ≡ racer
-      in_place = own_slot racers (slot entry) racer below
+      in_place : at now_footprints (slot entry) ≡ footprint
+      in_place = own_slot footprints (slot entry) footprint below
 
       own_stands : HeldNow entry mid
       own_stands =
@@ -306,16 +306,16 @@ module _ (faults : Faults) (regions : List Region) (clients : ℕ) (racers : Lis
                   client = client;
                   source = source;
                   acting = in_place ∙ acting
-                      ∙ ap (λ (f : ℕ → Bool). record (own faults regions entry.request) { settled = f }) (ap (λ (r : Racer). r.settled) (sym in_place));
+                      ∙ ap (λ (f : ℕ → Bool). record (own faults regions entry.request) { determined = f }) (ap (λ (r : Footprint). r.determined) (sym in_place));
                   made_of = bytes;
                   bytes = are_bytes;
                   left = left;
-                  same = λ x reads settled.
-                      let does = ap (λ (r : Racer). r.reads) acting ∙ reads in
-                      let is = sym (ap (λ (r : Racer). r.settled x) in_place) ∙ settled in
+                  same = λ x reads determined.
+                      let does = ap (λ (r : Footprint). r.reads) acting ∙ reads in
+                      let is = sym (ap (λ (r : Footprint). r.determined x) in_place) ∙ determined in
                       sym (known x (joining.known x does is))
                       ∙ ap (λ (f : Bytes). f x) (run-append faults regions m before after)
-                      ∙ untouched faults regions after mid x (leaves_settled after x all is);
+                      ∙ untouched faults regions after mid x (leaves_determined after x all is);
                 };
           }
 
@@ -323,7 +323,7 @@ module _ (faults : Faults) (regions : List Region) (clients : ℕ) (racers : Lis
       behind = each_behind after mid (carry faults regions entry.request mid) all distinct (agree_first after mid all) each_mid
 
   pub known_now : (before after : Order) (m : Bytes) → Each faults regions Held m (before ++ after) → AllByRecursion (λ other. has_ended other ≡ false) after
-      → AllByRecursion (IsElsewhere (slot entry)) after → ((x : ℕ) → doubtful x ≡ false → run faults regions m (before ++ after) x ≡ bytes x) → (x : ℕ)
-      → now_doubtful x ≡ false → run faults regions m (before ++ entry ∷ after) x ≡ carry faults regions entry.request bytes x
+      → AllByRecursion (IsElsewhere (slot entry)) after → ((x : ℕ) → indeterminate x ≡ false → run faults regions m (before ++ after) x ≡ bytes x) → (x : ℕ)
+      → now_indeterminate x ≡ false → run faults regions m (before ++ entry ∷ after) x ≡ carry faults regions entry.request bytes x
   known_now before after m each live last known =
       known_still before after m (in_flight (run faults regions m before) after (each_after faults regions Held m before after each) live last) known

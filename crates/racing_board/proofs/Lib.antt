@@ -17,9 +17,8 @@ pub mod Joining
 pub mod JudgedRightly
 pub mod Judgements
 pub mod Lengths
-pub mod OnlySuch
 pub mod Others
-pub mod RacerBytes
+pub mod FootprintBytes
 pub mod ReplyBeats
 pub mod ReplyBytes
 pub mod ReplyMoves
@@ -27,12 +26,9 @@ pub mod ReplySeen
 pub mod ReplySteps
 pub mod RequestActs
 pub mod RequestSeen
-pub mod RightObserved
-pub mod RightReplies
-pub mod RightRequests
-pub mod RightRuns
 pub mod SlotMoves
 pub mod Slots
 pub mod Verdicts
+pub mod StepOrders
 pub mod WiderRuns
 pub mod WiderVerdicts

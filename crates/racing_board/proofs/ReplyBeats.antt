@@ -12,7 +12,7 @@ use Rattle.meaning.specs.Meaning.{Bytes, zeros}
 use Rattle.scoreboard.specs.Boards.{ClientBoard, DueBoard, after_begun, after_reply_beat, due_of, has_source, none_left}
 use Rattle.racing_board.specs.Boards.{RacingBoard, after_reply, beginning, ending, slot_of}
 use Rattle.racing_board.specs.Orders.{Order, after_beat, begun_to, has_begun, has_ended, is_due, with_beat}
-use Rattle.racing_board.specs.Races.{Racer}
+use Rattle.racing_board.specs.Races.{Footprint}
 use Rattle.racing_board.proofs.Acceptance.{of_source}
 use Rattle.racing_board.proofs.DuePlaces.{due_at, due_set_other, due_set_same, replies_at, replies_in, slot_below}
 use Rattle.racing_board.proofs.Entries.{Each, Stands, carry}
@@ -26,7 +26,7 @@ use Rattle.racing_board.proofs.Slots.{at}
 -- ---- of a client that isn't there
 
 nobody : (board : RacingBoard) (begun : Bool) (number source : ℕ) → slice_get board.clients number ≡ None → (order : Order) (m : Bytes)
-    → Each board.faults board.regions (Stands board.faults board.regions (length board.clients) board.races.racers (due_at board.clients)) m order
+    → Each board.memory.faults board.memory.regions (Stands board.memory.faults board.memory.regions (length board.clients) board.races.footprints (due_at board.clients)) m order
     → AllByRecursion (λ entry. counts begun number source entry ≡ false) order
 nobody board begun number source none [] m each = tt
 nobody board begun number source none (entry ∷ order) m each = (
@@ -35,7 +35,7 @@ nobody board begun number source none (entry ∷ order) m each = (
       let parts = and_parts (entry.client == number) (if begun then has_begun entry else (entry.request.source == source && entry.came == 0)) whole.0 in
       let was = each.0.live (live begun parts.1) in
       out (omega (arith, was.client, eqb-true entry.client number parts.0))),
-  nobody board begun number source none order (carry board.faults board.regions entry.request m) each.1,
+  nobody board begun number source none order (carry board.memory.faults board.memory.regions entry.request m) each.1,
 )
   where
     live : (b : Bool) → (if b then has_begun entry else (entry.request.source == source && entry.came == 0)) ≡ true → has_ended entry ≡ false
@@ -69,27 +69,27 @@ other_replies replies beat some lacks = rw (some, lacks) refl
 
 module _ (board : RacingBoard) (order : Order) (number : ℕ) (client : ClientBoard) (beat : DBeat) (there : slice_get board.clients number ≡ Some client)
     (small : beat.source < 256) (explains : Explains board order) where
-  abbrev racers : List Racer
-  racers = board.races.racers
+  abbrev footprints : List Footprint
+  footprints = board.races.footprints
 
   -- the board with some replies, some slots, and the order in which the beat counts where one has begun or not
-  abbrev Shape : DueBoard → List Racer → Bool → Type 0
+  abbrev Shape : DueBoard → List Footprint → Bool → Type 0
   Shape replies base begun =
       Explains (record board {
         clients = set board.clients number (record client { replies = replies });
         races =
-            record board.races { racers = ending number (none_left replies.begun) base };
+            record board.races { footprints = ending number (none_left replies.begun) base };
       })
       (map (with_beat begun number beat.source) order)
 
-  shaped : (replies : DueBoard) (base : List Racer) (begun : Bool) → after_reply_beat client.replies beat ≡ replies
-      → (if none_left client.replies.begun then beginning number beat.source racers else racers) ≡ base
+  shaped : (replies : DueBoard) (base : List Footprint) (begun : Bool) → after_reply_beat client.replies beat ≡ replies
+      → (if none_left client.replies.begun then beginning number beat.source footprints else footprints) ≡ base
       → list_any (begun_to number) order ≡ begun → Shape replies base begun
       → Explains (after_reply board number (Some client) beat) (after_beat order number beat.source)
   shaped replies base begun is_replies is_base is_begun shape =
-      subst (λ (r : DueBoard). Shape r (if none_left client.replies.begun then beginning number beat.source racers else racers)
+      subst (λ (r : DueBoard). Shape r (if none_left client.replies.begun then beginning number beat.source footprints else footprints)
       (list_any (begun_to number) order)) (sym is_replies)
-      (subst (λ (b : List Racer). Shape replies b (list_any (begun_to number) order)) (sym is_base)
+      (subst (λ (b : List Footprint). Shape replies b (list_any (begun_to number) order)) (sym is_base)
       (subst (λ (f : Bool). Shape replies base f) (sym is_begun) shape))
 
   own : replies_at board.clients number ≡ client.replies
@@ -104,29 +104,29 @@ module _ (board : RacingBoard) (order : Order) (number : ℕ) (client : ClientBo
   sources : length client.replies.due ≡ 256
   sources = explains.clients.sources number client there
 
-  slot_there : (place : ℕ) → place ≤ 256 → slot_of number place < length racers
+  slot_there : (place : ℕ) → place ≤ 256 → slot_of number place < length footprints
   slot_there place low = let below = slot_below number place (length board.clients) (slice_get_within board.clients number client there) low in
       omega (arith, below, explains.clients.slots)
 
   begins : none_left client.replies.begun ≡ true → Explains (after_reply board number (Some client) beat) (after_beat order number beat.source)
   begins none =
       shaped (record { due = set client.replies.due beat.source []; begun = drop 1 (due_of client.replies beat.source) })
-      (beginning number beat.source racers) false
+      (beginning number beat.source footprints) false
       (begin_replies client.replies beat none
       (λ some. ap (has_source beat.source) (sym source_left) ∙ due_source board number beat.source small order explains (ap none_left source_left ∙ some)))
       (rw none refl)
       (begun_as board number order explains ∙ ap (λ (beats : List DBeat). not (none_left beats)) begun_left ∙ ap not none)
-      (explains_moved board order number client false beat.source beat.source (beginning number beat.source racers)
+      (explains_moved board order number client false beat.source beat.source (beginning number beat.source footprints)
       (record { due = set client.replies.due beat.source []; begun = drop 1 (due_of client.replies beat.source) }) there explains
       (record {
         place = omega (arith, small);
-        count = length-swap racers (slot_of number beat.source) (slot_of number 256);
-        apart = moved_apart racers (slot_of number beat.source) (slot_of number 256) low high explains.apart;
-        either = moved_either board.races.doubtful racers (slot_of number beat.source) (slot_of number 256) low high explains.either;
-        there = moved racers (slot_of number beat.source) (slot_of number 256) (slot_of number 256) low high
-            ∙ ap (at racers) (second_place (slot_of number beat.source) (slot_of number 256) (slot_of number 256) refl);
-        others = λ i away apart. moved racers (slot_of number beat.source) (slot_of number 256) i low high
-            ∙ ap (at racers) (third_place (slot_of number beat.source) (slot_of number 256) i away apart);
+        count = length-swap footprints (slot_of number beat.source) (slot_of number 256);
+        apart = moved_apart footprints (slot_of number beat.source) (slot_of number 256) low high explains.apart;
+        either = moved_either board.races.indeterminate footprints (slot_of number beat.source) (slot_of number 256) low high explains.either;
+        there = moved footprints (slot_of number beat.source) (slot_of number 256) (slot_of number 256) low high
+            ∙ ap (at footprints) (second_place (slot_of number beat.source) (slot_of number 256) (slot_of number 256) refl);
+        others = λ i away apart. moved footprints (slot_of number beat.source) (slot_of number 256) i low high
+            ∙ ap (at footprints) (third_place (slot_of number beat.source) (slot_of number 256) i away apart);
         rest = ap (λ (beats : List DBeat). drop 1 beats) (sym source_left);
         same_due = λ source differ. due_set_other client.replies.due beat.source source [] differ;
         gone = λ source below same.
@@ -137,10 +137,10 @@ module _ (board : RacingBoard) (order : Order) (number : ℕ) (client : ClientBo
       (begin_all board number beat.source small order zeros explains.entries (ap none_left begun_left ∙ none))
       (begin_counted board number beat.source small order explains))
     where
-      low : slot_of number beat.source < length racers
+      low : slot_of number beat.source < length footprints
       low = slot_there beat.source (omega (arith, small))
 
-      high : slot_of number 256 < length racers
+      high : slot_of number 256 < length footprints
       high = slot_there 256 (omega arith)
 
       get_or_of : List (List DBeat) → ℕ → List DBeat
@@ -149,9 +149,9 @@ module _ (board : RacingBoard) (order : Order) (number : ℕ) (client : ClientBo
   goes_on : none_left client.replies.begun ≡ false → has_source beat.source client.replies.begun ≡ true
       → Explains (after_reply board number (Some client) beat) (after_beat order number beat.source)
   goes_on some has =
-      shaped (record client.replies { begun = drop 1 client.replies.begun }) racers true (more_replies client.replies beat some has) (rw some refl)
+      shaped (record client.replies { begun = drop 1 client.replies.begun }) footprints true (more_replies client.replies beat some has) (rw some refl)
       (begun_as board number order explains ∙ ap (λ (beats : List DBeat). not (none_left beats)) begun_left ∙ ap not some)
-      (explains_moved board order number client true beat.source 256 racers (record client.replies { begun = drop 1 client.replies.begun }) there explains
+      (explains_moved board order number client true beat.source 256 footprints (record client.replies { begun = drop 1 client.replies.begun }) there explains
       (record {
         place = omega arith;
         count = refl;
@@ -170,10 +170,10 @@ module _ (board : RacingBoard) (order : Order) (number : ℕ) (client : ClientBo
   nothing : none_left client.replies.begun ≡ false → has_source beat.source client.replies.begun ≡ false
       → Explains (after_reply board number (Some client) beat) (after_beat order number beat.source)
   nothing some lacks =
-      shaped client.replies racers true (other_replies client.replies beat some lacks) (rw some refl)
+      shaped client.replies footprints true (other_replies client.replies beat some lacks) (rw some refl)
       (begun_as board number order explains ∙ ap (λ (beats : List DBeat). not (none_left beats)) begun_left ∙ ap not some)
       (subst (λ (over : Bool). Explains (record board
-      { clients = set board.clients number client; races = record board.races { racers = ending number over racers } })
+      { clients = set board.clients number client; races = record board.races { footprints = ending number over footprints } })
       (map (with_beat true number beat.source) order)) (sym some)
       (subst (Explains (record board { clients = set board.clients number client }))
       (sym (none_counts true number beat.source order

@@ -11,7 +11,7 @@ use Rattle.meaning.specs.Meaning.{Bytes, meaning}
 use Rattle.scoreboard.specs.Boards.{none_left}
 use Rattle.racing_board.specs.Boards.{slot_of}
 use Rattle.racing_board.specs.Orders.{Entry, Order, begun_to, has_begun, has_ended, is_due, reply_beats, with_beat}
-use Rattle.racing_board.specs.Races.{Racer}
+use Rattle.racing_board.specs.Races.{Footprint}
 use Rattle.racing_board.proofs.DuePlaces.{same_client, same_place}
 use Rattle.racing_board.proofs.Entries.{AreDistinct, Differ, Each, Stands, carry, place_of, run, slot}
 use Rattle.racing_board.proofs.Lengths.{less_live, live_left, live_less, next_live, one_dropped}
@@ -87,18 +87,18 @@ module _ (begun : Bool) (number source : ℕ) where
 
   -- ---- what stands in the slots
 
-  module _ (faults : Faults) (regions : List Region) (clients from : ℕ) (racers new_racers : List Racer) (due new_due : ℕ → ℕ → List DBeat)
+  module _ (faults : Faults) (regions : List Region) (clients from : ℕ) (footprints new_footprints : List Footprint) (due new_due : ℕ → ℕ → List DBeat)
       (small : from ≤ 256)
-      (others : (i : ℕ) → (i ≡ slot_of number from → ⊥) → (i ≡ slot_of number 256 → ⊥) → at new_racers i ≡ at racers i)
-      (moved : none_left (drop 1 (due number from)) ≡ false → at new_racers (slot_of number 256) ≡ at racers (slot_of number from))
+      (others : (i : ℕ) → (i ≡ slot_of number from → ⊥) → (i ≡ slot_of number 256 → ⊥) → at new_footprints i ≡ at footprints i)
+      (moved : none_left (drop 1 (due number from)) ≡ false → at new_footprints (slot_of number 256) ≡ at footprints (slot_of number from))
       (rest : new_due number 256 ≡ drop 1 (due number from))
       (other_due : (client place : ℕ) → (slot_of client place ≡ slot_of number from → ⊥) → (slot_of client place ≡ slot_of number 256 → ⊥)
       → new_due client place ≡ due client place) where
     abbrev Held : Entry → Bytes → Type 0
-    Held = Stands faults regions clients racers due
+    Held = Stands faults regions clients footprints due
 
     abbrev HeldNow : Entry → Bytes → Type 0
-    HeldNow = Stands faults regions clients new_racers new_due
+    HeldNow = Stands faults regions clients new_footprints new_due
 
     place_small : (entry : Entry) (m : Bytes) → has_ended entry ≡ false → Held entry m → place_of entry ≤ 256
     place_small entry m live held = by_came (entry.came == 0)
@@ -113,20 +113,20 @@ module _ (begun : Bool) (number source : ℕ) where
     stands_next entry m (Stays live none away apart) held =
         subst (λ e. HeldNow e m) (sym (stays entry none)) (record { well = held.well; live = λ alive. still })
       where
-        same : at new_racers (slot entry) ≡ at racers (slot entry)
+        same : at new_footprints (slot entry) ≡ at footprints (slot entry)
         same = others (slot entry) away apart
 
-        still : Rattle.racing_board.proofs.Entries.IsLive faults regions clients new_racers new_due entry m
+        still : Rattle.racing_board.proofs.Entries.IsLive faults regions clients new_footprints new_due entry m
         still =
             let was = held.live live in
             record {
               client = was.client;
               source = was.source;
-              acting = same ∙ was.acting ∙ ap (λ (r : Racer). record (own faults regions entry.request) { settled = r.settled }) (sym same);
+              acting = same ∙ was.acting ∙ ap (λ (r : Footprint). record (own faults regions entry.request) { determined = r.determined }) (sym same);
               made_of = was.made_of;
               bytes = was.bytes;
               left = other_due entry.client (place_of entry) away apart ∙ was.left;
-              same = λ x reads settled. was.same x reads (sym (ap (λ (r : Racer). r.settled x) same) ∙ settled);
+              same = λ x reads determined. was.same x reads (sym (ap (λ (r : Footprint). r.determined x) same) ∙ determined);
             }
     stands_next entry m (Goes live counted client place) held =
         subst (λ e. HeldNow e m) (sym (goes_on entry counted)) (record { well = held.well; live = λ alive. there alive })
@@ -143,22 +143,22 @@ module _ (begun : Bool) (number source : ℕ) where
         was_left : due number from ≡ drop entry.came (shown entry.request (meaning faults regions entry.request (held.live live).made_of).reply)
         was_left = ap (due number) (sym place) ∙ ap (λ c. due c (place_of entry)) (sym client) ∙ (held.live live).left
 
-        there : has_ended next ≡ false → Rattle.racing_board.proofs.Entries.IsLive faults regions clients new_racers new_due next m
+        there : has_ended next ≡ false → Rattle.racing_board.proofs.Entries.IsLive faults regions clients new_footprints new_due next m
         there alive =
             let was = held.live live in
             let left = ap (λ (beats : List DBeat). drop 1 beats) was_left
             ∙ one_dropped (shown entry.request (meaning faults regions entry.request was.made_of).reply) entry.came in
             let some : none_left (drop 1 (due number from)) ≡ false =
             ap none_left left ∙ live_left next (meaning faults regions entry.request was.made_of).reply alive in
-            let same : at new_racers (slot next) ≡ at racers (slot entry) = ap (at new_racers) in_slot ∙ moved some ∙ ap (at racers) (sym in_old) in
+            let same : at new_footprints (slot next) ≡ at footprints (slot entry) = ap (at new_footprints) in_slot ∙ moved some ∙ ap (at footprints) (sym in_old) in
             record {
               client = was.client;
               source = was.source;
-              acting = same ∙ was.acting ∙ ap (λ (r : Racer). record (own faults regions entry.request) { settled = r.settled }) (sym same);
+              acting = same ∙ was.acting ∙ ap (λ (r : Footprint). record (own faults regions entry.request) { determined = r.determined }) (sym same);
               made_of = was.made_of;
               bytes = was.bytes;
               left = ap (new_due entry.client) (next_place entry) ∙ ap (λ c. new_due c 256) client ∙ rest ∙ left;
-              same = λ x reads settled. was.same x reads (sym (ap (λ (r : Racer). r.settled x) same) ∙ settled);
+              same = λ x reads determined. was.same x reads (sym (ap (λ (r : Footprint). r.determined x) same) ∙ determined);
             }
 
     pub each_next : (order : Order) (m : Bytes) → AllByRecursion (Moves from) order → Each faults regions Held m order

@@ -9,7 +9,7 @@ use Rattle.meaning.specs.Meaning.{Bytes, zeros}
 use Rattle.scoreboard.specs.Boards.{ClientBoard, DueBoard, due_of, none_left}
 use Rattle.racing_board.specs.Boards.{RacingBoard, ending, slot_of}
 use Rattle.racing_board.specs.Orders.{Order, with_beat}
-use Rattle.racing_board.specs.Races.{Racer, at_rest, no_racer}
+use Rattle.racing_board.specs.Races.{Footprint, at_rest, no_footprint}
 use Rattle.racing_board.proofs.Acceptance.{of_source}
 use Rattle.racing_board.proofs.CheckedRequests.{IsFrontRight}
 use Rattle.racing_board.proofs.DuePlaces.{due_at, due_from, replies_at, replies_in, replies_other, replies_same}
@@ -22,45 +22,45 @@ use Rattle.racing_board.proofs.Slots.{AreApart, AreEither, at}
 -- ---- slots that come to rest
 
 -- where the reply has ended its slot comes to rest; the others stay
-ending_others : (number : ℕ) (over : Bool) (racers : List Racer) (i : ℕ) → (i ≡ slot_of number 256 → ⊥) → at (ending number over racers) i ≡ at racers i
-ending_others number true racers i differ = get_or-set_other racers (slot_of number 256) i (at_rest (at racers (slot_of number 256))) no_racer differ
-ending_others number false racers i differ = refl
+ending_others : (number : ℕ) (over : Bool) (footprints : List Footprint) (i : ℕ) → (i ≡ slot_of number 256 → ⊥) → at (ending number over footprints) i ≡ at footprints i
+ending_others number true footprints i differ = get_or-set_other footprints (slot_of number 256) i (at_rest (at footprints (slot_of number 256))) no_footprint differ
+ending_others number false footprints i differ = refl
 
-ending_kept : (number : ℕ) (over : Bool) (racers : List Racer) → over ≡ false
-    → at (ending number over racers) (slot_of number 256) ≡ at racers (slot_of number 256)
-ending_kept number true racers is = absurd (cc (is))
-ending_kept number false racers is = refl
+ending_kept : (number : ℕ) (over : Bool) (footprints : List Footprint) → over ≡ false
+    → at (ending number over footprints) (slot_of number 256) ≡ at footprints (slot_of number 256)
+ending_kept number true footprints is = absurd (cc (is))
+ending_kept number false footprints is = refl
 
-ending_apart : (number : ℕ) (over : Bool) (racers : List Racer) → AreApart racers → AreApart (ending number over racers)
-ending_apart number true racers apart = rested_apart racers (slot_of number 256) apart
-ending_apart number false racers apart = apart
+ending_apart : (number : ℕ) (over : Bool) (footprints : List Footprint) → AreApart footprints → AreApart (ending number over footprints)
+ending_apart number true footprints apart = rested_apart footprints (slot_of number 256) apart
+ending_apart number false footprints apart = apart
 
-ending_either : (number : ℕ) (over : Bool) (doubtful : ℕ → Bool) (racers : List Racer) → AreEither doubtful racers
-    → AreEither doubtful (ending number over racers)
-ending_either number true doubtful racers either = rested_either doubtful racers (slot_of number 256) either
-ending_either number false doubtful racers either = either
+ending_either : (number : ℕ) (over : Bool) (indeterminate : ℕ → Bool) (footprints : List Footprint) → AreEither indeterminate footprints
+    → AreEither indeterminate (ending number over footprints)
+ending_either number true indeterminate footprints either = rested_either indeterminate footprints (slot_of number 256) either
+ending_either number false indeterminate footprints either = either
 
-ending_length : (number : ℕ) (over : Bool) (racers : List Racer) → length (ending number over racers) ≡ length racers
-ending_length number true racers = length-set racers (slot_of number 256) (at_rest (at racers (slot_of number 256)))
-ending_length number false racers = refl
+ending_length : (number : ℕ) (over : Bool) (footprints : List Footprint) → length (ending number over footprints) ≡ length footprints
+ending_length number true footprints = length-set footprints (slot_of number 256) (at_rest (at footprints (slot_of number 256)))
+ending_length number false footprints = refl
 
 -- ---- a board on which one more beat of a reply came
 
 -- the slots and the replies of a client then, where the reply is that at a place
-pub record IsMoved (board : RacingBoard) (number : ℕ) (client : ClientBoard) (from : ℕ) (racers : List Racer) (replies : DueBoard) : Type 0 where
+pub record IsMoved (board : RacingBoard) (number : ℕ) (client : ClientBoard) (from : ℕ) (footprints : List Footprint) (replies : DueBoard) : Type 0 where
   pub place : from ≤ 256
-  pub count : length racers ≡ length board.races.racers
-  pub apart : AreApart racers
-  pub either : AreEither board.races.doubtful racers
-  pub there : at racers (slot_of number 256) ≡ at board.races.racers (slot_of number from)
-  pub others : (i : ℕ) → (i ≡ slot_of number from → ⊥) → (i ≡ slot_of number 256 → ⊥) → at racers i ≡ at board.races.racers i
+  pub count : length footprints ≡ length board.races.footprints
+  pub apart : AreApart footprints
+  pub either : AreEither board.races.indeterminate footprints
+  pub there : at footprints (slot_of number 256) ≡ at board.races.footprints (slot_of number from)
+  pub others : (i : ℕ) → (i ≡ slot_of number from → ⊥) → (i ≡ slot_of number 256 → ⊥) → at footprints i ≡ at board.races.footprints i
   pub rest : replies.begun ≡ drop 1 (due_at board.clients number from)
   pub same_due : (source : ℕ) → (source ≡ from → ⊥) → due_of replies source ≡ due_of client.replies source
   pub gone : (source : ℕ) → source < 256 → from ≡ source → none_left (due_of replies source) ≡ true
   pub sources : length replies.due ≡ 256
 
-module _ (board : RacingBoard) (order : Order) (number : ℕ) (client : ClientBoard) (begun : Bool) (source from : ℕ) (racers : List Racer) (replies : DueBoard)
-    (there : slice_get board.clients number ≡ Some client) (explains : Explains board order) (is : IsMoved board number client from racers replies)
+module _ (board : RacingBoard) (order : Order) (number : ℕ) (client : ClientBoard) (begun : Bool) (source from : ℕ) (footprints : List Footprint) (replies : DueBoard)
+    (there : slice_get board.clients number ≡ Some client) (explains : Explains board order) (is : IsMoved board number client from footprints replies)
     (moves : AllByRecursion (Moves begun number source from) order)
     (counted : none_left (due_at board.clients number from) ≡ false → list_any (counts begun number source) order ≡ true) where
   abbrev changed : ClientBoard
@@ -69,8 +69,8 @@ module _ (board : RacingBoard) (order : Order) (number : ℕ) (client : ClientBo
   abbrev new_clients : List ClientBoard
   new_clients = set board.clients number changed
 
-  abbrev new_racers : List Racer
-  new_racers = ending number (none_left replies.begun) racers
+  abbrev new_footprints : List Footprint
+  new_footprints = ending number (none_left replies.begun) footprints
 
   own_replies : replies_at board.clients number ≡ client.replies
   own_replies = ap replies_in there
@@ -94,12 +94,12 @@ module _ (board : RacingBoard) (order : Order) (number : ℕ) (client : ClientBo
   begun_now : due_at new_clients number 256 ≡ drop 1 (due_at board.clients number from)
   begun_now = ap (λ (r : DueBoard). r.begun) (replies_same board.clients number client changed there) ∙ is.rest
 
-  others : (i : ℕ) → (i ≡ slot_of number from → ⊥) → (i ≡ slot_of number 256 → ⊥) → at new_racers i ≡ at board.races.racers i
-  others i away apart = ending_others number (none_left replies.begun) racers i apart ∙ is.others i away apart
+  others : (i : ℕ) → (i ≡ slot_of number from → ⊥) → (i ≡ slot_of number 256 → ⊥) → at new_footprints i ≡ at board.races.footprints i
+  others i away apart = ending_others number (none_left replies.begun) footprints i apart ∙ is.others i away apart
 
   moved_there : none_left (drop 1 (due_at board.clients number from)) ≡ false
-      → at new_racers (slot_of number 256) ≡ at board.races.racers (slot_of number from)
-  moved_there some = ending_kept number (none_left replies.begun) racers (ap none_left is.rest ∙ some) ∙ is.there
+      → at new_footprints (slot_of number 256) ≡ at board.races.footprints (slot_of number from)
+  moved_there some = ending_kept number (none_left replies.begun) footprints (ap none_left is.rest ∙ some) ∙ is.there
 
   front : IsFrontRight changed
   front =
@@ -124,33 +124,33 @@ module _ (board : RacingBoard) (order : Order) (number : ℕ) (client : ClientBo
       ap none_left (ap (λ (r : DueBoard). due_from r place) (replies_same board.clients number client changed there) ∙ of_source replies place below)
       ∙ is.gone place below same
 
-  pub explains_moved : Explains (record board { clients = new_clients; races = record board.races { racers = new_racers } })
+  pub explains_moved : Explains (record board { clients = new_clients; races = record board.races { footprints = new_footprints } })
       (map (with_beat begun number source) order)
   explains_moved =
       record {
-        clients = clients_with board.clients board.races.racers new_racers number client changed there explains.clients
-            (ending_length number (none_left replies.begun) racers ∙ is.count) is.sources front;
+        clients = clients_with board.clients board.races.footprints new_footprints number client changed there explains.clients
+            (ending_length number (none_left replies.begun) footprints ∙ is.count) is.sources front;
         small = explains.small;
-        apart = ending_apart number (none_left replies.begun) racers is.apart;
-        either = ending_either number (none_left replies.begun) board.races.doubtful racers is.either;
+        apart = ending_apart number (none_left replies.begun) footprints is.apart;
+        either = ending_either number (none_left replies.begun) board.races.indeterminate footprints is.either;
         distinct =
-            distinct_next begun number source board.faults board.regions (length board.clients) from board.races.racers new_racers (due_at board.clients)
+            distinct_next begun number source board.memory.faults board.memory.regions (length board.clients) from board.races.footprints new_footprints (due_at board.clients)
             (due_at new_clients) is.place others moved_there begun_now other_due
             order moves explains.distinct;
         entries =
-            subst (λ (n : ℕ). Each board.faults board.regions (Stands board.faults board.regions n new_racers (due_at new_clients)) zeros
+            subst (λ (n : ℕ). Each board.memory.faults board.memory.regions (Stands board.memory.faults board.memory.regions n new_footprints (due_at new_clients)) zeros
             (map (with_beat begun number source) order))
             (sym (length-set board.clients number changed))
-            (each_next begun number source board.faults board.regions (length board.clients) from board.races.racers new_racers (due_at board.clients)
+            (each_next begun number source board.memory.faults board.memory.regions (length board.clients) from board.races.footprints new_footprints (due_at board.clients)
             (due_at new_clients) is.place others moved_there begun_now other_due
             order zeros moves explains.entries);
-        known = λ x certain. ap (λ (f : Bytes). f x) (run_moved begun number source board.faults board.regions order zeros) ∙ explains.known x certain;
+        known = λ x certain. ap (λ (f : Bytes). f x) (run_moved begun number source board.memory.faults board.memory.regions order zeros) ∙ explains.known x certain;
         waiting = λ c place below some.
-            waiting_next begun number source board.faults board.regions (length board.clients) from board.races.racers new_racers (due_at board.clients)
+            waiting_next begun number source board.memory.faults board.memory.regions (length board.clients) from board.races.footprints new_footprints (due_at board.clients)
             (due_at new_clients) is.place others moved_there begun_now other_due
             c place below some (gone_now place below) order moves (explains.waiting c place below);
         begun = λ c some.
-            begun_next begun number source board.faults board.regions (length board.clients) from board.races.racers new_racers (due_at board.clients)
+            begun_next begun number source board.memory.faults board.memory.regions (length board.clients) from board.races.footprints new_footprints (due_at board.clients)
             (due_at new_clients) is.place others moved_there begun_now other_due
             c order zeros moves explains.entries counted (explains.begun c) some;
       }

@@ -65,7 +65,7 @@ module _ (board : RacingBoard) (number : ℕ) where
   due = due_at board.clients
 
   abbrev Held : Entry → Bytes → Type 0
-  Held = Stands board.faults board.regions (length board.clients) board.races.racers due
+  Held = Stands board.memory.faults board.memory.regions (length board.clients) board.races.footprints due
 
   -- ---- the reply that has begun
 
@@ -86,7 +86,7 @@ module _ (board : RacingBoard) (number : ℕ) where
         live = begun.1;
         client = client;
         place = at_begun entry begun.0;
-        reply = (meaning board.faults board.regions entry.request was.made_of).reply;
+        reply = (meaning board.memory.faults board.memory.regions entry.request was.made_of).reply;
         left = sym (ap (due number) (at_begun entry begun.0)) ∙ sym (ap (λ c. due c (place_of entry)) client) ∙ was.left;
       }
 
@@ -96,13 +96,13 @@ module _ (board : RacingBoard) (number : ℕ) where
   pub begun_source : (entry : Entry) (source : ℕ) → HasBegun entry → has_source source (due number 256) ≡ (entry.request.source == source)
   begun_source entry source begun = ap (has_source source) begun.left ∙ shown_source entry.request begun.reply entry.came source (live_less entry begun.live)
 
-  none_begun : (order : Order) (m : Bytes) → Each board.faults board.regions Held m order → none_left (due number 256) ≡ true
+  none_begun : (order : Order) (m : Bytes) → Each board.memory.faults board.memory.regions Held m order → none_left (due number 256) ≡ true
       → list_any (begun_to number) order ≡ false
   none_begun [] m each none = refl
   none_begun (entry ∷ order) m each none =
       or_from (begun_to number entry) (list_any (begun_to number) order)
       (false_from_ne_true (begun_to number entry) (λ is. both_ways (none_left (due number 256)) (begun_some entry (has_begun_of entry m each.0 is)) none))
-      (none_begun order (carry board.faults board.regions entry.request m) each.1 none)
+      (none_begun order (carry board.memory.faults board.memory.regions entry.request m) each.1 none)
 
   -- whether one has begun, as the board tells it
   pub begun_as : (order : Order) → Explains board order → list_any (begun_to number) order ≡ not (none_left (due number 256))
@@ -172,10 +172,10 @@ module _ (board : RacingBoard) (number : ℕ) where
                     (begun_some entry (has_begun_of entry m held
                     (and_from (entry.client == number) (has_begun entry) (eq-eqb entry.client number client) (begun_from entry came live)))) none
 
-    pub begin_all : (order : Order) (m : Bytes) → Each board.faults board.regions Held m order → none_left (due number 256) ≡ true
+    pub begin_all : (order : Order) (m : Bytes) → Each board.memory.faults board.memory.regions Held m order → none_left (due number 256) ≡ true
         → AllByRecursion (Moves false number source source) order
     begin_all [] m each none = tt
-    begin_all (entry ∷ order) m each none = (begin_one entry m each.0 none, begin_all order (carry board.faults board.regions entry.request m) each.1 none)
+    begin_all (entry ∷ order) m each none = (begin_one entry m each.0 none, begin_all order (carry board.memory.faults board.memory.regions entry.request m) each.1 none)
 
     waiting_counts : (order : Order) → AllByRecursion (λ entry. waits_for number source entry ≡ true → counts false number source entry ≡ true) order
     waiting_counts [] = tt
@@ -194,13 +194,13 @@ module _ (board : RacingBoard) (number : ℕ) where
         any_all (waits_for number source) (counts false number source) order (waiting_counts order) (explains.waiting number source small some)
 
     -- what is due to a source is of it
-    own_source : (order : Order) (m : Bytes) → Each board.faults board.regions Held m order → list_any (waits_for number source) order ≡ true
+    own_source : (order : Order) (m : Bytes) → Each board.memory.faults board.memory.regions Held m order → list_any (waits_for number source) order ≡ true
         → has_source source (due number source) ≡ true
     own_source [] m each some = absurd (cc (some))
     own_source (entry ∷ order) m each some =
         elim (or_cases (waits_for number source entry) (list_any (waits_for number source) order) some) [
           | inl here ↦ here_source here
-          | inr there ↦ own_source order (carry board.faults board.regions entry.request m) each.1 there
+          | inr there ↦ own_source order (carry board.memory.faults board.memory.regions entry.request m) each.1 there
         ]
       where
         here_source : waits_for number source entry ≡ true → has_source source (due number source) ≡ true
@@ -210,10 +210,10 @@ module _ (board : RacingBoard) (number : ℕ) where
             let live = waits_live entry whole.1 in
             let was = each.0.live live in
             let place : place_of entry ≡ source = at_source entry whole.1 ∙ eqb-true entry.request.source source parts.1 in
-            let left : due number source ≡ drop entry.came (shown entry.request (meaning board.faults board.regions entry.request was.made_of).reply) =
+            let left : due number source ≡ drop entry.came (shown entry.request (meaning board.memory.faults board.memory.regions entry.request was.made_of).reply) =
             sym (ap (due number) place) ∙ sym (ap (λ c. due c (place_of entry)) (eqb-true entry.client number parts.0)) ∙ was.left in
             ap (has_source source) left
-            ∙ shown_source entry.request (meaning board.faults board.regions entry.request was.made_of).reply entry.came source (live_less entry live)
+            ∙ shown_source entry.request (meaning board.memory.faults board.memory.regions entry.request was.made_of).reply entry.came source (live_less entry live)
             ∙ parts.1
 
     pub due_source : (order : Order) → Explains board order → none_left (due number source) ≡ false → has_source source (due number source) ≡ true
@@ -252,18 +252,18 @@ module _ (board : RacingBoard) (number : ℕ) where
                     both_ways (counts true number source entry) is
                     (and_from (is_due true number source entry) (entry.request.source == source) is_begun (sym (begun_source entry source begun) ∙ has))
 
-    pub more_all : (order : Order) (m : Bytes) → Each board.faults board.regions Held m order → has_source source (due number 256) ≡ true
+    pub more_all : (order : Order) (m : Bytes) → Each board.memory.faults board.memory.regions Held m order → has_source source (due number 256) ≡ true
         → AllByRecursion (Moves true number source 256) order
     more_all [] m each has = tt
-    more_all (entry ∷ order) m each has = (more_one entry m each.0 has, more_all order (carry board.faults board.regions entry.request m) each.1 has)
+    more_all (entry ∷ order) m each has = (more_one entry m each.0 has, more_all order (carry board.memory.faults board.memory.regions entry.request m) each.1 has)
 
-    begun_counts : (order : Order) (m : Bytes) → Each board.faults board.regions Held m order → has_source source (due number 256) ≡ true
+    begun_counts : (order : Order) (m : Bytes) → Each board.memory.faults board.memory.regions Held m order → has_source source (due number 256) ≡ true
         → AllByRecursion (λ entry. begun_to number entry ≡ true → counts true number source entry ≡ true) order
     begun_counts [] m each has = tt
     begun_counts (entry ∷ order) m each has = (
       (λ is. and_from (is_due true number source entry) (entry.request.source == source) is
           (sym (begun_source entry source (has_begun_of entry m each.0 is)) ∙ has)),
-      begun_counts order (carry board.faults board.regions entry.request m) each.1 has,
+      begun_counts order (carry board.memory.faults board.memory.regions entry.request m) each.1 has,
     )
 
     pub more_counted : (order : Order) → Explains board order → has_source source (due number 256) ≡ true → none_left (due number 256) ≡ false
@@ -272,12 +272,12 @@ module _ (board : RacingBoard) (number : ℕ) where
         any_all (begun_to number) (counts true number source) order (begun_counts order zeros explains.entries has) (explains.begun number some)
 
     -- a beat of another source counts for none
-    pub other_all : (order : Order) (m : Bytes) → Each board.faults board.regions Held m order → has_source source (due number 256) ≡ false
+    pub other_all : (order : Order) (m : Bytes) → Each board.memory.faults board.memory.regions Held m order → has_source source (due number 256) ≡ false
         → AllByRecursion (λ entry. counts true number source entry ≡ false) order
     other_all [] m each lacks = tt
     other_all (entry ∷ order) m each lacks = (
       false_from_ne_true (counts true number source entry) (λ is.
           let whole = and_parts (is_due true number source entry) (entry.request.source == source) is in
           both_ways (has_source source (due number 256)) lacks (begun_source entry source (has_begun_of entry m each.0 whole.0) ∙ whole.1)),
-      other_all order (carry board.faults board.regions entry.request m) each.1 lacks,
+      other_all order (carry board.memory.faults board.memory.regions entry.request m) each.1 lacks,
     )

@@ -24,7 +24,7 @@ use Rattle.meaning.specs.Meaning.{Bytes, Effect, atomic_bytes, bytes_at, effect,
 use Rattle.meaning.proofs.GivenBytes.{given_before, given_past}
 use Rattle.scoreboard.specs.SerialMemory.{on_good_page}
 use Rattle.scoreboard.proofs.Meanings.{meaning_none, meaning_some}
-use Rattle.racing_board.specs.Races.{Racer, alone, covers}
+use Rattle.racing_board.specs.Races.{Footprint, alone, covers}
 
 -- ---- requests as a checker lets them pass
 
@@ -39,19 +39,19 @@ pub record IsWell (q : WholeRequest) : Type 0 where
   pub full : (op : AtomicOp) → q.operation ≡ Atomic op → (i : ℕ) → i < 2 ^ q.size → is_some (option_flatten (slice_get q.bytes i)) ≡ true
 
 -- where it acts
-abbrev pub own : Faults → List Region → WholeRequest → Racer
+abbrev pub own : Faults → List Region → WholeRequest → Footprint
 own faults regions q = alone (λ x. false) (on_good_page faults (address_of regions q)) q
 
 -- ---- what a change of the memory is to a request
 
-abbrev pub gives : Racer → List (Option ℕ) → ℕ → Bool
-gives racer bytes x = racer.writes && is_some (given_at bytes racer.address x)
+abbrev pub gives : Footprint → List (Option ℕ) → ℕ → Bool
+gives footprint bytes x = footprint.writes && is_some (given_at bytes footprint.address x)
 
-pub record Acts (carry : Bytes → Bytes) (racer : Racer) (bytes : List (Option ℕ)) : Type 0 where
-  pub keeps : (m : Bytes) (x : ℕ) → gives racer bytes x ≡ false → carry m x ≡ m x
-  pub same : (m n : Bytes) (x : ℕ) → gives racer bytes x ≡ true → (racer.reads ≡ true → (y : ℕ) → covers racer y ≡ true → m y ≡ n y) → carry m x ≡ carry n x
-  pub within : (x : ℕ) → is_some (given_at bytes racer.address x) ≡ true → covers racer x ≡ true
-  pub full : racer.reads ≡ true → racer.writes ≡ true → (x : ℕ) → covers racer x ≡ true → is_some (given_at bytes racer.address x) ≡ true
+pub record Acts (carry : Bytes → Bytes) (footprint : Footprint) (bytes : List (Option ℕ)) : Type 0 where
+  pub keeps : (m : Bytes) (x : ℕ) → gives footprint bytes x ≡ false → carry m x ≡ m x
+  pub same : (m n : Bytes) (x : ℕ) → gives footprint bytes x ≡ true → (footprint.reads ≡ true → (y : ℕ) → covers footprint y ≡ true → m y ≡ n y) → carry m x ≡ carry n x
+  pub within : (x : ℕ) → is_some (given_at bytes footprint.address x) ≡ true → covers footprint x ≡ true
+  pub full : footprint.reads ≡ true → footprint.writes ≡ true → (x : ℕ) → covers footprint x ≡ true → is_some (given_at bytes footprint.address x) ≡ true
   pub small : (m : Bytes) → AreBytes m → AreBytes (carry m)
 
 -- ---- bytes that are given
@@ -115,27 +115,27 @@ put_small m a bytes small all = record { at = λ x. by_value x (given_at bytes a
 -- ---- the kinds of requests
 
 -- nothing is written
-quiet : (carry : Bytes → Bytes) (racer : Racer) (bytes : List (Option ℕ)) → ((m : Bytes) → carry m ≡ m) → racer.writes ≡ false → length bytes ≡ 2 ^ racer.size
-    → Acts carry racer bytes
-quiet carry racer bytes same nothing count =
+quiet : (carry : Bytes → Bytes) (footprint : Footprint) (bytes : List (Option ℕ)) → ((m : Bytes) → carry m ≡ m) → footprint.writes ≡ false → length bytes ≡ 2 ^ footprint.size
+    → Acts carry footprint bytes
+quiet carry footprint bytes same nothing count =
     record {
       keeps = λ m x given. ap (λ (f : Bytes). f x) (same m);
-      same = λ m n x given agree. absurd (both_ways racer.writes nothing (and_parts racer.writes (is_some (given_at bytes racer.address x)) given).0);
-      within = λ x some. given_within bytes racer.address (2 ^ racer.size) x count some;
-      full = λ reads writes. absurd (both_ways racer.writes nothing writes);
+      same = λ m n x given agree. absurd (both_ways footprint.writes nothing (and_parts footprint.writes (is_some (given_at bytes footprint.address x)) given).0);
+      within = λ x some. given_within bytes footprint.address (2 ^ footprint.size) x count some;
+      full = λ reads writes. absurd (both_ways footprint.writes nothing writes);
       small = λ m all. subst AreBytes (sym (same m)) all;
     }
 
 -- a Put on a good page
-put : (q : WholeRequest) (racer : Racer) → racer.reads ≡ false → racer.writes ≡ true → racer.size ≡ q.size → IsWell q
-    → Acts (λ m. with_bytes m racer.address q.bytes) racer q.bytes
-put q racer reads writes size well =
+put : (q : WholeRequest) (footprint : Footprint) → footprint.reads ≡ false → footprint.writes ≡ true → footprint.size ≡ q.size → IsWell q
+    → Acts (λ m. with_bytes m footprint.address q.bytes) footprint q.bytes
+put q footprint reads writes size well =
     record {
-      keeps = λ m x given. put_keeps m racer.address q.bytes x (rw writes at given);
-      same = λ m n x given agree. put_same m n racer.address q.bytes x (and_parts racer.writes (is_some (given_at q.bytes racer.address x)) given).1;
-      within = λ x some. given_within q.bytes racer.address (2 ^ racer.size) x (well.count ∙ ap (λ k. 2 ^ k) (sym size)) some;
-      full = λ does. absurd (both_ways racer.reads reads does);
-      small = λ m all. put_small m racer.address q.bytes well.small all;
+      keeps = λ m x given. put_keeps m footprint.address q.bytes x (rw writes at given);
+      same = λ m n x given agree. put_same m n footprint.address q.bytes x (and_parts footprint.writes (is_some (given_at q.bytes footprint.address x)) given).1;
+      within = λ x some. given_within q.bytes footprint.address (2 ^ footprint.size) x (well.count ∙ ap (λ k. 2 ^ k) (sym size)) some;
+      full = λ does. absurd (both_ways footprint.reads reads does);
+      small = λ m all. put_small m footprint.address q.bytes well.small all;
     }
 
 -- all bytes of an atomic are given
@@ -150,19 +150,19 @@ not_given true g is none = none
 not_given false g is none = absurd (cc (is))
 
 -- an atomic that leaves all as it is
-idle : (q : WholeRequest) (racer : Racer) (op : AtomicOp) → racer.reads ≡ true → racer.size ≡ q.size → q.operation ≡ Atomic op → IsWell q
-    → Acts (λ m. m) racer q.bytes
-idle q racer op reads size is well =
+idle : (q : WholeRequest) (footprint : Footprint) (op : AtomicOp) → footprint.reads ≡ true → footprint.size ≡ q.size → q.operation ≡ Atomic op → IsWell q
+    → Acts (λ m. m) footprint q.bytes
+idle q footprint op reads size is well =
     record {
       keeps = λ m x given. refl;
-      same = λ m n x given agree. agree reads x (within x (and_parts racer.writes (is_some (given_at q.bytes racer.address x)) given).1);
+      same = λ m n x given agree. agree reads x (within x (and_parts footprint.writes (is_some (given_at q.bytes footprint.address x)) given).1);
       within = within;
-      full = λ does writes x covered. all_full q racer.address op well is x (rw size at covered);
+      full = λ does writes x covered. all_full q footprint.address op well is x (rw size at covered);
       small = λ m all. all;
     }
   where
-    within : (x : ℕ) → is_some (given_at q.bytes racer.address x) ≡ true → covers racer x ≡ true
-    within x some = given_within q.bytes racer.address (2 ^ racer.size) x (well.count ∙ ap (λ k. 2 ^ k) (sym size)) some
+    within : (x : ℕ) → is_some (given_at q.bytes footprint.address x) ≡ true → covers footprint x ≡ true
+    within x some = given_within q.bytes footprint.address (2 ^ footprint.size) x (well.count ∙ ap (λ k. 2 ^ k) (sym size)) some
 
 -- what an atomic puts
 length-atomic_bytes : (op : AtomicOp) (m : Bytes) (a n : ℕ) (operand : List (Option ℕ)) → length (atomic_bytes op m a n operand) ≡ n
@@ -195,39 +195,39 @@ read_alike m n a (suc count) agree =
     ap₂ p r = cc
 
 -- an atomic on a good page whose word isn't bad
-change : (q : WholeRequest) (racer : Racer) (op : AtomicOp) → racer.reads ≡ true → racer.writes ≡ true → racer.size ≡ q.size → q.operation ≡ Atomic op
+change : (q : WholeRequest) (footprint : Footprint) (op : AtomicOp) → footprint.reads ≡ true → footprint.writes ≡ true → footprint.size ≡ q.size → q.operation ≡ Atomic op
     → IsWell q
-    → Acts (λ m. with_bytes m racer.address (atomic_bytes op m racer.address (2 ^ q.size) q.bytes)) racer q.bytes
-change q racer op reads writes size is well =
+    → Acts (λ m. with_bytes m footprint.address (atomic_bytes op m footprint.address (2 ^ q.size) q.bytes)) footprint q.bytes
+change q footprint op reads writes size is well =
     record {
       keeps = λ m x given.
-          put_keeps m racer.address (put_by m) x (false_from_ne_true (is_some (given_at (put_by m) racer.address x)) (λ some. out m x given some));
+          put_keeps m footprint.address (put_by m) x (false_from_ne_true (is_some (given_at (put_by m) footprint.address x)) (λ some. out m x given some));
       same = λ m n x given agree.
-          let there = within x (and_parts racer.writes (is_some (given_at q.bytes racer.address x)) given).1 in
-          let read = read_alike m n racer.address (2 ^ q.size) (λ y has. agree reads y (rw (sym size) at has)) in
+          let there = within x (and_parts footprint.writes (is_some (given_at q.bytes footprint.address x)) given).1 in
+          let read = read_alike m n footprint.address (2 ^ q.size) (λ y has. agree reads y (rw (sym size) at has)) in
           ap (λ (read_bytes : List ℕ). unwrap_or (given_at
           (map (λ (c : ℕ). Some c) (bytes_of (2 ^ q.size)
-          (atomic_result op (2 ^ q.size) (value read_bytes) (value (map (λ byte. unwrap_or byte 0) q.bytes))))) racer.address x) (m x)) read
-          ∙ ap (λ (old : ℕ). unwrap_or (given_at (put_by n) racer.address x) old) (agree reads x there);
+          (atomic_result op (2 ^ q.size) (value read_bytes) (value (map (λ byte. unwrap_or byte 0) q.bytes))))) footprint.address x) (m x)) read
+          ∙ ap (λ (old : ℕ). unwrap_or (given_at (put_by n) footprint.address x) old) (agree reads x there);
       within = within;
-      full = λ does writes x covered. all_full q racer.address op well is x (rw size at covered);
+      full = λ does writes x covered. all_full q footprint.address op well is x (rw size at covered);
       small = λ m all.
-          put_small m racer.address (put_by m)
-          (number_small (2 ^ q.size) (atomic_result op (2 ^ q.size) (value (bytes_at m racer.address (2 ^ q.size)))
+          put_small m footprint.address (put_by m)
+          (number_small (2 ^ q.size) (atomic_result op (2 ^ q.size) (value (bytes_at m footprint.address (2 ^ q.size)))
           (value (map (λ byte. unwrap_or byte 0) q.bytes)))) all;
     }
   where
     put_by : Bytes → List (Option ℕ)
-    put_by m = atomic_bytes op m racer.address (2 ^ q.size) q.bytes
+    put_by m = atomic_bytes op m footprint.address (2 ^ q.size) q.bytes
 
-    within : (x : ℕ) → is_some (given_at q.bytes racer.address x) ≡ true → covers racer x ≡ true
-    within x some = given_within q.bytes racer.address (2 ^ racer.size) x (well.count ∙ ap (λ k. 2 ^ k) (sym size)) some
+    within : (x : ℕ) → is_some (given_at q.bytes footprint.address x) ≡ true → covers footprint x ≡ true
+    within x some = given_within q.bytes footprint.address (2 ^ footprint.size) x (well.count ∙ ap (λ k. 2 ^ k) (sym size)) some
 
-    out : (m : Bytes) (x : ℕ) → gives racer q.bytes x ≡ false → is_some (given_at (put_by m) racer.address x) ≡ true → ⊥
+    out : (m : Bytes) (x : ℕ) → gives footprint q.bytes x ≡ false → is_some (given_at (put_by m) footprint.address x) ≡ true → ⊥
     out m x given some =
-        let has = given_within (put_by m) racer.address (2 ^ q.size) x (length-atomic_bytes op m racer.address (2 ^ q.size) q.bytes) some in
-        both_ways (is_some (given_at q.bytes racer.address x)) (not_given racer.writes (is_some (given_at q.bytes racer.address x)) writes given)
-        (all_full q racer.address op well is x has)
+        let has = given_within (put_by m) footprint.address (2 ^ q.size) x (length-atomic_bytes op m footprint.address (2 ^ q.size) q.bytes) some in
+        both_ways (is_some (given_at q.bytes footprint.address x)) (not_given footprint.writes (is_some (given_at q.bytes footprint.address x)) writes given)
+        (all_full q footprint.address op well is x has)
 
 -- ---- each request
 
@@ -285,6 +285,6 @@ acts faults regions q well = by_address (address_of regions q) refl
         let carries : (λ (m : Bytes). (effect faults q m a q.operation (standing_at faults a) (is_bad faults a)).after) ≡
         (λ (m : Bytes). (meaning faults regions q m).after) =
         fun_ext (λ m. ap (λ (e : Effect). e.after) (sym (meaning_some faults regions q m a is))) in
-        subst₂ (λ (carry : Bytes → Bytes) (racer : Racer). Acts carry racer q.bytes) carries
+        subst₂ (λ (carry : Bytes → Bytes) (footprint : Footprint). Acts carry footprint q.bytes) carries
         (ap (λ (o : Option ℕ). alone (λ x. false) (on_good_page faults o) q) (sym is))
         (by_kind faults q a q.operation (standing_at faults a) (is_bad faults a) refl well)

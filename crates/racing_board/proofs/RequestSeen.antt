@@ -6,19 +6,20 @@ use Rattle.tl_checker.specs.Ports.{joined}
 use Rattle.tl_checker.specs.declared.Progress.{Progress}
 use Rattle.tl_checker.specs.declared.Progress.TheVariants.{More, Whole}
 use Rattle.tl_checker.specs.declared.TlRule.{TlRule}
-use Rattle.scoreboard.specs.Boards.{ClientBoard}
-use Rattle.racing_board.specs.Boards.{RacingBoard, after_request, answer_to, bytes_after, client_after, races_after}
-use Rattle.racing_board.specs.Orders.{IsAfterA, IsAnsweredIn, Order}
+use Rattle.scoreboard.specs.Boards.{ClientBoard, client_after, memory_after}
+use Rattle.racing_board.specs.Boards.{RacingBoard, after_request, answer_to, races_after}
+use Rattle.racing_board.specs.Orders.{Order}
+use Rattle.racing_board.proofs.StepOrders.{IsAfterA, IsAnsweredIn}
 use Rattle.racing_board.proofs.Acceptance.{explains_accepted}
 use Rattle.racing_board.proofs.CheckedRequests.{front_next, joined_free, sound_well, whole_sound}
 use Rattle.racing_board.proofs.Explained.{Explains, explains_with}
 
-abbrev answered_on : RacingBoard → ℕ → ClientBoard → ABeat → Result Progress TlRule → RacingBoard
+abbrev pub answered_on : RacingBoard → ℕ → ClientBoard → ABeat → Result Progress TlRule → RacingBoard
 answered_on board number client beat answer =
     record board {
-      clients = set board.clients number (client_after board client beat answer);
-      bytes = bytes_after board client beat answer;
-      races = races_after board number client beat answer;
+      clients = set board.clients number (client_after board.memory client beat answer);
+      memory = memory_after board.memory client beat answer;
+      races = races_after board.memory board.races number client beat answer;
     }
 
 by_answer : (board : RacingBoard) (number : ℕ) (client : ClientBoard) (beat : ABeat) (old new : Order) (answer : Result Progress TlRule)

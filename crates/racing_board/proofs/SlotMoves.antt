@@ -4,7 +4,7 @@ use Rattle.std.specs.List.{swap}
 use Rattle.std.proofs.lemmas.Bool.{cases_eq, cases_lt, eq-eqb, ne_eqb}
 use Rattle.std.proofs.lemmas.List.{get_or-set_other, get_or-set_same, set_past}
 use Rattle.std.proofs.lemmas.List.Edits.{swapped_from_swap}
-use Rattle.racing_board.specs.Races.{Racer, at_rest, may_write, no_racer}
+use Rattle.racing_board.specs.Races.{Footprint, at_rest, may_write, no_footprint}
 use Rattle.racing_board.proofs.Slots.{AreApart, AreEither, IsEither, at}
 
 -- ---- two that change places
@@ -34,75 +34,75 @@ back a b i = by_both (cases_eq i a) (cases_eq i b)
     by_both (inr other) (inl same) = first_place a b (place_before a b i) (second_place a b i same) ∙ sym same
     by_both (inr other) (inr differ) = ap (place_before a b) (third_place a b i other differ) ∙ third_place a b i other differ
 
-pub moved : (racers : List Racer) (a b i : ℕ) → a < length racers → b < length racers → at (swap racers a b) i ≡ at racers (place_before a b i)
-moved racers a b i low high = by_both (cases_eq i a) (cases_eq i b)
+pub moved : (footprints : List Footprint) (a b i : ℕ) → a < length footprints → b < length footprints → at (swap footprints a b) i ≡ at footprints (place_before a b i)
+moved footprints a b i low high = by_both (cases_eq i a) (cases_eq i b)
   where
-    facts : (at (swap racers a b) a ≡ at racers b) × (at (swap racers a b) b ≡ at racers a)
-        × ((m : ℕ) → (m ≡ a → ⊥) → (m ≡ b → ⊥) → at (swap racers a b) m ≡ at racers m)
-    facts = swapped_from_swap racers (swap racers a b) a b no_racer low high refl
+    facts : (at (swap footprints a b) a ≡ at footprints b) × (at (swap footprints a b) b ≡ at footprints a)
+        × ((m : ℕ) → (m ≡ a → ⊥) → (m ≡ b → ⊥) → at (swap footprints a b) m ≡ at footprints m)
+    facts = swapped_from_swap footprints (swap footprints a b) a b no_footprint low high refl
 
-    by_both : (i ≡ a) ⊎ (i ≡ a → ⊥) → (i ≡ b) ⊎ (i ≡ b → ⊥) → at (swap racers a b) i ≡ at racers (place_before a b i)
-    by_both (inl same) last = ap (at (swap racers a b)) same ∙ facts.0 ∙ ap (at racers) (sym (first_place a b i same))
-    by_both (inr other) (inl same) = ap (at (swap racers a b)) same ∙ facts.1 ∙ ap (at racers) (sym (second_place a b i same))
-    by_both (inr other) (inr differ) = facts.2 i other differ ∙ ap (at racers) (sym (third_place a b i other differ))
+    by_both : (i ≡ a) ⊎ (i ≡ a → ⊥) → (i ≡ b) ⊎ (i ≡ b → ⊥) → at (swap footprints a b) i ≡ at footprints (place_before a b i)
+    by_both (inl same) last = ap (at (swap footprints a b)) same ∙ facts.0 ∙ ap (at footprints) (sym (first_place a b i same))
+    by_both (inr other) (inl same) = ap (at (swap footprints a b)) same ∙ facts.1 ∙ ap (at footprints) (sym (second_place a b i same))
+    by_both (inr other) (inr differ) = facts.2 i other differ ∙ ap (at footprints) (sym (third_place a b i other differ))
 
-pub moved_apart : (racers : List Racer) (a b : ℕ) → a < length racers → b < length racers → AreApart racers → AreApart (swap racers a b)
-moved_apart racers a b low high old =
+pub moved_apart : (footprints : List Footprint) (a b : ℕ) → a < length footprints → b < length footprints → AreApart footprints → AreApart (swap footprints a b)
+moved_apart footprints a b low high old =
     record {
-      apart = λ i j x differ settled.
-          let own = moved racers a b i low high in
-          let other = moved racers a b j low high in
-          ap (λ (r : Racer). may_write r x) other
+      apart = λ i j x differ determined.
+          let own = moved footprints a b i low high in
+          let other = moved footprints a b j low high in
+          ap (λ (r : Footprint). may_write r x) other
           ∙ old.apart (place_before a b i) (place_before a b j) x (λ same. differ (sym (back a b i) ∙ ap (place_before a b) same ∙ back a b j))
-          (sym (ap (λ (r : Racer). r.settled x) own) ∙ settled);
+          (sym (ap (λ (r : Footprint). r.determined x) own) ∙ determined);
     }
 
-pub moved_either : (doubtful : ℕ → Bool) (racers : List Racer) (a b : ℕ) → a < length racers → b < length racers → AreEither doubtful racers
-    → AreEither doubtful (swap racers a b)
-moved_either doubtful racers a b low high old =
-    record { either = λ i. subst (IsEither doubtful) (sym (moved racers a b i low high)) (old.either (place_before a b i)) }
+pub moved_either : (indeterminate : ℕ → Bool) (footprints : List Footprint) (a b : ℕ) → a < length footprints → b < length footprints → AreEither indeterminate footprints
+    → AreEither indeterminate (swap footprints a b)
+moved_either indeterminate footprints a b low high old =
+    record { either = λ i. subst (IsEither indeterminate) (sym (moved footprints a b i low high)) (old.either (place_before a b i)) }
 
 -- ---- one that comes to rest
 
-abbrev pub rested : List Racer → ℕ → List Racer
-rested racers slot = set racers slot (at_rest (at racers slot))
+abbrev pub rested : List Footprint → ℕ → List Footprint
+rested footprints slot = set footprints slot (at_rest (at footprints slot))
 
-pub rested_at : (racers : List Racer) (slot i : ℕ) → (at (rested racers slot) i ≡ at racers i)
-    ⊎ ((i ≡ slot) × (at (rested racers slot) i ≡ at_rest (at racers i)))
-rested_at racers slot i = by_place (cases_eq i slot) (cases_lt slot (length racers))
+pub rested_at : (footprints : List Footprint) (slot i : ℕ) → (at (rested footprints slot) i ≡ at footprints i)
+    ⊎ ((i ≡ slot) × (at (rested footprints slot) i ≡ at_rest (at footprints i)))
+rested_at footprints slot i = by_place (cases_eq i slot) (cases_lt slot (length footprints))
   where
-    by_place : (i ≡ slot) ⊎ (i ≡ slot → ⊥) → (slot < length racers) ⊎ (length racers ≤ slot) → (at (rested racers slot) i ≡ at racers i)
-        ⊎ ((i ≡ slot) × (at (rested racers slot) i ≡ at_rest (at racers i)))
-    by_place (inr other) place = inl (get_or-set_other racers slot i (at_rest (at racers slot)) no_racer other)
+    by_place : (i ≡ slot) ⊎ (i ≡ slot → ⊥) → (slot < length footprints) ⊎ (length footprints ≤ slot) → (at (rested footprints slot) i ≡ at footprints i)
+        ⊎ ((i ≡ slot) × (at (rested footprints slot) i ≡ at_rest (at footprints i)))
+    by_place (inr other) place = inl (get_or-set_other footprints slot i (at_rest (at footprints slot)) no_footprint other)
     by_place (inl same) (inl below) =
         inr (
           same,
-          ap (at (rested racers slot)) same ∙ get_or-set_same racers slot (at_rest (at racers slot)) no_racer below
-              ∙ ap (λ k. at_rest (at racers k)) (sym same),
+          ap (at (rested footprints slot)) same ∙ get_or-set_same footprints slot (at_rest (at footprints slot)) no_footprint below
+              ∙ ap (λ k. at_rest (at footprints k)) (sym same),
         )
-    by_place (inl same) (inr past) = inl (ap (λ (rs : List Racer). at rs i) (set_past racers slot (at_rest (at racers slot)) past))
+    by_place (inl same) (inr past) = inl (ap (λ (rs : List Footprint). at rs i) (set_past footprints slot (at_rest (at footprints slot)) past))
 
-pub rested_apart : (racers : List Racer) (slot : ℕ) → AreApart racers → AreApart (rested racers slot)
-rested_apart racers slot old = record { apart = λ i j x differ settled. by_other i j x differ (same_settled i x ∙ settled) (rested_at racers slot j) }
+pub rested_apart : (footprints : List Footprint) (slot : ℕ) → AreApart footprints → AreApart (rested footprints slot)
+rested_apart footprints slot old = record { apart = λ i j x differ determined. by_other i j x differ (same_determined i x ∙ determined) (rested_at footprints slot j) }
   where
-    same_settled : (i x : ℕ) → (at racers i).settled x ≡ (at (rested racers slot) i).settled x
-    same_settled i x = by_own (rested_at racers slot i)
+    same_determined : (i x : ℕ) → (at footprints i).determined x ≡ (at (rested footprints slot) i).determined x
+    same_determined i x = by_own (rested_at footprints slot i)
       where
-        by_own : (at (rested racers slot) i ≡ at racers i) ⊎ ((i ≡ slot) × (at (rested racers slot) i ≡ at_rest (at racers i)))
-            → (at racers i).settled x ≡ (at (rested racers slot) i).settled x
-        by_own (inl is) = ap (λ (r : Racer). r.settled x) (sym is)
-        by_own (inr rests) = ap (λ (r : Racer). r.settled x) (sym rests.1)
+        by_own : (at (rested footprints slot) i ≡ at footprints i) ⊎ ((i ≡ slot) × (at (rested footprints slot) i ≡ at_rest (at footprints i)))
+            → (at footprints i).determined x ≡ (at (rested footprints slot) i).determined x
+        by_own (inl is) = ap (λ (r : Footprint). r.determined x) (sym is)
+        by_own (inr rests) = ap (λ (r : Footprint). r.determined x) (sym rests.1)
 
-    by_other : (i j x : ℕ) → (i ≡ j → ⊥) → (at racers i).settled x ≡ true → (at (rested racers slot) j ≡ at racers j)
-        ⊎ ((j ≡ slot) × (at (rested racers slot) j ≡ at_rest (at racers j)))
-        → may_write (at (rested racers slot) j) x ≡ false
-    by_other i j x differ settled (inl is) = ap (λ (r : Racer). may_write r x) is ∙ old.apart i j x differ settled
-    by_other i j x differ settled (inr rests) = ap (λ (r : Racer). may_write r x) rests.1
+    by_other : (i j x : ℕ) → (i ≡ j → ⊥) → (at footprints i).determined x ≡ true → (at (rested footprints slot) j ≡ at footprints j)
+        ⊎ ((j ≡ slot) × (at (rested footprints slot) j ≡ at_rest (at footprints j)))
+        → may_write (at (rested footprints slot) j) x ≡ false
+    by_other i j x differ determined (inl is) = ap (λ (r : Footprint). may_write r x) is ∙ old.apart i j x differ determined
+    by_other i j x differ determined (inr rests) = ap (λ (r : Footprint). may_write r x) rests.1
 
-pub rested_either : (doubtful : ℕ → Bool) (racers : List Racer) (slot : ℕ) → AreEither doubtful racers → AreEither doubtful (rested racers slot)
-rested_either doubtful racers slot old = record { either = λ i. by_place i (rested_at racers slot i) }
+pub rested_either : (indeterminate : ℕ → Bool) (footprints : List Footprint) (slot : ℕ) → AreEither indeterminate footprints → AreEither indeterminate (rested footprints slot)
+rested_either indeterminate footprints slot old = record { either = λ i. by_place i (rested_at footprints slot i) }
   where
-    by_place : (i : ℕ) → (at (rested racers slot) i ≡ at racers i) ⊎ ((i ≡ slot) × (at (rested racers slot) i ≡ at_rest (at racers i)))
-        → IsEither doubtful (at (rested racers slot) i)
-    by_place i (inl is) = subst (IsEither doubtful) (sym is) (old.either i)
-    by_place i (inr rests) = subst (IsEither doubtful) (sym rests.1) (λ reads writes. absurd (cc (reads)))
+    by_place : (i : ℕ) → (at (rested footprints slot) i ≡ at footprints i) ⊎ ((i ≡ slot) × (at (rested footprints slot) i ≡ at_rest (at footprints i)))
+        → IsEither indeterminate (at (rested footprints slot) i)
+    by_place i (inl is) = subst (IsEither indeterminate) (sym is) (old.either i)
+    by_place i (inr rests) = subst (IsEither indeterminate) (sym rests.1) (λ reads writes. absurd (cc (reads)))

@@ -12,29 +12,29 @@ use Rattle.scoreboard.specs.Boards.{reply_rules, wrong_by}
 use Rattle.scoreboard.specs.declared.ReplyRule.{ReplyRule}
 use Rattle.scoreboard.specs.declared.ReplyRule.TheVariants as rule
 use Rattle.scoreboard.specs.declared.Wrong.TheVariants as wrong
-use Rattle.racing_board.specs.Boards.{differs_in, is_payload, tells_otherwise, unless_unsettled, wrong_reply}
-use Rattle.racing_board.specs.Races.{Racer}
+use Rattle.racing_board.specs.Boards.{differs_in, is_payload, tells_otherwise, unless_indeterminate, wrong_reply}
+use Rattle.racing_board.specs.Races.{Footprint}
 use Rattle.racing_board.proofs.AlikeBeats.{Alike, LeftAlike, Same, Words}
 
 abbrev rows : Bool → Bool → Bool → Bool → Bool → Bool → List (Bool × ReplyRule)
 rows a b c d e f = (a, rule.Interleaved) ∷ (b, rule.Opcode) ∷ (c, rule.Size) ∷ (d, rule.Denied) ∷ (e, rule.Corrupt) ∷ (f, rule.Payload) ∷ []
 
--- where a payload differs it tells of nothing that is settled
-tells_nothing : (racer : Racer) (k : ℕ) (due other beat : DBeat) → Alike racer k due other → beat.payload ≡ other.payload
-    → tells_otherwise racer k due beat ≡ false
-tells_nothing racer k due other beat alike is =
-    rw (none_passes (differs_in racer k due.payload beat.payload) 0 8 (λ lane below. one (0 + lane) (omega (arith, below))))
-    (nothing racer.reads (not due.corrupt))
+-- where a payload differs it tells of nothing that is determined
+tells_nothing : (footprint : Footprint) (k : ℕ) (due other beat : DBeat) → Alike footprint k due other → beat.payload ≡ other.payload
+    → tells_otherwise footprint k due beat ≡ false
+tells_nothing footprint k due other beat alike is =
+    rw (none_passes (differs_in footprint k due.payload beat.payload) 0 8 (λ lane below. one (0 + lane) (omega (arith, below))))
+    (nothing footprint.reads (not due.corrupt))
   where
     nothing : (a b : Bool) → (a && b && false) ≡ false
     nothing true true = refl
     nothing true false = refl
     nothing false b = refl
 
-    one : (lane : ℕ) → lane < 8 → differs_in racer k due.payload beat.payload lane ≡ false
+    one : (lane : ℕ) → lane < 8 → differs_in footprint k due.payload beat.payload lane ≡ false
     one lane below =
-        false_from_ne_true (differs_in racer k due.payload beat.payload lane) (λ differs.
-        let parts = and_parts (racer.settled (word_address racer.address + 8 * k + lane))
+        false_from_ne_true (differs_in footprint k due.payload beat.payload lane) (λ differs.
+        let parts = and_parts (footprint.determined (word_address footprint.address + 8 * k + lane))
         (not (lane_byte due.payload lane == lane_byte beat.payload lane)) differs in
         let same : lane_byte due.payload lane ≡ lane_byte beat.payload lane = alike.payload lane below parts.0 ∙ ap (λ (p : ℕ). lane_byte p lane) (sym is) in
         both_ways (not (lane_byte due.payload lane == lane_byte beat.payload lane))
@@ -59,7 +59,7 @@ record IsBlamed (otherwise : Bool) (first : Option ReplyRule) (broken : ReplyRul
   tells : broken ≡ rule.Payload → otherwise ≡ true
 
 is_blamed : (due : DBeat) (otherwise : Bool) (first : Option ReplyRule) (broken : ReplyRule) (told : Option DBeat)
-    → wrong_by due (unless_unsettled otherwise first) ≡ Some (wrong.Reply broken told)
+    → wrong_by due (unless_indeterminate otherwise first) ≡ Some (wrong.Reply broken told)
     → IsBlamed otherwise first broken
 is_blamed due otherwise None broken told is = absurd (cc (is))
 is_blamed due otherwise (Some r) broken told is = by_forgiven (is_payload r && not otherwise) refl
@@ -81,15 +81,15 @@ is_blamed due otherwise (Some r) broken told is = by_forgiven (is_payload r && n
               λ payload. otherwise_of (is_payload r) otherwise stands (ap is_payload (same ∙ payload));
         }
 
-pub same_rule : (racer : Racer) (k : ℕ) (due other beat : DBeat) (broken : ReplyRule) (told : Option DBeat) → Alike racer k due other
-    → wrong_by due (unless_unsettled (tells_otherwise racer k due beat) (first_broken (reply_rules due beat))) ≡ Some (wrong.Reply broken told)
+pub same_rule : (footprint : Footprint) (k : ℕ) (due other beat : DBeat) (broken : ReplyRule) (told : Option DBeat) → Alike footprint k due other
+    → wrong_by due (unless_indeterminate (tells_otherwise footprint k due beat) (first_broken (reply_rules due beat))) ≡ Some (wrong.Reply broken told)
     → first_broken (reply_rules other beat) ≡ Some broken
-same_rule racer k due other beat broken told alike is =
-    let blamed = is_blamed due (tells_otherwise racer k due beat) (first_broken (reply_rules due beat)) broken told is in
+same_rule footprint k due other beat broken told alike is =
+    let blamed = is_blamed due (tells_otherwise footprint k due beat) (first_broken (reply_rules due beat)) broken told is in
     let differs : broken ≡ rule.Payload → not (beat.payload == other.payload) ≡ true =
     λ payload. true_from_ne_false (not (beat.payload == other.payload)) (λ same.
-    both_ways (tells_otherwise racer k due beat)
-    (tells_nothing racer k due other beat alike (eqb-true beat.payload other.payload (not-false (beat.payload == other.payload) same)))
+    both_ways (tells_otherwise footprint k due beat)
+    (tells_nothing footprint k due other beat alike (eqb-true beat.payload other.payload (not-false (beat.payload == other.payload) same)))
     (blamed.tells payload)) in
     let rest = kept_rule (not (beat.source == due.source)) (not (beat.opcode == due.opcode && beat.param == due.param)) (not (beat.size == due.size))
     (not (beq beat.denied due.denied)) (not (beq beat.corrupt due.corrupt))
@@ -118,29 +118,29 @@ broken_by : (due : DBeat) (rest : List DBeat) (beat : DBeat) (broken : ReplyRule
     → IsBroken (due ∷ rest) beat broken
 broken_by due rest beat broken is = (Some due, ap (wrong_by due) is)
 
-same_broken : (racer : Racer) (beats : List DBeat) (beat : DBeat) (broken : ReplyRule) (told : Option DBeat)
-    → wrong_reply racer beats beat ≡ Some (wrong.Reply broken told) → IsBroken beats beat broken
-same_broken racer [] beat broken told is = (None, ap (λ (r : ReplyRule). Some (wrong.Reply r None)) (let same : rule.Unasked ≡ broken = cc (is) in same))
-same_broken racer (due ∷ rest) beat broken told is =
+same_broken : (footprint : Footprint) (beats : List DBeat) (beat : DBeat) (broken : ReplyRule) (told : Option DBeat)
+    → wrong_reply footprint beats beat ≡ Some (wrong.Reply broken told) → IsBroken beats beat broken
+same_broken footprint [] beat broken told is = (None, ap (λ (r : ReplyRule). Some (wrong.Reply r None)) (let same : rule.Unasked ≡ broken = cc (is) in same))
+same_broken footprint (due ∷ rest) beat broken told is =
     broken_by due rest beat broken
-    (is_blamed due (tells_otherwise racer (beats_of racer.size true - length (due ∷ rest)) due beat)
+    (is_blamed due (tells_otherwise footprint (beats_of footprint.size true - length (due ∷ rest)) due beat)
     (first_broken (reply_rules due beat)) broken told is).first_is
 
-alike_broken : (racer : Racer) (k : ℕ) (due other : DBeat) (rest others : List DBeat) (beat : DBeat) (broken : ReplyRule) (told : Option DBeat)
-    → Alike racer k due other
-    → beats_of racer.size true - length (due ∷ rest) ≡ k → wrong_reply racer (due ∷ rest) beat ≡ Some (wrong.Reply broken told)
+alike_broken : (footprint : Footprint) (k : ℕ) (due other : DBeat) (rest others : List DBeat) (beat : DBeat) (broken : ReplyRule) (told : Option DBeat)
+    → Alike footprint k due other
+    → beats_of footprint.size true - length (due ∷ rest) ≡ k → wrong_reply footprint (due ∷ rest) beat ≡ Some (wrong.Reply broken told)
     → IsBroken (other ∷ others) beat broken
-alike_broken racer k due other rest others beat broken told alike place is =
+alike_broken footprint k due other rest others beat broken told alike place is =
     broken_by other others beat broken
-    (same_rule racer k due other beat broken told alike
-    (sym (ap (λ (n : ℕ). wrong_by due (unless_unsettled (tells_otherwise racer n due beat) (first_broken (reply_rules due beat)))) place) ∙ is))
+    (same_rule footprint k due other beat broken told alike
+    (sym (ap (λ (n : ℕ). wrong_by due (unless_indeterminate (tells_otherwise footprint n due beat) (first_broken (reply_rules due beat)))) place) ∙ is))
 
 -- beats that are blamed break the rule against those that are left of the same reply, made of other bytes
-pub left_broken : (racer : Racer) (mine theirs : List DBeat) (beat : DBeat) (broken : ReplyRule) (told : Option DBeat) → LeftAlike racer mine theirs
-    → wrong_reply racer mine beat ≡ Some (wrong.Reply broken told) → IsBroken theirs beat broken
-left_broken racer mine theirs beat broken told (Same same) is =
-    same_broken racer theirs beat broken told (sym (ap (λ (beats : List DBeat). wrong_reply racer beats beat) same) ∙ is)
-left_broken racer mine theirs beat broken told (Words k due other rest others is_mine is_theirs alike place) is =
-    let found = alike_broken racer k due other rest others beat broken told alike place
-    (sym (ap (λ (beats : List DBeat). wrong_reply racer beats beat) is_mine) ∙ is) in
+pub left_broken : (footprint : Footprint) (mine theirs : List DBeat) (beat : DBeat) (broken : ReplyRule) (told : Option DBeat) → LeftAlike footprint mine theirs
+    → wrong_reply footprint mine beat ≡ Some (wrong.Reply broken told) → IsBroken theirs beat broken
+left_broken footprint mine theirs beat broken told (Same same) is =
+    same_broken footprint theirs beat broken told (sym (ap (λ (beats : List DBeat). wrong_reply footprint beats beat) same) ∙ is)
+left_broken footprint mine theirs beat broken told (Words k due other rest others is_mine is_theirs alike place) is =
+    let found = alike_broken footprint k due other rest others beat broken told alike place
+    (sym (ap (λ (beats : List DBeat). wrong_reply footprint beats beat) is_mine) ∙ is) in
     (found.0, ap (λ (beats : List DBeat). strict.wrong_reply beats beat) is_theirs ∙ found.1)

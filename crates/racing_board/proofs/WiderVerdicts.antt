@@ -11,18 +11,19 @@ use Rattle.tl_checker.specs.RequestRules.{TlPortLimits, first_beat_rules, first_
 use Rattle.tl_checker.specs.declared.Progress.{Progress}
 use Rattle.tl_checker.specs.declared.TlRule.{TlRule}
 use Rattle.tl_checker.specs.declared.TlRule.TheVariants.{SourceBusy}
-use Rattle.axi_checker.specs.OpenBursts.{OnAw}
+use Rattle.axi_checker.specs.declared.AxiBeat.{AxiBeat}
+use Rattle.axi_checker.specs.declared.AxiBeat.TheVariants.{Ar as OnAr, Aw as OnAw, B as OnB, R as OnR, W as OnW}
 use Rattle.axi_checker.specs.Rules.{axi_fault}
 use Rattle.scoreboard.specs.Boards as strict
 use Rattle.scoreboard.specs.Boards.{Board, ClientBoard, due_of, has_source, next_reply, none_left, reply_rules, wrong_by, wrong_request}
 use Rattle.scoreboard.specs.declared.ReplyRule.{ReplyRule}
 use Rattle.scoreboard.specs.declared.ReplyRule.TheVariants as rule
 use Rattle.scoreboard.specs.declared.Seen.{Seen}
-use Rattle.scoreboard.specs.declared.Seen.TheVariants.{A, D, Aw, W, B, Ar, R, Drained}
+use Rattle.scoreboard.specs.declared.Seen.TheVariants.{A, D, Axi as OnAxi, Drained}
 use Rattle.scoreboard.specs.declared.Wrong.{Wrong}
-use Rattle.racing_board.specs.Boards.{a_wrong, answer_to, d_wrong, next_slot, unless_unsettled, wrong_at, wrong_reply}
-use Rattle.racing_board.specs.EarlyData.{tells_no_write}
-use Rattle.racing_board.specs.Races.{Racer, Races, racer_in}
+use Rattle.racing_board.specs.Boards.{a_wrong, answer_to, d_wrong, next_slot, unless_indeterminate, wrong_at, wrong_reply}
+use Rattle.racing_board.specs.EarlyData.{none_early, port_wrong, tells_no_write}
+use Rattle.racing_board.specs.Races.{Footprint, Races, footprint_in}
 use Rattle.racing_board.specs.Wider.{TellsNoMore, racing_on, tells_apart, tells_busy}
 use Rattle.racing_board.proofs.EarlyBeats.{aw_wrong}
 
@@ -112,7 +113,7 @@ same_answer client beat free = by_answers (strict.answer_to client beat) (answer
 -- ---- channel D
 
 rule_told : (otherwise : Bool) (due : DBeat) (broken : Option ReplyRule)
-    → TellsNoMore (wrong_by due broken) (wrong_by due (unless_unsettled otherwise broken))
+    → TellsNoMore (wrong_by due broken) (wrong_by due (unless_indeterminate otherwise broken))
 rule_told otherwise due None = inl refl
 rule_told otherwise due (Some rule.Unasked) = inl refl
 rule_told otherwise due (Some rule.Interleaved) = inl refl
@@ -123,15 +124,15 @@ rule_told otherwise due (Some rule.Corrupt) = inl refl
 rule_told true due (Some rule.Payload) = inl refl
 rule_told false due (Some rule.Payload) = inr (inr refl, refl)
 
-reply_told : (racer : Racer) (dues : List DBeat) (beat : DBeat) → TellsNoMore (strict.wrong_reply dues beat) (wrong_reply racer dues beat)
-reply_told racer [] beat = inl refl
-reply_told racer (due ∷ rest) beat = rule_told _ due (first_broken (reply_rules due beat))
+reply_told : (footprint : Footprint) (dues : List DBeat) (beat : DBeat) → TellsNoMore (strict.wrong_reply dues beat) (wrong_reply footprint dues beat)
+reply_told footprint [] beat = inl refl
+reply_told footprint (due ∷ rest) beat = rule_told _ due (first_broken (reply_rules due beat))
 
 pub d_told : (races : Races) (number : ℕ) (found : Option ClientBoard) (beat : DBeat)
     → TellsNoMore (strict.d_wrong found beat) (d_wrong races number found beat)
 d_told races number None beat = inl refl
 d_told races number (Some client) beat =
-    reply_told (racer_in races (next_slot number client beat.source)) (next_reply client.replies beat.source) beat
+    reply_told (footprint_in races (next_slot number client beat.source)) (next_reply client.replies beat.source) beat
 
 -- ---- the AXI4 port
 
@@ -147,14 +148,17 @@ w_told verdict = by_test (tells_no_write verdict) refl
     by_test true is = inr (inl (ap (λ (other : Bool). tells_busy verdict || other) is ∙ either (tells_busy verdict)), refl)
     by_test false is = inl refl
 
+axi_told : (board : Board) (beat : AxiBeat) → TellsNoMore (strict.axi_wrong board beat) (port_wrong (none_early board.port board.open_bursts) beat)
+axi_told board (OnAw beat) = inl (aw_wrong board.port board.open_bursts beat (axi_fault board.port board.open_bursts (OnAw beat)))
+axi_told board (OnW beat) = w_told (strict.axi_wrong board (OnW beat))
+axi_told board (OnB beat) = inl refl
+axi_told board (OnAr beat) = inl refl
+axi_told board (OnR beat) = inl refl
+
 -- ---- any beat
 
 pub tells_no_more : (board : Board) (races : Races) (seen : Seen) → TellsNoMore (strict.wrong_at board seen) (wrong_at (racing_on board races) seen)
 tells_no_more board races (A client beat) = a_told _ beat
 tells_no_more board races (D client beat) = d_told races client _ beat
-tells_no_more board races (Aw beat) = inl (aw_wrong board.port board.open_bursts beat (axi_fault board.port board.open_bursts (OnAw beat)))
-tells_no_more board races (W beat) = w_told (strict.wrong_at board (W beat))
-tells_no_more board races (B beat) = inl refl
-tells_no_more board races (Ar beat) = inl refl
-tells_no_more board races (R beat) = inl refl
+tells_no_more board races (OnAxi beat) = axi_told board beat
 tells_no_more board races Drained = inl refl

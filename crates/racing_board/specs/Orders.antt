@@ -1,25 +1,19 @@
--- The orders in which accepted requests may have taken effect. A request takes effect between its acceptance and the last beat of its reply; so
--- one whose whole reply was seen before another was accepted comes before it. Nothing else is asked of an order: this is real time.
-use Rattle.std.specs.Prelude.{ℕ, ◌≡◌, ◌+◌, ◌<◌, ◌==◌, ⊤, Bool, false, ◌&&◌, not, List, [], ◌∷◌, ◌++◌, map, drop, Option, Some, None, Result, Ok, Err, if◌then◌else◌, nat_le, nat_lt, slice_get}
-use Rattle.std.specs.List.{AllByRecursion, list_any}
+-- What is due and what is left where accepted requests take effect in an order, whichever it is; RealTime says which orders there are.
+use Rattle.std.specs.Prelude.{ℕ, ◌≡◌, ◌+◌, ◌<◌, ◌==◌, ⊤, Bool, ◌&&◌, not, List, [], ◌∷◌, map, drop, Option, Some, None, if◌then◌else◌, nat_le, nat_lt}
+use Rattle.std.specs.List.{list_any}
 use Rattle.tl_messages.specs.Operations.{beats_of, reply_has_data}
-use Rattle.tl_messages.specs.Requests.{HeldMessage, WholeRequest, request_of}
-use Rattle.tl_messages.specs.declared.ABeat.{ABeat}
+use Rattle.tl_messages.specs.Requests.{WholeRequest}
 use Rattle.tl_messages.specs.declared.DBeat.{DBeat}
-use Rattle.tl_checker.specs.Ports.{joined}
-use Rattle.tl_checker.specs.declared.Progress.{Progress}
-use Rattle.tl_checker.specs.declared.Progress.TheVariants.{More, Whole}
-use Rattle.tl_checker.specs.declared.TlRule.{TlRule}
 use Rattle.responses.specs.Shown.{shown}
 use Rattle.meaning.specs.Meaning.{Bytes, Effect, bytes_after_all, meaning, zeros}
 use Rattle.setups.specs.Setups.{SetupLists, faults_of}
 use Rattle.scoreboard.specs.Boards as strict
 use Rattle.scoreboard.specs.Boards.{ClientBoard}
 use Rattle.scoreboard.specs.declared.Seen.{Seen}
-use Rattle.scoreboard.specs.declared.Seen.TheVariants.{A, D, Aw, W, B, Ar, R, Drained}
+use Rattle.scoreboard.specs.declared.Seen.TheVariants.{A, D}
 use Rattle.scoreboard.specs.declared.Wrong.{Wrong}
 use Rattle.scoreboard.specs.declared.Wrong.TheVariants.{NoClient, Request, Reply, Axi}
-use Rattle.racing_board.specs.Boards.{RacingBoard, after_all, after_seen, answer_to, opening_racing, wrong_at}
+use Rattle.racing_board.specs.Boards.{RacingBoard, after_all, opening_racing}
 
 -- ---- accepted requests
 
@@ -45,23 +39,7 @@ has_ended entry = nat_le (reply_beats entry.request) entry.came
 abbrev pub has_begun : Entry → Bool
 has_begun entry = nat_lt 0 entry.came && not (has_ended entry)
 
--- ---- how an order goes on
-
--- a request that is accepted comes anywhere behind those whose whole reply came
-abbrev pub IsPutIn : Entry → Order → Order → Type 0
-IsPutIn entry old new =
-    (before : Order) × (after : Order) × (old ≡ before ++ after) × (list_any has_ended after ≡ false) × (new ≡ before ++ entry ∷ after)
-
--- with a port's answer to a beat on channel A, by the message with this beat: a request that is whole is accepted
-abbrev pub IsAnsweredIn : ℕ → HeldMessage → Result Progress TlRule → Order → Order → Type 0
-IsAnsweredIn client message (Err broken) old new = new ≡ old
-IsAnsweredIn client message (Ok More) old new = new ≡ old
-IsAnsweredIn client message (Ok Whole) old new = IsPutIn (record { client = client; request = request_of message; came = 0 }) old new
-
--- with a beat on channel A; of a client that isn't there none is accepted
-abbrev pub IsAfterA : ℕ → Option ClientBoard → ABeat → Order → Order → Type 0
-IsAfterA number None beat old new = new ≡ old
-IsAfterA number (Some client) beat old new = IsAnsweredIn number (joined client.limits client.front beat) (answer_to client beat) old new
+-- ---- the replies, as their beats come
 
 -- whether a client's reply has begun
 abbrev pub begun_to : ℕ → Entry → Bool
@@ -84,26 +62,6 @@ with_beat begun client source entry =
 -- an order with a beat of a client and source on channel D: the requests stand as they stood
 abbrev pub after_beat : Order → ℕ → ℕ → Order
 after_beat order client source = map (with_beat (list_any (begun_to client) order) client source) order
-
--- how an order goes on with a beat, on a board on which it comes
-abbrev pub GoesOn : RacingBoard → Seen → Order → Order → Type 0
-GoesOn board (A client beat) old new = IsAfterA client (slice_get board.clients client) beat old new
-GoesOn board (D client beat) old new = new ≡ after_beat old client beat.source
-GoesOn board (Aw beat) old new = new ≡ old
-GoesOn board (W beat) old new = new ≡ old
-GoesOn board (B beat) old new = new ≡ old
-GoesOn board (Ar beat) old new = new ≡ old
-GoesOn board (R beat) old new = new ≡ old
-GoesOn board Drained old new = new ≡ old
-
--- the orders of what is accepted in a list of beats, on a board and behind an order of what was accepted before
-abbrev pub IsOrderFrom : RacingBoard → Order → List Seen → Order → Type 0
-IsOrderFrom board now [] order = order ≡ now
-IsOrderFrom board now (seen ∷ rest) order = (next : Order) × GoesOn board seen now next × IsOrderFrom (after_seen board seen) next rest order
-
--- the orders of what is accepted in all beats since the start
-abbrev pub IsOrderOf : SetupLists → List Seen → Order → Type 0
-IsOrderOf setup beats order = IsOrderFrom (opening_racing setup) [] beats order
 
 -- ---- what an order tells
 
@@ -140,7 +98,7 @@ IsWrongAs setup order client beat (Axi broken) = ⊥
 abbrev pub byte_left : SetupLists → Order → ℕ → ℕ
 byte_left setup order x = bytes_after_all (faults_of setup) setup.regions (map (λ entry. entry.request) order) zeros x
 
--- ---- the laws, of whatever was seen
+-- ---- whatever was seen
 
 -- the source of a beat is a byte
 abbrev pub HasByteSource : Seen → Type 0
@@ -151,34 +109,3 @@ HasByteSource seen = ⊤
 -- the board after all beats since the start
 abbrev pub board_after : SetupLists → List Seen → RacingBoard
 board_after setup before = after_all (opening_racing setup) before
-
--- a beat on channel D that a racing board blames, be it the first that is wrong or a later one, is wrong in every order of what was accepted
-abbrev pub BlamesRightly : Type 0
-BlamesRightly =
-    (setup : SetupLists) (before : List Seen) (order : Order) (client : ℕ) (beat : DBeat) (wrong : Wrong)
-    → AllByRecursion HasByteSource before
-    → IsOrderOf setup before order
-    → wrong_at (board_after setup before) (D client beat) ≡ Some wrong
-    → IsWrongIn setup order client beat
-
--- and it is wrong by the very rule that is blamed
-abbrev pub BlamesByRule : Type 0
-BlamesByRule =
-    (setup : SetupLists) (before : List Seen) (order : Order) (client : ℕ) (beat : DBeat) (wrong : Wrong)
-    → AllByRecursion HasByteSource before
-    → IsOrderOf setup before order
-    → wrong_at (board_after setup before) (D client beat) ≡ Some wrong
-    → IsWrongAs setup order client beat wrong
-
--- a byte that isn't in doubt is what every order leaves
-abbrev pub KnowsBytes : Type 0
-KnowsBytes =
-    (setup : SetupLists) (before : List Seen) (order : Order) (x : ℕ)
-    → AllByRecursion HasByteSource before
-    → IsOrderOf setup before order
-    → (board_after setup before).races.doubtful x ≡ false
-    → byte_left setup order x ≡ (board_after setup before).bytes x
-
--- there is an order of whatever was accepted
-abbrev pub HasOrder : Type 0
-HasOrder = (setup : SetupLists) (before : List Seen) → (order : Order) × IsOrderOf setup before order

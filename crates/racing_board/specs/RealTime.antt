@@ -1,7 +1,8 @@
--- Real time, said of whole orders: requests are numbered as they are accepted, and an order is a list of all numbers in which nobody stands behind
--- a request that was accepted after his whole reply had come.
-use Rattle.std.specs.Prelude.{ℕ, ◌≡◌, ◌<◌, ◌≤◌, ◌==◌, ⊤, Bool, true, false, List, [], ◌∷◌, ◌++◌, map, length, Option, Some, None, Result, Ok, Err, slice_get, slice_index_or}
-use Rattle.std.specs.List.{AllByRecursion, list_any}
+-- The orders in which accepted requests may have taken effect. A request takes effect between its acceptance and the last beat of its reply; so
+-- one whose whole reply was seen before another was accepted comes before it. Nothing else is asked of an order: this is real time. Requests are
+-- numbered as they are accepted, and an order is a list of all numbers.
+use Rattle.std.specs.Prelude.{ℕ, ◌≡◌, ◌<◌, ◌≤◌, ◌==◌, ⊤, true, false, List, [], ◌∷◌, ◌++◌, map, filter, length, Option, Some, None, Result, Ok, Err, if◌then◌else◌, nat_lt, slice_get, slice_index_or}
+use Rattle.std.specs.List.{AllByRecursion, range_with_len}
 use Rattle.tl_messages.specs.Requests.{HeldMessage, no_message, request_of}
 use Rattle.tl_messages.specs.declared.ABeat.{ABeat}
 use Rattle.tl_messages.specs.declared.DBeat.{DBeat}
@@ -12,10 +13,10 @@ use Rattle.tl_checker.specs.declared.TlRule.{TlRule}
 use Rattle.setups.specs.Setups.{SetupLists}
 use Rattle.scoreboard.specs.Boards.{ClientBoard}
 use Rattle.scoreboard.specs.declared.Seen.{Seen}
-use Rattle.scoreboard.specs.declared.Seen.TheVariants.{A, D, Aw, W, B, Ar, R, Drained}
+use Rattle.scoreboard.specs.declared.Seen.TheVariants.{A, D, Axi as OnAxi, Drained}
 use Rattle.scoreboard.specs.declared.Wrong.{Wrong}
-use Rattle.racing_board.specs.Boards.{IsReached, RacingBoard, after_seen, answer_to, opening_racing, wrong_at}
-use Rattle.racing_board.specs.Orders.{Entry, HasByteSource, HasOrder, IsOrderOf, IsWrongAs, IsWrongIn, Order, after_beat, board_after, byte_left, has_ended}
+use Rattle.racing_board.specs.Boards.{IsReached, RacingBoard, after_seen, answer_to, opening_racing}
+use Rattle.racing_board.specs.Orders.{Entry, HasByteSource, IsWrongAs, IsWrongIn, Order, after_beat, board_after, byte_left, has_ended}
 
 -- ---- what was accepted, in order of acceptance
 
@@ -38,11 +39,7 @@ with_request number (Some client) beat old = with_answered number (joined client
 abbrev pub accepted_next : RacingBoard → Seen → Order → Order
 accepted_next board (A client beat) old = with_request client (slice_get board.clients client) beat old
 accepted_next board (D client beat) old = after_beat old client beat.source
-accepted_next board (Aw beat) old = old
-accepted_next board (W beat) old = old
-accepted_next board (B beat) old = old
-accepted_next board (Ar beat) old = old
-accepted_next board (R beat) old = old
+accepted_next board (OnAxi beat) old = old
 accepted_next board Drained old = old
 
 -- with a list of beats
@@ -60,20 +57,10 @@ numbered accepted number = slice_index_or accepted number (entry_for 0 no_messag
 
 -- ---- orders as lists of numbers
 
--- whether a number is in a list
-abbrev pub is_in : ℕ → List ℕ → Bool
-is_in number numbers = list_any (λ other. other == number) numbers
-
--- no number twice
-abbrev pub AreOnce : List ℕ → Type 0
-AreOnce [] = ⊤
-AreOnce (number ∷ numbers) = (is_in number numbers ≡ false) × AreOnce numbers
-
--- each number below a bound, and each once
-pub record IsArrangement (count : ℕ) (numbers : List ℕ) : Type 0 where
-  pub below : (number : ℕ) → is_in number numbers ≡ true → number < count
-  pub each : (number : ℕ) → number < count → is_in number numbers ≡ true
-  pub once : AreOnce numbers
+-- each number below a bound stands in a list once, and no other stands there
+abbrev pub IsArrangement : ℕ → List ℕ → Type 0
+IsArrangement count numbers =
+    (number : ℕ) → length (filter (λ other. other == number) numbers) ≡ (if nat_lt number count then 1 else 0)
 
 -- the whole reply to a request had come before another was accepted: it came in a first part of the beats, in which the other wasn't accepted
 pub record EndedBefore (setup : SetupLists) (beats : List Seen) (number later : ℕ) : Type 0 where
@@ -88,7 +75,12 @@ pub record EndedBefore (setup : SetupLists) (beats : List Seen) (number later : 
 abbrev pub KeepsRealTime : SetupLists → List Seen → List ℕ → Type 0
 KeepsRealTime setup beats [] = ⊤
 KeepsRealTime setup beats (later ∷ numbers) =
-    ((number : ℕ) → is_in number numbers ≡ true → EndedBefore setup beats number later → ⊥) × KeepsRealTime setup beats numbers
+    AllByRecursion (λ number. EndedBefore setup beats number later → ⊥) numbers × KeepsRealTime setup beats numbers
+
+-- a list of numbers is an order of what was accepted that keeps real time
+pub record IsOrderOf (setup : SetupLists) (beats : List Seen) (numbers : List ℕ) : Type 0 where
+  pub all : IsArrangement (length (accepted_in setup beats)) numbers
+  pub keeps : KeepsRealTime setup beats numbers
 
 -- the requests as a list of numbers has them
 abbrev pub arranged : SetupLists → List Seen → List ℕ → Order
@@ -96,53 +88,17 @@ arranged setup beats numbers = map (numbered (accepted_in setup beats)) numbers
 
 -- ---- the laws
 
--- all orders that keep real time arise so
-abbrev pub AllArise : Type 0
-AllArise =
-    (setup : SetupLists) (beats : List Seen) (numbers : List ℕ)
-    → IsArrangement (length (accepted_in setup beats)) numbers
-    → KeepsRealTime setup beats numbers
-    → IsOrderOf setup beats (arranged setup beats numbers)
-
--- and no others
-abbrev pub OnlySuch : Type 0
-OnlySuch =
-    (setup : SetupLists) (beats : List Seen) (order : Order)
-    → IsOrderOf setup beats order
-    → (numbers : List ℕ) × IsArrangement (length (accepted_in setup beats)) numbers × KeepsRealTime setup beats numbers
-    × (order ≡ arranged setup beats numbers)
-
--- a beat on channel D that a racing board blames is wrong in every order that keeps real time
-abbrev pub BlamesInRealTime : Type 0
-BlamesInRealTime =
-    (setup : SetupLists) (before : List Seen) (numbers : List ℕ) (client : ℕ) (beat : DBeat) (wrong : Wrong)
-    → AllByRecursion HasByteSource before
-    → IsArrangement (length (accepted_in setup before)) numbers
-    → KeepsRealTime setup before numbers
-    → wrong_at (board_after setup before) (D client beat) ≡ Some wrong
-    → IsWrongIn setup (arranged setup before numbers) client beat
-
--- the orders that arise are those that keep real time, and there is one
-pub record AreRealTime : Type 0 where
-  pub some : HasOrder
-  pub all : AllArise
-  pub only : OnlySuch
-
 -- what the laws say of a board, by its beats so far and its verdict on one more: a beat on channel D that it blames is wrong in every order that keeps
--- real time, however the order is given, and by the rule that is blamed; and a byte that isn't in doubt is what every order leaves. The beats so far
--- may have been wrong; where none was, a list of them is one by which the board is reached
+-- real time, and by the rule that is blamed; and a byte that isn't indeterminate is what every such order leaves. There is one: that of acceptance. The
+-- beats so far may have been wrong; where none was, a list of them is one by which the board is reached
 pub record JudgesRightly (old : RacingBoard) (seen : Seen) (verdict : Option Wrong) : Type 0 where
-  pub orders : AreRealTime
+  pub some : (setup : SetupLists) (before : List Seen) → IsOrderOf setup before (range_with_len 0 (length (accepted_in setup before)))
   pub reached : (setup : SetupLists) (before : List Seen) → IsReached (opening_racing setup) before old → old ≡ board_after setup before
-  pub blamed : (setup : SetupLists) (before : List Seen) (order : Order) (client : ℕ) (beat : DBeat) (wrong : Wrong)
+  pub blamed : (setup : SetupLists) (before : List Seen) (numbers : List ℕ) (client : ℕ) (beat : DBeat) (wrong : Wrong)
       → AllByRecursion HasByteSource before → old ≡ board_after setup before → seen ≡ D client beat → verdict ≡ Some wrong
-      → IsOrderOf setup before order
-      → IsWrongIn setup order client beat × IsWrongAs setup order client beat wrong
-  pub blamed_in_real_time : (setup : SetupLists) (before : List Seen) (numbers : List ℕ) (client : ℕ) (beat : DBeat) (wrong : Wrong)
-      → AllByRecursion HasByteSource before → old ≡ board_after setup before → seen ≡ D client beat → verdict ≡ Some wrong
-      → IsArrangement (length (accepted_in setup before)) numbers → KeepsRealTime setup before numbers
-      → IsWrongIn setup (arranged setup before numbers) client beat
-  pub bytes : (setup : SetupLists) (before : List Seen) (order : Order) (x : ℕ)
-      → AllByRecursion HasByteSource before → old ≡ board_after setup before → IsOrderOf setup before order
-      → old.races.doubtful x ≡ false
-      → byte_left setup order x ≡ old.bytes x
+      → IsOrderOf setup before numbers
+      → IsWrongIn setup (arranged setup before numbers) client beat × IsWrongAs setup (arranged setup before numbers) client beat wrong
+  pub bytes : (setup : SetupLists) (before : List Seen) (numbers : List ℕ) (x : ℕ)
+      → AllByRecursion HasByteSource before → old ≡ board_after setup before → IsOrderOf setup before numbers
+      → old.races.indeterminate x ≡ false
+      → byte_left setup (arranged setup before numbers) x ≡ old.memory.bytes x

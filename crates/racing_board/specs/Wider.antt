@@ -1,10 +1,11 @@
 -- What a racing board says of beats, beside a scoreboard that compares each byte: no more than this one, and nothing of beats that are right.
-use Rattle.std.specs.Prelude.{◌≡◌, ◌⊎◌, Bool, true, false, ◌||◌, List, [], ◌∷◌, ◌++◌, Option, Some, None}
+use Rattle.std.specs.Prelude.{◌≡◌, ◌⊎◌, ⊤, Bool, true, false, ◌||◌, List, [], ◌∷◌, ◌++◌, Option, Some, None}
+use Rattle.std.specs.List.{AllByRecursion}
 use Rattle.tl_checker.specs.declared.TlRule.TheVariants.{SourceBusy}
 use Rattle.setups.specs.Setups.{SetupLists}
 use Rattle.scoreboard.specs.Boards as strict
 use Rattle.scoreboard.specs.Boards.{Board, opening_board}
-use Rattle.scoreboard.specs.InsideSerial.{bytes_in}
+use Rattle.scoreboard.specs.InsideBoards.{HasSource}
 use Rattle.scoreboard.specs.Right.{IsRight}
 use Rattle.scoreboard.specs.declared.ReplyRule.TheVariants.{Payload}
 use Rattle.scoreboard.specs.declared.Seen.{Seen}
@@ -19,9 +20,7 @@ abbrev pub racing_on : Board → Races → RacingBoard
 racing_on board races =
     record {
       clients = board.clients;
-      regions = board.serial.regions;
-      faults = board.serial.pages.faults;
-      bytes = bytes_in board.serial.pages;
+      memory = board.memory;
       races = races;
       axi = none_early board.port board.open_bursts;
     }
@@ -50,11 +49,10 @@ TellsNoMore compared verdict = (verdict ≡ compared) ⊎ (((tells_apart compare
 
 -- ---- lists of beats
 
--- a scoreboard after beats of which it finds none of a busy source, and no W beat without a write, whatever else it finds
-abbrev pub IsFollowed : Board → List Seen → Board → Type 0
-IsFollowed start [] board = board ≡ start
-IsFollowed start (seen ∷ rest) board =
-    (next : Board) × (tells_apart (strict.wrong_at start seen) ≡ false) × strict.IsAfter start seen next × IsFollowed next rest board
+-- a scoreboard finds none of these beats of a busy source, and no W beat without a write, whatever else it finds
+abbrev pub AreTold : Board → List Seen → Type 0
+AreTold board [] = ⊤
+AreTold board (seen ∷ rest) = (tells_apart (strict.wrong_at board seen) ≡ false) × AreTold (strict.after_seen board seen) rest
 
 -- a racing board holds what a scoreboard does, but for the requests in flight, and its verdict of a beat tells no more
 pub record IsWiderThan (compared : Board) (board : RacingBoard) (seen : Seen) (verdict : Option Wrong) : Type 0 where
@@ -65,11 +63,12 @@ pub record IsWiderThan (compared : Board) (board : RacingBoard) (seen : Seen) (v
 -- beat without a write, and of that one too
 abbrev pub IsWiderAlong : RacingBoard → Seen → Option Wrong → Type 0
 IsWiderAlong board seen verdict =
-    (setup : SetupLists) (before : List Seen) (compared : Board) → board ≡ after_all (opening_racing setup) before
-    → IsFollowed (opening_board setup) before compared → IsWiderThan compared board seen verdict
+    (setup : SetupLists) (before : List Seen) → board ≡ after_all (opening_racing setup) before → AreTold (opening_board setup) before
+    → IsWiderThan (strict.after_all (opening_board setup) before) board seen verdict
 
 -- of beats that are right: nothing is found wrong with the last of them, where all of them are right: where each reply is that of its request
 -- carried out whole in its turn, in order of acceptance, and every rule is kept
 abbrev pub LetsRightPass : RacingBoard → Seen → Option Wrong → Type 0
 LetsRightPass board seen verdict =
-    (setup : SetupLists) (before : List Seen) → board ≡ after_all (opening_racing setup) before → IsRight setup (before ++ seen ∷ []) → verdict ≡ None
+    (setup : SetupLists) (before : List Seen) → AllByRecursion HasSource before → board ≡ after_all (opening_racing setup) before
+    → IsRight setup (before ++ seen ∷ []) → verdict ≡ None

@@ -4,7 +4,7 @@ ghost use Rattle.std.specs.List.{range_with_len};
 ghost use Rattle.config.specs.Configs.{is_valid};
 ghost use Rattle.setups.specs.Setups.{lists_of, setup_fault};
 ghost use Rattle.setups.specs.declared.SetupFault.TheVariants.{NoMemory};
-ghost use Rattle.scoreboard.specs.Boards.{opening_client, replies_left};
+ghost use Rattle.scoreboard.specs.Boards.{opening_client, replies_open};
 ghost use Rattle.racing_board.specs.InsideRaces.{races_of};
 
 use crate::clients::Client;
@@ -13,10 +13,10 @@ use crate::races::Races;
 use burst_plan::PageMap;
 use config::Config;
 use scoreboard::{Seen, SerialMemory, Wrong};
+use setups::{Setup, SetupFault, setup_fault};
 use std::alloc::{AllocError, Global};
 use std::marker::Model;
 use tl_messages::{ABeat, DBeat};
-use setups::{Setup, SetupFault, setup_fault};
 
 /// Tells of each beat that was observed at the ports of a bridge whether it can be right, if requests in flight together may
 /// take effect in any order: a reply's byte is compared only where it is the same in every order in which a request whose whole
@@ -38,9 +38,9 @@ impl Model for RacingBoard {
 
     ghost Value = { RacingState };
 
-    ghost view = { λ b. record { clients = b.clients.items; serial = b.serial; races = b.races; axi = b.axi } };
+    ghost view = { λ b. record { clients = b.clients.items; memory = b.serial; races = b.races; axi = b.axi } };
 
-    ghost invariant = { λ b. (length b.clients.items ≤ 8) × (length b.races.racers ≡ length b.clients.items * 257) × (b.races.doubts.faults ≡ b.serial.pages.faults) };
+    ghost invariant = { λ b. (length b.clients.items ≤ 8) × (length b.races.footprints ≡ length b.clients.items * 257) × (b.races.doubts.faults ≡ b.serial.pages.faults) };
 }
 
 // Written out, so that what lets go of one calls this, and proves nothing of its parts.
@@ -70,7 +70,7 @@ fn opening_clients(alloc: Global, config: &Config) -> Result<Vec<Client>, AllocE
 /// How many accepted requests of some clients, at most eight, have a reply that isn't whole.
 fn outstanding_of(clients: &[Client]) -> u16
     requires { length clients.now ≤ 8 }
-    ensures { result ≡ sum_by (λ client. replies_left client.replies) clients.now }
+    ensures { result ≡ replies_open clients.now }
 {
     let mut count = 0;
     for client in clients {
@@ -83,7 +83,9 @@ impl RacingBoard {
     ghost use Rattle.scoreboard.specs.InsideBoards.{HasSource};
     ghost use Rattle.racing_board.specs.RealTime.{JudgesRightly};
     ghost use Rattle.racing_board.specs.Wider.{LetsRightPass, IsWiderAlong};
-    ghost use Rattle.racing_board.specs.Boards.{a_wrong, after_reply, after_request, after_seen, bursts_open, byte_at, d_wrong, opening_racing, racing_board, replies_open, wrong_at};
+    ghost use Rattle.axi_checker.specs.OpenBursts.{open_count};
+    ghost use Rattle.scoreboard.specs.SerialMemory.{byte_at, memory_of};
+    ghost use Rattle.racing_board.specs.Boards.{a_wrong, after_reply, after_request, after_seen, d_wrong, opening_racing, racing_board, wrong_at};
 
     /// A racing board of a set-up, of which nothing was observed: its clients, limits and regions are those that the observed
     /// ports allow, and all bytes of its good pages are zero.
@@ -149,11 +151,7 @@ impl RacingBoard {
         match seen {
             Seen::A(client, beat) => self.judge_request(*client, beat),
             Seen::D(client, beat) => self.judge_reply(*client, beat),
-            Seen::Aw(beat) => self.axi.aw(beat),
-            Seen::W(beat) => self.axi.w(beat),
-            Seen::B(beat) => self.axi.b(beat),
-            Seen::Ar(beat) => self.axi.ar(beat),
-            Seen::R(beat) => self.axi.r(beat),
+            Seen::Axi(beat) => self.axi.judge(beat),
             Seen::Drained => {
                 self.axi.clear();
                 None
@@ -195,14 +193,14 @@ impl RacingBoard {
 
     /// How many accepted requests have a reply that wasn't observed whole.
     pub fn outstanding(&self) -> u16
-        ensures { result ≡ replies_open (racing_board self.now) }
+        ensures { result ≡ replies_open self.now.clients }
     {
         outstanding_of(&self.clients)
     }
 
     /// How many bursts are outstanding on the AXI4 port.
-    pub fn open_bursts(&self) -> u8
-        ensures { result ≡ bursts_open (racing_board self.now) }
+    pub fn open_bursts(&self) -> usize
+        ensures { result ≡ open_count self.now.axi.open_bursts }
     {
         self.axi.open_bursts()
     }
@@ -210,7 +208,7 @@ impl RacingBoard {
     /// The byte at an address of a good page, as the requests accepted so far leave it in order of acceptance; none outside
     /// these pages.
     pub fn byte(&self, address: u32) -> Option<u8>
-        ensures { result ≡ byte_at (racing_board self.now) address }
+        ensures { result ≡ byte_at (memory_of self.now.memory) address }
     {
         self.serial.byte(address)
     }

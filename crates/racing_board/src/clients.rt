@@ -3,7 +3,7 @@ ghost use Rattle.std.specs.Prelude.{◌≡◌, ◌≤◌, ◌<◌, ◌+◌, ◌*
 ghost use Rattle.config.specs.Configs.{is_valid};
 ghost use Rattle.scoreboard.specs.Boards.{opening_client, replies_left, wrong_request};
 ghost use Rattle.racing_board.specs.Boards.{slot_of};
-ghost use Rattle.racing_board.specs.InsideRaces.{racer_of, races_of};
+ghost use Rattle.racing_board.specs.InsideRaces.{footprint_of, races_of};
 
 use crate::payloads::wrong_reply;
 use crate::races::Races;
@@ -67,10 +67,11 @@ fn wrong_request(answer: Result<Progress, TlRule>) -> Option<Wrong>
 }
 
 impl Client {
-    ghost use Rattle.scoreboard.specs.Boards.{after_reply_beat, next_reply, none_left};
-    ghost use Rattle.racing_board.specs.Boards.{answer_to, beginning, ending, next_slot, racers_after, wrong_reply};
-    ghost use Rattle.racing_board.specs.InsideBoards.{IsAnswered};
-    ghost use Rattle.racing_board.specs.Races.{racer_in};
+    ghost use Rattle.scoreboard.specs.Boards.{after_reply_beat, client_after, memory_after, next_reply, none_left};
+    ghost use Rattle.scoreboard.specs.SerialMemory.{memory_of};
+    ghost use Rattle.racing_board.specs.Boards.{answer_to, beginning, ending, next_slot, footprints_after, races_after, wrong_reply};
+    ghost use Rattle.racing_board.specs.InsideBoards.{KeepSlots};
+    ghost use Rattle.racing_board.specs.Races.{footprint_in};
 
     /// A client of these limits, of which nothing was observed. The one error is that memory was refused.
     pub(crate) fn new(alloc: Global, config: &Config, client: u8) -> Result<Self, AllocError>
@@ -99,10 +100,13 @@ impl Client {
         races: &mut Races,
         beat: &ABeat,
     ) -> Option<Wrong>
-        requires slots { (number + 1) * 257 ≤ length races.old.racers }
+        requires slots { (number + 1) * 257 ≤ length races.old.footprints }
         requires pages { races.old.doubts.faults ≡ serial.old.pages.faults }
         ensures wrong { result ≡ wrong_request (answer_to self.old beat.now) }
-        ensures state { IsAnswered serial.old races.old number self.old beat.now (answer_to self.old beat.now) serial.new races.new self.new }
+        ensures client { self.new ≡ client_after (memory_of serial.old) self.old beat.now (answer_to self.old beat.now) }
+        ensures memory { memory_of serial.new ≡ memory_after (memory_of serial.old) self.old beat.now (answer_to self.old beat.now) }
+        ensures races { races_of races.new ≡ races_after (memory_of serial.old) (races_of races.old) number self.old beat.now (answer_to self.old beat.now) }
+        ensures kept { KeepSlots races.old races.new }
     {
         let due = self.replies.is_due(beat.source);
         let answer = self.port.take_beat(beat, due);
@@ -123,28 +127,28 @@ impl Client {
         races: &mut Races,
         beat: &DBeat,
     ) -> Option<Wrong>
-        requires slots { (number + 1) * 257 ≤ length races.old.racers }
-        ensures wrong { result ≡ wrong_reply (racer_in (races_of races.old) (next_slot number self.old beat.now.source)) (next_reply self.old.replies beat.now.source) beat.now }
+        requires slots { (number + 1) * 257 ≤ length races.old.footprints }
+        ensures wrong { result ≡ wrong_reply (footprint_in (races_of races.old) (next_slot number self.old beat.now.source)) (next_reply self.old.replies beat.now.source) beat.now }
         ensures client { self.new ≡ record self.old { replies = after_reply_beat self.old.replies beat.now } }
         ensures doubts { races.new.doubts ≡ races.old.doubts }
-        ensures racers { map racer_of races.new.racers ≡ racers_after number self.old beat.now (map racer_of races.old.racers) }
-        ensures slots { length races.new.racers ≡ length races.old.racers }
+        ensures footprints { map footprint_of races.new.footprints ≡ footprints_after number self.old beat.now (map footprint_of races.old.footprints) }
+        ensures slots { length races.new.footprints ≡ length races.old.footprints }
     {
         self.begin(number, races, beat.source);
         let left = self.replies.left(beat.source);
         let strict = self.replies.judge(beat);
-        let wrong = wrong_reply(races.racer(begun_slot(number)), left, strict, beat);
+        let wrong = wrong_reply(races.footprint(begun_slot(number)), left, strict, beat);
         self.finish(number, races);
         wrong
     }
 
     /// Where no reply has begun, that of a source does.
     fn begin(&self, number: u8, races: &mut Races, source: u8)
-        requires slots { (number + 1) * 257 ≤ length races.old.racers }
+        requires slots { (number + 1) * 257 ≤ length races.old.footprints }
         ensures doubts { races.new.doubts ≡ races.old.doubts }
-        ensures racers { map racer_of races.new.racers
-            ≡ (if none_left self.now.replies.begun then beginning number source (map racer_of races.old.racers) else map racer_of races.old.racers) }
-        ensures slots { length races.new.racers ≡ length races.old.racers }
+        ensures footprints { map footprint_of races.new.footprints
+            ≡ (if none_left self.now.replies.begun then beginning number source (map footprint_of races.old.footprints) else map footprint_of races.old.footprints) }
+        ensures slots { length races.new.footprints ≡ length races.old.footprints }
         ensures source { source < 256 }
     {
         if self.replies.has_begun() {
@@ -155,10 +159,10 @@ impl Client {
 
     /// Where the reply that had begun is whole, its request isn't in flight any more.
     fn finish(&self, number: u8, races: &mut Races)
-        requires slots { (number + 1) * 257 ≤ length races.old.racers }
+        requires slots { (number + 1) * 257 ≤ length races.old.footprints }
         ensures doubts { races.new.doubts ≡ races.old.doubts }
-        ensures racers { map racer_of races.new.racers ≡ ending number (none_left self.now.replies.begun) (map racer_of races.old.racers) }
-        ensures slots { length races.new.racers ≡ length races.old.racers }
+        ensures footprints { map footprint_of races.new.footprints ≡ ending number (none_left self.now.replies.begun) (map footprint_of races.old.footprints) }
+        ensures slots { length races.new.footprints ≡ length races.old.footprints }
     {
         if self.replies.has_begun() {
             return;

@@ -3,9 +3,9 @@
 
 mod board;
 mod clients;
+mod footprint;
 mod payloads;
 mod port;
-mod racer;
 mod races;
 
 pub use board::RacingBoard;

@@ -1,38 +1,38 @@
-//! What a reply's payload tells of settled bytes.
+//! What a reply's payload tells of determined bytes.
 ghost use Rattle.std.specs.Prelude.{◌≡◌, ◌<◌, ◌-◌, List, length, true};
 ghost use Rattle.tl_messages.specs.Operations.{beats_of};
 ghost use Rattle.tl_messages.specs.declared.DBeat.{DBeat};
 ghost use Rattle.scoreboard.specs.Boards as strict;
 ghost use Rattle.racing_board.specs.Boards.{differs_in, due_in, is_payload, tells_otherwise, wrong_reply};
-ghost use Rattle.racing_board.specs.InsideRaces.{racer_of};
+ghost use Rattle.racing_board.specs.InsideRaces.{footprint_of};
 
-use crate::racer::Racer;
+use crate::footprint::Footprint;
 use bus_words::lane_byte;
 use scoreboard::{ReplyRule, Wrong};
 use tl_messages::{DBeat, beats_of};
 
-/// Whether lane `lane` of beat `k` of a reply tells of a settled byte, and two payloads differ there.
-fn differs_in(racer: &Racer, k: u16, due: u64, payload: u64, lane: u8) -> bool
+/// Whether lane `lane` of beat `k` of a reply tells of a determined byte, and two payloads differ there.
+fn differs_in(footprint: &Footprint, k: u16, due: u64, payload: u64, lane: u8) -> bool
     requires { lane < 8 }
-    ensures { result ≡ differs_in (racer_of racer.now) k due payload lane }
+    ensures { result ≡ differs_in (footprint_of footprint.now) k due payload lane }
 {
-    let first = racer.address() % 8;
+    let first = footprint.address() % 8;
     let place = 8 * u32::from(k) + u32::from(lane);
-    if place < first || place - first >= racer.bytes() {
+    if place < first || place - first >= footprint.bytes() {
         return false;
     }
-    racer.is_settled(place - first) && lane_byte(due, lane) != lane_byte(payload, lane)
+    footprint.is_determined(place - first) && lane_byte(due, lane) != lane_byte(payload, lane)
 }
 
-/// Whether a beat, as beat `k` of a reply, tells of a settled byte something else than the one that is due.
-fn tells_otherwise(racer: &Racer, k: u16, due: &DBeat, beat: &DBeat) -> bool
-    ensures { result ≡ tells_otherwise (racer_of racer.now) k due.now beat.now }
+/// Whether a beat, as beat `k` of a reply, tells of a determined byte something else than the one that is due.
+fn tells_otherwise(footprint: &Footprint, k: u16, due: &DBeat, beat: &DBeat) -> bool
+    ensures { result ≡ tells_otherwise (footprint_of footprint.now) k due.now beat.now }
 {
-    if !racer.reads() || due.corrupt {
+    if !footprint.reads() || due.corrupt {
         return false;
     }
     for lane in 0..8u8 {
-        if differs_in(racer, k, due.payload, beat.payload, lane) {
+        if differs_in(footprint, k, due.payload, beat.payload, lane) {
             return true;
         }
     }
@@ -57,21 +57,21 @@ fn is_payload(rule: ReplyRule) -> bool
 }
 
 /// Which beat of a reply, from 0, is its next, where so many are left.
-fn beat_number(racer: &Racer, left: u16) -> u16
-    ensures { result ≡ beats_of racer.now.size true - left }
+fn beat_number(footprint: &Footprint, left: u16) -> u16
+    ensures { result ≡ beats_of footprint.now.size true - left }
 {
-    beats_of(racer.size(), true).saturating_sub(left)
+    beats_of(footprint.size(), true).saturating_sub(left)
 }
 
 /// What is wrong with a beat, by what a scoreboard says that compares each byte. `left` are the beats that are left of the reply
 /// whose next it may be.
 pub(crate) fn wrong_reply(
-    racer: &Racer,
+    footprint: &Footprint,
     left: u16,
     verdict: Option<Wrong>,
     beat: &DBeat,
 ) -> Option<Wrong>
-    ensures { (dues : List DBeat) → length dues ≡ left → verdict ≡ strict.wrong_reply dues beat.now → result ≡ wrong_reply (racer_of racer.now) dues beat.now }
+    ensures { (dues : List DBeat) → length dues ≡ left → verdict ≡ strict.wrong_reply dues beat.now → result ≡ wrong_reply (footprint_of footprint.now) dues beat.now }
 {
     let Some((rule, due)) = due_in(&verdict) else {
         return verdict;
@@ -79,7 +79,7 @@ pub(crate) fn wrong_reply(
     if !is_payload(rule) {
         return verdict;
     }
-    if tells_otherwise(racer, beat_number(racer, left), &due, beat) {
+    if tells_otherwise(footprint, beat_number(footprint, left), &due, beat) {
         return verdict;
     }
     None

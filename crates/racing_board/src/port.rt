@@ -1,12 +1,12 @@
 //! The AXI4 port as a racing board sees it: the data of a write may come before its address.
-ghost use Rattle.std.specs.Prelude.{◌≡◌, true, IfOk};
+ghost use Rattle.std.specs.Prelude.{◌≡◌, ◌&&◌, true, IfOk, length, nat_lt};
 ghost use Rattle.std.specs.VecDeque.{deque_capacity};
-ghost use Rattle.axi_checker.specs.OpenBursts.{OnAr, OnAw, OnB, OnR, OnW, nothing_open, open_count};
+ghost use Rattle.axi_checker.specs.OpenBursts.{nothing_open, open_count};
 ghost use Rattle.config.specs.Configs.{axi_port_of, is_valid};
 ghost use Rattle.racing_board.specs.EarlyData.{drained, none_early, port_after, port_wrong, taking, tells_no_write};
 
-use axi_beats::{ArBeat, AwBeat, BBeat, RBeat, WBeat};
-use axi_checker::AxiRule;
+use axi_beats::WBeat;
+use axi_checker::{AxiBeat, AxiRule};
 use config::Config;
 use scoreboard::{AxiPort, Wrong};
 use std::alloc::{AllocError, Global};
@@ -59,7 +59,7 @@ fn take_early(axi: &mut AxiPort, early: &mut VecDeque<WBeat>) -> Option<Wrong>
 {
     let mut first = None;
     while let Some(beat) = early.front() {
-        let verdict = axi.w(beat);
+        let verdict = axi.judge(&AxiBeat::W(*beat));
         if tells_no_write(&verdict) {
             return first;
         }
@@ -81,7 +81,7 @@ impl RacingPort {
     }
 
     /// How many bursts are outstanding.
-    pub(crate) fn open_bursts(&self) -> u8
+    pub(crate) fn open_bursts(&self) -> usize
         ensures { result ≡ open_count self.now.open_bursts }
     {
         self.axi.open_bursts()
@@ -95,51 +95,26 @@ impl RacingPort {
         self.early.clear();
     }
 
-    /// Judges a write's address, and the early beats that it takes.
-    pub(crate) fn aw(&mut self, beat: &AwBeat) -> Option<Wrong>
-        ensures wrong { result ≡ port_wrong self.old (OnAw beat.now) }
-        ensures state { self.new ≡ port_after self.old (OnAw beat.now) }
+    /// Judges a beat: a write's address takes the early beats of its data, and a write's data may be early.
+    pub(crate) fn judge(&mut self, beat: &AxiBeat) -> Option<Wrong>
+        ensures wrong { result ≡ port_wrong self.old beat.now }
+        ensures state { self.new ≡ port_after self.old beat.now }
     {
-        if let Some(wrong) = self.axi.aw(beat) {
-            return Some(wrong);
+        let verdict = self.axi.judge(beat);
+        match beat {
+            AxiBeat::Aw(_) if verdict.is_none() => take_early(&mut self.axi, &mut self.early),
+            AxiBeat::W(data) if self.may_be_early(&verdict) => {
+                self.early.push_back_reserved(*data);
+                None
+            }
+            _ => verdict,
         }
-        take_early(&mut self.axi, &mut self.early)
     }
 
-    /// Judges a write's data, which may be early.
-    pub(crate) fn w(&mut self, beat: &WBeat) -> Option<Wrong>
-        ensures wrong { result ≡ port_wrong self.old (OnW beat.now) }
-        ensures state { self.new ≡ port_after self.old (OnW beat.now) }
+    /// Whether a W beat of this verdict may be held until its address comes.
+    fn may_be_early(&self, verdict: &Option<Wrong>) -> bool
+        ensures { result ≡ (tells_no_write verdict.now && nat_lt (length self.now.early) 256) }
     {
-        let verdict = self.axi.w(beat);
-        if tells_no_write(&verdict) && self.early.len() < MOST_EARLY {
-            self.early.push_back_reserved(*beat);
-            return None;
-        }
-        verdict
-    }
-
-    /// Judges a write's response, which closes its burst.
-    pub(crate) fn b(&mut self, beat: &BBeat) -> Option<Wrong>
-        ensures wrong { result ≡ port_wrong self.old (OnB beat.now) }
-        ensures state { self.new ≡ port_after self.old (OnB beat.now) }
-    {
-        self.axi.b(beat)
-    }
-
-    /// Judges a read's address.
-    pub(crate) fn ar(&mut self, beat: &ArBeat) -> Option<Wrong>
-        ensures wrong { result ≡ port_wrong self.old (OnAr beat.now) }
-        ensures state { self.new ≡ port_after self.old (OnAr beat.now) }
-    {
-        self.axi.ar(beat)
-    }
-
-    /// Judges a read's data, of which the last close their burst.
-    pub(crate) fn r(&mut self, beat: &RBeat) -> Option<Wrong>
-        ensures wrong { result ≡ port_wrong self.old (OnR beat.now) }
-        ensures state { self.new ≡ port_after self.old (OnR beat.now) }
-    {
-        self.axi.r(beat)
+        tells_no_write(verdict) && self.early.len() < MOST_EARLY
     }
 }

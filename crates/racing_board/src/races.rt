@@ -1,4 +1,4 @@
-//! The requests in flight together, and which bytes of the memory are in doubt.
+//! The requests in flight together, and which bytes of the memory are indeterminate.
 ghost use Rattle.std.specs.Prelude.{◌≡◌, ◌≤◌, ◌<◌, ◌==◌, ◌+◌, ◌%◌, ◌^◌, ◌&&◌, ◌||◌, ℕ, true, IfOk, IfSome, IsTrue, None, if◌then◌else◌, is_some, length, map, replicate, slice_set};
 ghost use Rattle.std.specs.List.{swap};
 ghost use Rattle.bus_words.specs.Lanes.{given_at, lane_byte};
@@ -7,10 +7,10 @@ ghost use Rattle.tl_messages.specs.Requests.{bytes_given, request_of};
 ghost use Rattle.subordinate.specs.Faults.{device_fault, is_good, standing_at};
 ghost use Rattle.scoreboard.specs.InsideSerial.{IsMemoryRange};
 ghost use Rattle.scoreboard.specs.SerialMemory.{IsCheckedRequest};
-ghost use Rattle.racing_board.specs.InsideRaces.{AreOnGoodPages, IsOnGoodPage, IsOpening, doubt_in, racer_of, races_of, settled_in};
-ghost use Rattle.racing_board.specs.Races.{after_joining, at_rest, beside, covers, depends_on, doubts_after, doubts_beside, is_fixed, no_racer, racer_in};
+ghost use Rattle.racing_board.specs.InsideRaces.{AreOnGoodPages, IsOnGoodPage, IsOpening, doubt_in, footprint_of, races_of, determined_in};
+ghost use Rattle.racing_board.specs.Races.{after_joining, at_rest, beside, covers, depends_on, after_given, beside_dependent, is_fixed, no_footprint, footprint_in};
 
-use crate::racer::Racer;
+use crate::footprint::Footprint;
 use bus_words::has_lane;
 use data_unit::full_mask;
 use scoreboard::put_word;
@@ -20,24 +20,24 @@ use std::mem;
 use subordinate::{PageKind, Pages};
 use tl_messages::{MaskedWord, Request};
 
-/// The word whose bytes say that they are in doubt, or that they aren't.
-fn doubt_word(doubtful: bool) -> u64
-    ensures { (lane : ℕ) → lane < 8 → lane_byte result lane ≡ (if doubtful then 1 else 0) }
+/// The word whose bytes say that they are indeterminate, or that they aren't.
+fn doubt_word(indeterminate: bool) -> u64
+    ensures { (lane : ℕ) → lane < 8 → lane_byte result lane ≡ (if indeterminate then 1 else 0) }
 {
-    if doubtful {
+    if indeterminate {
         return 0x0101_0101_0101_0101;
     }
     0
 }
 
-/// Sets whether the byte at an address of a good page is in doubt.
-fn mark(doubts: &mut Pages, address: u32, doubtful: bool)
+/// Sets whether the byte at an address of a good page is indeterminate.
+fn mark(doubts: &mut Pages, address: u32, indeterminate: bool)
     requires good { is_good (standing_at doubts.old.faults address) ≡ true }
     ensures faults { doubts.new.faults ≡ doubts.old.faults }
-    ensures bytes { (x : ℕ) → doubt_in doubts.new x ≡ (if x == address then doubtful else doubt_in doubts.old x) }
+    ensures bytes { (x : ℕ) → doubt_in doubts.new x ≡ (if x == address then indeterminate else doubt_in doubts.old x) }
 {
     let word = MaskedWord {
-        word: doubt_word(doubtful),
+        word: doubt_word(indeterminate),
         mask: full_mask(address, 0),
     };
     put_word(doubts, address, 0, word);
@@ -54,112 +54,117 @@ fn gives(request: &Request, address: u32, i: u32) -> bool
     has_lane(request.mask((i / 8) as u16), ((address % 8 + i) % 8) as u8)
 }
 
-/// Whether byte `i`, from 0, of a request is settled, and what it leaves is fixed.
-fn leaves_same(racer: &Racer, fixed: bool, i: u32) -> bool
-    requires { i < 2 ^ racer.now.size }
-    ensures { result ≡ (settled_in racer.now (racer.now.address + i) && fixed) }
+/// Whether byte `i`, from 0, of a request is determined, and what it leaves is fixed.
+fn leaves_same(footprint: &Footprint, fixed: bool, i: u32) -> bool
+    requires { i < 2 ^ footprint.now.size }
+    ensures { result ≡ (determined_in footprint.now (footprint.now.address + i) && fixed) }
 {
-    racer.is_settled(i) && fixed
+    footprint.is_determined(i) && fixed
 }
 
-/// What a request gives as its byte `i`, from 0, is in doubt where it isn't settled, or where what it leaves isn't fixed.
-fn mark_byte(doubts: &mut Pages, racer: &Racer, request: &Request, fixed: bool, i: u32)
+/// What a request gives as its byte `i`, from 0, is indeterminate where it isn't determined, or where what it leaves isn't fixed.
+fn mark_byte(doubts: &mut Pages, footprint: &Footprint, request: &Request, fixed: bool, i: u32)
     requires checked { IsCheckedRequest request.now }
     requires data { IsTrue (has_data request.now.operation) }
-    requires same_byte { racer.now.address % 4096 ≡ request.now.address % 4096 }
-    requires size { racer.now.size ≡ request.now.size }
-    requires writes { racer.now.writes ≡ true }
-    requires good { is_good (standing_at doubts.old.faults racer.now.address) ≡ true }
-    requires is_fixed { fixed ≡ is_fixed (racer_of racer.now) }
-    requires inside { i < 2 ^ racer.now.size }
+    requires same_byte { footprint.now.address % 4096 ≡ request.now.address % 4096 }
+    requires size { footprint.now.size ≡ request.now.size }
+    requires writes { footprint.now.writes ≡ true }
+    requires good { is_good (standing_at doubts.old.faults footprint.now.address) ≡ true }
+    requires is_fixed { fixed ≡ is_fixed (footprint_of footprint.now) }
+    requires inside { i < 2 ^ footprint.now.size }
     ensures faults { doubts.new.faults ≡ doubts.old.faults }
     ensures bytes { (x : ℕ) → doubt_in doubts.new x
-        ≡ (if x == racer.now.address + i then doubts_after (doubt_in doubts.old) (racer_of racer.now) (bytes_given request.now) x else doubt_in doubts.old x) }
+        ≡ (if x == footprint.now.address + i then after_given (doubt_in doubts.old) (footprint_of footprint.now) (bytes_given request.now) x else doubt_in doubts.old x) }
 {
-    if !gives(request, racer.address(), i) {
+    if !gives(request, footprint.address(), i) {
         return;
     }
-    let same = leaves_same(racer, fixed, i);
-    mark(doubts, racer.address_of(i), !same);
+    let same = leaves_same(footprint, fixed, i);
+    mark(doubts, footprint.address_of(i), !same);
 }
 
-/// What a request gives is in doubt where it isn't settled.
-fn mark_given(doubts: &mut Pages, racer: &Racer, request: &Request)
+/// What a request gives is indeterminate where it isn't determined.
+fn mark_given(doubts: &mut Pages, footprint: &Footprint, request: &Request)
     requires checked { IsCheckedRequest request.now }
     requires data { IsTrue (has_data request.now.operation) }
-    requires same_byte { racer.now.address % 4096 ≡ request.now.address % 4096 }
-    requires size { racer.now.size ≡ request.now.size }
-    requires writes { racer.now.writes ≡ true }
-    requires good { is_good (standing_at doubts.old.faults racer.now.address) ≡ true }
+    requires same_byte { footprint.now.address % 4096 ≡ request.now.address % 4096 }
+    requires size { footprint.now.size ≡ request.now.size }
+    requires writes { footprint.now.writes ≡ true }
+    requires good { is_good (standing_at doubts.old.faults footprint.now.address) ≡ true }
     ensures faults { doubts.new.faults ≡ doubts.old.faults }
-    ensures bytes { doubt_in doubts.new ≡ doubts_after (doubt_in doubts.old) (racer_of racer.now) (bytes_given request.now) }
+    ensures bytes { doubt_in doubts.new ≡ after_given (doubt_in doubts.old) (footprint_of footprint.now) (bytes_given request.now) }
 {
-    let fixed = racer.is_fixed();
-    for i in 0..racer.bytes() {
-        mark_byte(doubts, racer, request, fixed, i);
+    let fixed = footprint.is_fixed();
+    for i in 0..footprint.bytes() {
+        mark_byte(doubts, footprint, request, fixed, i);
     }
 }
 
-/// All bytes of a request are in doubt.
-fn mark_all(doubts: &mut Pages, racer: &Racer)
-    requires good { is_good (standing_at doubts.old.faults racer.now.address) ≡ true }
+/// All bytes of a request are indeterminate.
+fn mark_all(doubts: &mut Pages, footprint: &Footprint)
+    requires good { is_good (standing_at doubts.old.faults footprint.now.address) ≡ true }
     ensures faults { doubts.new.faults ≡ doubts.old.faults }
-    ensures bytes { (x : ℕ) → doubt_in doubts.new x ≡ (doubt_in doubts.old x || covers (racer_of racer.now) x) }
+    ensures bytes { (x : ℕ) → doubt_in doubts.new x ≡ (doubt_in doubts.old x || covers (footprint_of footprint.now) x) }
 {
-    for i in 0..racer.bytes() {
-        mark(doubts, racer.address_of(i), true);
+    for i in 0..footprint.bytes() {
+        mark(doubts, footprint.address_of(i), true);
     }
 }
 
-/// All bytes of a request are in doubt where what it writes may depend on another.
-fn mark_dependent(doubts: &mut Pages, racer: &Racer, other: &Racer)
-    requires good { IsOnGoodPage doubts.old.faults (racer_of racer.now) }
+/// All bytes of a request are indeterminate where what it writes may depend on another.
+fn mark_dependent(doubts: &mut Pages, footprint: &Footprint, other: &Footprint)
+    requires good { IsOnGoodPage doubts.old.faults (footprint_of footprint.now) }
     ensures faults { doubts.new.faults ≡ doubts.old.faults }
     ensures bytes { (x : ℕ) → doubt_in doubts.new x
-        ≡ (doubt_in doubts.old x || depends_on (racer_of racer.now) (racer_of other.now) && covers (racer_of racer.now) x) }
+        ≡ (doubt_in doubts.old x || depends_on (footprint_of footprint.now) (footprint_of other.now) && covers (footprint_of footprint.now) x) }
 {
-    if !racer.reads() || !racer.writes() || !other.writes() || !racer.meets(other) {
+    if !footprint.reads() || !footprint.writes() || !other.writes() || !footprint.meets(other) {
         return;
     }
-    mark_all(doubts, racer);
+    mark_all(doubts, footprint);
 }
 
-/// All bytes are in doubt of those requests of which what they write may depend on another.
-fn mark_beside(doubts: &mut Pages, racers: &[Racer], other: &Racer)
-    requires good { AreOnGoodPages doubts.old.faults (map racer_of racers.now) }
+/// All bytes are indeterminate of those requests of which what they write may depend on another.
+fn mark_beside(doubts: &mut Pages, footprints: &[Footprint], other: &Footprint)
+    requires good { AreOnGoodPages doubts.old.faults (map footprint_of footprints.now) }
     ensures faults { doubts.new.faults ≡ doubts.old.faults }
-    ensures bytes { doubt_in doubts.new ≡ doubts_beside (doubt_in doubts.old) (racer_of other.now) (map racer_of racers.now) }
+    ensures bytes { doubt_in doubts.new ≡ beside_dependent (doubt_in doubts.old) (footprint_of other.now) (map footprint_of footprints.now) }
 {
-    for racer in racers {
-        mark_dependent(doubts, racer, other);
+    for footprint in footprints {
+        mark_dependent(doubts, footprint, other);
     }
 }
 
-/// What is in doubt after a request that joins others.
-fn mark_written(doubts: &mut Pages, racers: &[Racer], racer: &Racer, request: &Request)
+/// What is indeterminate after a request that joins others.
+fn mark_written(
+    doubts: &mut Pages,
+    footprints: &[Footprint],
+    footprint: &Footprint,
+    request: &Request,
+)
     requires checked { IsCheckedRequest request.now }
-    requires same_byte { racer.now.writes ≡ true → racer.now.address % 4096 ≡ request.now.address % 4096 }
-    requires size { racer.now.size ≡ request.now.size }
-    requires data { racer.now.writes ≡ true → IsTrue (has_data request.now.operation) }
-    requires own { IsOnGoodPage doubts.old.faults (racer_of racer.now) }
-    requires others { AreOnGoodPages doubts.old.faults (map racer_of racers.now) }
+    requires same_byte { footprint.now.writes ≡ true → footprint.now.address % 4096 ≡ request.now.address % 4096 }
+    requires size { footprint.now.size ≡ request.now.size }
+    requires data { footprint.now.writes ≡ true → IsTrue (has_data request.now.operation) }
+    requires own { IsOnGoodPage doubts.old.faults (footprint_of footprint.now) }
+    requires others { AreOnGoodPages doubts.old.faults (map footprint_of footprints.now) }
     ensures faults { doubts.new.faults ≡ doubts.old.faults }
     ensures bytes { doubt_in doubts.new
-        ≡ doubts_beside (doubts_after (doubt_in doubts.old) (racer_of racer.now) (bytes_given request.now)) (racer_of racer.now) (map racer_of racers.now) }
+        ≡ beside_dependent (after_given (doubt_in doubts.old) (footprint_of footprint.now) (bytes_given request.now)) (footprint_of footprint.now) (map footprint_of footprints.now) }
 {
-    if !racer.writes() {
+    if !footprint.writes() {
         return;
     }
-    mark_given(doubts, racer, request);
-    mark_beside(doubts, racers, racer);
+    mark_given(doubts, footprint, request);
+    mark_beside(doubts, footprints, footprint);
 }
 
-/// What a request may write isn't settled for others.
-fn give_way(racers: &mut [Racer], other: &Racer)
-    ensures { map racer_of racers.new ≡ map (λ racer. beside racer (racer_of other.now)) (map racer_of racers.old) }
+/// What a request may write isn't determined for others.
+fn give_way(footprints: &mut [Footprint], other: &Footprint)
+    ensures { map footprint_of footprints.new ≡ map (λ footprint. beside footprint (footprint_of other.now)) (map footprint_of footprints.old) }
 {
-    for racer in racers.iter_mut() {
-        racer.give_way(other);
+    for footprint in footprints.iter_mut() {
+        footprint.give_way(other);
     }
 }
 
@@ -167,19 +172,19 @@ fn give_way(racers: &mut [Racer], other: &Racer)
 /// take effect: those of the pages that aren't zero. All room is taken by `new`.
 pub(crate) struct Races {
     doubts: Pages,
-    racers: Vec<Racer>,
-    spare: Racer,
+    footprints: Vec<Footprint>,
+    spare: Footprint,
 }
 
 impl Model for Races {
     ghost use Rattle.std.specs.Prelude.{map};
-    ghost use Rattle.racing_board.specs.InsideRaces.{AreOnGoodPages, RacesState, racer_of};
+    ghost use Rattle.racing_board.specs.InsideRaces.{AreOnGoodPages, RacesState, footprint_of};
 
     ghost Value = { RacesState };
 
-    ghost view = { λ r. record { doubts = r.doubts; racers = r.racers.items } };
+    ghost view = { λ r. record { doubts = r.doubts; footprints = r.footprints.items } };
 
-    ghost invariant = { λ r. AreOnGoodPages r.doubts.faults (map racer_of r.racers.items) };
+    ghost invariant = { λ r. AreOnGoodPages r.doubts.faults (map footprint_of r.footprints.items) };
 }
 
 // Written out, so that what lets go of one calls this, and proves nothing of its parts.
@@ -187,25 +192,25 @@ impl Drop for Races {
     fn drop(self) {
         let Races {
             doubts: _,
-            racers: _,
+            footprints: _,
             spare: _,
         } = self;
     }
 }
 
 /// So many slots, with nothing in flight.
-fn empty_slots(alloc: Global, slots: u16) -> Result<Vec<Racer>, AllocError>
-    ensures { IfOk result (λ racers. map racer_of racers.items ≡ replicate slots no_racer) }
+fn empty_slots(alloc: Global, slots: u16) -> Result<Vec<Footprint>, AllocError>
+    ensures { IfOk result (λ footprints. map footprint_of footprints.items ≡ replicate slots no_footprint) }
 {
-    let mut racers = Vec::with_capacity(alloc, usize::from(slots))?;
+    let mut footprints = Vec::with_capacity(alloc, usize::from(slots))?;
     for _ in 0..slots {
-        racers.push(Racer::new(alloc)?)?;
+        footprints.push(Footprint::new(alloc)?)?;
     }
-    Ok(racers)
+    Ok(footprints)
 }
 
 impl Races {
-    /// Nothing is in flight in so many slots, and no byte of these pages is in doubt. The one error is that memory was refused.
+    /// Nothing is in flight in so many slots, and no byte of these pages is indeterminate. The one error is that memory was refused.
     pub(crate) fn new(
         alloc: Global,
         slots: u16,
@@ -216,63 +221,63 @@ impl Races {
         ensures { IfOk result (λ races. IsOpening races slots pages.now bad.now) }
     {
         let doubts = Pages::new(alloc, pages, bad)?;
-        let racers = empty_slots(alloc, slots)?;
-        let spare = Racer::new(alloc)?;
+        let footprints = empty_slots(alloc, slots)?;
+        let spare = Footprint::new(alloc)?;
         Ok(Races {
             doubts,
-            racers,
+            footprints,
             spare,
         })
     }
 
     /// The request in a slot.
-    pub(crate) fn racer(&self, slot: usize) -> &Racer
-        requires { slot < length self.now.racers }
-        ensures { racer_of result.now ≡ racer_in (races_of self.now) slot }
+    pub(crate) fn footprint(&self, slot: usize) -> &Footprint
+        requires { slot < length self.now.footprints }
+        ensures { footprint_of result.now ≡ footprint_in (races_of self.now) slot }
     {
-        &self.racers[slot]
+        &self.footprints[slot]
     }
 
     /// A request that a checker let pass joins those in flight, in a slot. It acts at an address of a good page, if at any.
     pub(crate) fn join(&mut self, slot: usize, place: Option<u32>, request: &Request)
-        requires slot { slot < length self.old.racers }
+        requires slot { slot < length self.old.footprints }
         requires checked { IsCheckedRequest request.now }
         requires same_byte { IfSome place (λ address. address % 4096 ≡ request.now.address % 4096) }
         requires good { IfSome place (λ address. is_good (standing_at self.old.doubts.faults address) ≡ true) }
         ensures faults { self.new.doubts.faults ≡ self.old.doubts.faults }
         ensures races { races_of self.new ≡ after_joining (races_of self.old) slot place (request_of request.now) }
-        ensures slots { length self.new.racers ≡ length self.old.racers }
+        ensures slots { length self.new.footprints ≡ length self.old.footprints }
     {
         let Races {
             doubts,
-            racers,
+            footprints,
             spare,
         } = self;
         spare.start(doubts, place, request);
-        spare.give_way_to_all(racers);
-        mark_written(doubts, racers, spare, request);
-        give_way(racers, spare);
-        mem::swap(&mut racers[slot], spare);
+        spare.give_way_to_all(footprints);
+        mark_written(doubts, footprints, spare, request);
+        give_way(footprints, spare);
+        mem::swap(&mut footprints[slot], spare);
     }
 
     /// The requests in two slots change places.
     pub(crate) fn swap(&mut self, slot: usize, other: usize)
-        requires slot { slot < length self.old.racers }
-        requires other { other < length self.old.racers }
+        requires slot { slot < length self.old.footprints }
+        requires other { other < length self.old.footprints }
         ensures doubts { self.new.doubts ≡ self.old.doubts }
-        ensures racers { map racer_of self.new.racers ≡ swap (map racer_of self.old.racers) slot other }
-        ensures slots { length self.new.racers ≡ length self.old.racers }
+        ensures footprints { map footprint_of self.new.footprints ≡ swap (map footprint_of self.old.footprints) slot other }
+        ensures slots { length self.new.footprints ≡ length self.old.footprints }
     {
-        self.racers.swap(slot, other);
+        self.footprints.swap(slot, other);
     }
 
     /// The request in a slot isn't in flight any more.
     pub(crate) fn rest(&mut self, slot: usize)
-        requires slot { slot < length self.old.racers }
+        requires slot { slot < length self.old.footprints }
         ensures doubts { self.new.doubts ≡ self.old.doubts }
-        ensures racers { map racer_of self.new.racers ≡ slice_set (map racer_of self.old.racers) slot (at_rest (racer_in (races_of self.old) slot)) }
-        ensures slots { length self.new.racers ≡ length self.old.racers }
+        ensures footprints { map footprint_of self.new.footprints ≡ slice_set (map footprint_of self.old.footprints) slot (at_rest (footprint_in (races_of self.old) slot)) }
+        ensures slots { length self.new.footprints ≡ length self.old.footprints }
     {
-        self.racers[slot].rest();
+        self.footprints[slot].rest();
     }
 }

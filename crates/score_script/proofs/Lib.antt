@@ -1,4 +1,3 @@
-mod BoardsSaid
 mod FindingLines
 mod Openings
 mod ScoreSteps

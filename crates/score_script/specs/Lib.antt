@@ -3,4 +3,3 @@ pub mod ObservedLines
 pub mod Profiles
 pub mod ScoreStates
 pub mod Scores
-pub mod SeenBoards

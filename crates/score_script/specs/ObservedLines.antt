@@ -8,6 +8,7 @@ use Rattle.axi_beats.specs.declared.RBeat.{RBeat}
 use Rattle.axi_beats.specs.declared.Resp.{Resp}
 use Rattle.axi_beats.specs.declared.Resp.TheVariants.{Okay, ExOkay, SlvErr, DecErr}
 use Rattle.axi_beats.specs.declared.WBeat.{WBeat}
+use Rattle.axi_checker.specs.declared.AxiBeat.TheVariants.{Ar as OnAr, Aw as OnAw, B as OnB, R as OnR, W as OnW}
 use Rattle.line_text.specs.Fields.{Field, address_field, byte_field, flag_field, is_set, read_as}
 use Rattle.script_text.specs.Forms.{told_as}
 use Rattle.line_text.specs.OfferLines.{offer_line}
@@ -91,11 +92,11 @@ ar_in words =
 
 -- a write address, or the first wrong word
 abbrev pub aw_line : List (List ℕ) → Result Seen ℕ
-aw_line words = read_as burst_fields words (seen.Aw (aw_in words))
+aw_line words = read_as burst_fields words (seen.Axi (OnAw (aw_in words)))
 
 -- a read address, or the first wrong word
 abbrev pub ar_line : List (List ℕ) → Result Seen ℕ
-ar_line words = read_as burst_fields words (seen.Ar (ar_in words))
+ar_line words = read_as burst_fields words (seen.Axi (OnAr (ar_in words)))
 
 -- ---- W PAYLOAD STROBES LAST
 
@@ -105,7 +106,7 @@ w_in words = record { payload = hex_at words 2; strobes = hex_at words 3; last =
 
 -- write data, or the first wrong word
 abbrev pub w_line : List (List ℕ) → Result Seen ℕ
-w_line words = read_as (payload_field ∷ mask_field ∷ flag_field ∷ []) words (seen.W (w_in words))
+w_line words = read_as (payload_field ∷ mask_field ∷ flag_field ∷ []) words (seen.Axi (OnW (w_in words)))
 
 -- ---- B ID RESP
 
@@ -115,7 +116,7 @@ b_in words = record { id = dec_at words 2; resp = resp_in (word_at words 3) }
 
 -- a write response, or the first wrong word
 abbrev pub b_line : List (List ℕ) → Result Seen ℕ
-b_line words = read_as (byte_field ∷ resp_field ∷ []) words (seen.B (b_in words))
+b_line words = read_as (byte_field ∷ resp_field ∷ []) words (seen.Axi (OnB (b_in words)))
 
 -- ---- R ID PAYLOAD RESP LAST
 
@@ -126,7 +127,7 @@ r_in words =
 
 -- read data, or the first wrong word
 abbrev pub r_line : List (List ℕ) → Result Seen ℕ
-r_line words = read_as (byte_field ∷ payload_field ∷ resp_field ∷ flag_field ∷ []) words (seen.R (r_in words))
+r_line words = read_as (byte_field ∷ payload_field ∷ resp_field ∷ flag_field ∷ []) words (seen.Axi (OnR (r_in words)))
 
 -- ---- all
 

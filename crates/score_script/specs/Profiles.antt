@@ -3,10 +3,12 @@ use Rattle.std.specs.Prelude.{ℕ, ◌||◌, List, [], ◌∷◌, Option, Result
 use Rattle.std.specs.Str.{bytes_eq}
 use Rattle.line_text.specs.Fields.{Field, read_as}
 use Rattle.line_text.specs.Words.{word_at}
+use Rattle.axi_checker.specs.OpenBursts.{open_count}
+use Rattle.scoreboard.specs.Boards as strict
+use Rattle.scoreboard.specs.Boards.{Board, replies_open as open_replies}
+use Rattle.scoreboard.specs.SerialMemory.{byte_at}
 use Rattle.racing_board.specs.Boards as racing
 use Rattle.racing_board.specs.Boards.{RacingBoard, opening_racing}
-use Rattle.score_script.specs.SeenBoards as strict
-use Rattle.score_script.specs.SeenBoards.{SeenBoard, opening_seen}
 use Rattle.score_script.specs.declared.profiles.Profile.{Profile}
 use Rattle.score_script.specs.declared.profiles.Profile.TheVariants.{Bridge, TileLink}
 use Rattle.scoreboard.specs.declared.Seen.{Seen}
@@ -36,17 +38,17 @@ profile_of named = unwrap_or named Bridge
 -- the board that judges beats: by a scoreboard, for which requests are carried out in order of acceptance, or by a racing board, for which those in
 -- flight together may take effect in any order
 pub data ProfileBoard : Type 0 where
-  OfBridge : SeenBoard → ProfileBoard
+  OfBridge : Board → ProfileBoard
   OfTileLink : RacingBoard → ProfileBoard
 
 -- nothing was observed
 abbrev pub opening_board : Profile → SetupLists → ProfileBoard
-opening_board Bridge setup = OfBridge (opening_seen setup)
+opening_board Bridge setup = OfBridge (strict.opening_board setup)
 opening_board TileLink setup = OfTileLink (opening_racing setup)
 
 -- what is wrong with a beat, if anything is
 abbrev pub wrong_in : ProfileBoard → Seen → Option Wrong
-wrong_in (OfBridge board) seen = strict.wrong_in board seen
+wrong_in (OfBridge board) seen = strict.wrong_at board seen
 wrong_in (OfTileLink board) seen = racing.wrong_at board seen
 
 -- the board after a beat
@@ -56,15 +58,15 @@ after_seen (OfTileLink board) seen = OfTileLink (racing.after_seen board seen)
 
 -- the byte at an address of a good page, as the requests accepted so far leave it in order of acceptance; none outside these pages
 abbrev pub byte_in : ProfileBoard → ℕ → Option ℕ
-byte_in (OfBridge board) address = strict.byte_in board address
-byte_in (OfTileLink board) address = racing.byte_at board address
+byte_in (OfBridge board) address = byte_at board.memory address
+byte_in (OfTileLink board) address = byte_at board.memory address
 
 -- how many accepted requests have a reply that isn't whole
 abbrev pub replies_open : ProfileBoard → ℕ
-replies_open (OfBridge board) = strict.replies_open board
-replies_open (OfTileLink board) = racing.replies_open board
+replies_open (OfBridge board) = open_replies board.clients
+replies_open (OfTileLink board) = open_replies board.clients
 
 -- how many bursts are outstanding on the AXI4 port
 abbrev pub bursts_open : ProfileBoard → ℕ
-bursts_open (OfBridge board) = strict.bursts_open board
-bursts_open (OfTileLink board) = racing.bursts_open board
+bursts_open (OfBridge board) = open_count board.open_bursts
+bursts_open (OfTileLink board) = open_count board.axi.open_bursts

@@ -3,7 +3,7 @@ use Rattle.std.specs.Prelude.{Result, Ok, Err}
 use Rattle.racing_board.specs.Boards.{racing_board}
 use Rattle.score_script.specs.Profiles.{OfBridge, OfTileLink, ProfileBoard}
 use Rattle.score_script.specs.Scores.{Score, ScoreState}
-use Rattle.score_script.specs.SeenBoards.{seen_board}
+use Rattle.scoreboard.specs.Boards as strict
 use Rattle.score_script.specs.declared.profiles.Board.{Board as HeldBoard}
 use Rattle.score_script.specs.declared.profiles.Board.TheVariants as boards
 use Rattle.score_script.specs.declared.score.Score.{Score as HeldScore}
@@ -16,7 +16,7 @@ use Rattle.setups.specs.declared.SetupFault.{SetupFault}
 
 -- a board, said by its bytes
 abbrev pub board_of : HeldBoard → ProfileBoard
-board_of (boards.Bridge board) = OfBridge (seen_board board)
+board_of (boards.Bridge board) = OfBridge (strict.board_of board)
 board_of (boards.TileLink board) = OfTileLink (racing_board board)
 
 -- a score, with its board said so

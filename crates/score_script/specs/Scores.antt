@@ -12,7 +12,7 @@ use Rattle.score_script.specs.declared.score.Command.{Command}
 use Rattle.score_script.specs.declared.score.Command.TheVariants as command
 use Rattle.score_script.specs.declared.score.HeldBeat.{HeldBeat}
 use Rattle.scoreboard.specs.declared.Seen.{Seen}
-use Rattle.scoreboard.specs.declared.Seen.TheVariants.{A, D, Aw, W, B, Ar, R, Drained}
+use Rattle.scoreboard.specs.declared.Seen.TheVariants.{A, D, Axi, Drained}
 use Rattle.scoreboard.specs.declared.Wrong.{Wrong}
 use Rattle.script_text.specs.Forms.{form_of}
 use Rattle.script_text.specs.Scripts.{LineStep, Reading, TextResult, ended}
@@ -61,22 +61,14 @@ counted count = min (count + 1) (2 ^ 64 - 1)
 abbrev pub beats_judged : ℕ → Seen → ℕ
 beats_judged count (A client beat) = counted count
 beats_judged count (D client beat) = counted count
-beats_judged count (Aw beat) = counted count
-beats_judged count (W beat) = counted count
-beats_judged count (B beat) = counted count
-beats_judged count (Ar beat) = counted count
-beats_judged count (R beat) = counted count
+beats_judged count (Axi beat) = counted count
 beats_judged count Drained = count
 
 -- the client of a beat; 0 for what is of the AXI4 port
 abbrev pub client_of : Seen → ℕ
 client_of (A client beat) = client
 client_of (D client beat) = client
-client_of (Aw beat) = 0
-client_of (W beat) = 0
-client_of (B beat) = 0
-client_of (Ar beat) = 0
-client_of (R beat) = 0
+client_of (Axi beat) = 0
 client_of Drained = 0
 
 -- a wrong beat, by the number of its line

@@ -114,7 +114,7 @@ pub fn last_line<W: Write>(
     judged: u64,
     wrong: u64,
     outstanding: u16,
-    open_bursts: u8,
+    open_bursts: usize,
     writer: &mut W,
 ) -> Result<(), WriteFault>
     ensures { OnOk result (Appends (W.contents writer.old) (W.contents writer.new) (last_text judged wrong outstanding open_bursts)) }

@@ -5,6 +5,7 @@ ghost use Rattle.line_text.specs.Words.{word_at};
 ghost use Rattle.score_script.specs.ObservedLines.{address_line, ar_line, aw_line, b_line, channel_of, d_line, is_withdrawal, r_line, resp_field, resp_in, seen_line, w_line};
 
 use axi_beats::{ArBeat, AwBeat, BBeat, RBeat, Resp, WBeat};
+use axi_checker::AxiBeat;
 use line_text::{Words, offer_line};
 use scoreboard::Seen;
 use tl_messages::DBeat;
@@ -93,13 +94,13 @@ fn aw_line(words: &Words<'_>) -> Result<Seen, u32>
     let size = words.byte(5)?;
     let burst = words.byte(6)?;
     words.end(6)?;
-    Ok(Seen::Aw(AwBeat {
+    Ok(Seen::Axi(AxiBeat::Aw(AwBeat {
         id,
         address,
         len,
         size,
         burst,
-    }))
+    })))
 }
 
 fn ar_line(words: &Words<'_>) -> Result<Seen, u32>
@@ -111,13 +112,13 @@ fn ar_line(words: &Words<'_>) -> Result<Seen, u32>
     let size = words.byte(5)?;
     let burst = words.byte(6)?;
     words.end(6)?;
-    Ok(Seen::Ar(ArBeat {
+    Ok(Seen::Axi(AxiBeat::Ar(ArBeat {
         id,
         address,
         len,
         size,
         burst,
-    }))
+    })))
 }
 
 fn w_line(words: &Words<'_>) -> Result<Seen, u32>
@@ -127,11 +128,11 @@ fn w_line(words: &Words<'_>) -> Result<Seen, u32>
     let strobes = words.mask(3)?;
     let last = words.flag(4)?;
     words.end(4)?;
-    Ok(Seen::W(WBeat {
+    Ok(Seen::Axi(AxiBeat::W(WBeat {
         payload,
         strobes,
         last,
-    }))
+    })))
 }
 
 fn b_line(words: &Words<'_>) -> Result<Seen, u32>
@@ -140,7 +141,7 @@ fn b_line(words: &Words<'_>) -> Result<Seen, u32>
     let id = words.byte(2)?;
     let resp = resp(words, 3)?;
     words.end(3)?;
-    Ok(Seen::B(BBeat { id, resp }))
+    Ok(Seen::Axi(AxiBeat::B(BBeat { id, resp })))
 }
 
 fn r_line(words: &Words<'_>) -> Result<Seen, u32>
@@ -151,12 +152,12 @@ fn r_line(words: &Words<'_>) -> Result<Seen, u32>
     let resp = resp(words, 4)?;
     let last = words.flag(5)?;
     words.end(5)?;
-    Ok(Seen::R(RBeat {
+    Ok(Seen::Axi(AxiBeat::R(RBeat {
         id,
         payload,
         resp,
         last,
-    }))
+    })))
 }
 
 /// The beat that a channel's line says, or its first wrong word.

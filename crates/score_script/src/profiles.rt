@@ -6,13 +6,12 @@ ghost use Rattle.setups.specs.Setups.{lists_of, setup_fault};
 ghost use Rattle.setups.specs.declared.SetupFault.TheVariants.{NoMemory};
 ghost use Rattle.score_script.specs.Profiles.{after_seen, bursts_open, byte_in, opening_board, profile_field, profile_in, profile_line, replies_open, wrong_in};
 ghost use Rattle.score_script.specs.ScoreStates.{board_of};
-ghost use Rattle.score_script.specs.SeenBoards.{after_seen as after_compared, seen_board, wrong_in as wrong_compared};
 
 use line_text::Words;
 use racing_board::RacingBoard;
 use scoreboard::{Scoreboard, Seen, Wrong};
-use std::alloc::Global;
 use setups::{Setup, SetupFault};
+use std::alloc::Global;
 
 /// What is asked of a bridge.
 #[derive(Clone, Copy, Debug, PartialEq, Eq)]
@@ -53,14 +52,6 @@ pub(crate) enum Board {
     TileLink(RacingBoard),
 }
 
-/// Judges what was observed: the board is said by its bytes.
-fn judged_by(board: &mut Scoreboard, seen: &Seen) -> Option<Wrong>
-    ensures verdict { result ≡ wrong_compared (seen_board board.old) seen.now }
-    ensures state { seen_board board.new ≡ after_compared (seen_board board.old) seen.now }
-{
-    board.judge(seen)
-}
-
 impl Board {
     /// The board of a profile and a set-up, of which nothing was observed.
     pub(crate) fn new(alloc: Global, profile: Profile, setup: &Setup) -> Result<Board, SetupFault>
@@ -86,7 +77,7 @@ impl Board {
         ensures state { board_of self.new ≡ after_seen (board_of self.old) seen.now }
     {
         match self {
-            Board::Bridge(board) => judged_by(board, seen),
+            Board::Bridge(board) => board.judge(seen),
             Board::TileLink(board) => board.judge(seen),
         }
     }
@@ -112,7 +103,7 @@ impl Board {
     }
 
     /// How many AXI bursts are open.
-    pub(crate) fn open_bursts(&self) -> u8
+    pub(crate) fn open_bursts(&self) -> usize
         ensures { result ≡ bursts_open (board_of self.now) }
     {
         match self {

@@ -18,9 +18,9 @@ use script_text::{
     Form, Script, ScriptFault, SetupLine, add_setup_line, has_no_room, is_setup_form, read_script,
     setup_line,
 };
+use setups::{Setup, SetupFault};
 use std::alloc::Global;
 use std::io::{Read, Write};
-use setups::{Setup, SetupFault};
 
 /// The most lines of an observation, so that the line after the last has a number.
 const MOST_LINES: u32 = 4_294_967_294;

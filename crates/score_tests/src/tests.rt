@@ -3,10 +3,12 @@ mod profiles;
 mod racing;
 
 use axi_beats::{ArBeat, AwBeat, BBeat, RBeat, Resp, WBeat};
-use axi_checker::AxiRule;
-use config::Config;
+use axi_checker::{AxiBeat, AxiRule};
 use burst_plan::{MapFault, PageMap, Region};
-use scoreboard::{ReplyRule, Scoreboard, Seen, SerialMemory, Wrong, observed};
+use config::Config;
+use observed_run::observed;
+use scoreboard::{ReplyRule, Scoreboard, Seen, SerialMemory, Wrong};
+use setups::{Setup, SetupFault};
 use std::alloc::Global;
 use std::fmt::Debug;
 use std::process::Abort;
@@ -14,7 +16,6 @@ use std::test::Fail;
 use subordinate::{PageKind, device_fault};
 use tl_checker::{Level, Port, Progress, TlRule};
 use tl_messages::{ABeat, DBeat, ReplyBox};
-use setups::{Setup, SetupFault};
 use world::Step;
 
 /// Has the test fail where two values differ; `case` says of what they are.
@@ -107,23 +108,23 @@ fn d_beat((opcode, size, source, denied, payload, corrupt): Reply) -> DBeat {
 }
 
 fn aw_beat(id: u8, address: u32, len: u8, size: u8) -> Seen {
-    Seen::Aw(AwBeat {
+    Seen::Axi(AxiBeat::Aw(AwBeat {
         id,
         address,
         len,
         size,
         burst: 1,
-    })
+    }))
 }
 
 fn ar_beat(id: u8, address: u32, len: u8, size: u8) -> Seen {
-    Seen::Ar(ArBeat {
+    Seen::Axi(AxiBeat::Ar(ArBeat {
         id,
         address,
         len,
         size,
         burst: 1,
-    })
+    }))
 }
 
 fn seen(beat: Beat) -> Seen {
@@ -143,22 +144,22 @@ fn seen(beat: Beat) -> Seen {
         }
         D(client, reply) => Seen::D(client, d_beat(reply)),
         Aw(id, address, len, size) => aw_beat(id, address, len, size),
-        W(payload, strobes, last) => Seen::W(WBeat {
+        W(payload, strobes, last) => Seen::Axi(AxiBeat::W(WBeat {
             payload,
             strobes,
             last,
-        }),
-        B(id) => Seen::B(BBeat {
+        })),
+        B(id) => Seen::Axi(AxiBeat::B(BBeat {
             id,
             resp: Resp::Okay,
-        }),
+        })),
         Ar(id, address, len, size) => ar_beat(id, address, len, size),
-        R(id, payload, last) => Seen::R(RBeat {
+        R(id, payload, last) => Seen::Axi(AxiBeat::R(RBeat {
             id,
             payload,
             resp: Resp::Okay,
             last,
-        }),
+        })),
         Drained => Seen::Drained,
     }
 }
@@ -179,7 +180,7 @@ struct History {
     name: &'static str,
     beats: &'static [(Beat, Said)],
     outstanding: u16,
-    open: u8,
+    open: usize,
 }
 
 const PUT: Beat = A(0, 0, 0, 3, 5, 0x8, 0xff, WORD);
@@ -430,7 +431,7 @@ trait Judge: Sized {
     fn says(&mut self, seen: &Seen) -> Option<Wrong>;
 
     /// How many replies and how many bursts are left.
-    fn left(&self) -> (u16, u8);
+    fn left(&self) -> (u16, usize);
 
     fn holds(&self, address: u32) -> Option<u8>;
 }
@@ -444,7 +445,7 @@ impl Judge for Scoreboard {
         self.judge(seen)
     }
 
-    fn left(&self) -> (u16, u8) {
+    fn left(&self) -> (u16, usize) {
         (self.outstanding(), self.open_bursts())
     }
 

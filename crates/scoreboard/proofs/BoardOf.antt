@@ -2,7 +2,6 @@
 use Rattle.std.proofs.Common.{◌≡◌, ℕ, ◌+◌, ◌<◌, zero, suc, Bool, true, false, ◌||◌, List, [], ◌∷◌, ◌++◌, map, length, Some, if◌then◌else◌, refl, sym, ◌∙◌, ap, subst, arith}
 use Rattle.std.specs.Prelude.{replicate, slice_get, slice_index_or}
 use Rattle.std.specs.List.{range_with_len}
-use Rattle.std.proofs.Math.Path.{fun_ext}
 use Rattle.std.proofs.lemmas.List.FromFn.{length-map-range_with_len}
 use Rattle.bus_words.specs.Lanes.{given_at, payload_of}
 use Rattle.tl_messages.specs.Requests.{WholeRequest, held_of}
@@ -14,14 +13,12 @@ use Rattle.axi_checker.specs.Rules.{open_after_all}
 use Rattle.responses.specs.Shown.{Reply, address_in_word, beat_of_word, beat_without_data, lacks_a_byte, shown}
 use Rattle.config.specs.Configs.{axi_port_of, port_of}
 use Rattle.meaning.specs.InTurn.{bytes_of_all, replies_of}
-use Rattle.meaning.specs.Meaning.{meaning, zeros}
+use Rattle.meaning.specs.Meaning.{Bytes, meaning, zeros}
 use Rattle.setups.specs.Setups.{SetupLists, faults_of}
-use Rattle.subordinate.proofs.ZeroBytes.{zero_byte}
 use Rattle.scoreboard.specs.Boards.{Board, ClientBoard, opening_board, opening_client, opening_due}
-use Rattle.scoreboard.specs.InsideSerial.{bytes_in}
 use Rattle.scoreboard.specs.Observed.{Observed, nothing_observed, requests_in}
 use Rattle.scoreboard.specs.Right.{IsRightNow, is_of, replies_to, shown_to}
-use Rattle.scoreboard.specs.SerialMemory.{IsCarriedOut, SerialState, meaning_now}
+use Rattle.scoreboard.specs.SerialMemory.{Memory, carried_out}
 use Rattle.scoreboard.proofs.Owed.{AreDues, AreOf, IsOwed, eqb_same}
 use Rattle.scoreboard.proofs.SeenLists.{bytes_after_all-append, replies-append, replies-count, shown_to-append, shown_to-other}
 use Rattle.scoreboard.proofs.Told.{told_nothing}
@@ -36,16 +33,14 @@ pub record IsClientOf (setup : SetupLists) (observed : Observed) (number : ℕ) 
   pub owed : (source : ℕ) → source < 256 → IsOwed (replies_to setup observed number source) (observed.told number source) client.replies source
 
 -- the memory as the requests leave it
-pub record IsMemoryOf (setup : SetupLists) (requests : List WholeRequest) (serial : SerialState) : Type 0 where
-  pub regions : serial.regions ≡ setup.regions
-  pub faults : serial.pages.faults ≡ faults_of setup
-  pub bytes : bytes_in serial.pages ≡ bytes_of_all setup requests
+abbrev pub memory_left : SetupLists → List WholeRequest → Memory
+memory_left setup requests = record { regions = setup.regions; faults = faults_of setup; bytes = bytes_of_all setup requests }
 
 -- of a right observation
 pub record IsBoardOf (setup : SetupLists) (observed : Observed) (board : Board) : Type 0 where
   pub count : length board.clients ≡ setup.config.clients
   pub clients : (number : ℕ) (client : ClientBoard) → slice_get board.clients number ≡ Some client → IsClientOf setup observed number client
-  pub memory : IsMemoryOf setup (requests_in observed) board.serial
+  pub memory : board.memory ≡ memory_left setup (requests_in observed)
   pub port : board.port ≡ axi_port_of setup.config
   pub open_bursts : board.open_bursts ≡ open_after_all nothing_open observed.axi
   pub right : IsRightNow setup observed
@@ -100,7 +95,7 @@ board_opens setup =
           let first : 0 + number ≡ number = omega arith in
           let same : client ≡ opening_client setup.config number = client_among setup 0 setup.config.clients number client is ∙ ap (opening_client setup.config) first in
           subst (IsClientOf setup nothing_observed number) (sym same) (client_opens setup number);
-      memory = record { regions = refl; faults = refl; bytes = fun_ext (λ x. zero_byte setup.pages x) };
+      memory = refl;
       port = refl;
       open_bursts = refl;
       right = right_opens setup;
@@ -108,21 +103,11 @@ board_opens setup =
 
 -- ---- a request that is carried out
 
--- what it means to the memory as it is
-pub meaning_here : (setup : SetupLists) (requests : List WholeRequest) (serial : SerialState) (q : WholeRequest) → IsMemoryOf setup requests serial
-    → meaning_now serial q ≡ meaning (faults_of setup) setup.regions q (bytes_of_all setup requests)
-meaning_here setup requests serial q memory = rw (memory.regions, memory.faults, memory.bytes) refl
-
-pub memory_after : (setup : SetupLists) (requests : List WholeRequest) (old new : SerialState) (q : WholeRequest) → IsMemoryOf setup requests old → IsCarriedOut old new q
-    → IsMemoryOf setup (requests ++ q ∷ []) new
-memory_after setup requests old new q memory out =
-    record {
-      regions = out.regions ∙ memory.regions;
-      faults = out.faults ∙ memory.faults;
-      bytes =
-          out.bytes ∙ ap (λ effect. effect.after) (meaning_here setup requests old q memory)
-          ∙ sym (bytes_after_all-append (faults_of setup) setup.regions requests q zeros);
-    }
+pub memory_with : (setup : SetupLists) (requests : List WholeRequest) (memory : Memory) (q : WholeRequest) → memory ≡ memory_left setup requests
+    → carried_out memory q ≡ memory_left setup (requests ++ q ∷ [])
+memory_with setup requests memory q is =
+    ap (λ (m : Memory). carried_out m q) is
+    ∙ ap {B = Memory} (λ (bytes : Bytes). record { regions = setup.regions; faults = faults_of setup; bytes = bytes }) (sym (bytes_after_all-append (faults_of setup) setup.regions requests q zeros))
 
 -- ---- the beats of a reply
 

@@ -1,5 +1,4 @@
 pub mod Answered
-pub mod AxiCounts
 pub mod BoardClients
 pub mod BoardOf
 pub mod Changes

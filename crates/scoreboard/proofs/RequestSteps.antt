@@ -20,13 +20,13 @@ use Rattle.tl_checker.proofs.Taking.{held-append}
 use Rattle.responses.specs.Shown.{Reply, shown}
 use Rattle.config.specs.Configs.{port_of}
 use Rattle.meaning.specs.InTurn.{IsSpelled, bytes_of_all, AcceptedMessage}
-use Rattle.meaning.specs.Meaning.{Effect, meaning}
+use Rattle.meaning.specs.Meaning.{meaning}
 use Rattle.setups.specs.Setups.{SetupLists, faults_of}
-use Rattle.scoreboard.specs.Boards.{Board, ClientBoard, IsAfterRequest, IsAnswered, answer_to, has_source, is_busy, with_client, with_due, wrong_request}
+use Rattle.scoreboard.specs.Boards.{Board, ClientBoard, answer_to, client_after, has_source, is_busy, memory_after, with_client, with_due, wrong_request}
 use Rattle.scoreboard.specs.Observed.{Observed, is_complete, requests_in, with_begun, with_message, with_request_beat}
 use Rattle.scoreboard.specs.Right.{IsFree, IsRightNow, IsTold, is_of, left_of, replies_to}
-use Rattle.scoreboard.specs.SerialMemory.{IsCarriedOut, meaning_now}
-use Rattle.scoreboard.proofs.BoardOf.{IsBoardOf, IsClientOf, IsMemoryOf, IsWith, meaning_here, memory_after, replies_to-other, replies_to-own, shown_source}
+use Rattle.scoreboard.specs.SerialMemory.{Memory, meaning_in}
+use Rattle.scoreboard.proofs.BoardOf.{IsBoardOf, IsClientOf, IsWith, memory_left, memory_with, replies_to-other, replies_to-own, shown_source}
 use Rattle.scoreboard.proofs.Owed.{IsOwed, dues_with, eqb_same, free-left, left-free, none_of_past, order, owed_other, owed_own, past-free, same_or_not}
 use Rattle.scoreboard.proofs.RequestBeats.{EndsHere, GoesOn, IsFreeFor, ends_here, goes_on, may_end, may_go_on}
 use Rattle.scoreboard.proofs.SeenLists.{all_of_last, requests_of-append, zip-append}
@@ -265,20 +265,20 @@ client_aside setup observed number beats message reply other client done differs
       owed = λ source small. rw (other_replies setup observed number beats message reply other source done (inl differs)) (of.owed source small);
     }
 
-board_whole : (setup : SetupLists) (observed : Observed) (old new : Board) (number : ℕ) (client : ClientBoard) (beat : ABeat) → IsBoardOf setup observed old → slice_get old.clients number ≡ Some client
+board_whole : (setup : SetupLists) (observed : Observed) (old : Board) (number : ℕ) (client : ClientBoard) (beat : ABeat) → IsBoardOf setup observed old → slice_get old.clients number ≡ Some client
     → EndsHere (port_of setup.config number) (observed.begun number) beat (is_busy client.replies beat.source)
-    → IsCarriedOut old.serial new.serial (request_of (joined client.limits client.front beat))
-    → new ≡ record (with_client number (with_due client (joined client.limits client.front beat).source (shown (request_of (joined client.limits client.front beat)) (meaning_now old.serial (request_of (joined client.limits client.front beat))).reply)) old) { serial = new.serial }
-    → IsBoardOf setup (with_whole number (observed.begun number ++ beat ∷ []) observed) new
-board_whole setup observed old new number client beat of there ends out is =
+    → IsBoardOf setup (with_whole number (observed.begun number ++ beat ∷ []) observed) (record (with_client number (client_after old.memory client beat (Ok Whole)) old) { memory = memory_after old.memory client beat (Ok Whole) })
+board_whole setup observed old number client beat of there ends =
     record {
-      count = ap length same_clients ∙ length-set old.clients number changed ∙ of.count;
-      clients = λ other found at.
+      count = length-set old.clients number changed ∙ of.count;
+      clients =
           clients_with setup observed next old number changed of below (client_whole setup observed number beats message reply client done own)
-          (λ c b differs was. client_aside setup observed number beats message reply c b done differs was) other found (ap (λ (cs : List ClientBoard). slice_get cs other) (sym same_clients) ∙ at);
-      memory = subst (λ (qs : List WholeRequest). IsMemoryOf setup qs new.serial) (sym (requests_whole observed number beats message done.held)) (memory_after setup (requests_in observed) old.serial new.serial (request_of message) of.memory out);
-      port = ap (λ (b : Board). b.port) is ∙ of.port;
-      open_bursts = ap (λ (b : Board). b.open_bursts) is ∙ of.open_bursts;
+          (λ c b differs was. client_aside setup observed number beats message reply c b done differs was);
+      memory =
+          memory_with setup (requests_in observed) old.memory (request_of message) of.memory
+          ∙ ap (memory_left setup) (sym (requests_whole observed number beats message done.held));
+      port = of.port;
+      open_bursts = of.open_bursts;
       right = right_whole setup observed number beats message reply done of.right;
     }
   where
@@ -295,16 +295,13 @@ board_whole setup observed old new number client beat of there ends out is =
     message = joined client.limits client.front beat
 
     reply : Reply
-    reply = (meaning_now old.serial (request_of message)).reply
+    reply = (meaning_in old.memory (request_of message)).reply
 
     changed : ClientBoard
     changed = with_due client message.source (shown (request_of message) reply)
 
     next : Observed
     next = with_whole number beats observed
-
-    same_clients : new.clients ≡ slice_set old.clients number changed
-    same_clients = ap (λ (b : Board). b.clients) is
 
     same_message : message ≡ joined (port_of setup.config number) (held_of number (observed.begun number)) beat
     same_message = rw (own.limits, own.front) refl
@@ -319,40 +316,22 @@ board_whole setup observed old new number client beat of there ends out is =
           client = client_of number (observed.begun number) beat message held;
           spelled = record { client = omega (arith, below, of.count); spells = subst (λ (m : HeldMessage). Spells (port_of setup.config number) beats (request_of m)) (sym same_message) ends.spells };
           free = source_free setup observed number (observed.begun number) beat message held (free_with setup observed number client beat (observed.begun number) own (of.right.free number) ends.free);
-          reply_is = ap (λ (effect : Effect). effect.reply) (meaning_here setup (requests_in observed) old.serial (request_of message) of.memory);
+          reply_is = ap (λ (m : Memory). (meaning_in m (request_of message)).reply) of.memory;
         }
 
 -- ---- the answer
 
 -- a beat on channel A of a client that is there, which isn't wrong
-pub step_request : (setup : SetupLists) (observed : Observed) (old new : Board) (number : ℕ) (client : ClientBoard) (beat : ABeat) (answer : Result Progress TlRule) → IsBoardOf setup observed old
-    → slice_get old.clients number ≡ Some client → answer_to client beat ≡ answer → wrong_request answer ≡ None → IsAfterRequest old number client beat new
-    → IsBoardOf setup (with_request_beat number beat observed) new
-step_request setup observed old new number client beat (Err broken) of there is none after = absurd (cc (none))
-step_request setup observed old new number client beat (Ok More) of there is none after =
-    let goes = goes_on limits (observed.begun number) beat busy (of.right.begun number) (judged_here setup observed number client beat More (of.clients number client there) is) in
-    let (same_serial, changed) = subst (λ (a : Result Progress TlRule). IsAnswered old.serial client beat a new.serial after.changed) is after.answered in
-    let same_board : new ≡ with_client number (record client { front = Some (joined client.limits client.front beat) }) old = after.rest ∙ rw (same_serial, changed) refl in
-    rw (goes.incomplete, same_board) (board_more setup observed old number client beat of there goes)
-  where
-    limits : TlPortLimits
-    limits = port_of setup.config number
-
-    busy : Bool
-    busy = is_busy client.replies beat.source
-step_request setup observed old new number client beat (Ok Whole) of there is none after =
-    let ends = ends_here limits (observed.begun number) beat busy (of.right.begun number) (judged_here setup observed number client beat Whole own is) in
-    let accepted = subst (λ (a : Result Progress TlRule). IsAnswered old.serial client beat a new.serial after.changed) is after.answered in
-    rw (ends.complete) (board_whole setup observed old new number client beat of there ends accepted.carried_out (after.rest ∙ rw accepted.due refl))
-  where
-    limits : TlPortLimits
-    limits = port_of setup.config number
-
-    busy : Bool
-    busy = is_busy client.replies beat.source
-
-    own : IsClientOf setup observed number client
-    own = of.clients number client there
+pub step_request : (setup : SetupLists) (observed : Observed) (old : Board) (number : ℕ) (client : ClientBoard) (beat : ABeat) (answer : Result Progress TlRule) → IsBoardOf setup observed old
+    → slice_get old.clients number ≡ Some client → answer_to client beat ≡ answer → wrong_request answer ≡ None
+    → IsBoardOf setup (with_request_beat number beat observed) (record (with_client number (client_after old.memory client beat answer) old) { memory = memory_after old.memory client beat answer })
+step_request setup observed old number client beat (Err broken) of there is none = absurd (cc (none))
+step_request setup observed old number client beat (Ok More) of there is none =
+    let goes = goes_on (port_of setup.config number) (observed.begun number) beat (is_busy client.replies beat.source) (of.right.begun number) (judged_here setup observed number client beat More (of.clients number client there) is) in
+    rw (goes.incomplete) (board_more setup observed old number client beat of there goes)
+step_request setup observed old number client beat (Ok Whole) of there is none =
+    let ends = ends_here (port_of setup.config number) (observed.begun number) beat (is_busy client.replies beat.source) (of.right.begun number) (judged_here setup observed number client beat Whole (of.clients number client there) is) in
+    rw (ends.complete) (board_whole setup observed old number client beat of there ends)
 
 -- ---- the other way round
 

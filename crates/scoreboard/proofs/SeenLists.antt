@@ -6,7 +6,8 @@ use Rattle.std.proofs.lemmas.List.{append-nil}
 use Rattle.std.proofs.Math.Seq.{drop-append_seam}
 use Rattle.tl_messages.specs.Requests.{WholeRequest}
 use Rattle.tl_messages.specs.declared.DBeat.{DBeat}
-use Rattle.axi_checker.specs.OpenBursts.{AxiBeat, OpenBursts, open_after}
+use Rattle.axi_checker.specs.OpenBursts.{OpenBursts, open_after}
+use Rattle.axi_checker.specs.declared.AxiBeat.{AxiBeat}
 use Rattle.axi_checker.specs.Rules.{AxiPortLimits, axi_fault, first_axi_fault, open_after_all}
 use Rattle.axi_checker.specs.declared.AxiRule.{AxiRule}
 use Rattle.axi_checker.proofs.Judging.{first_axi_fault-none, first_axi_fault-some}

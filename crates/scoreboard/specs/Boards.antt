@@ -11,18 +11,20 @@ use Rattle.tl_checker.specs.RequestRules.{TlPortLimits}
 use Rattle.tl_checker.specs.declared.Progress.{Progress}
 use Rattle.tl_checker.specs.declared.Progress.TheVariants.{More, Whole}
 use Rattle.tl_checker.specs.declared.TlRule.{TlRule}
-use Rattle.axi_checker.specs.OpenBursts.{AxiBeat, OpenBursts, OnAr, OnAw, OnB, OnR, OnW, nothing_open, open_after}
+use Rattle.axi_checker.specs.OpenBursts.{OpenBursts, nothing_open, open_after}
+use Rattle.axi_checker.specs.declared.AxiBeat.{AxiBeat}
 use Rattle.axi_checker.specs.Rules.{AxiPortLimits, axi_fault}
 use Rattle.axi_checker.specs.declared.AxiRule.{AxiRule}
 use Rattle.responses.specs.Shown.{shown}
 use Rattle.config.specs.Configs.{axi_port_of, port_of}
 use Rattle.config.specs.declared.Config.{Config}
-use Rattle.setups.specs.Setups.{SetupLists}
-use Rattle.scoreboard.specs.SerialMemory.{IsCarriedOut, SerialState, meaning_now, opening_serial}
+use Rattle.setups.specs.Setups.{SetupLists, faults_of}
+use Rattle.meaning.specs.Meaning.{zeros}
+use Rattle.scoreboard.specs.SerialMemory.{Memory, MemoryState, carried_out, meaning_in, memory_of}
 use Rattle.scoreboard.specs.declared.ReplyRule.{ReplyRule}
 use Rattle.scoreboard.specs.declared.ReplyRule.TheVariants as rule
 use Rattle.scoreboard.specs.declared.Seen.{Seen}
-use Rattle.scoreboard.specs.declared.Seen.TheVariants.{A, D, Aw, W, B, Ar, R, Drained}
+use Rattle.scoreboard.specs.declared.Seen.TheVariants.{A, D, Axi as OnAxi, Drained}
 use Rattle.scoreboard.specs.declared.Wrong.{Wrong}
 use Rattle.scoreboard.specs.declared.Wrong.TheVariants.{NoClient, Request, Reply, Axi}
 
@@ -41,9 +43,20 @@ pub record ClientBoard : Type 0 where
 -- each client by its number, the memory as the accepted requests leave it, and what is outstanding on the AXI4 port
 pub record Board : Type 0 where
   pub clients : List ClientBoard
-  pub serial : SerialState
+  pub memory : Memory
   pub port : AxiPortLimits
   pub open_bursts : OpenBursts
+
+-- the same as it is held
+pub record BoardState : Type 0 where
+  pub clients : List ClientBoard
+  pub memory : MemoryState
+  pub port : AxiPortLimits
+  pub open_bursts : OpenBursts
+
+abbrev pub board_of : BoardState → Board
+board_of state =
+    record { clients = state.clients; memory = memory_of state.memory; port = state.port; open_bursts = state.open_bursts }
 
 -- ---- channel A
 
@@ -119,11 +132,7 @@ d_wrong (Some client) beat = wrong_reply (next_reply client.replies beat.source)
 abbrev pub wrong_at : Board → Seen → Option Wrong
 wrong_at board (A client beat) = a_wrong (slice_get board.clients client) beat
 wrong_at board (D client beat) = d_wrong (slice_get board.clients client) beat
-wrong_at board (Aw beat) = axi_wrong board (OnAw beat)
-wrong_at board (W beat) = axi_wrong board (OnW beat)
-wrong_at board (B beat) = axi_wrong board (OnB beat)
-wrong_at board (Ar beat) = axi_wrong board (OnAr beat)
-wrong_at board (R beat) = axi_wrong board (OnR beat)
+wrong_at board (OnAxi beat) = axi_wrong board beat
 wrong_at board Drained = None
 
 -- ---- the board after a beat; one that is wrong changes nothing, but a reply's beat counts as come whatever it shows
@@ -135,17 +144,19 @@ with_client number changed board = record board { clients = slice_set board.clie
 abbrev pub with_due : ClientBoard → ℕ → List DBeat → ClientBoard
 with_due client source beats = record client { front = None; replies = record client.replies { due = slice_set client.replies.due source beats } }
 
--- a request is accepted: it is carried out at once, on the memory that those before it left
-pub record IsAccepted (serial : SerialState) (client : ClientBoard) (message : HeldMessage) (new_serial : SerialState) (new_client : ClientBoard) : Type 0 where
-  pub carried_out : IsCarriedOut serial new_serial (request_of message)
-  pub due : new_client ≡ with_due client message.source (shown (request_of message) (meaning_now serial (request_of message)).reply)
+-- a client after its port's answer to a beat: where a request is whole, its reply is due
+abbrev pub client_after : Memory → ClientBoard → ABeat → Result Progress TlRule → ClientBoard
+client_after memory client beat (Err broken) = client
+client_after memory client beat (Ok More) = record client { front = Some (joined client.limits client.front beat) }
+client_after memory client beat (Ok Whole) =
+    with_due client (joined client.limits client.front beat).source
+    (shown (request_of (joined client.limits client.front beat)) (meaning_in memory (request_of (joined client.limits client.front beat))).reply)
 
--- memory and client after an answer to a beat on channel A
-abbrev pub IsAnswered : SerialState → ClientBoard → ABeat → Result Progress TlRule → SerialState → ClientBoard → Type 0
-IsAnswered serial client beat (Err broken) new_serial new_client = (new_serial ≡ serial) × (new_client ≡ client)
-IsAnswered serial client beat (Ok More) new_serial new_client =
-    (new_serial ≡ serial) × (new_client ≡ record client { front = Some (joined client.limits client.front beat) })
-IsAnswered serial client beat (Ok Whole) new_serial new_client = IsAccepted serial client (joined client.limits client.front beat) new_serial new_client
+-- the memory after it: a request that is whole is accepted, and carried out at once
+abbrev pub memory_after : Memory → ClientBoard → ABeat → Result Progress TlRule → Memory
+memory_after memory client beat (Err broken) = memory
+memory_after memory client beat (Ok More) = memory
+memory_after memory client beat (Ok Whole) = carried_out memory (request_of (joined client.limits client.front beat))
 
 -- the reply to a source's request begins
 abbrev pub begin_reply : DueBoard → ℕ → DueBoard
@@ -159,16 +170,16 @@ after_begun replies beat = if has_source beat.source replies.begun then record r
 abbrev pub after_reply_beat : DueBoard → DBeat → DueBoard
 after_reply_beat replies beat = if none_left replies.begun then after_begun (begin_reply replies beat.source) beat else after_begun replies beat
 
--- the board after a beat on channel A, of which only memory and client change
-pub record IsAfterRequest (old : Board) (number : ℕ) (client : ClientBoard) (beat : ABeat) (new : Board) : Type 0 where
-  pub changed : ClientBoard
-  pub answered : IsAnswered old.serial client beat (answer_to client beat) new.serial changed
-  pub rest : new ≡ record (with_client number changed old) { serial = new.serial }
+-- after a beat on channel A; of no client, nothing changes
+abbrev pub after_a : Board → ℕ → Option ClientBoard → ABeat → Board
+after_a old number None beat = old
+after_a old number (Some client) beat =
+    record old {
+      clients = slice_set old.clients number (client_after old.memory client beat (answer_to client beat));
+      memory = memory_after old.memory client beat (answer_to client beat);
+    }
 
-abbrev pub IsAfterA : Board → ℕ → Option ClientBoard → ABeat → Board → Type 0
-IsAfterA old number None beat new = new ≡ old
-IsAfterA old number (Some client) beat new = IsAfterRequest old number client beat new
-
+-- after a beat on channel D
 abbrev pub after_d : Board → ℕ → Option ClientBoard → DBeat → Board
 after_d old number None beat = old
 after_d old number (Some client) beat = with_client number (record client { replies = after_reply_beat client.replies beat }) old
@@ -181,16 +192,12 @@ bursts_after open_bursts beat (Some broken) = open_bursts
 abbrev pub after_axi : Board → AxiBeat → Board
 after_axi old beat = record old { open_bursts = bursts_after old.open_bursts beat (axi_fault old.port old.open_bursts beat) }
 
--- the board after a beat: a relation, since bytes are said as a map from addresses
-abbrev pub IsAfter : Board → Seen → Board → Type 0
-IsAfter old (A client beat) new = IsAfterA old client (slice_get old.clients client) beat new
-IsAfter old (D client beat) new = new ≡ after_d old client (slice_get old.clients client) beat
-IsAfter old (Aw beat) new = new ≡ after_axi old (OnAw beat)
-IsAfter old (W beat) new = new ≡ after_axi old (OnW beat)
-IsAfter old (B beat) new = new ≡ after_axi old (OnB beat)
-IsAfter old (Ar beat) new = new ≡ after_axi old (OnAr beat)
-IsAfter old (R beat) new = new ≡ after_axi old (OnR beat)
-IsAfter old Drained new = new ≡ record old { open_bursts = nothing_open }
+-- the board after a beat
+abbrev pub after_seen : Board → Seen → Board
+after_seen old (A client beat) = after_a old client (slice_get old.clients client) beat
+after_seen old (D client beat) = after_d old client (slice_get old.clients client) beat
+after_seen old (OnAxi beat) = after_axi old beat
+after_seen old Drained = record old { open_bursts = nothing_open }
 
 -- ---- what isn't finished
 
@@ -199,8 +206,8 @@ abbrev pub replies_left : DueBoard → ℕ
 replies_left replies = length (filter (λ beats. not (none_left beats)) replies.due) + (if none_left replies.begun then 0 else 1)
 
 -- how many accepted requests have a reply that isn't whole
-abbrev pub outstanding : Board → ℕ
-outstanding board = sum_by (λ client. replies_left client.replies) board.clients
+abbrev pub replies_open : List ClientBoard → ℕ
+replies_open clients = sum_by (λ client. replies_left client.replies) clients
 
 -- ---- at the start
 
@@ -210,18 +217,24 @@ opening_due = record { due = replicate 256 []; begun = [] }
 abbrev pub opening_client : Config → ℕ → ClientBoard
 opening_client config client = record { limits = port_of config client; front = None; replies = opening_due }
 
+-- nothing was observed, and all bytes are zero
 abbrev pub opening_board : SetupLists → Board
 opening_board setup =
     record {
       clients = map (opening_client setup.config) (range_with_len 0 setup.config.clients);
-      serial = opening_serial setup.regions setup.pages setup.bad_words;
+      memory = record { regions = setup.regions; faults = faults_of setup; bytes = zeros };
       port = axi_port_of setup.config;
       open_bursts = nothing_open;
     }
 
 -- ---- lists of beats
 
+-- the board after beats, whatever it finds of each
+abbrev pub after_all : Board → List Seen → Board
+after_all board [] = board
+after_all board (seen ∷ rest) = after_all (after_seen board seen) rest
+
 -- the board after beats of which none was wrong
 abbrev pub IsReached : Board → List Seen → Board → Type 0
 IsReached start [] board = board ≡ start
-IsReached start (seen ∷ rest) board = (next : Board) × (wrong_at start seen ≡ None) × IsAfter start seen next × IsReached next rest board
+IsReached start (seen ∷ rest) board = (wrong_at start seen ≡ None) × IsReached (after_seen start seen) rest board

@@ -4,10 +4,10 @@ use Rattle.tl_messages.specs.Operations.{beats_of, opcode_has_data}
 use Rattle.tl_messages.specs.Requests.{WholeRequest}
 use Rattle.tl_messages.specs.declared.ABeat.{ABeat}
 use Rattle.tl_messages.specs.declared.DBeat.{DBeat}
-use Rattle.axi_checker.specs.OpenBursts.{AxiBeat, OnAr, OnAw, OnB, OnR, OnW}
+use Rattle.axi_checker.specs.declared.AxiBeat.{AxiBeat}
 use Rattle.meaning.specs.InTurn.{AcceptedMessage, requests_of}
 use Rattle.scoreboard.specs.declared.Seen.{Seen}
-use Rattle.scoreboard.specs.declared.Seen.TheVariants.{A, D, Aw, W, B, Ar, R, Drained}
+use Rattle.scoreboard.specs.declared.Seen.TheVariants.{A, D, Axi as OnAxi, Drained}
 
 -- the messages that came whole, of all clients in the order of their last beats; for each client the beats of the message that it has begun;
 -- for each client and source the beats on channel D; and the beats of the AXI4 port since it last went unwatched until nothing was outstanding
@@ -62,11 +62,7 @@ with_axi_beat beat observed = record observed { axi = observed.axi ++ beat ∷ [
 abbrev pub with_seen : Observed → Seen → Observed
 with_seen observed (A client beat) = with_request_beat client beat observed
 with_seen observed (D client beat) = with_reply_beat client beat observed
-with_seen observed (Aw beat) = with_axi_beat (OnAw beat) observed
-with_seen observed (W beat) = with_axi_beat (OnW beat) observed
-with_seen observed (B beat) = with_axi_beat (OnB beat) observed
-with_seen observed (Ar beat) = with_axi_beat (OnAr beat) observed
-with_seen observed (R beat) = with_axi_beat (OnR beat) observed
+with_seen observed (OnAxi beat) = with_axi_beat beat observed
 with_seen observed Drained = record observed { axi = [] }
 
 -- ---- a list of beats

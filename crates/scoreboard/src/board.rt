@@ -6,7 +6,7 @@ ghost use Rattle.subordinate.specs.Faults.{is_good, standing_at};
 ghost use Rattle.meaning.specs.InTurn.{bytes_of_all};
 ghost use Rattle.setups.specs.Setups.{SetupLists, lists_of, setup_fault};
 ghost use Rattle.setups.specs.declared.SetupFault.TheVariants.{NoMemory};
-ghost use Rattle.scoreboard.specs.Boards.{opening_client, replies_left};
+ghost use Rattle.scoreboard.specs.Boards.{opening_client, replies_left, replies_open};
 ghost use Rattle.scoreboard.specs.InsideSerial.{bytes_in};
 
 use crate::axi_port::AxiPort;
@@ -15,10 +15,10 @@ use crate::serial::SerialMemory;
 use crate::{Seen, Wrong};
 use burst_plan::PageMap;
 use config::Config;
+use setups::{Setup, SetupFault, setup_fault};
 use std::alloc::{AllocError, Global};
 use std::marker::Model;
 use tl_messages::{ABeat, DBeat};
-use setups::{Setup, SetupFault, setup_fault};
 
 /// Tells of each beat that was observed at the ports of a bridge whether it can be right: that the requests and the AXI4
 /// beats keep their rules, and that the replies are those of the accepted requests, carried out whole, one at a time, in
@@ -34,11 +34,11 @@ pub struct Scoreboard {
 
 impl Model for Scoreboard {
     ghost use Rattle.std.specs.Prelude.{◌≤◌, length};
-    ghost use Rattle.scoreboard.specs.Boards.{Board};
+    ghost use Rattle.scoreboard.specs.Boards.{BoardState};
 
-    ghost Value = { Board };
+    ghost Value = { BoardState };
 
-    ghost view = { λ b. record { clients = b.clients.items; serial = b.serial; port = b.axi.port; open_bursts = b.axi.open_bursts } };
+    ghost view = { λ b. record { clients = b.clients.items; memory = b.serial; port = b.axi.port; open_bursts = b.axi.open_bursts } };
 
     ghost invariant = { λ b. length b.clients.items ≤ 8 };
 }
@@ -69,7 +69,7 @@ fn opening_clients(alloc: Global, config: &Config) -> Result<Vec<Client>, AllocE
 /// How many accepted requests of some clients, at most eight, have a reply that isn't whole.
 fn outstanding_of(clients: &[Client]) -> u16
     requires { length clients.now ≤ 8 }
-    ensures { result ≡ sum_by (λ client. replies_left client.replies) clients.now }
+    ensures { result ≡ replies_open clients.now }
 {
     let mut count = 0;
     for client in clients {
@@ -79,7 +79,8 @@ fn outstanding_of(clients: &[Client]) -> u16
 }
 
 impl Scoreboard {
-    ghost use Rattle.scoreboard.specs.Boards.{IsAfter, IsAfterA, IsReached, a_wrong, after_d, d_wrong, opening_board, outstanding, wrong_at};
+    ghost use Rattle.scoreboard.specs.Boards.{IsReached, a_wrong, after_a, after_d, after_seen, board_of, d_wrong, opening_board, replies_open, wrong_at};
+    ghost use Rattle.scoreboard.specs.SerialMemory.{byte_at, memory_of};
     ghost use Rattle.axi_checker.specs.OpenBursts.{open_count};
     ghost use Rattle.scoreboard.specs.InsideBoards.{HasSource};
     ghost use Rattle.scoreboard.specs.Observed.{observed_in, requests_in};
@@ -92,7 +93,7 @@ impl Scoreboard {
     pub fn new(alloc: Global, setup: &Setup) -> Result<Self, SetupFault>
         ensures refused { IfSome (setup_fault (lists_of setup.now)) (λ fault. result ≡ Err fault) }
         ensures want { IfErr result (λ fault. (setup_fault (lists_of setup.now) ≡ Some fault) ⊎ (fault ≡ NoMemory)) }
-        ensures opens { IfOk result (λ board. board ≡ opening_board (lists_of setup.now)) }
+        ensures opens { IfOk result (λ board. board_of board ≡ opening_board (lists_of setup.now)) }
     {
         if let Some(fault) = setup_fault(setup) {
             return Err(fault);
@@ -105,7 +106,7 @@ impl Scoreboard {
 
     fn opening(alloc: Global, setup: &Setup) -> Result<Self, AllocError>
         requires { setup_fault (lists_of setup.now) ≡ None }
-        ensures { IfOk result (λ board. board ≡ opening_board (lists_of setup.now)) }
+        ensures { IfOk result (λ board. board_of board ≡ opening_board (lists_of setup.now)) }
     {
         let Ok(map) = PageMap::new(alloc, setup.regions.as_slice()) else {
             return Err(AllocError);
@@ -123,29 +124,25 @@ impl Scoreboard {
 
     /// What is wrong with the next beat that was observed; none where nothing is.
     pub fn judge(&mut self, seen: &Seen) -> Option<Wrong>
-        ensures answer { result ≡ wrong_at self.old seen.now }
-        ensures state { IsAfter self.old seen.now self.new }
-        ensures right { (setup : SetupLists) (before : List Seen) → IsReached (opening_board setup) before self.old → (result ≡ None) ↔ IsRight setup (before ++ seen.now ∷ []) }
-        ensures memory { (setup : SetupLists) (before : List Seen) → IsReached (opening_board setup) before self.old
-            → bytes_in self.old.serial.pages ≡ bytes_of_all setup (requests_in (observed_in before)) }
+        ensures answer { result ≡ wrong_at (board_of self.old) seen.now }
+        ensures state { board_of self.new ≡ after_seen (board_of self.old) seen.now }
+        ensures right { (setup : SetupLists) (before : List Seen) → IsReached (opening_board setup) before (board_of self.old) → (result ≡ None) ↔ IsRight setup (before ++ seen.now ∷ []) }
+        ensures memory { (setup : SetupLists) (before : List Seen) → IsReached (opening_board setup) before (board_of self.old)
+            → (board_of self.old).memory.bytes ≡ bytes_of_all setup (requests_in (observed_in before)) }
     {
         self.judge_by_board(seen)
     }
 
     /// What is wrong with a beat, by what the board holds.
     fn judge_by_board(&mut self, seen: &Seen) -> Option<Wrong>
-        ensures answer { result ≡ wrong_at self.old seen.now }
-        ensures state { IsAfter self.old seen.now self.new }
+        ensures answer { result ≡ wrong_at (board_of self.old) seen.now }
+        ensures state { board_of self.new ≡ after_seen (board_of self.old) seen.now }
         ensures source { HasSource seen.now }
     {
         match seen {
             Seen::A(client, beat) => self.judge_request(*client, beat),
             Seen::D(client, beat) => self.judge_reply(*client, beat),
-            Seen::Aw(beat) => self.axi.aw(beat),
-            Seen::W(beat) => self.axi.w(beat),
-            Seen::B(beat) => self.axi.b(beat),
-            Seen::Ar(beat) => self.axi.ar(beat),
-            Seen::R(beat) => self.axi.r(beat),
+            Seen::Axi(beat) => self.axi.judge(beat),
             Seen::Drained => {
                 self.axi.clear();
                 None
@@ -156,7 +153,7 @@ impl Scoreboard {
     /// Judges a beat on a client's channel A.
     fn judge_request(&mut self, client: u8, beat: &ABeat) -> Option<Wrong>
         ensures answer { result ≡ a_wrong (slice_get self.old.clients client) beat.now }
-        ensures state { IsAfterA self.old client (slice_get self.old.clients client) beat.now self.new }
+        ensures state { board_of self.new ≡ after_a (board_of self.old) client (slice_get self.old.clients client) beat.now }
     {
         let Scoreboard {
             clients,
@@ -172,7 +169,7 @@ impl Scoreboard {
     /// Judges a beat on a client's channel D.
     fn judge_reply(&mut self, client: u8, beat: &DBeat) -> Option<Wrong>
         ensures answer { result ≡ d_wrong (slice_get self.old.clients client) beat.now }
-        ensures state { self.new ≡ after_d self.old client (slice_get self.old.clients client) beat.now }
+        ensures state { board_of self.new ≡ after_d (board_of self.old) client (slice_get self.old.clients client) beat.now }
         ensures source { beat.now.source < 256 }
     {
         // A source is below 256.
@@ -185,13 +182,13 @@ impl Scoreboard {
 
     /// How many accepted requests have a reply that wasn't observed whole.
     pub fn outstanding(&self) -> u16
-        ensures { result ≡ outstanding self.now }
+        ensures { result ≡ replies_open self.now.clients }
     {
         outstanding_of(&self.clients)
     }
 
     /// How many bursts are outstanding on the AXI4 port.
-    pub fn open_bursts(&self) -> u8
+    pub fn open_bursts(&self) -> usize
         ensures { result ≡ open_count self.now.open_bursts }
     {
         self.axi.open_bursts()
@@ -199,7 +196,7 @@ impl Scoreboard {
 
     /// The byte at an address of a good page, as the requests accepted so far leave it; none outside these pages.
     pub fn byte(&self, address: u32) -> Option<u8>
-        ensures { result ≡ (if is_good (standing_at self.now.serial.pages.faults address) then Some (bytes_in self.now.serial.pages address) else None) }
+        ensures { result ≡ byte_at (memory_of self.now.memory) address }
     {
         self.serial.byte(address)
     }

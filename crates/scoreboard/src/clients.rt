@@ -51,7 +51,8 @@ fn wrong_request(answer: Result<Progress, TlRule>) -> Option<Wrong>
 }
 
 impl Client {
-    ghost use Rattle.scoreboard.specs.Boards.{IsAnswered, after_reply_beat, answer_to, next_reply, opening_client, replies_left, wrong_reply, wrong_request};
+    ghost use Rattle.scoreboard.specs.SerialMemory.{memory_of};
+    ghost use Rattle.scoreboard.specs.Boards.{after_reply_beat, answer_to, client_after, memory_after, next_reply, opening_client, replies_left, wrong_reply, wrong_request};
 
     /// A client of these limits, of which nothing was observed. The one error is that memory was refused.
     pub(crate) fn new(alloc: Global, config: &Config, client: u8) -> Result<Self, AllocError>
@@ -75,7 +76,8 @@ impl Client {
     /// Judges a beat on channel A. The last of a request's beats has it carried out.
     pub(crate) fn judge_request(&mut self, serial: &mut SerialMemory, beat: &ABeat) -> Option<Wrong>
         ensures wrong { result ≡ wrong_request (answer_to self.old beat.now) }
-        ensures state { IsAnswered serial.old self.old beat.now (answer_to self.old beat.now) serial.new self.new }
+        ensures client { self.new ≡ client_after (memory_of serial.old) self.old beat.now (answer_to self.old beat.now) }
+        ensures memory { memory_of serial.new ≡ memory_after (memory_of serial.old) self.old beat.now (answer_to self.old beat.now) }
     {
         let busy = self.replies.is_busy(beat.source);
         let answer = self.port.take_beat(beat, busy);

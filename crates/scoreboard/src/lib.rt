@@ -8,8 +8,7 @@ mod names;
 mod replies;
 mod serial;
 
-use axi_beats::{ArBeat, AwBeat, BBeat, RBeat, WBeat};
-use axi_checker::AxiRule;
+use axi_checker::{AxiBeat, AxiRule};
 pub use axi_port::AxiPort;
 pub use board::Scoreboard;
 pub use replies::DueReplies;
@@ -24,16 +23,8 @@ pub enum Seen {
     A(u8, ABeat),
     /// On channel D of a client.
     D(u8, DBeat),
-    /// On the write address channel.
-    Aw(AwBeat),
-    /// On the write data channel.
-    W(WBeat),
-    /// On the write response channel.
-    B(BBeat),
-    /// On the read address channel.
-    Ar(ArBeat),
-    /// On the read data channel.
-    R(RBeat),
+    /// On a channel of the AXI4 port.
+    Axi(AxiBeat),
     /// No beat: those of the AXI4 port went unobserved, until nothing was outstanding there.
     Drained,
 }

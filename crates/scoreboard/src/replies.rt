@@ -4,7 +4,7 @@ ghost use Rattle.bus_words.specs.Tables.{first_broken};
 ghost use Rattle.tl_messages.specs.Requests.{request_of};
 ghost use Rattle.responses.specs.Shown.{shown};
 ghost use Rattle.scoreboard.specs.Boards.{none_left, reply_rules};
-ghost use Rattle.scoreboard.specs.SerialMemory.{IsCarriedOut, IsCheckedRequest, meaning_now};
+ghost use Rattle.scoreboard.specs.SerialMemory.{IsCheckedRequest, carried_out, meaning_in, memory_of};
 
 use crate::serial::SerialMemory;
 use crate::{ReplyRule, Wrong};
@@ -166,9 +166,9 @@ impl DueReplies {
     /// Carries a request out, whose reply is due from then on.
     pub fn carry_out(&mut self, serial: &mut SerialMemory, request: &Request)
         requires { IsCheckedRequest request.now }
-        ensures serial { IsCarriedOut serial.old serial.new (request_of request.now) }
+        ensures memory { memory_of serial.new ≡ carried_out (memory_of serial.old) (request_of request.now) }
         ensures replies { self.new ≡ record self.old {
-          due = slice_set self.old.due request.now.source (shown (request_of request.now) (meaning_now serial.old (request_of request.now)).reply);
+          due = slice_set self.old.due request.now.source (shown (request_of request.now) (meaning_in (memory_of serial.old) (request_of request.now)).reply);
         } }
     {
         let due = &mut self.due[usize::from(request.source())];

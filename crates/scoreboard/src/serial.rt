@@ -225,9 +225,9 @@ pub struct SerialMemory {
 
 impl Model for SerialMemory {
     ghost use Rattle.std.specs.Prelude.{◌≡◌};
-    ghost use Rattle.scoreboard.specs.SerialMemory.{SerialState};
+    ghost use Rattle.scoreboard.specs.SerialMemory.{MemoryState};
 
-    ghost Value = { SerialState };
+    ghost Value = { MemoryState };
 
     ghost view = { λ m. record { regions = m.map; pages = m.pages } };
 
@@ -246,7 +246,7 @@ impl Drop for SerialMemory {
 }
 
 impl SerialMemory {
-    ghost use Rattle.scoreboard.specs.SerialMemory.{IsCarriedOut, meaning_now, opening_serial, place_in};
+    ghost use Rattle.scoreboard.specs.SerialMemory.{byte_at, carried_out, meaning_in, memory_of, opening_memory_state, place_in};
 
     /// The memory behind a page map, of these pages and bad words, which `device_fault` doesn't refuse; all bytes are zero.
     ///
@@ -258,7 +258,7 @@ impl SerialMemory {
         bad: &[u32],
     ) -> Result<Self, AllocError>
         requires fine { device_fault pages.now bad.now ≡ None }
-        ensures { IfOk result (λ memory. memory ≡ opening_serial map pages.now bad.now) }
+        ensures { IfOk result (λ memory. memory ≡ opening_memory_state map pages.now bad.now) }
     {
         let pages = Pages::new(alloc, pages, bad)?;
         let gather = Gather::new(alloc, WORD)?;
@@ -267,14 +267,14 @@ impl SerialMemory {
 
     /// The byte at an address of a good page; none outside these.
     pub fn byte(&self, address: u32) -> Option<u8>
-        ensures { result ≡ (if is_good (standing_at self.now.pages.faults address) then Some (bytes_in self.now.pages address) else None) }
+        ensures { result ≡ byte_at (memory_of self.now) address }
     {
         self.pages.byte(address)
     }
 
     /// The address of a good page at which a request acts; none where it acts on no good page.
     pub fn place(&self, request: &Request) -> Option<u32>
-        ensures place { result ≡ place_in self.now (request_of request.now) }
+        ensures place { result ≡ place_in (memory_of self.now) (request_of request.now) }
         ensures same_byte { IfSome result (λ address. address % 4096 ≡ request.now.address % 4096) }
         ensures good { IfSome result (λ address. is_good (standing_at self.now.pages.faults address) ≡ true) }
     {
@@ -288,8 +288,8 @@ impl SerialMemory {
     /// Carries out a request that a checker let pass, whole and at once, and puts the beats of its reply into a box.
     pub fn carry_out(&mut self, request: &Request, reply: &mut ReplyBox)
         requires { IsCheckedRequest request.now }
-        ensures reply { reply.new ≡ shown (request_of request.now) (meaning_now self.old (request_of request.now)).reply }
-        ensures memory { IsCarriedOut self.old self.new (request_of request.now) }
+        ensures reply { reply.new ≡ shown (request_of request.now) (meaning_in (memory_of self.old) (request_of request.now)).reply }
+        ensures memory { memory_of self.new ≡ carried_out (memory_of self.old) (request_of request.now) }
     {
         answer(&self.map, &mut self.pages, &mut self.gather, request);
         self.gather.reply_into(reply);

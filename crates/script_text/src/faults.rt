@@ -1,6 +1,6 @@
 //! Why a script isn't carried out to its end.
-use thiserror::Error;
 use setups::SetupFault;
+use thiserror::Error;
 
 /// Why a script isn't carried out to its end (this project's profile).
 #[derive(Clone, Copy, Debug, PartialEq, Eq, Error)]

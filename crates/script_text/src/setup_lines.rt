@@ -7,8 +7,8 @@ ghost use Rattle.script_text.specs.Stages.{HasRoomFor, has_no_room, is_setup_for
 use crate::keywords::Form;
 use crate::setup_parser::{SetupLine, bad_line, config_line, page_count, page_line, region_line};
 use line_text::Words;
-use subordinate::PageKind;
 use setups::Setup;
+use subordinate::PageKind;
 
 /// The most pages of a set-up.
 const MOST_PAGES: usize = 64;

@@ -6,8 +6,8 @@ ghost use Rattle.script_text.specs.Forms.{levels_field, permissions_field, count
 ghost use Rattle.script_text.specs.SetupLines.{config_line, region_line, page_line, bad_line, bus_fields, bus_in, kind_in, level_at, levels_in, permissions_in};
 ghost use Rattle.line_text.specs.Words.{word_at, dec_at};
 
-use config::Config;
 use burst_plan::Region;
+use config::Config;
 use line_text::Words;
 use subordinate::PageKind;
 use tl_checker::Level;

@@ -10,10 +10,10 @@ use crate::keywords::Form;
 use crate::setup_lines::{add_setup_line, has_no_room, is_setup_form, setup_line};
 use crate::setup_parser::SetupLine;
 use line_text::{Words, WriteFault};
+use setups::{Setup, SetupFault};
 use std::alloc::Global;
 use std::io::Write;
 use std::marker::Model;
-use setups::{Setup, SetupFault};
 
 /// A kind of script: the lines that it has, and what its commands do.
 pub trait Kind {

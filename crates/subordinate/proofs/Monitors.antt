@@ -20,7 +20,8 @@ use Rattle.axi_beats.specs.declared.RBeat.{RBeat}
 use Rattle.axi_beats.specs.declared.Resp.{Resp}
 use Rattle.axi_beats.specs.declared.WBeat.{WBeat}
 use Rattle.axi_checker.proofs.LegalBursts.{last_place, open_after_all-burst}
-use Rattle.axi_checker.specs.OpenBursts.{OnB, OnR, open_after, OpenBursts, OpenRead, OpenWrite, read_of_id, reads_after, write_of_id}
+use Rattle.axi_checker.specs.OpenBursts.{open_after, OpenBursts, OpenRead, OpenWrite, read_of_id, reads_after, write_of_id}
+use Rattle.axi_checker.specs.declared.AxiBeat.TheVariants.{B as OnB, R as OnR}
 use Rattle.axi_checker.specs.Rules.{axi_fault, beats_sent, open_after_all, open_with_burst}
 use Rattle.subordinate.specs.FreeMemory.{FreeMemory, Pending, after_b_of, after_r_of, beat_after, beat_at, device_port, performed, reads_as, send_fault, with_performed, writes_as, gives_last, has_serial, is_read_of, is_write_of, open_bursts_of, open_read_in, open_write_in, pending_after_r, transfers_in, with_beat, with_burst}
 use Rattle.subordinate.specs.Inside.{burst_in}

@@ -11,10 +11,10 @@ use crate::lists;
 use crate::lists::{lists_with_room, push_to};
 use line_text::{Words, offer_line};
 use script_text::{Form, SetupLine, add_setup_line, has_no_room, is_setup_form, setup_line};
+use setups::Setup;
 use std::alloc::{AllocError, Global};
 use std::marker::Model;
 use tl_messages::ABeat;
-use setups::Setup;
 
 /// The most clients.
 const MOST_CLIENTS: usize = 8;

@@ -3,9 +3,9 @@
 use crate::asked::Asked;
 use line_text::Words;
 use script_text::{Script, ScriptFault};
+use setups::setup_fault;
 use std::alloc::Global;
 use std::io::Write;
-use setups::setup_fault;
 
 impl Script for Asked {
     ghost use Rattle.std.specs.Prelude.{true};

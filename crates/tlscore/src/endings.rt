@@ -9,10 +9,10 @@ ghost use Rattle.tlscore.specs.Endings.{Flushes, status_of};
 use burst_plan::MapFault;
 use score_script::score_text;
 use script_text::ScriptFault;
+use setups::SetupFault;
 use std::alloc::Global;
 use std::io::{BufWriter, Read, Write};
 use subordinate::DeviceFault;
-use setups::SetupFault;
 
 /// Flushes the output of an input that ended so, where the buffer isn't empty. Output that can't be flushed is a write fault.
 #[tactic(auto, using(crate::proofs::Held::no_byte))]

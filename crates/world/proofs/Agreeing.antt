@@ -11,7 +11,8 @@ use Rattle.bus_words.proofs.PlaceChanges.{all-find, length-change_first, length-
 use Rattle.axi_beats.specs.declared.BBeat.{BBeat}
 use Rattle.axi_beats.specs.declared.RBeat.{RBeat}
 use Rattle.axi_beats.specs.declared.Resp.{Resp}
-use Rattle.axi_checker.specs.OpenBursts.{OpenBursts, OnB, OnR, open_after}
+use Rattle.axi_checker.specs.OpenBursts.{OpenBursts, open_after}
+use Rattle.axi_checker.specs.declared.AxiBeat.TheVariants.{B as OnB, R as OnR}
 use Rattle.axi_checker.specs.Rules.{open_with_burst}
 use Rattle.flight_table.specs.LiveRequests.{all_sent, planned, with_answered}
 use Rattle.flight_table.proofs.PhaseLaws.{length_reading}

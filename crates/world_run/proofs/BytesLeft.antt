@@ -6,7 +6,6 @@ use Rattle.std.proofs.lemmas.Bool.Decides.{nat_tests}
 use Rattle.std.proofs.lemmas.Bool.{and_parts, cases_lt, cases_Bool, leb-true, ltb-true}
 use Rattle.std.proofs.lemmas.List.{length-map}
 use Rattle.std.proofs.lemmas.List.FromFn.{length-map-range_with_len}
-use Rattle.std.proofs.lemmas.Option.{slice_get_past}
 use Rattle.bus_words.specs.Lanes.{given_at}
 use Rattle.tl_messages.specs.Lanes.{in_range}
 use Rattle.tl_messages.specs.Requests.{HeldMessage, WholeRequest, byte_given, request_of}
@@ -26,6 +25,7 @@ use Rattle.bridge_core.specs.HeldRequests.{BridgedRequest, value_found}
 use Rattle.bridge_core.specs.Sending.{bytes_written}
 use Rattle.subordinate.specs.Faults.{Faults, Standing, IsGood, standing_at, is_bad, is_good, lists_page, standing_of_listed}
 use Rattle.meaning.specs.Meaning.{Bytes, atomic_bytes, bytes_after_all, bytes_at, denied, effect, effect_at, meaning, replies_in_order, zeros}
+use Rattle.meaning.proofs.GivenBytes.{given_before, given_past}
 use Rattle.world_run.specs.Serial.{Order, after_one, asked, bytes_before, gives_byte, is_intent, touches, touches_byte, touches_from, writes, writes_byte, writes_from, byte_left}
 
 -- ---- bytes of a list

@@ -16,7 +16,9 @@ use Rattle.axi_beats.specs.declared.RBeat.{RBeat}
 use Rattle.axi_beats.specs.declared.Resp.{Resp}
 use Rattle.axi_beats.specs.Bursts.{Burst, is_legal}
 use Rattle.axi_beats.specs.declared.BBeat.{BBeat}
-use Rattle.axi_checker.specs.OpenBursts.{AxiBeat, OnB, OnR, nothing_open, open_after}
+use Rattle.axi_checker.specs.OpenBursts.{nothing_open, open_after}
+use Rattle.axi_checker.specs.declared.AxiBeat.{AxiBeat}
+use Rattle.axi_checker.specs.declared.AxiBeat.TheVariants.{B as OnB, R as OnR}
 use Rattle.axi_checker.specs.Rules.{axi_fault, beats_sent, burst_fault, first_axi_fault, open_with_burst}
 use Rattle.axi_checker.proofs.Histories.{first_axi_fault-burst}
 use Rattle.axi_checker.proofs.InOrder.{unbroken_is_in_order}

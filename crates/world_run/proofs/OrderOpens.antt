@@ -1,11 +1,7 @@
 -- The opening world keeps the order: nothing is written, and every byte is zero. It knows the opening state alone.
-use Rattle.std.proofs.Common.{◌≡◌, ℕ, zero, suc, ◌%◌, nat_lt, false, List, [], ◌∷◌, map, replicate, Option, Some, None, refl, sym, arith, filter, find, option_map, slice_index, unwrap_or}
-use Rattle.std.specs.List.{AllByRecursion}
+use Rattle.std.proofs.Common.{◌≡◌, nat_lt, false, refl, sym, arith}
 use Rattle.std.proofs.lemmas.Bool.Decides.{nat_tests}
-use Rattle.bus_words.specs.Lanes.{lane_byte}
-use Rattle.bus_words.proofs.PlaceChanges.{all-find}
-use Rattle.subordinate.specs.Pages.{GoodPage, byte_at_address, holds_address, is_listed_good, opening_memory, word_place, zero_page, zero_words}
-use Rattle.subordinate.specs.declared.PageKind.{PageKind}
+use Rattle.subordinate.proofs.ZeroBytes.{zero_byte}
 use Rattle.world_run.specs.InOrder.{KeepsOrder, is_finished, memory_bytes, started}
 use Rattle.world_run.specs.Serial.{Order, bytes_before, writes}
 use Rattle.setups.specs.Setups.{SetupLists, faults_of}

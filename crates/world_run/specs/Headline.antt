@@ -1,7 +1,7 @@
 -- The main theorem, as one statement about a run: its replies are those of the accepted requests carried out whole, one at a time,
 -- in order of acceptance, each at most once; once nothing is in flight the memory is theirs too; every burst sent obeys the AXI4 rules.
 -- Its right side knows no beats, IDs, bursts, buffers or tables.
-use Rattle.std.specs.Prelude.{ℕ, ◌≡◌, ◌<◌, List, map, zip, length, Option, Some, None, if◌then◌else◌, nat_eq, slice_get, flat_map, IsTrue}
+use Rattle.std.specs.Prelude.{ℕ, ◌≡◌, List, map, zip, length, Option, Some, None, if◌then◌else◌, nat_eq, slice_get, flat_map, IsTrue}
 use Rattle.std.specs.List.{IsDistinct, AllByRecursion, list_all, range_with_len}
 use Rattle.tl_messages.specs.Requests.{WholeRequest}
 use Rattle.axi_beats.specs.Bursts.{Burst, is_legal}

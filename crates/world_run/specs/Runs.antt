@@ -1,12 +1,13 @@
 -- What a run shows from outside: the requests that were accepted, the replies handed out, the beats sent. It knows events and answers, and the
 -- states only by what they hand out.
-use Rattle.std.specs.Prelude.{ℕ, ◌+◌, ◌==◌, ◌≡◌, List, [], ◌∷◌, ◌++◌, map, zip, length, Option, Some, None, if◌then◌else◌, option_map, slice_range, flat_map}
+use Rattle.std.specs.Prelude.{ℕ, ◌+◌, ◌==◌, ◌≡◌, List, [], ◌∷◌, ◌++◌, map, zip, length, Option, Some, None, if◌then◌else◌, slice_range, flat_map}
 use Rattle.std.specs.List.{cons_option}
 use Rattle.tl_messages.specs.Requests.{WholeRequest}
 use Rattle.tl_messages.specs.declared.ABeat.{ABeat}
 use Rattle.tl_messages.specs.declared.DBeat.{DBeat}
 use Rattle.axi_beats.specs.Bursts.{Burst, WriteBurst, ReadBurst}
-use Rattle.axi_checker.specs.OpenBursts.{AxiBeat, OnB, OnR}
+use Rattle.axi_checker.specs.declared.AxiBeat.{AxiBeat}
+use Rattle.axi_checker.specs.declared.AxiBeat.TheVariants.{B as OnB, R as OnR}
 use Rattle.axi_checker.specs.Rules.{beats_sent}
 use Rattle.meaning.specs.InTurn.{AcceptedMessage, requests_of}
 use Rattle.setups.specs.Setups.{SetupLists}

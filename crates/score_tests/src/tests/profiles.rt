@@ -2,10 +2,10 @@
 use super::same;
 use score_script::score_text;
 use script_text::ScriptFault;
+use setups::SetupFault;
 use std::alloc::{AllocError, Global};
 use std::process::Abort;
 use std::test::Fail;
-use setups::SetupFault;
 
 const CONFIG: &str = "config 2 4 16 2 16 12 hh\n";
 

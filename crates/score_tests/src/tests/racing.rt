@@ -7,9 +7,9 @@ use super::{
 use axi_checker::AxiRule;
 use racing_board::RacingBoard;
 use scoreboard::{ReplyRule, Seen, Wrong};
+use setups::{Setup, SetupFault};
 use std::alloc::Global;
 use tl_checker::TlRule;
-use setups::{Setup, SetupFault};
 
 /// Puts that race with Gets: bytes that a Put in flight may write are read before it or after it.
 const GETS: [History; 5] = [
@@ -351,7 +351,7 @@ impl Judge for RacingBoard {
         self.judge(seen)
     }
 
-    fn left(&self) -> (u16, u8) {
+    fn left(&self) -> (u16, usize) {
         (self.outstanding(), self.open_bursts())
     }
 

@@ -12,7 +12,8 @@ use Rattle.axi_beats.specs.Bursts.{Burst, WriteBurst, ReadBurst}
 use Rattle.axi_beats.specs.declared.Resp.{Resp}
 use Rattle.axi_beats.specs.declared.Resp.TheVariants.{Okay, SlvErr, DecErr}
 use Rattle.tl_checker.specs.declared.TlRule.TheVariants.{Mask, BurstControl}
-use Rattle.axi_checker.specs.OpenBursts.{AxiBeat, nothing_open, write_of_id}
+use Rattle.axi_checker.specs.OpenBursts.{nothing_open, write_of_id}
+use Rattle.axi_checker.specs.declared.AxiBeat.{AxiBeat}
 use Rattle.axi_checker.specs.Order.{closes_write, opens_write, read_given, reads_asked, reads_owe}
 use Rattle.axi_checker.specs.Rules.{open_after_all}
 use Rattle.responses.specs.Shown.{Reply as RightReply, shown}

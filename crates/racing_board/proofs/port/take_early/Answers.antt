@@ -2,7 +2,8 @@
 use Rattle.std.proofs.Common.{◌≡◌, ◌<◌, ◌∷◌, [], List, drop, length, true, false, sym, ◌∙◌, ap, ap₂, rules}
 use Rattle.std.proofs.lemmas.List.{nil_from_length}
 use Rattle.axi_checker.specs.Monitors.{MonitorState}
-use Rattle.axi_checker.specs.OpenBursts.{OnW, OpenBursts}
+use Rattle.axi_checker.specs.OpenBursts.{OpenBursts}
+use Rattle.axi_checker.specs.declared.AxiBeat.TheVariants.{W as OnW}
 use Rattle.axi_checker.specs.Rules.{AxiPortLimits, axi_fault}
 use Rattle.axi_beats.specs.declared.WBeat.{WBeat}
 use Rattle.scoreboard.specs.Boards.{wrong_axi}
@@ -21,7 +22,7 @@ stopped c =
     let some : 0 < length beats = search rules in
     let is : beats ≡ w ∷ drop 1 beats = by_first beats w some c.in-Some.ensures.lookup in
     let none : tells_no_write (wrong_axi (axi_fault c.loop-beat.axi.port c.loop-beat.axi.open_bursts (OnW w))) ≡ true =
-    ap tells_no_write (sym c.w-verdict.ensures.wrong) ∙ sym c.tells_no_write.ensures ∙ c.if-tells_no_write.true in
+    ap tells_no_write (sym c.judge-verdict.ensures.wrong) ∙ sym c.tells_no_write.ensures ∙ c.if-tells_no_write.true in
     sym c.loop-beat.invariant.taken
     ∙ ap (λ (ws : List WBeat). wrong_first c.loop-beat.first (taking c.loop-beat.axi.port c.loop-beat.axi.open_bursts ws)) is
     ∙ taking_stops c.loop-beat.axi.port c.loop-beat.axi.open_bursts w (drop 1 beats) c.loop-beat.first none
@@ -30,8 +31,8 @@ stopped c =
 pub returns-then-tells_no_write-clause-bursts : goal.returns-then-tells_no_write-clause-bursts
 returns-then-tells_no_write-clause-bursts c =
     let none : tells_no_write (wrong_axi (axi_fault c.loop-beat.axi.port c.loop-beat.axi.open_bursts (OnW c.in-Some.beat.now))) ≡ true =
-    ap tells_no_write (sym c.w-verdict.ensures.wrong) ∙ sym c.tells_no_write.ensures ∙ c.if-tells_no_write.true in
-    c.w-verdict.ensures.state
+    ap tells_no_write (sym c.judge-verdict.ensures.wrong) ∙ sym c.tells_no_write.ensures ∙ c.if-tells_no_write.true in
+    c.judge-verdict.ensures.state
     ∙ ap₂ {C = MonitorState} (λ (limits : AxiPortLimits) (bursts : OpenBursts). record { port = limits; open_bursts = bursts }) c.loop-beat.invariant.limits
     (unchanged c.loop-beat.axi.open_bursts (OnW c.in-Some.beat.now) (axi_fault c.loop-beat.axi.port c.loop-beat.axi.open_bursts (OnW c.in-Some.beat.now)) none
     ∙ sym (ap (λ (t : Taken). t.open_bursts) (stopped c)))
@@ -51,14 +52,14 @@ loop-beat-preserved c =
     let some : 0 < length beats = search rules in
     let is : beats ≡ w ∷ drop 1 beats = by_first beats w some c.in-Some.ensures.lookup in
     let there : tells_no_write (wrong_axi (axi_fault c.loop-beat.axi.port c.loop-beat.axi.open_bursts (OnW w))) ≡ false =
-    ap tells_no_write (sym c.w-verdict.ensures.wrong) ∙ sym c.tells_no_write.ensures ∙ c.if-tells_no_write.false in
+    ap tells_no_write (sym c.judge-verdict.ensures.wrong) ∙ sym c.tells_no_write.ensures ∙ c.if-tells_no_write.false in
     record {
       taken =
-          rw (c.or-first.ensures, c.pop_front.ensures.rest, c.w-verdict.ensures.state, c.w-verdict.ensures.wrong)
+          rw (c.or-first.ensures, c.pop_front.ensures.rest, c.judge-verdict.ensures.state, c.judge-verdict.ensures.wrong)
           (sym (taking_more c.loop-beat.axi.port c.loop-beat.axi.open_bursts w (drop 1 beats) c.loop-beat.first there)
           ∙ ap (λ (ws : List WBeat). wrong_first c.loop-beat.first (taking c.loop-beat.axi.port c.loop-beat.axi.open_bursts ws)) (sym is)
           ∙ c.loop-beat.invariant.taken);
-      limits = ap (λ (m : MonitorState). m.port) c.w-verdict.ensures.state ∙ c.loop-beat.invariant.limits;
+      limits = ap (λ (m : MonitorState). m.port) c.judge-verdict.ensures.state ∙ c.loop-beat.invariant.limits;
       capacity = c.pop_front.ensures.capacity ∙ c.loop-beat.invariant.capacity;
     }
 

@@ -2,5 +2,5 @@
 use Rattle.racing_board.proofs.Doubts.{ones}
 use Rattle.racing_board.proofs.races.doubt_word.Goals as goal
 
-pub returns-then-doubtful : goal.returns-then-doubtful
-returns-then-doubtful c lane below = rw c.if-doubtful.true (ones lane below)
+pub returns-then-indeterminate : goal.returns-then-indeterminate
+returns-then-indeterminate c lane below = rw c.if-indeterminate.true (ones lane below)

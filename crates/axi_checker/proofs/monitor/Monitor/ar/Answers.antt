@@ -1,6 +1,7 @@
 use Rattle.std.proofs.Common.{◌≡◌, refl, arith, sym, ◌∙◌, ap}
 use Rattle.axi_checker.specs.Monitors.{MonitorState, monitor_state}
-use Rattle.axi_checker.specs.OpenBursts.{OnAr, open_after}
+use Rattle.axi_checker.specs.OpenBursts.{open_after}
+use Rattle.axi_checker.specs.declared.AxiBeat.TheVariants.{Ar as OnAr}
 use Rattle.axi_checker.specs.Order.{reads_owe}
 use Rattle.axi_checker.proofs.Lasts.{reads_owe-append}
 use Rattle.axi_checker.proofs.SoundMonitors.{sound-open_after, sound_read_room}

@@ -1,6 +1,7 @@
 use Rattle.std.proofs.Common.{◌≡◌, refl, arith, sym, ◌∙◌, ap}
 use Rattle.axi_checker.specs.Monitors.{MonitorState, monitor_state}
-use Rattle.axi_checker.specs.OpenBursts.{OnAw, open_after}
+use Rattle.axi_checker.specs.OpenBursts.{open_after}
+use Rattle.axi_checker.specs.declared.AxiBeat.TheVariants.{Aw as OnAw}
 use Rattle.axi_checker.specs.Order.{writes_lack}
 use Rattle.axi_checker.proofs.Lasts.{writes_lack-append}
 use Rattle.axi_checker.proofs.SoundMonitors.{sound-open_after, sound_write_room}

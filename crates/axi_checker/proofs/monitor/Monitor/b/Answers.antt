@@ -2,7 +2,8 @@ use Rattle.std.proofs.Common.{◌≡◌, ◌+◌, List, length, refl, ap, ◌∙
 use Rattle.std.specs.Prelude.{filter, find}
 use Rattle.bus_words.specs.Places.{without_first}
 use Rattle.axi_checker.specs.Monitors.{MonitorState, monitor_state}
-use Rattle.axi_checker.specs.OpenBursts.{OnB, OpenWrite, lacks_data, write_of_id}
+use Rattle.axi_checker.specs.OpenBursts.{OpenWrite, lacks_data, write_of_id}
+use Rattle.axi_checker.specs.declared.AxiBeat.TheVariants.{B as OnB}
 use Rattle.axi_checker.specs.Order.{writes_lack}
 use Rattle.axi_checker.proofs.InOrder.{finds_response}
 use Rattle.axi_checker.proofs.Lasts.{writes_left, writes_lack-without_first}

@@ -1,7 +1,8 @@
 use Rattle.std.proofs.Common.{◌≡◌, List, ◌++◌, refl, ap, subst, ◌∙◌, arith}
 use Rattle.std.proofs.lemmas.List.{append-nil}
 use Rattle.axi_checker.specs.Monitors.{IsWithinLimits, MonitorState, monitor_state}
-use Rattle.axi_checker.specs.OpenBursts.{OnR, OpenRead, open_after}
+use Rattle.axi_checker.specs.OpenBursts.{OpenRead, open_after}
+use Rattle.axi_checker.specs.declared.AxiBeat.TheVariants.{R as OnR}
 use Rattle.axi_checker.specs.Order.{read_given, reads_owe}
 use Rattle.axi_checker.proofs.InOrder.{reads_step}
 use Rattle.axi_checker.proofs.SoundMonitors.{sound-open_after}

@@ -1,7 +1,8 @@
 use Rattle.std.proofs.Common.{◌≡◌, List, ◌∷◌, refl, ap, ◌∙◌, arith}
 use Rattle.std.proofs.lemmas.List.{append-nil}
 use Rattle.axi_checker.specs.Monitors.{MonitorState, monitor_state}
-use Rattle.axi_checker.specs.OpenBursts.{OnW, OpenWrite, open_after}
+use Rattle.axi_checker.specs.OpenBursts.{OpenWrite, open_after}
+use Rattle.axi_checker.specs.declared.AxiBeat.TheVariants.{W as OnW}
 use Rattle.axi_checker.specs.Order.{writes_lack}
 use Rattle.axi_checker.proofs.InOrder.{data_step}
 use Rattle.axi_checker.proofs.SoundMonitors.{sound-open_after}

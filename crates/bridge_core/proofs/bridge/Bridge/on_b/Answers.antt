@@ -1,6 +1,6 @@
 -- An answer that breaks no rule belongs to the request that holds its ID.
 use Rattle.std.proofs.Common.{◌≡◌, None, refl, subst}
-use Rattle.axi_checker.specs.OpenBursts.{OnB}
+use Rattle.axi_checker.specs.declared.AxiBeat.TheVariants.{B as OnB}
 use Rattle.bridge_core.specs.Bridge.{BridgeState, after_b_beat, b_fault}
 use Rattle.bridge_core.specs.Laws.{IsSoundBridge, IsSoundRequestTable}
 use Rattle.bridge_core.proofs.BridgeSteps.{awaits_b, sound_response, state_in, unbroken}

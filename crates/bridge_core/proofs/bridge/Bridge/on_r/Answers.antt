@@ -1,7 +1,7 @@
 -- An answer that breaks no rule belongs to the request that holds its ID.
 use Rattle.std.proofs.Common.{◌≡◌, None, Ok, Err, arith, refl, subst}
 use Rattle.std.specs.Prelude.{MatchOption}
-use Rattle.axi_checker.specs.OpenBursts.{OnR}
+use Rattle.axi_checker.specs.declared.AxiBeat.TheVariants.{R as OnR}
 use Rattle.axi_checker.specs.Rules.{AxiPortLimits, axi_fault}
 use Rattle.bridge_core.specs.Bridge.{BridgeState, after_r_beat, r_fault}
 use Rattle.bridge_core.specs.Laws.{IsSoundBridge, IsSoundRequestTable}

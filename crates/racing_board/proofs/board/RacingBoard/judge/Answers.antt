@@ -1,8 +1,7 @@
 -- What is right in order of acceptance isn't wrong, no more is told than a scoreboard tells, and what is blamed is wrong in every order.
 use Rattle.racing_board.specs.Boards.{racing_board}
 use Rattle.racing_board.proofs.JudgedRightly.{judges_rightly}
-use Rattle.racing_board.proofs.RightRuns.{lets_right_pass}
-use Rattle.racing_board.proofs.WiderRuns.{wider_along}
+use Rattle.racing_board.proofs.WiderRuns.{lets_right_pass, wider_along}
 use Rattle.racing_board.proofs.board.RacingBoard.judge.Goals as goal
 
 pub returns-clause-right : goal.returns-clause-right

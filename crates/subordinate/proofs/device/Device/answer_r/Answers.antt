@@ -13,7 +13,8 @@ use Rattle.subordinate.proofs.SoundDevices.{answering-last, answering-more}
 use Rattle.subordinate.proofs.OpenQueues.{queue_known, read_place}
 use Rattle.subordinate.proofs.device.Device.answer_r.Goals.{After-gives_last-last}
 use Rattle.subordinate.proofs.device.Device.answer_r.Goals as goal
-use Rattle.axi_checker.specs.OpenBursts.{OnR, open_after}
+use Rattle.axi_checker.specs.OpenBursts.{open_after}
+use Rattle.axi_checker.specs.declared.AxiBeat.TheVariants.{R as OnR}
 use Rattle.axi_checker.specs.Rules.{axi_fault}
 use Rattle.subordinate.specs.declared.BeatState.TheVariants.{Captured}
 
