@@ -215,7 +215,7 @@ def read(crate, path):
             continue
         if line.startswith("use "):
             brought_in(line, named, modules)
-        elif line and not line.startswith(" "):
+        elif line and line[0] not in " )":
             kind, name = BEGINS.match(line).groups()
             if name not in definitions:
                 public = PUBLIC.match(line)

@@ -1,15 +1,15 @@
 -- `tlbridge check`: what each line of its script does (this project's profile).
-use Rattle.std.specs.Prelude.{ℕ, Bool, true, false, List, [], ◌∷◌, Result, Ok, Err}
+use Rattle.std.specs.Prelude.{ℕ, Bool, true, false, List, [], ◌∷◌, None, Result, Ok, Err}
 use Rattle.config.specs.Configs.{is_valid}
 use Rattle.config.specs.declared.Config.{Config as Limits}
 use Rattle.setups.specs.declared.SetupFault.{SetupFault}
 use Rattle.setups.specs.declared.SetupFault.TheVariants.{BadConfig}
 use Rattle.line_text.specs.Fields.{read_as, byte_field}
-use Rattle.script_text.specs.Forms.{told_as}
+use Rattle.script_text.specs.Forms.{form_of, told_as}
 use Rattle.line_text.specs.OfferLines.{offer_line}
 use Rattle.script_text.specs.Scripts.{Reading}
-use Rattle.script_text.specs.Stages.{Kind, Stage, is_config_form, reading_of}
-use Rattle.line_text.specs.Words.{dec_at}
+use Rattle.script_text.specs.Stages.{Kind, Stage, command_by_form, is_config_form, reading_of}
+use Rattle.line_text.specs.Words.{dec_at, word_at}
 use Rattle.script_text.specs.declared.keywords.Form.{Form}
 use Rattle.script_text.specs.declared.keywords.Form.TheVariants as form
 use Rattle.check_script.specs.ClientPorts.{PortTable, opening_table, table_after, check_text}
@@ -36,17 +36,19 @@ opened config true = Ok (opening_table config)
 opened config false = Err BadConfig
 
 -- of the set-up lines it has `config` alone; at the input's end it tells whether something was refused, and writes nothing
-abbrev pub check_kind : Kind PortTable CheckCommand
+abbrev pub check_kind : Kind (Unit {0}) PortTable CheckCommand
 check_kind =
     record {
       most_lines = 65536;
       takes = is_config_form;
-      command_of = check_command;
-      opened = λ setup. opened setup.config (is_valid setup.config);
-      asks = true;
-      commanded = λ table command. (check_text table command, table_after table command);
+      own_opening = tt;
+      own_line = λ own words. None;
+      passes = λ words. false;
+      command_of = λ words. command_by_form check_command words (form_of (word_at words 1));
+      opened = λ own setup. opened setup.config (is_valid setup.config);
+      commanded = λ table number command. (check_text table command, table_after table command);
       ending = λ table. ([], table.refused);
     }
 
-abbrev pub check_reading : Reading (Stage PortTable) Bool
+abbrev pub check_reading : Reading (Stage (Unit {0}) PortTable) Bool
 check_reading = reading_of check_kind

@@ -50,11 +50,18 @@ fn judge<W: Write>(
 
 impl Kind for CheckScript {
     ghost use Rattle.check_script.specs.Check.{check_kind};
+    ghost use Rattle.check_script.specs.ClientPorts.{PortTable};
     ghost use Rattle.check_script.specs.CommandTexts.{check_gives};
+
+    type Own = ();
 
     type World = ClientPorts;
 
     type Command = CheckCommand;
+
+    ghost State = { PortTable };
+
+    ghost said = { λ ports. ports };
 
     ghost rules = { check_kind };
 
@@ -66,11 +73,24 @@ impl Kind for CheckScript {
         matches!(form, Form::Config)
     }
 
-    fn command_of(form: Form, words: &Words<'_>) -> Result<CheckCommand, u32> {
-        check_command(form, words)
+    fn own_opening() {}
+
+    fn own_line(_own: &(), _words: &Words<'_>) -> Option<Result<(), u32>> {
+        None
     }
 
-    fn open(&mut self, alloc: Global, setup: &Setup) -> Result<ClientPorts, SetupFault> {
+    fn passes(_words: &Words<'_>) -> bool {
+        false
+    }
+
+    fn command_of(words: &Words<'_>) -> Result<CheckCommand, u32> {
+        match Form::named(words.at(1)) {
+            Some(form) => check_command(form, words),
+            None => Err(1),
+        }
+    }
+
+    fn open(&mut self, alloc: Global, _own: &(), setup: &Setup) -> Result<ClientPorts, SetupFault> {
         if !setup.config.is_valid() {
             return Err(SetupFault::BadConfig);
         }
@@ -83,6 +103,7 @@ impl Kind for CheckScript {
     fn carry_out<W: Write>(
         &mut self,
         ports: &mut ClientPorts,
+        _number: u32,
         command: &CheckCommand,
         writer: &mut W,
     ) -> Result<bool, WriteFault> {
@@ -90,7 +111,11 @@ impl Kind for CheckScript {
         Ok(true)
     }
 
-    fn end<W: Write>(&mut self, ports: &ClientPorts, _writer: &mut W) -> Result<bool, WriteFault> {
+    fn end<W: Write>(
+        &mut self,
+        ports: &mut ClientPorts,
+        _writer: &mut W,
+    ) -> Result<bool, WriteFault> {
         Ok(ports.refused())
     }
 

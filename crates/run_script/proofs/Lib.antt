@@ -1,2 +1,1 @@
 mod Examples
-mod Openings

@@ -1,21 +1,15 @@
 -- Each command of `tlbridge run` has text.
-use Rattle.std.proofs.Common.{◌≡◌, ◌≢◌, ℕ, true, List, [], ◌∷◌, ◌++◌, Option, Some, None, refl, rules}
+use Rattle.std.proofs.Common.{◌≢◌, ℕ, [], ◌++◌, Option, Some, None, rules}
 use Rattle.world.specs.World.{WorldState, next}
 use Rattle.world.specs.declared.Answer.{Answer}
 use Rattle.world.specs.declared.Answer.TheVariants as answer
 use Rattle.line_text.specs.Traces.{mem_text}
+use Rattle.line_text.proofs.TraceTexts.{some_after, some_before}
 use Rattle.script_text.specs.Answers.{answer_text}
+use Rattle.script_text.specs.Stages.{GivesSome}
 use Rattle.run_script.specs.Run.{after_answer, before_answer, commanded, run_kind}
 use Rattle.run_script.specs.declared.lines.Command.{Command}
 use Rattle.run_script.specs.declared.lines.Command.TheVariants.{Event, Drain, Mem, Work}
-
-some_before : (xs ys : List ℕ) → xs ≢ [] → xs ++ ys ≢ []
-some_before [] ys some none = some refl
-some_before (x ∷ xs) ys some none = search rules
-
-some_after : (xs ys : List ℕ) → ys ≢ [] → xs ++ ys ≢ []
-some_after [] ys some none = some none
-some_after (x ∷ xs) ys some none = search rules
 
 answer_text-some : (a : Answer) → answer_text a ≢ []
 answer_text-some answer.More none = search rules
@@ -46,5 +40,5 @@ commanded-some world (Mem address) = by_byte _
     by_byte (Some byte) none = search rules
 commanded-some world Work = λ none. search rules
 
-pub run_gives : run_kind.asks ≡ true → (world : WorldState) (command : Command) → (run_kind.commanded world command).0 ++ (run_kind.ending (run_kind.commanded world command).1).0 ≢ []
-run_gives asks world command = some_before _ _ (commanded-some world command)
+pub run_gives : GivesSome run_kind
+run_gives world number command = some_before _ _ (commanded-some world command)

@@ -1,19 +1,18 @@
 -- `tlbridge run`: what each line of its script does (this project's profile).
-use Rattle.std.specs.Prelude.{ℕ, Bool, true, false, List, [], ◌∷◌, ◌++◌, Option, Some, None, Result, Ok, Err}
+use Rattle.std.specs.Prelude.{ℕ, Bool, true, false, List, [], ◌∷◌, ◌++◌, None, Result, Err}
 use Rattle.tl_messages.specs.Lines.{a_text}
-use Rattle.setups.specs.Setups.{SetupLists, setup_fault}
+use Rattle.setups.specs.Setups.{setup_fault}
 use Rattle.world.specs.World.{WorldState, Outcome, opening_world, next, byte_of, drained, work_left}
-use Rattle.setups.specs.declared.SetupFault.{SetupFault}
 use Rattle.world.specs.declared.Step.{Step}
 use Rattle.world.specs.declared.Step.TheVariants as step
 use Rattle.line_text.specs.Fields.{read_as, byte_field, short_field, address_field}
-use Rattle.script_text.specs.Forms.{told_as}
+use Rattle.script_text.specs.Forms.{form_of, told_as}
 use Rattle.line_text.specs.OfferLines.{offer_line}
 use Rattle.line_text.specs.Traces.{held_text, reply_text, drained_text, mem_text, work_text}
 use Rattle.script_text.specs.Answers.{answer_text}
 use Rattle.script_text.specs.Scripts.{Reading}
-use Rattle.script_text.specs.Stages.{Kind, Stage, reading_of}
-use Rattle.line_text.specs.Words.{is_dec_to, dec_at, hex_at}
+use Rattle.script_text.specs.Stages.{Kind, Stage, command_by_form, reading_of, unless_refused}
+use Rattle.line_text.specs.Words.{is_dec_to, dec_at, hex_at, word_at}
 use Rattle.script_text.specs.declared.keywords.Form.{Form}
 use Rattle.script_text.specs.declared.keywords.Form.TheVariants as form
 use Rattle.run_script.specs.declared.lines.Command.{Command}
@@ -48,11 +47,6 @@ command_of _ words = Err 1
 
 -- ---- carrying a line out
 
--- the world of a set-up, or its fault
-abbrev pub opened : SetupLists → Option SetupFault → Result WorldState SetupFault
-opened setup None = Ok (opening_world setup)
-opened setup (Some fault) = Err fault
-
 -- what stands before an answer's line: the beat that was offered
 abbrev pub before_answer : Step → List ℕ
 before_answer (step.Offer client beat) = a_text client beat
@@ -77,18 +71,20 @@ commanded world Work = (work_text (work_left world), world)
 
 -- ---- `tlbridge run`
 
--- it has every set-up line, and writes nothing at the input's end
-abbrev pub run_kind : Kind WorldState Command
+-- it has every set-up line and none of its own, and writes nothing at the input's end
+abbrev pub run_kind : Kind (Unit {0}) WorldState Command
 run_kind =
     record {
       most_lines = 65536;
       takes = λ form. true;
-      command_of = command_of;
-      opened = λ setup. opened setup (setup_fault setup);
-      asks = true;
-      commanded = commanded;
+      own_opening = tt;
+      own_line = λ own words. None;
+      passes = λ words. false;
+      command_of = λ words. command_by_form command_of words (form_of (word_at words 1));
+      opened = λ own setup. unless_refused (opening_world setup) (setup_fault setup);
+      commanded = λ world number command. commanded world command;
       ending = λ world. ([], false);
     }
 
-abbrev pub run_reading : Reading (Stage WorldState) Bool
+abbrev pub run_reading : Reading (Stage (Unit {0}) WorldState) Bool
 run_reading = reading_of run_kind

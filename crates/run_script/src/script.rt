@@ -85,10 +85,17 @@ fn command<W: Write>(
 impl Kind for RunScript {
     ghost use Rattle.run_script.specs.CommandTexts.{run_gives};
     ghost use Rattle.run_script.specs.Run.{run_kind};
+    ghost use Rattle.world.specs.World.{WorldState};
+
+    type Own = ();
 
     type World = World;
 
     type Command = Command;
+
+    ghost State = { WorldState };
+
+    ghost said = { λ world. world };
 
     ghost rules = { run_kind };
 
@@ -100,17 +107,31 @@ impl Kind for RunScript {
         true
     }
 
-    fn command_of(form: Form, words: &Words<'_>) -> Result<Command, u32> {
-        command_of(form, words)
+    fn own_opening() {}
+
+    fn own_line(_own: &(), _words: &Words<'_>) -> Option<Result<(), u32>> {
+        None
     }
 
-    fn open(&mut self, alloc: Global, setup: &Setup) -> Result<World, SetupFault> {
+    fn passes(_words: &Words<'_>) -> bool {
+        false
+    }
+
+    fn command_of(words: &Words<'_>) -> Result<Command, u32> {
+        match Form::named(words.at(1)) {
+            Some(form) => command_of(form, words),
+            None => Err(1),
+        }
+    }
+
+    fn open(&mut self, alloc: Global, _own: &(), setup: &Setup) -> Result<World, SetupFault> {
         World::new(alloc, setup)
     }
 
     fn carry_out<W: Write>(
         &mut self,
         world: &mut World,
+        _number: u32,
         asked: &Command,
         writer: &mut W,
     ) -> Result<bool, WriteFault> {
@@ -118,7 +139,7 @@ impl Kind for RunScript {
         Ok(true)
     }
 
-    fn end<W: Write>(&mut self, _world: &World, _writer: &mut W) -> Result<bool, WriteFault> {
+    fn end<W: Write>(&mut self, _world: &mut World, _writer: &mut W) -> Result<bool, WriteFault> {
         Ok(false)
     }
 

@@ -1,12 +1,11 @@
--- Each finding has a line, and so has the end.
+-- Each finding has a line.
 use Rattle.std.proofs.Common.{◌≡◌, ◌≢◌, ℕ, [], ◌++◌, Option, Some, None, refl, rules}
 use Rattle.scoreboard.specs.declared.Wrong.{Wrong}
 use Rattle.scoreboard.specs.declared.Wrong.TheVariants.{NoClient, Request, Reply, Axi}
-use Rattle.score_script.specs.FindingTexts.{finding_text, last_text, optional_text, wrong_text}
-use Rattle.score_script.specs.Scores.{Score, closing}
+use Rattle.score_script.specs.FindingTexts.{finding_text, optional_text, wrong_text}
 use Rattle.score_script.specs.declared.findings.Finding.{Finding}
 use Rattle.score_script.specs.declared.findings.Finding.TheVariants.{Beat, Byte}
-use Rattle.line_text.proofs.TraceTexts.{some_after, some_before}
+use Rattle.line_text.proofs.TraceTexts.{some_before}
 
 wrong_some : (number client : ℕ) (wrong : Wrong) → wrong_text number client wrong ≢ []
 wrong_some number client NoClient none = search rules
@@ -20,15 +19,8 @@ some (Beat number client wrong) none = wrong_some number client wrong none
 some (Byte None) none = search rules
 some (Byte (Some byte)) none = search rules
 
-last_some : (judged wrong outstanding left_open : ℕ) → last_text judged wrong outstanding left_open ≢ []
-last_some judged wrong outstanding left_open none = search rules
-
 -- where there is a finding, there is a line
 pub findings_some : (held own : Option Finding) → (held ≡ None → own ≡ None → ⊥) → optional_text held ++ optional_text own ≢ []
 findings_some (Some finding) own is = some_before (finding_text finding) (optional_text own) (some finding)
 findings_some None (Some finding) is = some finding
 findings_some None None is = absurd (is refl refl)
-
--- an observation that ends has text
-pub closing_some : (settled : Option Finding × Score) → (closing settled).output ≢ []
-closing_some settled = some_after (optional_text settled.0) _ (last_some _ _ _ _)

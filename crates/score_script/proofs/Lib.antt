@@ -1,3 +1,1 @@
 mod FindingLines
-mod Openings
-mod ScoreSteps

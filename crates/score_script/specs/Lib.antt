@@ -1,3 +1,4 @@
+pub mod CommandTexts
 pub mod FindingTexts
 pub mod ObservedLines
 pub mod Profiles

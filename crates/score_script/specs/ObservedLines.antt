@@ -1,5 +1,5 @@
 -- The lines of observed beats, and of the answers between them (this project's profile).
-use Rattle.std.specs.Prelude.{ℕ, Bool, ◌||◌, List, [], ◌∷◌, Option, Result, find, option_map, if◌then◌else◌, codes}
+use Rattle.std.specs.Prelude.{ℕ, Bool, true, false, ◌&&◌, ◌||◌, List, [], ◌∷◌, Option, Some, None, Result, Ok, Err, find, option_map, if◌then◌else◌, codes}
 use Rattle.std.specs.Str.{bytes_eq}
 use Rattle.axi_beats.specs.declared.ArBeat.{ArBeat}
 use Rattle.axi_beats.specs.declared.AwBeat.{AwBeat}
@@ -15,6 +15,8 @@ use Rattle.line_text.specs.OfferLines.{offer_line}
 use Rattle.line_text.specs.Words.{dec_at, hex_at, is_hex_to, word_at}
 use Rattle.score_script.specs.declared.lines.Channel.{Channel}
 use Rattle.score_script.specs.declared.lines.Channel.TheVariants as channel
+use Rattle.score_script.specs.declared.score.Command.{Command}
+use Rattle.score_script.specs.declared.score.Command.TheVariants as command
 use Rattle.scoreboard.specs.declared.Seen.{Seen}
 use Rattle.scoreboard.specs.declared.Seen.TheVariants as seen
 use Rattle.tl_messages.specs.declared.DBeat.{DBeat}
@@ -152,3 +154,36 @@ abbrev pub is_withdrawal : List ℕ → Bool
 is_withdrawal word =
     bytes_eq word (codes "noclient")
     || (bytes_eq word (codes "refused") || (bytes_eq word (codes "notready") || bytes_eq word (codes "exhausted")))
+
+-- ---- commands
+
+-- an answer, by the word after `=`: it withdraws the beat before it, says that AXI beats went unobserved, or is another
+abbrev pub answer_command : List ℕ → Command
+answer_command word =
+    if is_withdrawal word
+    then command.Withdrawal
+    else (if bytes_eq word (codes "drained") then command.Seen seen.Drained else command.Answer)
+
+-- whether a line is an answer
+abbrev pub is_answer : List (List ℕ) → Bool
+is_answer words = bytes_eq (word_at words 1) (codes "=")
+
+-- whether a command does nothing but settle the beat before it
+abbrev pub is_settling : Command → Bool
+is_settling command.Answer = true
+is_settling _ = false
+
+-- whether a line does
+abbrev pub only_settles : List (List ℕ) → Bool
+only_settles words = is_answer words && is_settling (answer_command (word_at words 2))
+
+-- what a line of a channel, or else a question, says, or the first wrong word
+abbrev pub asked_command : List (List ℕ) → Option Channel → Result Command ℕ
+asked_command words (Some channel) = told_as (λ beat. command.Seen beat) (seen_line channel words)
+asked_command words None =
+    if bytes_eq (word_at words 1) (codes "mem") then told_as (λ address. command.Byte address) (address_line words) else Err 1
+
+-- what a line says that isn't one of the set-up, or the first wrong word; there are no other commands
+abbrev pub command_of : List (List ℕ) → Result Command ℕ
+command_of words =
+    if is_answer words then Ok (answer_command (word_at words 2)) else asked_command words (channel_of (word_at words 1))

@@ -1,5 +1,5 @@
 -- What is asked of a bridge, and the board that judges beats by it (this project's profile).
-use Rattle.std.specs.Prelude.{ℕ, ◌||◌, List, [], ◌∷◌, Option, Result, if◌then◌else◌, unwrap_or, codes}
+use Rattle.std.specs.Prelude.{ℕ, ◌||◌, List, [], ◌∷◌, Option, Some, None, Result, Err, if◌then◌else◌, unwrap_or, codes}
 use Rattle.std.specs.Str.{bytes_eq}
 use Rattle.line_text.specs.Fields.{Field, read_as}
 use Rattle.line_text.specs.Words.{word_at}
@@ -13,6 +13,7 @@ use Rattle.score_script.specs.declared.profiles.Profile.{Profile}
 use Rattle.score_script.specs.declared.profiles.Profile.TheVariants.{Bridge, TileLink}
 use Rattle.scoreboard.specs.declared.Seen.{Seen}
 use Rattle.scoreboard.specs.declared.Wrong.{Wrong}
+use Rattle.script_text.specs.Forms.{told_as}
 use Rattle.setups.specs.Setups.{SetupLists}
 
 -- ---- profile PROFILE
@@ -28,6 +29,15 @@ profile_in word = if bytes_eq word (codes "tilelink") then TileLink else Bridge
 -- the profile that a line names, or the first wrong word
 abbrev pub profile_line : List (List ℕ) → Result Profile ℕ
 profile_line words = read_as (profile_field ∷ []) words (profile_in (word_at words 2))
+
+-- what a `profile` line says beside those before it: a set-up has at most one
+abbrev pub named_once : Option Profile → List (List ℕ) → Result (Option Profile) ℕ
+named_once None words = told_as (λ profile. Some profile) (profile_line words)
+named_once (Some profile) words = Err 1
+
+-- the profile that the lines so far name, if the words are of a `profile` line
+abbrev pub own_line : Option Profile → List (List ℕ) → Option (Result (Option Profile) ℕ)
+own_line named words = if bytes_eq (word_at words 1) (codes "profile") then Some (named_once named words) else None
 
 -- the profile of a set-up, by the one that a line of it names, if any does
 abbrev pub profile_of : Option Profile → Profile

@@ -2,8 +2,9 @@
 ghost use Rattle.std.specs.Prelude.{◌≡◌, ◌<◌};
 ghost use Rattle.line_text.specs.Fields.{Reads};
 ghost use Rattle.line_text.specs.Words.{word_at};
-ghost use Rattle.score_script.specs.ObservedLines.{address_line, ar_line, aw_line, b_line, channel_of, d_line, is_withdrawal, r_line, resp_field, resp_in, seen_line, w_line};
+ghost use Rattle.score_script.specs.ObservedLines.{address_line, answer_command, ar_line, asked_command, aw_line, b_line, channel_of, command_of, d_line, is_answer, is_withdrawal, only_settles, r_line, resp_field, resp_in, seen_line, w_line};
 
+use crate::score::Command;
 use axi_beats::{ArBeat, AwBeat, BBeat, RBeat, Resp, WBeat};
 use axi_checker::AxiBeat;
 use line_text::{Words, offer_line};
@@ -179,7 +180,7 @@ pub fn seen_line(channel: Channel, words: &Words<'_>) -> Result<Seen, u32>
 }
 
 /// `mem ADDRESS`.
-pub(crate) fn address_line(words: &Words<'_>) -> Result<u32, u32>
+fn address_line(words: &Words<'_>) -> Result<u32, u32>
     ensures { result ≡ address_line words.now }
 {
     let address = words.address(2)?;
@@ -195,4 +196,53 @@ pub fn is_withdrawal(word: &[u8]) -> bool
         || word == b"refused".as_slice()
         || word == b"notready".as_slice()
         || word == b"exhausted".as_slice()
+}
+
+/// An answer, by the word after `=`.
+fn answer_command(word: &[u8]) -> Command
+    ensures { result ≡ answer_command word.now }
+{
+    if is_withdrawal(word) {
+        return Command::Withdrawal;
+    }
+    if word == b"drained".as_slice() {
+        return Command::Seen(Seen::Drained);
+    }
+    Command::Answer
+}
+
+fn is_answer(words: &Words<'_>) -> bool
+    ensures { result ≡ is_answer words.now }
+{
+    words.at(1) == b"=".as_slice()
+}
+
+/// Whether a line does nothing but settle the beat before it.
+pub(crate) fn only_settles(words: &Words<'_>) -> bool
+    ensures { result ≡ only_settles words.now }
+{
+    is_answer(words) && matches!(answer_command(words.at(2)), Command::Answer)
+}
+
+/// What a line of a channel, or else a question, says, or its first wrong word.
+fn asked_command(words: &Words<'_>, channel: Option<Channel>) -> Result<Command, u32>
+    ensures { result ≡ asked_command words.now channel }
+{
+    if let Some(channel) = channel {
+        return Ok(Command::Seen(seen_line(channel, words)?));
+    }
+    if words.at(1) != b"mem".as_slice() {
+        return Err(1);
+    }
+    Ok(Command::Byte(address_line(words)?))
+}
+
+/// What a line says that isn't one of the set-up, or its first wrong word.
+pub(crate) fn command_of(words: &Words<'_>) -> Result<Command, u32>
+    ensures { result ≡ command_of words.now }
+{
+    if is_answer(words) {
+        return Ok(answer_command(words.at(2)));
+    }
+    asked_command(words, Channel::named(words.at(1)))
 }

@@ -4,7 +4,7 @@ ghost use Rattle.line_text.specs.Fields.{Reads};
 ghost use Rattle.line_text.specs.Words.{word_at};
 ghost use Rattle.setups.specs.Setups.{lists_of, setup_fault};
 ghost use Rattle.setups.specs.declared.SetupFault.TheVariants.{NoMemory};
-ghost use Rattle.score_script.specs.Profiles.{after_seen, bursts_open, byte_in, opening_board, profile_field, profile_in, profile_line, replies_open, wrong_in};
+ghost use Rattle.score_script.specs.Profiles.{after_seen, bursts_open, byte_in, opening_board, own_line, profile_field, profile_in, profile_line, replies_open, wrong_in};
 ghost use Rattle.score_script.specs.ScoreStates.{board_of};
 
 use line_text::Words;
@@ -35,12 +35,31 @@ fn profile_at(words: &Words<'_>, n: u32) -> Result<Profile, u32>
 }
 
 /// `profile PROFILE`.
-pub(crate) fn profile_line(words: &Words<'_>) -> Result<Profile, u32>
+fn profile_line(words: &Words<'_>) -> Result<Profile, u32>
     ensures { result ≡ profile_line words.now }
 {
     let profile = profile_at(words, 2)?;
     words.end(2)?;
     Ok(profile)
+}
+
+/// The profile that the lines of a set-up name, with one line more, if that is a `profile` line; it may stand once.
+pub(crate) fn own_line(
+    named: Option<Profile>,
+    words: &Words<'_>,
+) -> Option<Result<Option<Profile>, u32>>
+    ensures { result ≡ own_line named words.now }
+{
+    if words.at(1) != b"profile".as_slice() {
+        return None;
+    }
+    if named.is_some() {
+        return Some(Err(1));
+    }
+    match profile_line(words) {
+        Ok(profile) => Some(Ok(Some(profile))),
+        Err(word) => Some(Err(word)),
+    }
 }
 
 /// The board of a profile.

@@ -1,5 +1,5 @@
 //! What was found of the beats that were read so far, and what each line finds.
-ghost use Rattle.std.specs.Prelude.{◌≡◌, ◌++◌, None, if◌then◌else◌, is_some, nat_lt};
+ghost use Rattle.std.specs.Prelude.{◌≡◌, None, if◌then◌else◌, is_some};
 ghost use Rattle.script_text.specs.Stages.{WritesEnd};
 ghost use Rattle.score_script.specs.Scores.{beats_judged, client_of, closing, counted, finds, found, judging, observing, settling};
 ghost use Rattle.score_script.specs.ScoreStates.{score_of};
@@ -157,13 +157,6 @@ impl Score {
         Findings { held, own }
     }
 
-    /// Whether a beat is held.
-    pub(crate) fn holds(&self) -> bool
-        ensures { result ≡ is_some self.now.held }
-    {
-        self.held.is_some()
-    }
-
     /// Withdraws the beat that is held.
     fn withdraw(&mut self)
         ensures { score_of self.new ≡ record (score_of self.old) { held = None } }
@@ -200,7 +193,7 @@ impl Score {
 
     /// Judges the beat that is held, and writes the last line. The answer is whether a beat is wrong.
     pub(crate) fn close<W: Write>(&mut self, writer: &mut W) -> Result<bool, WriteFault>
-        ensures { WritesEnd ((closing (settling (score_of self.old))).output, nat_lt 0 (settling (score_of self.old)).1.wrong) (W.contents writer.old) (W.contents writer.new) result }
+        ensures { WritesEnd (closing (settling (score_of self.old))) (W.contents writer.old) (W.contents writer.new) result }
     {
         let held = self.settle();
         optional_line(&held, writer)?;

@@ -6,7 +6,7 @@ use Rattle.setups.specs.Setups.{SetupLists}
 use Rattle.line_text.specs.Fields.{first_wrong, read_as, unless_wrong, address_field}
 use Rattle.script_text.specs.Forms.{told_as, count_field, kind_field}
 use Rattle.script_text.specs.SetupLines.{config_in, config_fields, region_in, region_fields, page_fields, kind_in}
-use Rattle.script_text.specs.Stages.{HasRoomFor, MayStand, Opening, Running, SettingUp, Stage, has_no_room, is_misplaced, is_setup_form, setup_line}
+use Rattle.script_text.specs.Stages.{HasRoomFor, MayStand, Opening, Running, SettingUp, Stage, has_no_room, is_misplaced, setup_line}
 use Rattle.line_text.specs.Words.{word_at, dec_at, hex_at}
 use Rattle.script_text.specs.declared.keywords.Form.{Form}
 use Rattle.script_text.specs.declared.keywords.Form.TheVariants as form
@@ -112,48 +112,31 @@ set_up_room setup form.Word words line test is = absurd is
 pub setup_line-room : (setup : SetupLists) (f : Form) (words : List (List ℕ)) (line : SetupLine) → has_no_room setup f words ≡ false → setup_line f words ≡ Ok line → HasRoomFor setup line
 setup_line-room setup f words line test same = set_up_room setup f words line test (says f words line same)
 
-abbrev opening : (W : Type 0) → Stage W
-opening W = Opening
+abbrev opening : (S W : Type 0) → Stage S W
+opening S W = Opening
 
-opening_room : (W : Type 0) (f : Form) (words : List (List ℕ)) (line : SetupLine) → is_misplaced (opening W) f words ≡ false → SaysAs f words line → MayStand (opening W) line
-opening_room W form.Config words line test is = rw is tt
-opening_room W form.Region words line test is = absurd (apart (sym test))
-opening_room W form.Page words line test is = absurd (apart (sym test))
-opening_room W form.BadWord words line test is = absurd (apart (sym test))
-opening_room W form.Offer words line test is = absurd is
-opening_room W form.Pump words line test is = absurd is
-opening_room W form.Perform words line test is = absurd is
-opening_room W form.AnswerB words line test is = absurd is
-opening_room W form.AnswerR words line test is = absurd is
-opening_room W form.Take words line test is = absurd is
-opening_room W form.Drain words line test is = absurd is
-opening_room W form.Mem words line test is = absurd is
-opening_room W form.Work words line test is = absurd is
-opening_room W form.Free words line test is = absurd is
-opening_room W form.Word words line test is = absurd is
+opening_room : (S W : Type 0) (f : Form) (words : List (List ℕ)) (line : SetupLine) → is_misplaced (opening S W) f words ≡ false → SaysAs f words line → MayStand (opening S W) line
+opening_room S W form.Config words line test is = rw is tt
+opening_room S W form.Region words line test is = absurd (apart (sym test))
+opening_room S W form.Page words line test is = absurd (apart (sym test))
+opening_room S W form.BadWord words line test is = absurd (apart (sym test))
+opening_room S W form.Offer words line test is = absurd is
+opening_room S W form.Pump words line test is = absurd is
+opening_room S W form.Perform words line test is = absurd is
+opening_room S W form.AnswerB words line test is = absurd is
+opening_room S W form.AnswerR words line test is = absurd is
+opening_room S W form.Take words line test is = absurd is
+opening_room S W form.Drain words line test is = absurd is
+opening_room S W form.Mem words line test is = absurd is
+opening_room S W form.Work words line test is = absurd is
+opening_room S W form.Free words line test is = absurd is
+opening_room S W form.Word words line test is = absurd is
 
-running_room : (f : Form) (words : List (List ℕ)) (line : SetupLine) → is_setup_form f ≡ false → SaysAs f words line → ⊥
-running_room form.Config words line test is = apart (sym test)
-running_room form.Region words line test is = apart (sym test)
-running_room form.Page words line test is = apart (sym test)
-running_room form.BadWord words line test is = apart (sym test)
-running_room form.Offer words line test is = is
-running_room form.Pump words line test is = is
-running_room form.Perform words line test is = is
-running_room form.AnswerB words line test is = is
-running_room form.AnswerR words line test is = is
-running_room form.Take words line test is = is
-running_room form.Drain words line test is = is
-running_room form.Mem words line test is = is
-running_room form.Work words line test is = is
-running_room form.Free words line test is = is
-running_room form.Word words line test is = is
-
-room : {W : Type 0} (stage : Stage W) (f : Form) (words : List (List ℕ)) (line : SetupLine) → is_misplaced stage f words ≡ false → SaysAs f words line → MayStand stage line
-room {W} Opening f words line test is = opening_room W f words line test is
-room (SettingUp setup) f words line test is = set_up_room setup f words line test is
-room (Running world) f words line test is = running_room f words line test is
+room : {S W : Type 0} (stage : Stage S W) (f : Form) (words : List (List ℕ)) (line : SetupLine) → is_misplaced stage f words ≡ false → SaysAs f words line → MayStand stage line
+room {S} {W} Opening f words line test is = opening_room S W f words line test is
+room (SettingUp setup own) f words line test is = set_up_room setup f words line test is
+room (Running world) f words line test is = absurd (apart (sym test))
 
 -- a set-up line that was read may stand where one of its form may
-pub setup_line-stands : {W : Type 0} (stage : Stage W) (f : Form) (words : List (List ℕ)) (line : SetupLine) → is_misplaced stage f words ≡ false → setup_line f words ≡ Ok line → MayStand stage line
+pub setup_line-stands : {S W : Type 0} (stage : Stage S W) (f : Form) (words : List (List ℕ)) (line : SetupLine) → is_misplaced stage f words ≡ false → setup_line f words ≡ Ok line → MayStand stage line
 setup_line-stands stage f words line test same = room stage f words line test (says f words line same)

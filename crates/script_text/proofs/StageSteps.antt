@@ -1,43 +1,74 @@
 -- What a command makes of a script, and what a refused opening does.
-use Rattle.std.proofs.Common.{◌≡◌, ◌≢◌, ◌++◌, ℕ, List, [], Bool, true, false, Option, Some, Result, Ok, Err, IsOk, refl, sym, ap, ◌∙◌, rules}
+use Rattle.std.proofs.Common.{◌≡◌, ◌≢◌, ◌⊎◌, inl, inr, ℕ, List, [], Bool, true, false, Option, Some, None, IfSome, IfOk, IfErr, Result, Ok, Err, IsOk, refl, sym, ap, ◌∙◌, rules}
 use Rattle.std.proofs.KnownBytes.{Appends-nil, Keeps-refl}
-use Rattle.script_text.specs.Forms.{form_of}
+use Rattle.burst_plan.specs.PageMap.{region_fault}
+use Rattle.config.specs.Configs.{is_valid}
+use Rattle.script_text.specs.Forms.{told_as}
 use Rattle.script_text.specs.Scripts.{LineStep}
-use Rattle.script_text.specs.Stages.{Command, Kind, MayStand, OpensStage, Opening, Running, SettingUp, Setup as SetUp, Stage, Writes, command_step, is_misplaced, is_setup_form, line_in, line_of_form, nothing_written, reading_of, setup_line, with_setup_line, world_at}
-use Rattle.line_text.specs.Words.{word_at}
-use Rattle.script_text.specs.declared.keywords.Form.{Form}
-use Rattle.script_text.specs.declared.setup_parser.SetupLine.{SetupLine}
+use Rattle.script_text.specs.Stages.{GivesSome, Kind, MayStand, OpensAs, OpensStage, Opening, Running, SettingUp, Stage, Writes, command_step, is_misplaced, nothing_written, reading_of, setup_line, setup_step, unless_refused, with_setup_line, world_at}
 use Rattle.script_text.specs.Steps.{GivesText, TakesStep}
 use Rattle.script_text.specs.declared.faults.ScriptFault.{ScriptFault}
 use Rattle.script_text.specs.declared.faults.ScriptFault.TheVariants.{Script, Setup, Read, Write, NoMemory}
+use Rattle.script_text.specs.declared.keywords.Form.{Form}
+use Rattle.script_text.specs.declared.setup_parser.SetupLine.{SetupLine}
+use Rattle.setups.proofs.SetupFaults.{memory_never}
+use Rattle.setups.specs.Setups.{SetupLists, setup_fault}
+use Rattle.setups.specs.declared.SetupFault.{SetupFault}
+use Rattle.setups.specs.declared.SetupFault.TheVariants as refused
+use Rattle.subordinate.specs.Faults.{device_fault}
 
--- a kind whose commands have text, or whose scripts have at their end
-abbrev pub GivesSome : {W C : Type 0} → Kind W C → Type 0
-GivesSome {W} {C} kind = kind.asks ≡ true → (world : W) (command : C) → (kind.commanded world command).0 ++ (kind.ending (kind.commanded world command).1).0 ≢ []
+-- ---- making what commands work on
 
-gives : {W C : Type 0} (kind : Kind W C) (found : Result W ScriptFault) (command : C) → GivesSome kind → kind.asks ≡ true → IsOk found → GivesText (reading_of kind) (command_step kind found command)
-gives kind (Ok world) command some asks ok =
-    (record { text = (kind.commanded world command).0; next = Running (kind.commanded world command).1; step_is = refl; may_end = λ number. refl }, λ number. some asks world command)
-gives kind (Err fault) command some asks ok = search rules
+-- a set-up with a fault is refused by it
+refused_as : (W : Type 0) (setup : SetupLists) (fault : SetupFault) → setup_fault setup ≡ Some fault → OpensAs {W = W} (Err fault) (Err fault)
+refused_as W setup refused.BadConfig is = refl
+refused_as W setup (refused.Map fault) is = refl
+refused_as W setup (refused.Device fault) is = refl
+refused_as W setup refused.NoMemory is = absurd (memory_never (is_valid setup.config) (region_fault setup.regions) (device_fault setup.pages setup.bad_words) is)
+
+made_as : {V W : Type 0} (said : V → W) (opening : W) (result : Result V SetupFault) → IfOk result (λ world. said world ≡ opening) → IfErr result (λ fault. (None ≡ Some fault) ⊎ (fault ≡ refused.NoMemory)) → OpensAs (Ok opening) (told_as said result)
+made_as said opening (Ok world) is wants = ap (λ w. Ok w) (sym is)
+made_as said opening (Err fault) is (inl wrong) = search rules
+made_as said opening (Err fault) is (inr want) = rw want refl
+
+-- a call that refuses a set-up with a fault by it, and makes what commands work on of each other where memory isn't refused
+pub opens_as : {V W : Type 0} (said : V → W) (opening : W) (setup : SetupLists) (result : Result V SetupFault) → IfSome (setup_fault setup) (λ fault. result ≡ Err fault)
+    → IfErr result (λ fault. (setup_fault setup ≡ Some fault) ⊎ (fault ≡ refused.NoMemory)) → IfOk result (λ world. said world ≡ opening) → OpensAs (unless_refused opening (setup_fault setup)) (told_as said result)
+opens_as said opening setup result refuses wants opens = by_fault (setup_fault setup) refl refuses wants
+  where
+    by_fault : (fault : Option SetupFault) → setup_fault setup ≡ fault → IfSome fault (λ f. result ≡ Err f) → IfErr result (λ f. (fault ≡ Some f) ⊎ (f ≡ refused.NoMemory)) → OpensAs (unless_refused opening fault) (told_as said result)
+    by_fault None is told asks = made_as said opening result opens asks
+    by_fault (Some fault) is told asks = rw told (refused_as _ setup fault is)
+
+-- it was made before
+pub OpensStage-running : {S W C : Type 0} (kind : Kind S W C) (stage : Stage S W) (world : W) (number : ℕ) → stage ≡ Running world → (found : W) × (world_at kind stage number ≡ Ok found) × (stage ≡ Running found)
+OpensStage-running kind stage world number there = (world, ap (λ s. world_at kind s number) there, there)
+
+-- ---- commands
+
+gives : {S W C : Type 0} (kind : Kind S W C) (found : Result W ScriptFault) (number : ℕ) (command : C) → GivesSome kind → IsOk found → GivesText (reading_of kind) (command_step kind found number command)
+gives kind (Ok world) number command some ok =
+    (record { text = (kind.commanded world number command).0; next = Running (kind.commanded world number command).1; step_is = refl; may_end = λ n. refl }, λ n. some world number command)
+gives kind (Err fault) number command some ok = search rules
 
 -- what a command works on wasn't made
-pub TakesStep-unopened : {W C : Type 0} (kind : Kind W C) (stage next : Stage W) (number : ℕ) (command : C) (writer : Option (List ℕ)) (fault : ScriptFault) → GivesSome kind
-    → OpensStage kind.asks (world_at kind stage number) (nothing_written stage) next (Err fault)
-    → TakesStep (reading_of kind) (command_step kind (world_at kind stage number) command) nothing_written stage next writer writer (Err fault)
-TakesStep-unopened kind stage next number command writer (Script line word) some refused = (ap (λ found. command_step kind found command) refused, Keeps-refl writer)
-TakesStep-unopened kind stage next number command writer (Setup fault) some refused = (ap (λ found. command_step kind found command) refused, Keeps-refl writer)
+pub TakesStep-unopened : {S W C : Type 0} (kind : Kind S W C) (stage next : Stage S W) (number : ℕ) (command : C) (writer : Option (List ℕ)) (fault : ScriptFault) → GivesSome kind
+    → OpensStage (world_at kind stage number) (nothing_written stage) next (Err fault)
+    → TakesStep (reading_of kind) (command_step kind (world_at kind stage number) number command) nothing_written stage next writer writer (Err fault)
+TakesStep-unopened kind stage next number command writer (Script line word) some refused = (ap (λ found. command_step kind found number command) refused, Keeps-refl writer)
+TakesStep-unopened kind stage next number command writer (Setup fault) some refused = (ap (λ found. command_step kind found number command) refused, Keeps-refl writer)
 TakesStep-unopened kind stage next number command writer Read some refused = refused
 TakesStep-unopened kind stage next number command writer Write some refused = absurd refused
-TakesStep-unopened kind stage next number command writer NoMemory some (silent, asks, ok) = (silent, gives kind (world_at kind stage number) command some asks ok, Keeps-refl writer)
+TakesStep-unopened kind stage next number command writer NoMemory some (silent, ok) = (silent, gives kind (world_at kind stage number) number command some ok, Keeps-refl writer)
 
 -- a command's text was written
-pub TakesStep-written : {W C : Type 0} (kind : Kind W C) (stage : Stage W) (number : ℕ) (world next : W) (command : C) (before after : Option (List ℕ)) (wrote : Bool) → world_at kind stage number ≡ Ok world
-    → Writes {E = ScriptFault} (kind.commanded world command) next before after (Ok wrote)
-    → TakesStep (reading_of kind) (command_step kind (world_at kind stage number) command) nothing_written stage (Running next) before after (Ok wrote)
+pub TakesStep-written : {S W C : Type 0} (kind : Kind S W C) (stage : Stage S W) (number : ℕ) (world next : W) (command : C) (before after : Option (List ℕ)) (wrote : Bool) → world_at kind stage number ≡ Ok world
+    → Writes {E = ScriptFault} (kind.commanded world number command) next before after (Ok wrote)
+    → TakesStep (reading_of kind) (command_step kind (world_at kind stage number) number command) nothing_written stage (Running next) before after (Ok wrote)
 TakesStep-written kind stage number world next command before after wrote found (written, is, quiet, speaks) =
     record {
-      text = (kind.commanded world command).0;
-      step_is = ap (λ w. command_step kind w command) found ∙ ap (λ w. Ok ((kind.commanded world command).0, Running w)) (sym is);
+      text = (kind.commanded world number command).0;
+      step_is = ap (λ w. command_step kind w number command) found ∙ ap (λ w. Ok ((kind.commanded world number command).0, Running w)) (sym is);
       written = written;
       quiet = quiet;
       speaks = λ some. (speaks some, λ n. refl);
@@ -45,54 +76,49 @@ TakesStep-written kind stage number world next command before after wrote found 
     }
 
 -- the writer failed at a command's text
-pub TakesStep-unwritten : {W C : Type 0} (kind : Kind W C) (stage next : Stage W) (number : ℕ) (world : W) (command : C) (before after : Option (List ℕ)) → world_at kind stage number ≡ Ok world
-    → (kind.commanded world command).0 ≢ []
-    → TakesStep (reading_of kind) (command_step kind (world_at kind stage number) command) nothing_written stage next before after (Err Write)
+pub TakesStep-unwritten : {S W C : Type 0} (kind : Kind S W C) (stage next : Stage S W) (number : ℕ) (world : W) (command : C) (before after : Option (List ℕ)) → world_at kind stage number ≡ Ok world
+    → (kind.commanded world number command).0 ≢ []
+    → TakesStep (reading_of kind) (command_step kind (world_at kind stage number) number command) nothing_written stage next before after (Err Write)
 TakesStep-unwritten kind stage next number world command before after found some = (
   record {
-    text = (kind.commanded world command).0;
-    next = Running (kind.commanded world command).1;
-    step_is = ap (λ w. command_step kind w command) found;
+    text = (kind.commanded world number command).0;
+    next = Running (kind.commanded world number command).1;
+    step_is = ap (λ w. command_step kind w number command) found;
     may_end = λ n. refl;
   },
   some,
 )
 
-abbrev world_in : {W : Type 0} → W → Stage W → W
+abbrev world_in : {S W : Type 0} → W → Stage S W → W
 world_in other Opening = other
-world_in other (SettingUp setup) = other
+world_in other (SettingUp setup own) = other
 world_in other (Running world) = world
 
 -- what was made is what a command works on
-pub opened_as : {W : Type 0} (opened : Result W ScriptFault) (next : Stage W) (world : W) → (made : W) × (opened ≡ Ok made) × (next ≡ Running made) → next ≡ Running world → opened ≡ Ok world
+pub opened_as : {S W : Type 0} (opened : Result W ScriptFault) (next : Stage S W) (world : W) → (made : W) × (opened ≡ Ok made) × (next ≡ Running made) → next ≡ Running world → opened ≡ Ok world
 opened_as opened next world (made, is, here) there = is ∙ ap (λ w. Ok (world_in made w)) (sym here ∙ there)
 
--- ---- a line by its form
+-- ---- lines without text
 
--- what the words of a line say whose form may stand here
-pub line_in-form : {W C : Type 0} (kind : Kind W C) (stage : Stage W) (words : List (List ℕ)) (f : Form) → form_of (word_at words 1) ≡ Some f → is_misplaced stage f words ≡ false → line_in kind stage words ≡ line_of_form kind f words
-line_in-form kind stage words f named fits = rw (named, fits) refl
-
-pub line_of_form-command : {W C : Type 0} (kind : Kind W C) (f : Form) (words : List (List ℕ)) (command : C) → is_setup_form f ≡ false → kind.command_of f words ≡ Ok command → line_of_form kind f words ≡ Ok (Command command)
-line_of_form-command kind f words command other says = rw (other, says) refl
-
-pub line_of_form-set_up : {W C : Type 0} (kind : Kind W C) (f : Form) (words : List (List ℕ)) (line : SetupLine) → is_setup_form f ≡ true → kind.takes f ≡ true → setup_line f words ≡ Ok line → line_of_form kind f words ≡ Ok (SetUp line)
-line_of_form-set_up kind f words line set_up takes says = rw (set_up, takes, says) refl
-
-silent_before : {W : Type 0} (stage : Stage W) (line : SetupLine) → MayStand stage line → nothing_written stage ≡ true
+pub silent_before : {S W : Type 0} (stage : Stage S W) (line : SetupLine) → MayStand stage line → nothing_written stage ≡ true
 silent_before Opening line stands = refl
-silent_before (SettingUp setup) line stands = refl
+silent_before (SettingUp setup own) line stands = refl
 silent_before (Running world) line stands = absurd stands
 
--- a set-up line has no text
-pub TakesStep-set_up : {W C : Type 0} (kind : Kind W C) (stage next : Stage W) (line : SetupLine) (step : LineStep (Stage W)) (writer : Option (List ℕ)) → step ≡ Ok ([], with_setup_line stage line) → next ≡ with_setup_line stage line
-    → MayStand stage line → TakesStep (reading_of kind) step nothing_written stage next writer writer (Ok false)
-TakesStep-set_up kind stage next line step writer is becomes stands =
+-- a set-up line adds to the set-up
+pub setup_step-added : {S W C : Type 0} (kind : Kind S W C) (stage : Stage S W) (number : ℕ) (words : List (List ℕ)) (f : Form) (line : SetupLine) → kind.takes f ≡ true → is_misplaced stage f words ≡ false → setup_line f words ≡ Ok line
+    → setup_step kind stage number words f ≡ Ok ([], with_setup_line kind.own_opening stage line)
+setup_step-added kind stage number words f line takes fits says = rw (takes, fits, says) refl
+
+-- before the first command there are lines without text
+pub TakesStep-quiet : {S W C : Type 0} (kind : Kind S W C) (stage next : Stage S W) (step : LineStep (Stage S W)) (writer : Option (List ℕ)) → step ≡ Ok ([], next) → nothing_written stage ≡ true
+    → TakesStep (reading_of kind) step nothing_written stage next writer writer (Ok false)
+TakesStep-quiet kind stage next step writer is before =
     record {
       text = [];
-      step_is = is ∙ ap (λ s. Ok ([], s)) (sym becomes);
+      step_is = is;
       written = Appends-nil writer;
       quiet = λ none. refl;
       speaks = λ wrong. search rules;
-      silent = λ still. (silent_before stage line stands, refl);
+      silent = λ still. (before, refl);
     }

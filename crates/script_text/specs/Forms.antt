@@ -40,7 +40,7 @@ kind_field word = bytes_eq word (codes "good") || bytes_eq word (codes "slverr")
 
 -- ---- a whole line
 
--- what a line says, as part of what more forms say
-abbrev pub told_as : {X Y : Type 0} → (X → Y) → Result X ℕ → Result Y ℕ
+-- what a line says, as part of what more forms say, or anything else that is told otherwise; a fault stays what it is
+abbrev pub told_as : {X Y E : Type 0} → (X → Y) → Result X E → Result Y E
 told_as tell (Ok value) = Ok (tell value)
-told_as tell (Err word) = Err word
+told_as tell (Err fault) = Err fault

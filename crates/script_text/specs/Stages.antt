@@ -1,5 +1,5 @@
 -- What every kind of script has in common: a `config` line, other set-up lines, and then commands (this project's profile).
-use Rattle.std.specs.Prelude.{◌≡◌, ◌≢◌, ◌<◌, ◌≤◌, ◌+◌, ◌^◌, ⊤, ℕ, Bool, true, false, not, List, [], length, Option, Some, None, Result, Ok, Err, IsOk, if◌then◌else◌, nat_le}
+use Rattle.std.specs.Prelude.{◌≡◌, ◌≢◌, ◌<◌, ◌≤◌, ◌+◌, ◌^◌, ⊤, ℕ, Bool, true, false, not, ◌||◌, List, [], ◌++◌, length, Option, Some, None, Result, Ok, Err, IsOk, if◌then◌else◌, nat_le}
 use Rattle.std.specs.Io.KnownBytes.{Appends}
 use Rattle.setups.specs.Setups.{SetupLists, lists_of}
 use Rattle.setups.specs.declared.SetupFault.{SetupFault}
@@ -17,36 +17,36 @@ use Rattle.script_text.specs.declared.setup_parser.SetupLine.TheVariants.{Config
 use Rattle.script_text.specs.declared.stages.Stage.{Stage as StageHeld}
 use Rattle.script_text.specs.declared.stages.Stage.TheVariants as held
 
--- how far a script has come: no line yet, set-up lines, or what its commands work on, once the first came
-pub data Stage (W : Type 0) : Type 0 where
-  Opening : Stage W
-  SettingUp : SetupLists → Stage W
-  Running : W → Stage W
+-- how far a script has come: no line yet; set-up lines, and what the kind's own of these have said; or what its commands work on, once the first
+-- came
+pub data Stage (S W : Type 0) : Type 0 where
+  Opening : Stage S W
+  SettingUp : SetupLists → S → Stage S W
+  Running : W → Stage S W
 
--- a kind of script: how many lines it may have; the set-up lines that it has; what the words of a command's line of a form say, or the first
--- wrong word; what its commands work on, or why the set-up is refused; whether memory is asked for where that is made; what a command writes, and
--- what is there after it; and what is written at the input's end, with the result
-pub record Kind (W C : Type 0) : Type 0 where
+-- a kind of script: how many lines it may have; which set-up lines it has of those that scripts share; what its own set-up lines have said before the
+-- first of them, and with one line more, or that line's first wrong word, where it is one of them; whether a line is passed over where it stands
+-- before the first command; what the words of a command's line say, or the first wrong word, which is word 1 where no command begins so; what its
+-- commands work on, or why the set-up is refused; what a command writes, by the number of its line, and what is there after it; and what is written
+-- at the input's end, with the result
+pub record Kind (S W C : Type 0) : Type 0 where
   pub most_lines : ℕ
   pub takes : Form → Bool
-  pub command_of : Form → List (List ℕ) → Result C ℕ
-  pub opened : SetupLists → Result W SetupFault
-  pub asks : Bool
-  pub commanded : W → C → List ℕ × W
+  pub own_opening : S
+  pub own_line : S → List (List ℕ) → Option (Result S ℕ)
+  pub passes : List (List ℕ) → Bool
+  pub command_of : List (List ℕ) → Result C ℕ
+  pub opened : S → SetupLists → Result W SetupFault
+  pub commanded : W → ℕ → C → List ℕ × W
   pub ending : W → List ℕ × Bool
 
 -- whether no command was carried out yet
-abbrev pub nothing_written : {W : Type 0} → Stage W → Bool
+abbrev pub nothing_written : {S W : Type 0} → Stage S W → Bool
 nothing_written Opening = true
-nothing_written (SettingUp setup) = true
+nothing_written (SettingUp setup own) = true
 nothing_written (Running world) = false
 
--- ---- reading a line
-
--- what a line says: a set-up line, or a command
-pub data LineOf (C : Type 0) : Type 0 where
-  Setup : SetupLine → LineOf C
-  Command : C → LineOf C
+-- ---- a set-up line that scripts share
 
 -- whether a form is one of a set-up line
 abbrev pub is_setup_form : Form → Bool
@@ -68,11 +68,11 @@ has_no_room setup form.Page words = too_many_pages (length setup.pages) words
 has_no_room setup form.BadWord words = nat_le 64 (length setup.bad_words)
 has_no_room setup _ words = false
 
--- whether a line of this form may not stand here: `config` comes first, and set-up lines before all commands
-abbrev pub is_misplaced : {W : Type 0} → Stage W → Form → List (List ℕ) → Bool
+-- whether a set-up line of this form may not stand here: `config` comes first, and set-up lines before all commands
+abbrev pub is_misplaced : {S W : Type 0} → Stage S W → Form → List (List ℕ) → Bool
 is_misplaced Opening form words = not (is_config_form form)
-is_misplaced (SettingUp setup) form words = has_no_room setup form words
-is_misplaced (Running world) form words = is_setup_form form
+is_misplaced (SettingUp setup own) form words = has_no_room setup form words
+is_misplaced (Running world) form words = true
 
 -- what a set-up line of each form says, or its first wrong word
 abbrev pub setup_line : Form → List (List ℕ) → Result SetupLine ℕ
@@ -82,28 +82,25 @@ setup_line form.Page words = page_line words
 setup_line form.BadWord words = bad_line words
 setup_line _ words = Err 1
 
--- what a line of a form says, or its first wrong word
-abbrev pub line_of_form : {W C : Type 0} → Kind W C → Form → List (List ℕ) → Result (LineOf C) ℕ
-line_of_form kind form words =
-    if is_setup_form form
-    then (if kind.takes form then told_as Setup (setup_line form words) else Err 1)
-    else told_as Command (kind.command_of form words)
+-- the set-up with one line more; the first line is `config`, and before it no line of the kind's own has said anything
+abbrev pub with_setup_line : {S W : Type 0} → S → Stage S W → SetupLine → Stage S W
+with_setup_line opening stage (Config config) = SettingUp (with_config config) opening
+with_setup_line opening (SettingUp setup own) line = SettingUp (with_line setup line) own
+with_setup_line opening stage line = stage
 
--- what the words of a line of this form say, if there is such a form and it may stand here, or the first wrong word
-abbrev pub line_as : {W C : Type 0} → Kind W C → Stage W → List (List ℕ) → Option Form → Result (LineOf C) ℕ
-line_as kind stage words None = Err 1
-line_as kind stage words (Some form) = if is_misplaced stage form words then Err 1 else line_of_form kind form words
+-- a set-up line adds to the set-up, and writes nothing
+abbrev pub added_step : {S W : Type 0} → S → Stage S W → ℕ → Result SetupLine ℕ → LineStep (Stage S W)
+added_step opening stage number (Ok line) = Ok ([], with_setup_line opening stage line)
+added_step opening stage number (Err word) = Err (Script number word)
 
-abbrev pub line_in : {W C : Type 0} → Kind W C → Stage W → List (List ℕ) → Result (LineOf C) ℕ
-line_in kind stage words = line_as kind stage words (form_of (word_at words 1))
+-- a line of a set-up form: the kind has to have it, and it has to be able to stand here
+abbrev pub setup_step : {S W C : Type 0} → Kind S W C → Stage S W → ℕ → List (List ℕ) → Form → LineStep (Stage S W)
+setup_step kind stage number words form =
+    if not (kind.takes form) || is_misplaced stage form words
+    then Err (Script number 1)
+    else added_step kind.own_opening stage number (setup_line form words)
 
--- ---- carrying a line out
-
--- the set-up with one line more; the first line is `config`
-abbrev pub with_setup_line : {W : Type 0} → Stage W → SetupLine → Stage W
-with_setup_line stage (Config config) = SettingUp (with_config config)
-with_setup_line (SettingUp setup) line = SettingUp (with_line setup line)
-with_setup_line stage line = stage
+-- ---- a command
 
 -- a refused set-up as a script's fault
 abbrev pub set_up_as : {W : Type 0} → Result W SetupFault → Result W ScriptFault
@@ -111,43 +108,83 @@ set_up_as (Ok world) = Ok world
 set_up_as (Err fault) = Err (SetupRefused fault)
 
 -- what a command finds, which is made for the first; without a `config` line word 1 of this line is at fault
-abbrev pub world_at : {W C : Type 0} → Kind W C → Stage W → ℕ → Result W ScriptFault
+abbrev pub world_at : {S W C : Type 0} → Kind S W C → Stage S W → ℕ → Result W ScriptFault
 world_at kind Opening number = Err (Script number 1)
-world_at kind (SettingUp setup) number = set_up_as (kind.opened setup)
+world_at kind (SettingUp setup own) number = set_up_as (kind.opened own setup)
 world_at kind (Running world) number = Ok world
 
-abbrev pub command_step : {W C : Type 0} → Kind W C → Result W ScriptFault → C → LineStep (Stage W)
-command_step kind (Err fault) command = Err fault
-command_step kind (Ok world) command = Ok ((kind.commanded world command).0, Running (kind.commanded world command).1)
+-- what a command writes, and what is there after it
+abbrev pub command_step : {S W C : Type 0} → Kind S W C → Result W ScriptFault → ℕ → C → LineStep (Stage S W)
+command_step kind (Err fault) number command = Err fault
+command_step kind (Ok world) number command =
+    Ok ((kind.commanded world number command).0, Running (kind.commanded world number command).1)
 
-abbrev pub step_of_line : {W C : Type 0} → Kind W C → Stage W → ℕ → Result (LineOf C) ℕ → LineStep (Stage W)
-step_of_line kind stage number (Err word) = Err (Script number word)
-step_of_line kind stage number (Ok (Setup line)) = Ok ([], with_setup_line stage line)
-step_of_line kind stage number (Ok (Command command)) = command_step kind (world_at kind stage number) command
+-- a line that says a command, or its first wrong word
+abbrev pub told_step : {S W C : Type 0} → Kind S W C → Stage S W → ℕ → Result C ℕ → LineStep (Stage S W)
+told_step kind stage number (Ok command) = command_step kind (world_at kind stage number) number command
+told_step kind stage number (Err word) = Err (Script number word)
 
-abbrev pub stage_step : {W C : Type 0} → Kind W C → Stage W → ℕ → List (List ℕ) → LineStep (Stage W)
-stage_step kind stage number words = step_of_line kind stage number (line_in kind stage words)
+-- what the words of a command's line say by the form that the first of them names, if it names one, or the first wrong word
+abbrev pub command_by_form : {C : Type 0} → (Form → List (List ℕ) → Result C ℕ) → List (List ℕ) → Option Form → Result C ℕ
+command_by_form command_of words None = Err 1
+command_by_form command_of words (Some form) = command_of form words
+
+-- ---- a line before the first command
+
+-- a set-up line of the kind's own adds to what these have said, and writes nothing; any other line is the first command
+abbrev pub own_step : {S W C : Type 0} → Kind S W C → Stage S W → SetupLists → ℕ → List (List ℕ) → Option (Result S ℕ) → LineStep (Stage S W)
+own_step kind stage setup number words (Some (Ok own)) = Ok ([], SettingUp setup own)
+own_step kind stage setup number words (Some (Err word)) = Err (Script number word)
+own_step kind stage setup number words None = told_step kind stage number (kind.command_of words)
+
+-- a line of no set-up form comes behind `config`
+abbrev pub other_step : {S W C : Type 0} → Kind S W C → Stage S W → ℕ → List (List ℕ) → LineStep (Stage S W)
+other_step kind (SettingUp setup own) number words =
+    own_step kind (SettingUp setup own) setup number words (kind.own_line own words)
+other_step kind stage number words = Err (Script number 1)
+
+-- a line that isn't passed over, by the form that its first word names
+abbrev pub form_step : {S W C : Type 0} → Kind S W C → Stage S W → ℕ → List (List ℕ) → Option Form → LineStep (Stage S W)
+form_step kind stage number words None = other_step kind stage number words
+form_step kind stage number words (Some form) =
+    if is_setup_form form then setup_step kind stage number words form else other_step kind stage number words
+
+abbrev pub early_step : {S W C : Type 0} → Kind S W C → Stage S W → ℕ → List (List ℕ) → LineStep (Stage S W)
+early_step kind stage number words =
+    if kind.passes words then Ok ([], stage) else form_step kind stage number words (form_of (word_at words 1))
+
+-- ---- a whole script
+
+-- a line, by its words: behind the first command there are commands alone
+abbrev pub stage_step : {S W C : Type 0} → Kind S W C → Stage S W → ℕ → List (List ℕ) → LineStep (Stage S W)
+stage_step kind stage number words =
+    if nothing_written stage then early_step kind stage number words else told_step kind stage number (kind.command_of words)
 
 -- at the input's end what commands work on is made where none came
-abbrev pub ending_of : {W C : Type 0} → Kind W C → Result W ScriptFault → TextResult Bool
+abbrev pub ending_of : {S W C : Type 0} → Kind S W C → Result W ScriptFault → TextResult Bool
 ending_of kind (Ok world) = record { output = (kind.ending world).0; result = Ok (kind.ending world).1 }
 ending_of kind (Err fault) = ended (Err fault)
 
-abbrev pub stage_ending : {W C : Type 0} → Kind W C → Stage W → ℕ → TextResult Bool
+abbrev pub stage_ending : {S W C : Type 0} → Kind S W C → Stage S W → ℕ → TextResult Bool
 stage_ending kind stage number = ending_of kind (world_at kind stage number)
 
-abbrev pub reading_of : {W C : Type 0} → Kind W C → Reading (Stage W) Bool
+abbrev pub reading_of : {S W C : Type 0} → Kind S W C → Reading (Stage S W) Bool
 reading_of kind = record { most_lines = kind.most_lines; step = stage_step kind; ending = stage_ending kind }
+
+-- what commands work on where a set-up has no fault
+abbrev pub unless_refused : {W : Type 0} → W → Option SetupFault → Result W SetupFault
+unless_refused world None = Ok world
+unless_refused world (Some fault) = Err fault
 
 -- ---- what the calls of a kind answer
 
 -- what commands work on was made, memory was refused though the set-up has no fault, or the set-up is refused
-abbrev pub OpensAs : {W : Type 0} → Bool → Result W SetupFault → Result W SetupFault → Type 0
-OpensAs asks opened (Ok world) = opened ≡ Ok world
-OpensAs asks opened (Err refused.NoMemory) = (asks ≡ true) × IsOk opened
-OpensAs asks opened (Err refused.BadConfig) = opened ≡ Err refused.BadConfig
-OpensAs asks opened (Err (refused.Map fault)) = opened ≡ Err (refused.Map fault)
-OpensAs asks opened (Err (refused.Device fault)) = opened ≡ Err (refused.Device fault)
+abbrev pub OpensAs : {W : Type 0} → Result W SetupFault → Result W SetupFault → Type 0
+OpensAs opened (Ok world) = opened ≡ Ok world
+OpensAs opened (Err refused.NoMemory) = IsOk opened
+OpensAs opened (Err refused.BadConfig) = opened ≡ Err refused.BadConfig
+OpensAs opened (Err (refused.Map fault)) = opened ≡ Err (refused.Map fault)
+OpensAs opened (Err (refused.Device fault)) = opened ≡ Err (refused.Device fault)
 
 -- a text was written, and `wrote` tells whether there is any; where the writer failed there was
 abbrev pub Writes : {W E : Type 0} → List ℕ × W → W → Option (List ℕ) → Option (List ℕ) → Result Bool E → Type 0
@@ -156,15 +193,26 @@ Writes given new before after (Err fault) = given.0 ≢ []
 
 -- a script's last text was written with its result; where the writer failed there was some
 abbrev pub WritesEnd : {E : Type 0} → List ℕ × Bool → Option (List ℕ) → Option (List ℕ) → Result Bool E → Type 0
-WritesEnd given before after (Ok refused) = Appends before after given.0 × (given.1 ≡ refused)
+WritesEnd given before after (Ok answer) = Appends before after given.0 × (given.1 ≡ answer)
 WritesEnd given before after (Err fault) = given.0 ≢ []
+
+-- a command has text, or a script that ends after it
+abbrev pub GivesSome : {S W C : Type 0} → Kind S W C → Type 0
+GivesSome {S} {W} {C} kind =
+    (world : W) (number : ℕ) (command : C) → (kind.commanded world number command).0 ++ (kind.ending (kind.commanded world number command).1).0 ≢ []
 
 -- ---- what the state of a script is in a clause
 
-abbrev pub stage_of : {W : Type 0} → StageHeld W → Stage W
+abbrev pub stage_of : {S W : Type 0} → StageHeld S W → Stage S W
 stage_of held.Opening = Opening
-stage_of (held.SettingUp setup) = SettingUp (lists_of setup)
+stage_of (held.SettingUp setup own) = SettingUp (lists_of setup) own
 stage_of (held.Running world) = Running world
+
+-- a stage, with what commands work on said otherwise
+abbrev pub stage_as : {S V W : Type 0} → (V → W) → Stage S V → Stage S W
+stage_as said Opening = Opening
+stage_as said (SettingUp setup own) = SettingUp setup own
+stage_as said (Running world) = Running (said world)
 
 -- a line that a set-up has room for
 abbrev pub HasRoomFor : SetupLists → SetupLine → Type 0
@@ -173,19 +221,19 @@ HasRoomFor setup (Region region) = length setup.regions < 16
 HasRoomFor setup (Pages first count kind) = (length setup.pages + count ≤ 64) × (first + count ≤ 2 ^ 32)
 HasRoomFor setup (BadWord address) = length setup.bad_words < 64
 
--- a set-up line that may stand: `line_in` gives no other
-abbrev pub MayStand : {W : Type 0} → Stage W → SetupLine → Type 0
+-- a set-up line that may stand: no other is added
+abbrev pub MayStand : {S W : Type 0} → Stage S W → SetupLine → Type 0
 MayStand Opening (Config config) = ⊤
 MayStand Opening line = ⊥
-MayStand (SettingUp setup) line = HasRoomFor setup line
+MayStand (SettingUp setup own) line = HasRoomFor setup line
 MayStand (Running world) line = ⊥
 
 -- what a script's commands work on was made where there was none, or why it wasn't; memory is asked for only where it may be made and nothing
 -- was written
-abbrev pub OpensStage : {W : Type 0} → Bool → Result W ScriptFault → Bool → Stage W → Result (Unit {0}) ScriptFault → Type 0
-OpensStage {W} asks opened silent new (Ok done) = (world : W) × (opened ≡ Ok world) × (new ≡ Running world)
-OpensStage asks opened silent new (Err (Script line word)) = opened ≡ Err (Script line word)
-OpensStage asks opened silent new (Err (SetupRefused fault)) = opened ≡ Err (SetupRefused fault)
-OpensStage asks opened silent new (Err Read) = ⊥
-OpensStage asks opened silent new (Err Write) = ⊥
-OpensStage asks opened silent new (Err NoMemory) = (silent ≡ true) × (asks ≡ true) × IsOk opened
+abbrev pub OpensStage : {S W : Type 0} → Result W ScriptFault → Bool → Stage S W → Result (Unit {0}) ScriptFault → Type 0
+OpensStage {S} {W} opened silent new (Ok done) = (world : W) × (opened ≡ Ok world) × (new ≡ Running world)
+OpensStage opened silent new (Err (Script line word)) = opened ≡ Err (Script line word)
+OpensStage opened silent new (Err (SetupRefused fault)) = opened ≡ Err (SetupRefused fault)
+OpensStage opened silent new (Err Read) = ⊥
+OpensStage opened silent new (Err Write) = ⊥
+OpensStage opened silent new (Err NoMemory) = (silent ≡ true) × IsOk opened

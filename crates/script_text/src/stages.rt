@@ -1,7 +1,8 @@
 //! What every kind of script has in common: a `config` line, other set-up lines, and then commands.
-ghost use Rattle.std.specs.Prelude.{◌≡◌, ◌≢◌, ◌<◌, ◌++◌, [], false, true};
+ghost use Rattle.std.specs.Prelude.{◌≡◌, ◌<◌, false, true};
 ghost use Rattle.setups.specs.Setups.{lists_of};
-ghost use Rattle.script_text.specs.Stages.{MayStand, OpensAs, Opening, OpensStage, Writes, WritesEnd, command_step, is_misplaced, is_setup_form, line_of_form, nothing_written, reading_of, stage_ending, step_of_line, with_setup_line, world_at};
+ghost use Rattle.script_text.specs.Forms.{told_as};
+ghost use Rattle.script_text.specs.Stages.{MayStand, OpensAs, Opening, OpensStage, Writes, WritesEnd, command_step, early_step, is_misplaced, nothing_written, other_step, reading_of, setup_step, stage_as, stage_ending, told_step, with_setup_line, world_at};
 ghost use Rattle.script_text.specs.Steps.{TakesRest, TakesStep};
 
 use crate::driver::Script;
@@ -17,8 +18,10 @@ use std::marker::Model;
 
 /// A kind of script: the lines that it has, and what its commands do.
 pub trait Kind {
-    ghost use Rattle.std.specs.Prelude.{ℕ};
-    ghost use Rattle.script_text.specs.Stages.{Kind as Rules};
+    ghost use Rattle.script_text.specs.Stages.{GivesSome, Kind as Rules};
+
+    /// What its own set-up lines have said.
+    type Own: Drop;
 
     /// What its commands work on.
     type World: Drop;
@@ -26,8 +29,14 @@ pub trait Kind {
     /// What a line says that is a command.
     type Command: Drop;
 
+    /// What its rules say of what commands work on. It may have functions, which no model's value has.
+    ghost State: { Type 0 };
+
+    /// What commands work on, as the rules say it.
+    ghost said: { Self.World → State };
+
     /// What its lines do.
-    ghost rules: { Rules Self.World Self.Command };
+    ghost rules: { Rules Self.Own State Self.Command };
 
     /// How many lines a script may have.
     fn most_lines() -> u32
@@ -38,38 +47,56 @@ pub trait Kind {
     fn takes(form: Form) -> bool
         ensures { result ≡ rules.takes form };
 
-    /// What a command's line says, or its first wrong word.
-    fn command_of(form: Form, words: &Words<'_>) -> Result<Self::Command, u32>
-        ensures { result ≡ rules.command_of form words.now };
+    /// What its own set-up lines have said before the first of them.
+    fn own_opening() -> Self::Own
+        ensures { result ≡ rules.own_opening };
+
+    /// What its own set-up lines have said with one line more, or that line's first wrong word, where it is one of them.
+    fn own_line(own: &Self::Own, words: &Words<'_>) -> Option<Result<Self::Own, u32>>
+        ensures { result ≡ rules.own_line own.now words.now };
+
+    /// Whether a line is passed over where it stands before the first command.
+    fn passes(words: &Words<'_>) -> bool
+        ensures { result ≡ rules.passes words.now };
+
+    /// What a command's line says, or its first wrong word: word 1, where no command begins so.
+    fn command_of(words: &Words<'_>) -> Result<Self::Command, u32>
+        ensures { result ≡ rules.command_of words.now };
 
     /// Makes what commands work on.
-    fn open(&mut self, alloc: Global, setup: &Setup) -> Result<Self::World, SetupFault>
-        ensures { OpensAs rules.asks (rules.opened (lists_of setup.now)) result };
+    fn open(
+        &mut self,
+        alloc: Global,
+        own: &Self::Own,
+        setup: &Setup,
+    ) -> Result<Self::World, SetupFault>
+        ensures { OpensAs (rules.opened own.now (lists_of setup.now)) (told_as said result) };
 
-    /// Carries out a command and writes its text. The answer is whether there was any.
+    /// Carries out a command, by the number of its line, and writes its text. The answer is whether there was any.
     fn carry_out<W: Write>(
         &mut self,
         world: &mut Self::World,
+        number: u32,
         command: &Self::Command,
         writer: &mut W,
     ) -> Result<bool, WriteFault>
-        ensures { Writes (rules.commanded world.old command.now) world.new (W.contents writer.old) (W.contents writer.new) result };
+        ensures { Writes (rules.commanded (said world.old) number command.now) (said world.new) (W.contents writer.old) (W.contents writer.new) result };
 
-    /// Writes the text of the input's end. The answer is whether something was refused.
-    fn end<W: Write>(&mut self, world: &Self::World, writer: &mut W) -> Result<bool, WriteFault>
-        ensures { WritesEnd (rules.ending world.now) (W.contents writer.old) (W.contents writer.new) result };
+    /// Writes the text of the input's end. The answer is what the script answers.
+    fn end<W: Write>(&mut self, world: &mut Self::World, writer: &mut W) -> Result<bool, WriteFault>
+        ensures { WritesEnd (rules.ending (said world.old)) (W.contents writer.old) (W.contents writer.new) result };
 
-    /// Where memory is asked for, a command has text, or a script that ends after it.
-    ghost gives_text: { rules.asks ≡ true → (world : Self.World) (command : Self.Command) → (rules.commanded world command).0 ++ (rules.ending (rules.commanded world command).1).0 ≢ [] };
+    /// A command has text, or a script that ends after it.
+    ghost gives_text: { GivesSome rules };
 }
 
 /// How far a script has come.
 #[derive(Drop)]
-enum Stage<W> {
+enum Stage<S, W> {
     /// No line yet.
     Opening,
-    /// Set-up lines.
-    SettingUp(Setup),
+    /// Set-up lines, and what the kind's own of these have said.
+    SettingUp(Setup, S),
     /// Commands.
     Running(W),
 }
@@ -78,13 +105,13 @@ enum Stage<W> {
 #[derive(Drop)]
 pub struct StagedScript<K: Kind> {
     kind: K,
-    stage: Stage<K::World>,
+    stage: Stage<K::Own, K::World>,
 }
 
 impl<K: Kind> Model for StagedScript<K> {
     ghost use Rattle.script_text.specs.Stages.{Stage as ScriptStage, stage_of};
 
-    ghost Value = { ScriptStage K.World };
+    ghost Value = { ScriptStage K.Own K.World };
 
     ghost view = { λ s. stage_of s.stage };
 }
@@ -100,61 +127,117 @@ impl<K: Kind> StagedScript<K> {
         }
     }
 
+    /// Whether no command was carried out yet.
+    fn nothing_written(&self) -> bool
+        ensures { result ≡ nothing_written (stage_as K.said self.now) }
+    {
+        !matches!(self.stage, Stage::Running(_))
+    }
+
+    /// Whether a set-up line of this form may not stand here.
     fn is_misplaced(&self, form: Form, words: &Words<'_>) -> bool
-        ensures { result ≡ is_misplaced self.now form words.now }
+        ensures { result ≡ is_misplaced (stage_as K.said self.now) form words.now }
     {
         match &self.stage {
             Stage::Opening => !matches!(form, Form::Config),
-            Stage::SettingUp(setup) => has_no_room(setup, form, words),
-            Stage::Running(_) => is_setup_form(form),
+            Stage::SettingUp(setup, _) => has_no_room(setup, form, words),
+            Stage::Running(_) => true,
         }
     }
 
     fn set_up(&mut self, line: SetupLine)
-        requires { MayStand self.old line }
-        ensures { self.new ≡ with_setup_line self.old line }
+        requires { MayStand (stage_as K.said self.old) line }
+        ensures { stage_as K.said self.new ≡ with_setup_line K.rules.own_opening (stage_as K.said self.old) line }
     {
         if let SetupLine::Config(config) = line {
-            self.stage = Stage::SettingUp(Setup::new(config));
+            self.stage = Stage::SettingUp(Setup::new(config), K::own_opening());
             return;
         }
-        let Stage::SettingUp(setup) = &mut self.stage else {
+        let Stage::SettingUp(setup, _) = &mut self.stage else {
             return;
         };
         add_setup_line(setup, line);
     }
 
-    /// Takes a set-up line. It is apart, since a function clears the room for its values at its entry.
-    #[inline(never)]
+    /// Takes a line of a set-up form.
     fn take_setup_line<W: Write>(
         &mut self,
         number: u32,
-        form: Form,
         words: &Words<'_>,
+        form: Form,
         _writer: &mut W,
     ) -> Result<bool, ScriptFault>
-        requires place { is_misplaced self.old form words.now ≡ false }
-        requires form { is_setup_form form ≡ true }
-        ensures { TakesStep (reading_of K.rules) (step_of_line K.rules self.old number (line_of_form K.rules form words.now)) nothing_written self.old self.new (W.contents _writer.old) (W.contents _writer.new) result }
+        ensures { TakesStep (reading_of K.rules) (setup_step K.rules (stage_as K.said self.old) number words.now form) nothing_written (stage_as K.said self.old) (stage_as K.said self.new) (W.contents _writer.old) (W.contents _writer.new) result }
     {
-        if !K::takes(form) {
+        if !K::takes(form) || self.is_misplaced(form, words) {
             return Err(ScriptFault::Script {
                 line: number,
                 word: 1,
             });
         }
-        let line = match setup_line(form, words) {
-            Ok(line) => line,
-            Err(word) => return Err(ScriptFault::Script { line: number, word }),
+        match setup_line(form, words) {
+            Err(word) => Err(ScriptFault::Script { line: number, word }),
+            Ok(line) => {
+                self.set_up(line);
+                Ok(false)
+            }
+        }
+    }
+
+    /// Takes a line of no set-up form: one of the kind's own, or the first command.
+    fn take_other_line<W: Write>(
+        &mut self,
+        alloc: Global,
+        number: u32,
+        words: &Words<'_>,
+        writer: &mut W,
+    ) -> Result<bool, ScriptFault>
+        ensures { TakesStep (reading_of K.rules) (other_step K.rules (stage_as K.said self.old) number words.now) nothing_written (stage_as K.said self.old) (stage_as K.said self.new) (W.contents writer.old) (W.contents writer.new) result }
+    {
+        let Stage::SettingUp(_, own) = &mut self.stage else {
+            return Err(ScriptFault::Script {
+                line: number,
+                word: 1,
+            });
         };
-        self.set_up(line);
-        Ok(false)
+        match K::own_line(own, words) {
+            None => self.take_command(alloc, number, words, writer),
+            Some(Err(word)) => Err(ScriptFault::Script { line: number, word }),
+            Some(Ok(said)) => {
+                *own = said;
+                Ok(false)
+            }
+        }
+    }
+
+    /// Takes a line before the first command. It is apart, since a function clears the room for its values at its entry.
+    #[inline(never)]
+    fn take_early<W: Write>(
+        &mut self,
+        alloc: Global,
+        number: u32,
+        words: &Words<'_>,
+        writer: &mut W,
+    ) -> Result<bool, ScriptFault>
+        requires { nothing_written (stage_as K.said self.old) ≡ true }
+        ensures { TakesStep (reading_of K.rules) (early_step K.rules (stage_as K.said self.old) number words.now) nothing_written (stage_as K.said self.old) (stage_as K.said self.new) (W.contents writer.old) (W.contents writer.new) result }
+    {
+        if K::passes(words) {
+            return Ok(false);
+        }
+        let Some(form) = Form::named(words.at(1)) else {
+            return self.take_other_line(alloc, number, words, writer);
+        };
+        if is_setup_form(form) {
+            return self.take_setup_line(number, words, form, writer);
+        }
+        self.take_other_line(alloc, number, words, writer)
     }
 
     /// Makes what commands work on where there is none yet.
     #[inline]
     fn open(&mut self, alloc: Global, number: u32) -> Result<(), ScriptFault>
-        ensures { OpensStage K.rules.asks (world_at K.rules self.old number) (nothing_written self.old) self.new result }
+        ensures { OpensStage (world_at K.rules (stage_as K.said self.old) number) (nothing_written (stage_as K.said self.old)) (stage_as K.said self.new) result }
     {
         if let Stage::Running(_) = &self.stage {
             return Ok(());
@@ -165,9 +248,9 @@ impl<K: Kind> StagedScript<K> {
     /// Makes what commands work on. It is apart, since a function clears the room for its values at its entry.
     #[inline(never)]
     fn make(&mut self, alloc: Global, number: u32) -> Result<(), ScriptFault>
-        ensures { OpensStage K.rules.asks (world_at K.rules self.old number) (nothing_written self.old) self.new result }
+        ensures { OpensStage (world_at K.rules (stage_as K.said self.old) number) (nothing_written (stage_as K.said self.old)) (stage_as K.said self.new) result }
     {
-        let setup = match &self.stage {
+        let (setup, own) = match &self.stage {
             Stage::Opening => {
                 return Err(ScriptFault::Script {
                     line: number,
@@ -175,9 +258,9 @@ impl<K: Kind> StagedScript<K> {
                 });
             }
             Stage::Running(_) => return Ok(()),
-            Stage::SettingUp(setup) => setup,
+            Stage::SettingUp(setup, own) => (setup, own),
         };
-        match self.kind.open(alloc, setup) {
+        match self.kind.open(alloc, own, setup) {
             Ok(world) => {
                 self.stage = Stage::Running(world);
                 Ok(())
@@ -194,16 +277,39 @@ impl<K: Kind> StagedScript<K> {
         command: &K::Command,
         writer: &mut W,
     ) -> Result<bool, ScriptFault>
-        ensures { TakesStep (reading_of K.rules) (command_step K.rules (world_at K.rules self.old number) command.now) nothing_written self.old self.new (W.contents writer.old) (W.contents writer.new) result }
+        ensures { TakesStep (reading_of K.rules) (command_step K.rules (world_at K.rules (stage_as K.said self.old) number) number command.now) nothing_written (stage_as K.said self.old) (stage_as K.said self.new) (W.contents writer.old) (W.contents writer.new) result }
     {
         self.open(alloc, number)?;
         let Stage::Running(world) = &mut self.stage else {
             unreachable!();
         };
-        let Ok(wrote) = self.kind.carry_out(world, command, writer) else {
+        let Ok(wrote) = self.kind.carry_out(world, number, command, writer) else {
             return Err(ScriptFault::Write);
         };
         Ok(wrote)
+    }
+
+    /// Takes a line that says a command.
+    fn take_command<W: Write>(
+        &mut self,
+        alloc: Global,
+        number: u32,
+        words: &Words<'_>,
+        writer: &mut W,
+    ) -> Result<bool, ScriptFault>
+        ensures { TakesStep (reading_of K.rules) (told_step K.rules (stage_as K.said self.old) number (K.rules.command_of words.now)) nothing_written (stage_as K.said self.old) (stage_as K.said self.new) (W.contents writer.old) (W.contents writer.new) result }
+    {
+        let read = K::command_of(words);
+        let command = match &read {
+            Err(word) => {
+                return Err(ScriptFault::Script {
+                    line: number,
+                    word: *word,
+                });
+            }
+            Ok(command) => command,
+        };
+        self.carry_out(alloc, number, command, writer)
     }
 
     /// Ends the script, for whose commands all is made where none came.
@@ -213,10 +319,10 @@ impl<K: Kind> StagedScript<K> {
         number: u32,
         writer: &mut W,
     ) -> Result<bool, ScriptFault>
-        ensures { TakesRest (stage_ending K.rules self.old number) (nothing_written self.old) (W.contents writer.old) (W.contents writer.new) result }
+        ensures { TakesRest (stage_ending K.rules (stage_as K.said self.old) number) (nothing_written (stage_as K.said self.old)) (W.contents writer.old) (W.contents writer.new) result }
     {
         self.open(alloc, number)?;
-        let Stage::Running(world) = &self.stage else {
+        let Stage::Running(world) = &mut self.stage else {
             unreachable!();
         };
         self.kind.end(world, writer).map_err(|_| ScriptFault::Write)
@@ -224,14 +330,14 @@ impl<K: Kind> StagedScript<K> {
 }
 
 impl<K: Kind + Drop> Script for StagedScript<K> {
-    ghost use Rattle.script_text.specs.Stages.{Stage, reading_of, nothing_written};
+    ghost use Rattle.script_text.specs.Stages.{Stage, nothing_written, reading_of, stage_as};
 
-    /// Whether something was refused.
+    /// What a script that ends answers, as its kind says it.
     type Answer = bool;
 
-    ghost State = { Stage K.World };
+    ghost State = { Stage K.Own K.State };
 
-    ghost state = { λ script. script };
+    ghost state = { λ script. stage_as K.said script };
 
     ghost reading = { reading_of K.rules };
 
@@ -248,30 +354,10 @@ impl<K: Kind + Drop> Script for StagedScript<K> {
         words: &Words<'_>,
         writer: &mut W,
     ) -> Result<bool, ScriptFault> {
-        let wrong = ScriptFault::Script {
-            line: number,
-            word: 1,
-        };
-        let Some(form) = Form::named(words.at(1)) else {
-            return Err(wrong);
-        };
-        if self.is_misplaced(form, words) {
-            return Err(wrong);
+        if self.nothing_written() {
+            return self.take_early(alloc, number, words, writer);
         }
-        if is_setup_form(form) {
-            return self.take_setup_line(number, form, words, writer);
-        }
-        let read = K::command_of(form, words);
-        let command = match &read {
-            Err(word) => {
-                return Err(ScriptFault::Script {
-                    line: number,
-                    word: *word,
-                });
-            }
-            Ok(command) => command,
-        };
-        self.carry_out(alloc, number, command, writer)
+        self.take_command(alloc, number, words, writer)
     }
 
     fn end<W: Write>(
