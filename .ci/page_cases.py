@@ -1,7 +1,7 @@
 """Tries the pages: each guarantee of README names a call and a clause that the source has, each page that it names is there,
-each crate has a page, each example of the library stands in a test as it stands on its page, the pages that are written by
-docs/definitions.py are up to date, docs/TRUSTED.md lists each definition that a clause of its statements names, and no file
-that is kept is a log or names a folder of one machine.
+each crate has a page, and in ARCHITECTURE a row with its files of definitions, each example of the library stands in a test as
+it stands on its page, the pages that are written by docs/definitions.py are up to date, docs/TRUSTED.md lists each definition
+that a clause of its statements names, and no file that is kept is a log or names a folder of one machine.
 
     python3 .ci/page_cases.py
 """
@@ -20,6 +20,8 @@ from shim import told  # noqa: E402
 
 NAMED = re.compile(r"`(\w+)::(\w+)`,\s+`(\w+)`")
 PAGE = re.compile(r"`((?:docs|examples|crates)/[\w./-]+)`")
+# A row of a table of crates: the crate, and its files of definitions.
+ROW = re.compile(r"(?m)^\| (\w+) \| ((?:\w+, )*\w+) \| ")
 # An example of the library, and the tests that have each as it stands.
 EXAMPLE = re.compile(r"(?ms)^```rust\n(.*?)^```$")
 TESTED = TOP / "crates/world_tests/src/tests/pages.rt"
@@ -78,6 +80,17 @@ def trusted():
         yield f"what is trusted for: {title}", why
 
 
+def tables():
+    """Each crate with files of definitions, where ARCHITECTURE's table of crates has a row of just these."""
+    page = (TOP / "docs" / "ARCHITECTURE.md").read_text()
+    table, _, _ = page[page.index("| crate | definitions") :].partition("\n\n")
+    listed = dict(ROW.findall(table))
+    for specs in sorted(TOP.glob("crates/*/specs")):
+        crate, there = specs.parent.name, {it.stem for it in specs.glob("*.antt")} - {"Lib"}
+        apart = sorted(there ^ set(listed.get(crate, "").split(", "))) if there else []
+        yield f"the definitions of {crate}", f"ARCHITECTURE has others: {', '.join(apart)}" if apart else None
+
+
 def without_space(text):
     return "".join(text.split())
 
@@ -121,6 +134,7 @@ def cases():
         own = crate / "README.md"
         lines = len(own.read_text().splitlines()) if own.exists() else 0
         yield f"the page of {crate.name}", None if 20 <= lines <= 60 else f"it has {lines} lines"
+    yield from tables()
     yield from examples()
     yield from trusted()
     yield from kept()
