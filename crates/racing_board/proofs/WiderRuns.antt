@@ -13,7 +13,7 @@ use Rattle.scoreboard.proofs.Reached.{right_exactly, right_front, right_reached}
 use Rattle.racing_board.specs.Boards.{after_all, after_reply, after_request, after_seen, opening_racing, races_after, wrong_at, RacingBoard}
 use Rattle.racing_board.specs.EarlyData.{PortBoard}
 use Rattle.racing_board.specs.Races.{Races}
-use Rattle.racing_board.specs.Wider.{AreTold, IsWiderAlong, LetsRightPass, TellsNoMore, racing_on, tells_apart, tells_busy}
+use Rattle.racing_board.specs.Wider.{AreTogether, IsWiderAlong, LetsRightPass, TellsNoMore, racing_on, tells_apart, tells_busy}
 use Rattle.racing_board.proofs.EarlyBeats.{after_as}
 use Rattle.racing_board.proofs.RequestSeen.{answered_on}
 use Rattle.racing_board.proofs.WiderVerdicts.{no_other, none_told, not_busy, same_answer, tells_no_more}
@@ -51,7 +51,7 @@ after_on old races Drained free = (races, refl)
 
 -- ---- lists of beats
 
-followed_on : (start : Board) (races : Races) (beats : List Seen) → AreTold start beats → IsOn (strict.after_all start beats) (after_all (racing_on start races) beats)
+followed_on : (start : Board) (races : Races) (beats : List Seen) → AreTogether start beats → IsOn (strict.after_all start beats) (after_all (racing_on start races) beats)
 followed_on start races [] told = (races, refl)
 followed_on start races (seen ∷ rest) (free, more) =
     let (later, is) = after_on start races seen free in
@@ -74,7 +74,7 @@ wider_along board seen verdict answers setup before is told =
 -- ---- beats that are right
 
 -- of which a scoreboard finds none wrong
-told_none : (start : Board) (beats : List Seen) (board : Board) → strict.IsReached start beats board → AreTold start beats
+told_none : (start : Board) (beats : List Seen) (board : Board) → strict.IsReached start beats board → AreTogether start beats
 told_none start [] board reached = tt
 told_none start (seen ∷ rest) board (none, more) = (ap tells_apart none, told_none (strict.after_seen start seen) rest board more)
 

@@ -54,7 +54,7 @@ beside_all footprint others = record footprint { determined = λ x. footprint.de
 abbrev pub is_fixed : Footprint → Bool
 is_fixed footprint = not footprint.reads || list_all (λ i. footprint.determined (footprint.address + i)) (range_with_len 0 (2 ^ footprint.size))
 
--- the bytes indeterminate after a request that gives these bytes
+-- the indeterminate bytes after a request that gives these bytes
 abbrev pub after_given : (ℕ → Bool) → Footprint → List (Option ℕ) → ℕ → Bool
 after_given indeterminate footprint bytes x =
     if footprint.writes && is_some (given_at bytes footprint.address x) then not (footprint.determined x && is_fixed footprint) else indeterminate x

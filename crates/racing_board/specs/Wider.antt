@@ -49,10 +49,10 @@ TellsNoMore compared verdict = (verdict ≡ compared) ⊎ (((tells_apart compare
 
 -- ---- lists of beats
 
--- a scoreboard finds none of these beats of a busy source, and no W beat without a write, whatever else it finds
-abbrev pub AreTold : Board → List Seen → Type 0
-AreTold board [] = ⊤
-AreTold board (seen ∷ rest) = (tells_apart (strict.wrong_at board seen) ≡ false) × AreTold (strict.after_seen board seen) rest
+-- both boards go together along these beats: the scoreboard finds none of a busy source, and no W beat without a write, whatever else it finds
+abbrev pub AreTogether : Board → List Seen → Type 0
+AreTogether board [] = ⊤
+AreTogether board (seen ∷ rest) = (tells_apart (strict.wrong_at board seen) ≡ false) × AreTogether (strict.after_seen board seen) rest
 
 -- a racing board holds what a scoreboard does, but for the requests in flight, and its verdict of a beat tells no more
 pub record IsWiderThan (compared : Board) (board : RacingBoard) (seen : Seen) (verdict : Option Wrong) : Type 0 where
@@ -63,7 +63,7 @@ pub record IsWiderThan (compared : Board) (board : RacingBoard) (seen : Seen) (v
 -- beat without a write, and of that one too
 abbrev pub IsWiderAlong : RacingBoard → Seen → Option Wrong → Type 0
 IsWiderAlong board seen verdict =
-    (setup : SetupLists) (before : List Seen) → board ≡ after_all (opening_racing setup) before → AreTold (opening_board setup) before
+    (setup : SetupLists) (before : List Seen) → board ≡ after_all (opening_racing setup) before → AreTogether (opening_board setup) before
     → IsWiderThan (strict.after_all (opening_board setup) before) board seen verdict
 
 -- of beats that are right: nothing is found wrong with the last of them, where all of them are right: where each reply is that of its request

@@ -57,7 +57,7 @@ const GETS: [History; 5] = [
         open: 0,
     },
     History {
-        name: "bytes outside the Put stay settled, in the same word and in another",
+        name: "bytes outside the Put stay determined, in the same word and in another",
         beats: &[
             (A(0, 0, 0, 2, 5, 0x8, 0x0f, 0x55667788), Right),
             (A(1, 4, 0, 3, 7, 0x8, 0xff, 0), Right),
@@ -105,7 +105,7 @@ const GETS: [History; 5] = [
 /// Requests that race with others which write, and what they leave.
 const WRITES: [History; 4] = [
     History {
-        name: "two Puts leave their bytes in doubt, until a Put is alone",
+        name: "two Puts leave their bytes indeterminate, until a Put is alone",
         beats: &[
             (PUT, Right),
             (A(1, 0, 0, 3, 6, 0x8, 0xff, 1), Right),
@@ -129,7 +129,7 @@ const WRITES: [History; 4] = [
         open: 0,
     },
     History {
-        name: "an atomic beside a Put in flight leaves all that it writes in doubt",
+        name: "an atomic beside a Put in flight leaves all that it writes indeterminate",
         beats: &[
             (A(0, 0, 0, 0, 5, 0x8, 0x01, 0xff), Right),
             (D(0, (0, 0, 5, false, 0, false)), Right),
@@ -149,7 +149,7 @@ const WRITES: [History; 4] = [
         open: 0,
     },
     History {
-        name: "a Put beside an atomic in flight leaves all that the atomic writes in doubt",
+        name: "a Put beside an atomic in flight leaves all that the atomic writes indeterminate",
         beats: &[
             (A(0, 0, 0, 0, 5, 0x8, 0x01, 0xff), Right),
             (D(0, (0, 0, 5, false, 0, false)), Right),
@@ -167,7 +167,7 @@ const WRITES: [History; 4] = [
         open: 0,
     },
     History {
-        name: "an atomic that is alone leaves no byte in doubt",
+        name: "an atomic that is alone leaves no byte indeterminate",
         beats: &[
             (A(0, 0, 0, 3, 5, 0x8, 0xff, 0xff), Right),
             (D(0, ACK), Right),
