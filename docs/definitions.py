@@ -118,7 +118,7 @@ STATEMENTS = (
     ("The text of `threads`", "`tlbridge::carried_out_in_threads`, clause `ending`.", (("tlbridge", "Threads", "EndsAsRead"),)),
     (
         "When what was observed is right",
-        "`scoreboard::Scoreboard::judge`, clauses `right` and `memory`.",
+        "`scoreboard::Scoreboard::judge`, clauses `exactly` and `memory`.",
         (("scoreboard", "Right", "IsRight"),),
     ),
     (
@@ -128,28 +128,23 @@ STATEMENTS = (
     ),
     (
         "What the scoreboard says",
-        "`scoreboard::Scoreboard::judge`, clauses `answer` and `state`, and the board that `right` begins with.",
+        "`scoreboard::Scoreboard::judge`, clauses `answer` and `state`, and the board that `exactly` begins with.",
         (
             ("scoreboard", "Boards", "wrong_at"),
             ("scoreboard", "Boards", "after_seen"),
-            ("scoreboard", "Boards", "board_of"),
+            ("scoreboard", "InsideBoards", "board_of"),
             ("scoreboard", "Boards", "IsReached"),
         ),
     ),
     (
-        "What a racing board says",
-        "`racing_board::RacingBoard::judge`, clauses `answer` and `state`.",
-        (("racing_board", "Boards", "wrong_at"), ("racing_board", "Boards", "after_seen"), ("racing_board", "Boards", "racing_board")),
+        "That what it finds wrong in real time is wrong in every order",
+        "`scoreboard::Scoreboard::judge`, clause `rightly`.",
+        (("scoreboard", "RealTime", "JudgesRightly"),),
     ),
     (
-        "That what it finds wrong is wrong in every order",
-        "`racing_board::RacingBoard::judge`, clause `rightly`.",
-        (("racing_board", "RealTime", "JudgesRightly"),),
-    ),
-    (
-        "What it says beside a scoreboard",
-        "`racing_board::RacingBoard::judge`, clauses `right` and `wider`.",
-        (("racing_board", "Wider", "LetsRightPass"), ("racing_board", "Wider", "IsWiderAlong")),
+        "What it says in real time, beside what it says in order of acceptance",
+        "`scoreboard::Scoreboard::judge`, clauses `right` and `wider`.",
+        (("scoreboard", "Wider", "LetsRightPass"), ("scoreboard", "Wider", "IsWiderAlong")),
     ),
     (
         "The text of the scoreboard",

@@ -17,8 +17,8 @@ use Rattle.score_script.specs.declared.lines.Channel.{Channel}
 use Rattle.score_script.specs.declared.lines.Channel.TheVariants as channel
 use Rattle.score_script.specs.declared.score.Command.{Command}
 use Rattle.score_script.specs.declared.score.Command.TheVariants as command
-use Rattle.scoreboard.specs.declared.Seen.{Seen}
-use Rattle.scoreboard.specs.declared.Seen.TheVariants as seen
+use Rattle.scoreboard.specs.declared.ObservedBeat.{ObservedBeat}
+use Rattle.scoreboard.specs.declared.ObservedBeat.TheVariants as seen
 use Rattle.tl_messages.specs.declared.DBeat.{DBeat}
 
 -- the first word of each channel's lines
@@ -73,7 +73,7 @@ d_in words =
     }
 
 -- the client and its beat, or the first wrong word
-abbrev pub d_line : List (List ℕ) → Result Seen ℕ
+abbrev pub d_line : List (List ℕ) → Result ObservedBeat ℕ
 d_line words = read_as d_fields words (seen.D (dec_at words 2) (d_in words))
 
 -- ---- AW ID ADDRESS LEN SIZE BURST, and AR
@@ -93,11 +93,11 @@ ar_in words =
     record { id = dec_at words 2; address = hex_at words 3; len = dec_at words 4; size = dec_at words 5; burst = dec_at words 6 }
 
 -- a write address, or the first wrong word
-abbrev pub aw_line : List (List ℕ) → Result Seen ℕ
+abbrev pub aw_line : List (List ℕ) → Result ObservedBeat ℕ
 aw_line words = read_as burst_fields words (seen.Axi (OnAw (aw_in words)))
 
 -- a read address, or the first wrong word
-abbrev pub ar_line : List (List ℕ) → Result Seen ℕ
+abbrev pub ar_line : List (List ℕ) → Result ObservedBeat ℕ
 ar_line words = read_as burst_fields words (seen.Axi (OnAr (ar_in words)))
 
 -- ---- W PAYLOAD STROBES LAST
@@ -107,7 +107,7 @@ abbrev pub w_in : List (List ℕ) → WBeat
 w_in words = record { payload = hex_at words 2; strobes = hex_at words 3; last = is_set (word_at words 4) }
 
 -- write data, or the first wrong word
-abbrev pub w_line : List (List ℕ) → Result Seen ℕ
+abbrev pub w_line : List (List ℕ) → Result ObservedBeat ℕ
 w_line words = read_as (payload_field ∷ mask_field ∷ flag_field ∷ []) words (seen.Axi (OnW (w_in words)))
 
 -- ---- B ID RESP
@@ -117,7 +117,7 @@ abbrev pub b_in : List (List ℕ) → BBeat
 b_in words = record { id = dec_at words 2; resp = resp_in (word_at words 3) }
 
 -- a write response, or the first wrong word
-abbrev pub b_line : List (List ℕ) → Result Seen ℕ
+abbrev pub b_line : List (List ℕ) → Result ObservedBeat ℕ
 b_line words = read_as (byte_field ∷ resp_field ∷ []) words (seen.Axi (OnB (b_in words)))
 
 -- ---- R ID PAYLOAD RESP LAST
@@ -128,13 +128,13 @@ r_in words =
     record { id = dec_at words 2; payload = hex_at words 3; resp = resp_in (word_at words 4); last = is_set (word_at words 5) }
 
 -- read data, or the first wrong word
-abbrev pub r_line : List (List ℕ) → Result Seen ℕ
+abbrev pub r_line : List (List ℕ) → Result ObservedBeat ℕ
 r_line words = read_as (byte_field ∷ payload_field ∷ resp_field ∷ flag_field ∷ []) words (seen.Axi (OnR (r_in words)))
 
 -- ---- all
 
 -- the beat that a channel's line says, or its first wrong word; the fields of an A line are those of an `a` line
-abbrev pub seen_line : Channel → List (List ℕ) → Result Seen ℕ
+abbrev pub seen_line : Channel → List (List ℕ) → Result ObservedBeat ℕ
 seen_line channel.A words = told_as (λ offer. seen.A offer.0 offer.1) (offer_line words)
 seen_line channel.D words = d_line words
 seen_line channel.Aw words = aw_line words
@@ -162,7 +162,7 @@ abbrev pub answer_command : List ℕ → Command
 answer_command word =
     if is_withdrawal word
     then command.Withdrawal
-    else (if bytes_eq word (codes "drained") then command.Seen seen.Drained else command.Answer)
+    else (if bytes_eq word (codes "drained") then command.Observed seen.Drained else command.Answer)
 
 -- whether a line is an answer
 abbrev pub is_answer : List (List ℕ) → Bool
@@ -179,7 +179,7 @@ only_settles words = is_answer words && is_settling (answer_command (word_at wor
 
 -- what a line of a channel, or else a question, says, or the first wrong word
 abbrev pub asked_command : List (List ℕ) → Option Channel → Result Command ℕ
-asked_command words (Some channel) = told_as (λ beat. command.Seen beat) (seen_line channel words)
+asked_command words (Some channel) = told_as (λ beat. command.Observed beat) (seen_line channel words)
 asked_command words None =
     if bytes_eq (word_at words 1) (codes "mem") then told_as (λ address. command.Byte address) (address_line words) else Err 1
 

@@ -2,15 +2,15 @@
 use Rattle.std.specs.Prelude.{ℕ, ◌+◌, ◌^◌, ◌-◌, Bool, true, List, ◌++◌, min, Option, Some, None, if◌then◌else◌, is_some, nat_lt}
 use Rattle.score_script.specs.FindingTexts.{last_text, optional_text}
 use Rattle.score_script.specs.ObservedLines.{command_of, only_settles}
-use Rattle.score_script.specs.Profiles.{ProfileBoard, after_seen, bursts_open, byte_in, opening_board, own_line, profile_of, replies_open, wrong_in}
+use Rattle.score_script.specs.Profiles.{PolicyBoard, after_seen, bursts_open, byte_in, opening_board, own_line, policy_of, replies_open, wrong_in}
 use Rattle.score_script.specs.declared.findings.Finding.{Finding}
 use Rattle.score_script.specs.declared.findings.Finding.TheVariants as finding
-use Rattle.score_script.specs.declared.profiles.Profile.{Profile}
 use Rattle.score_script.specs.declared.score.Command.{Command}
 use Rattle.score_script.specs.declared.score.Command.TheVariants as command
 use Rattle.score_script.specs.declared.score.HeldBeat.{HeldBeat}
-use Rattle.scoreboard.specs.declared.Seen.{Seen}
-use Rattle.scoreboard.specs.declared.Seen.TheVariants.{A, D, Axi, Drained}
+use Rattle.scoreboard.specs.declared.Policy.{Policy}
+use Rattle.scoreboard.specs.declared.ObservedBeat.{ObservedBeat}
+use Rattle.scoreboard.specs.declared.ObservedBeat.TheVariants.{A, D, Axi, Drained}
 use Rattle.scoreboard.specs.declared.Wrong.{Wrong}
 use Rattle.script_text.specs.Scripts.{Reading}
 use Rattle.script_text.specs.Stages.{Kind, Opening, Stage, reading_of, unless_refused}
@@ -19,14 +19,14 @@ use Rattle.setups.specs.Setups.{SetupLists, setup_fault}
 -- the board; the beat that is held, which is that of the last line, where that is an A line; and how many beats were judged, and how many of them
 -- are wrong
 pub record Score : Type 0 where
-  pub board : ProfileBoard
+  pub board : PolicyBoard
   pub held : Option HeldBeat
   pub judged : ℕ
   pub wrong : ℕ
 
 -- a score of which nothing was observed
-abbrev pub opening_score : Profile → SetupLists → Score
-opening_score profile setup = record { board = opening_board profile setup; held = None; judged = 0; wrong = 0 }
+abbrev pub opening_score : Policy → SetupLists → Score
+opening_score policy setup = record { board = opening_board policy setup; held = None; judged = 0; wrong = 0 }
 
 -- ---- judging
 
@@ -35,26 +35,26 @@ abbrev pub counted : ℕ → ℕ
 counted count = min (count + 1) (2 ^ 64 - 1)
 
 -- how many beats were judged, with what was observed last: that beats went unobserved is no beat
-abbrev pub beats_judged : ℕ → Seen → ℕ
+abbrev pub beats_judged : ℕ → ObservedBeat → ℕ
 beats_judged count (A client beat) = counted count
 beats_judged count (D client beat) = counted count
 beats_judged count (Axi beat) = counted count
 beats_judged count Drained = count
 
 -- the client of a beat; 0 for what is of the AXI4 port
-abbrev pub client_of : Seen → ℕ
+abbrev pub client_of : ObservedBeat → ℕ
 client_of (A client beat) = client
 client_of (D client beat) = client
 client_of (Axi beat) = 0
 client_of Drained = 0
 
 -- a wrong beat, by the number of its line
-abbrev pub found : ℕ → Seen → Option Wrong → Option Finding
+abbrev pub found : ℕ → ObservedBeat → Option Wrong → Option Finding
 found number seen None = None
 found number seen (Some wrong) = Some (finding.Beat number (client_of seen) wrong)
 
 -- the score after what was observed, which was judged so
-abbrev pub score_after : Score → Seen → Option Wrong → Score
+abbrev pub score_after : Score → ObservedBeat → Option Wrong → Score
 score_after score seen verdict =
     record score {
       board = after_seen score.board seen;
@@ -63,7 +63,7 @@ score_after score seen verdict =
     }
 
 -- what was observed is judged: what is found, and the score after it
-abbrev pub judging : Score → ℕ → Seen → Option Finding × Score
+abbrev pub judging : Score → ℕ → ObservedBeat → Option Finding × Score
 judging score number seen = (found number seen (wrong_in score.board seen), score_after score seen (wrong_in score.board seen))
 
 -- the held beat is judged, if there is one
@@ -84,14 +84,14 @@ pub record Finds : Type 0 where
   pub after : Score
 
 -- a beat on channel A is held, all else is judged
-abbrev pub observing : Option Finding × Score → ℕ → Seen → Finds
+abbrev pub observing : Option Finding × Score → ℕ → ObservedBeat → Finds
 observing settled number (A client beat) =
     record { held = settled.0; own = None; after = record settled.1 { held = Some (record { number = number; client = client; beat = beat }) } }
 observing settled number seen = record { held = settled.0; own = (judging settled.1 number seen).0; after = (judging settled.1 number seen).1 }
 
 -- what a line of this number finds. The held beat is judged first, but where the line withdraws it; another answer finds nothing of its own
 abbrev pub finds : Score → ℕ → Command → Finds
-finds score number (command.Seen seen) = observing (settling score) number seen
+finds score number (command.Observed seen) = observing (settling score) number seen
 finds score number (command.Byte address) =
     record { held = (settling score).0; own = Some (finding.Byte (byte_in (settling score).1.board address)); after = (settling score).1 }
 finds score number command.Withdrawal = record { held = None; own = None; after = record score { held = None } }
@@ -113,7 +113,7 @@ closing settled = (
 
 -- it has every set-up line, and `profile` lines of its own; without one the profile is `bridge`. An answer that only settles a beat is passed over
 -- before the first command
-abbrev pub score_kind : Kind (Option Profile) Score Command
+abbrev pub score_kind : Kind (Option Policy) Score Command
 score_kind =
     record {
       most_lines = 4294967294;
@@ -122,15 +122,15 @@ score_kind =
       own_line = own_line;
       passes = only_settles;
       command_of = command_of;
-      opened = λ named setup. unless_refused (opening_score (profile_of named) setup) (setup_fault setup);
+      opened = λ named setup. unless_refused (opening_score (policy_of named) setup) (setup_fault setup);
       commanded = λ score number said. (finds_text (finds score number said), (finds score number said).after);
       ending = λ score. closing (settling score);
     }
 
 -- an observation as it is read: a board is made at the end where none was
-abbrev pub score_reading : Reading (Stage (Option Profile) Score) Bool
+abbrev pub score_reading : Reading (Stage (Option Policy) Score) Bool
 score_reading = reading_of score_kind
 
 -- no line was read
-abbrev pub opening_state : Stage (Option Profile) Score
+abbrev pub opening_state : Stage (Option Policy) Score
 opening_state = Opening

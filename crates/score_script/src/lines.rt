@@ -8,7 +8,7 @@ use crate::score::Command;
 use axi_beats::{ArBeat, AwBeat, BBeat, RBeat, Resp, WBeat};
 use axi_checker::AxiBeat;
 use line_text::{Words, offer_line};
-use scoreboard::Seen;
+use scoreboard::ObservedBeat;
 use tl_messages::DBeat;
 
 /// A channel on which beats are observed.
@@ -62,7 +62,7 @@ fn resp(words: &Words<'_>, n: u32) -> Result<Resp, u32>
     }
 }
 
-fn d_line(words: &Words<'_>) -> Result<Seen, u32>
+fn d_line(words: &Words<'_>) -> Result<ObservedBeat, u32>
     ensures { result ≡ d_line words.now }
 {
     let client = words.byte(2)?;
@@ -83,10 +83,10 @@ fn d_line(words: &Words<'_>) -> Result<Seen, u32>
         payload,
         corrupt,
     };
-    Ok(Seen::D(client, beat))
+    Ok(ObservedBeat::D(client, beat))
 }
 
-fn aw_line(words: &Words<'_>) -> Result<Seen, u32>
+fn aw_line(words: &Words<'_>) -> Result<ObservedBeat, u32>
     ensures { result ≡ aw_line words.now }
 {
     let id = words.byte(2)?;
@@ -95,7 +95,7 @@ fn aw_line(words: &Words<'_>) -> Result<Seen, u32>
     let size = words.byte(5)?;
     let burst = words.byte(6)?;
     words.end(6)?;
-    Ok(Seen::Axi(AxiBeat::Aw(AwBeat {
+    Ok(ObservedBeat::Axi(AxiBeat::Aw(AwBeat {
         id,
         address,
         len,
@@ -104,7 +104,7 @@ fn aw_line(words: &Words<'_>) -> Result<Seen, u32>
     })))
 }
 
-fn ar_line(words: &Words<'_>) -> Result<Seen, u32>
+fn ar_line(words: &Words<'_>) -> Result<ObservedBeat, u32>
     ensures { result ≡ ar_line words.now }
 {
     let id = words.byte(2)?;
@@ -113,7 +113,7 @@ fn ar_line(words: &Words<'_>) -> Result<Seen, u32>
     let size = words.byte(5)?;
     let burst = words.byte(6)?;
     words.end(6)?;
-    Ok(Seen::Axi(AxiBeat::Ar(ArBeat {
+    Ok(ObservedBeat::Axi(AxiBeat::Ar(ArBeat {
         id,
         address,
         len,
@@ -122,30 +122,30 @@ fn ar_line(words: &Words<'_>) -> Result<Seen, u32>
     })))
 }
 
-fn w_line(words: &Words<'_>) -> Result<Seen, u32>
+fn w_line(words: &Words<'_>) -> Result<ObservedBeat, u32>
     ensures { result ≡ w_line words.now }
 {
     let payload = words.hex(2, u64::MAX)?;
     let strobes = words.mask(3)?;
     let last = words.flag(4)?;
     words.end(4)?;
-    Ok(Seen::Axi(AxiBeat::W(WBeat {
+    Ok(ObservedBeat::Axi(AxiBeat::W(WBeat {
         payload,
         strobes,
         last,
     })))
 }
 
-fn b_line(words: &Words<'_>) -> Result<Seen, u32>
+fn b_line(words: &Words<'_>) -> Result<ObservedBeat, u32>
     ensures { result ≡ b_line words.now }
 {
     let id = words.byte(2)?;
     let resp = resp(words, 3)?;
     words.end(3)?;
-    Ok(Seen::Axi(AxiBeat::B(BBeat { id, resp })))
+    Ok(ObservedBeat::Axi(AxiBeat::B(BBeat { id, resp })))
 }
 
-fn r_line(words: &Words<'_>) -> Result<Seen, u32>
+fn r_line(words: &Words<'_>) -> Result<ObservedBeat, u32>
     ensures { result ≡ r_line words.now }
 {
     let id = words.byte(2)?;
@@ -153,7 +153,7 @@ fn r_line(words: &Words<'_>) -> Result<Seen, u32>
     let resp = resp(words, 4)?;
     let last = words.flag(5)?;
     words.end(5)?;
-    Ok(Seen::Axi(AxiBeat::R(RBeat {
+    Ok(ObservedBeat::Axi(AxiBeat::R(RBeat {
         id,
         payload,
         resp,
@@ -162,13 +162,13 @@ fn r_line(words: &Words<'_>) -> Result<Seen, u32>
 }
 
 /// The beat that a channel's line says, or its first wrong word.
-pub fn seen_line(channel: Channel, words: &Words<'_>) -> Result<Seen, u32>
+pub fn seen_line(channel: Channel, words: &Words<'_>) -> Result<ObservedBeat, u32>
     ensures { result ≡ seen_line channel words.now }
 {
     match channel {
         Channel::A => {
             let (client, beat) = offer_line(words)?;
-            Ok(Seen::A(client, beat))
+            Ok(ObservedBeat::A(client, beat))
         }
         Channel::D => d_line(words),
         Channel::Aw => aw_line(words),
@@ -206,7 +206,7 @@ fn answer_command(word: &[u8]) -> Command
         return Command::Withdrawal;
     }
     if word == b"drained".as_slice() {
-        return Command::Seen(Seen::Drained);
+        return Command::Observed(ObservedBeat::Drained);
     }
     Command::Answer
 }
@@ -229,7 +229,7 @@ fn asked_command(words: &Words<'_>, channel: Option<Channel>) -> Result<Command,
     ensures { result ≡ asked_command words.now channel }
 {
     if let Some(channel) = channel {
-        return Ok(Command::Seen(seen_line(channel, words)?));
+        return Ok(Command::Observed(seen_line(channel, words)?));
     }
     if words.at(1) != b"mem".as_slice() {
         return Err(1);

@@ -5,9 +5,8 @@ ghost use Rattle.score_script.specs.Scores.{beats_judged, client_of, closing, co
 ghost use Rattle.score_script.specs.ScoreStates.{score_of};
 
 use crate::findings::{Finding, Findings, last_line, optional_line};
-use crate::profiles::Board;
 use line_text::WriteFault;
-use scoreboard::{Seen, Wrong};
+use scoreboard::{ObservedBeat, Scoreboard, Wrong};
 use std::io::Write;
 use tl_messages::ABeat;
 
@@ -15,7 +14,7 @@ use tl_messages::ABeat;
 #[derive(Clone, Copy, Debug, PartialEq, Eq)]
 pub(crate) enum Command {
     /// Something was observed.
-    Seen(Seen),
+    Observed(ObservedBeat),
     /// The byte at an address is asked for.
     Byte(u32),
     /// The beat before it, if it stands straight behind one, wasn't taken.
@@ -37,7 +36,7 @@ pub(crate) struct HeldBeat {
 
 /// The board, the beat that is held, and how many beats were judged and are wrong.
 pub(crate) struct Score {
-    board: Board,
+    board: Scoreboard,
     held: Option<HeldBeat>,
     judged: u64,
     wrong: u64,
@@ -56,17 +55,17 @@ impl Drop for Score {
 }
 
 /// The client of a beat; 0 for what is of the AXI4 port.
-fn client_of(seen: &Seen) -> u8
+fn client_of(seen: &ObservedBeat) -> u8
     ensures { result ≡ client_of seen.now }
 {
     match seen {
-        Seen::A(client, _) | Seen::D(client, _) => *client,
+        ObservedBeat::A(client, _) | ObservedBeat::D(client, _) => *client,
         _ => 0,
     }
 }
 
 /// A wrong beat, by the number of its line.
-fn found(number: u32, seen: &Seen, verdict: Option<Wrong>) -> Option<Finding>
+fn found(number: u32, seen: &ObservedBeat, verdict: Option<Wrong>) -> Option<Finding>
     ensures { result ≡ found number seen.now verdict }
 {
     match verdict {
@@ -83,11 +82,11 @@ fn counted(count: u64) -> u64
 }
 
 /// A count of judged beats, with what was observed last: that beats went unobserved is no beat.
-fn beats_judged(count: u64, seen: &Seen) -> u64
+fn beats_judged(count: u64, seen: &ObservedBeat) -> u64
     ensures { result ≡ beats_judged count seen.now }
 {
     match seen {
-        Seen::Drained => count,
+        ObservedBeat::Drained => count,
         _ => counted(count),
     }
 }
@@ -104,7 +103,7 @@ fn counted_wrong(count: u64, verdict: Option<Wrong>) -> u64
 
 impl Score {
     /// Nothing was observed.
-    pub(crate) fn opening(board: Board) -> Score
+    pub(crate) fn opening(board: Scoreboard) -> Score
         ensures { result ≡ record { board = board; held = None; judged = 0; wrong = 0 } }
     {
         Score {
@@ -116,7 +115,7 @@ impl Score {
     }
 
     /// Judges what was observed, by the number of its line.
-    fn judge(&mut self, number: u32, seen: &Seen) -> Option<Finding>
+    fn judge(&mut self, number: u32, seen: &ObservedBeat) -> Option<Finding>
         ensures found { result ≡ (judging (score_of self.old) number seen.now).0 }
         ensures state { score_of self.new ≡ (judging (score_of self.old) number seen.now).1 }
     {
@@ -135,17 +134,17 @@ impl Score {
             return None;
         };
         self.held = None;
-        self.judge(line.number, &Seen::A(line.client, line.beat))
+        self.judge(line.number, &ObservedBeat::A(line.client, line.beat))
     }
 
     /// Holds a beat on channel A, and judges any other.
-    fn observe(&mut self, number: u32, seen: &Seen) -> Findings
+    fn observe(&mut self, number: u32, seen: &ObservedBeat) -> Findings
         ensures held { result.held ≡ (observing (settling (score_of self.old)) number seen.now).held }
         ensures own { result.own ≡ (observing (settling (score_of self.old)) number seen.now).own }
         ensures state { score_of self.new ≡ (observing (settling (score_of self.old)) number seen.now).after }
     {
         let held = self.settle();
-        if let Seen::A(client, beat) = *seen {
+        if let ObservedBeat::A(client, beat) = *seen {
             self.held = Some(HeldBeat {
                 number,
                 client,
@@ -171,7 +170,7 @@ impl Score {
         ensures state { score_of self.new ≡ (finds (score_of self.old) number command.now).after }
     {
         match command {
-            Command::Seen(seen) => self.observe(number, seen),
+            Command::Observed(seen) => self.observe(number, seen),
             Command::Byte(address) => {
                 let held = self.settle();
                 let own = Some(Finding::Byte(self.board.byte(*address)));

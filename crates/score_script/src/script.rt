@@ -4,9 +4,10 @@ ghost use Rattle.score_script.specs.Scores.{opening_state, score_reading};
 
 use crate::findings::findings_lines;
 use crate::lines::{command_of, only_settles};
-use crate::profiles::{Board, Profile, own_line};
+use crate::profiles::own_line;
 use crate::score::{Command, Score};
 use line_text::{Words, WriteFault};
+use scoreboard::{Policy, Scoreboard};
 use script_text::{Form, Kind, ScriptFault, StagedScript, read_script};
 use setups::{Setup, SetupFault};
 use std::alloc::Global;
@@ -21,8 +22,8 @@ impl Kind for ScoreScript {
     ghost use Rattle.score_script.specs.ScoreStates.{score_of};
     ghost use Rattle.score_script.specs.Scores.{Score, score_kind};
 
-    /// The profile that a line names, if one does.
-    type Own = Option<Profile>;
+    /// The policy that a line asks for, if one does.
+    type Own = Option<Policy>;
 
     type World = Score;
 
@@ -43,14 +44,11 @@ impl Kind for ScoreScript {
         true
     }
 
-    fn own_opening() -> Option<Profile> {
+    fn own_opening() -> Option<Policy> {
         None
     }
 
-    fn own_line(
-        named: &Option<Profile>,
-        words: &Words<'_>,
-    ) -> Option<Result<Option<Profile>, u32>> {
+    fn own_line(named: &Option<Policy>, words: &Words<'_>) -> Option<Result<Option<Policy>, u32>> {
         own_line(*named, words)
     }
 
@@ -65,11 +63,11 @@ impl Kind for ScoreScript {
     fn open(
         &mut self,
         alloc: Global,
-        named: &Option<Profile>,
+        named: &Option<Policy>,
         setup: &Setup,
     ) -> Result<Score, SetupFault> {
-        let profile = named.unwrap_or(Profile::Bridge);
-        match Board::new(alloc, profile, setup) {
+        let policy = named.unwrap_or(Policy::AcceptanceOrder);
+        match Scoreboard::new(alloc, policy, setup) {
             Ok(board) => Ok(Score::opening(board)),
             Err(fault) => Err(fault),
         }

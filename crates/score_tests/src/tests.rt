@@ -1,13 +1,13 @@
 //! Histories of observed beats, with what has to be said of each.
 mod profiles;
-mod racing;
+mod real_time;
 
 use axi_beats::{ArBeat, AwBeat, BBeat, RBeat, Resp, WBeat};
 use axi_checker::{AxiBeat, AxiRule};
 use burst_plan::{MapFault, PageMap, Region};
 use config::Config;
 use observed_run::observed;
-use scoreboard::{ReplyRule, Scoreboard, Seen, SerialMemory, Wrong};
+use scoreboard::{ObservedBeat, Policy, ReplyRule, Scoreboard, SerialMemory, Wrong};
 use setups::{Setup, SetupFault};
 use std::alloc::Global;
 use std::fmt::Debug;
@@ -107,8 +107,8 @@ fn d_beat((opcode, size, source, denied, payload, corrupt): Reply) -> DBeat {
     }
 }
 
-fn aw_beat(id: u8, address: u32, len: u8, size: u8) -> Seen {
-    Seen::Axi(AxiBeat::Aw(AwBeat {
+fn aw_beat(id: u8, address: u32, len: u8, size: u8) -> ObservedBeat {
+    ObservedBeat::Axi(AxiBeat::Aw(AwBeat {
         id,
         address,
         len,
@@ -117,8 +117,8 @@ fn aw_beat(id: u8, address: u32, len: u8, size: u8) -> Seen {
     }))
 }
 
-fn ar_beat(id: u8, address: u32, len: u8, size: u8) -> Seen {
-    Seen::Axi(AxiBeat::Ar(ArBeat {
+fn ar_beat(id: u8, address: u32, len: u8, size: u8) -> ObservedBeat {
+    ObservedBeat::Axi(AxiBeat::Ar(ArBeat {
         id,
         address,
         len,
@@ -127,7 +127,7 @@ fn ar_beat(id: u8, address: u32, len: u8, size: u8) -> Seen {
     }))
 }
 
-fn seen(beat: Beat) -> Seen {
+fn seen(beat: Beat) -> ObservedBeat {
     match beat {
         A(client, opcode, param, size, source, address, mask, payload) => {
             let beat = ABeat {
@@ -140,27 +140,27 @@ fn seen(beat: Beat) -> Seen {
                 payload,
                 corrupt: false,
             };
-            Seen::A(client, beat)
+            ObservedBeat::A(client, beat)
         }
-        D(client, reply) => Seen::D(client, d_beat(reply)),
+        D(client, reply) => ObservedBeat::D(client, d_beat(reply)),
         Aw(id, address, len, size) => aw_beat(id, address, len, size),
-        W(payload, strobes, last) => Seen::Axi(AxiBeat::W(WBeat {
+        W(payload, strobes, last) => ObservedBeat::Axi(AxiBeat::W(WBeat {
             payload,
             strobes,
             last,
         })),
-        B(id) => Seen::Axi(AxiBeat::B(BBeat {
+        B(id) => ObservedBeat::Axi(AxiBeat::B(BBeat {
             id,
             resp: Resp::Okay,
         })),
         Ar(id, address, len, size) => ar_beat(id, address, len, size),
-        R(id, payload, last) => Seen::Axi(AxiBeat::R(RBeat {
+        R(id, payload, last) => ObservedBeat::Axi(AxiBeat::R(RBeat {
             id,
             payload,
             resp: Resp::Okay,
             last,
         })),
-        Drained => Seen::Drained,
+        Drained => ObservedBeat::Drained,
     }
 }
 
@@ -423,61 +423,31 @@ const DATA_FIRST: [History; 1] = [History {
     open: 0,
 }];
 
-/// A board, by what the histories ask of it.
-trait Judge: Sized {
-    fn opening(alloc: Global, setup: &Setup) -> Result<Self, SetupFault>;
-
-    /// What is wrong with the next beat.
-    fn says(&mut self, seen: &Seen) -> Option<Wrong>;
-
-    /// How many replies and how many bursts are left.
-    fn left(&self) -> (u16, usize);
-
-    fn holds(&self, address: u32) -> Option<u8>;
-}
-
-impl Judge for Scoreboard {
-    fn opening(alloc: Global, setup: &Setup) -> Result<Self, SetupFault> {
-        Scoreboard::new(alloc, setup)
-    }
-
-    fn says(&mut self, seen: &Seen) -> Option<Wrong> {
-        self.judge(seen)
-    }
-
-    fn left(&self) -> (u16, usize) {
-        (self.outstanding(), self.open_bursts())
-    }
-
-    fn holds(&self, address: u32) -> Option<u8> {
-        self.byte(address)
-    }
-}
-
 /// The place of the first beat of which something else is said than stands beside it, or of the end where something else
 /// is left.
-fn first_difference<B: Judge>(board: &mut B, history: &History) -> Option<usize> {
+fn first_difference(board: &mut Scoreboard, history: &History) -> Option<usize> {
     for (place, (beat, said)) in history.beats.iter().enumerate() {
-        if board.says(&seen(*beat)) != wrong(*said) {
+        if board.judge(&seen(*beat)) != wrong(*said) {
             return Some(place);
         }
     }
-    if board.left() != (history.outstanding, history.open) {
+    if (board.outstanding(), board.open_bursts()) != (history.outstanding, history.open) {
         return Some(history.beats.len());
     }
     None
 }
 
-/// The first history of which a board says something else, and where; the place is none where there is no board.
-fn failing<B: Judge + Drop>(
+/// The first history of which a board of a policy says something else, and where; the place is none where there is no board.
+fn failing(
     alloc: Global,
+    policy: Policy,
     histories: &[History],
 ) -> Option<(&'static str, Option<usize>)> {
     for history in histories {
         let Some(setup) = set_up(REGION) else {
             return Some((history.name, None));
         };
-        let Ok(mut board) = B::opening(alloc, &setup) else {
+        let Ok(mut board) = Scoreboard::new(alloc, policy, &setup) else {
             return Some((history.name, None));
         };
         if let Some(place) = first_difference(&mut board, history) {
@@ -488,44 +458,44 @@ fn failing<B: Judge + Drop>(
 }
 
 /// The first address of which a board has another byte than the Put of `RIGHT` leaves there.
-fn wrong_byte<B: Judge>(board: &B) -> Option<u32> {
+fn wrong_byte(board: &Scoreboard) -> Option<u32> {
     for (address, byte) in [
         (0x10007, Some(0)),
         (0x10008, Some(0x88)),
         (0x1000f, Some(0x11)),
         (0x14000, None),
     ] {
-        if board.holds(address) != byte {
+        if board.byte(address) != byte {
             return Some(address);
         }
     }
     None
 }
 
-/// What a board says of a set-up whose region has no pages.
-fn refusal<B: Judge + Drop>(alloc: Global) -> Option<SetupFault> {
+/// What a board of a policy says of a set-up whose region has no pages.
+fn refusal(alloc: Global, policy: Policy) -> Option<SetupFault> {
     let setup = set_up(Region { pages: 0, ..REGION })?;
-    B::opening(alloc, &setup).err()
+    Scoreboard::new(alloc, policy, &setup).err()
 }
 
 const EMPTY_REGION: SetupFault = SetupFault::Map(MapFault::RegionEmpty(0));
 
 #[test]
 fn replies(rt: HostRuntime) {
-    let found = failing::<Scoreboard>(rt.alloc(), &REPLIES);
+    let found = failing(rt.alloc(), Policy::AcceptanceOrder, &REPLIES);
     same(&rt, "first failing", found, None);
 }
 
 #[test]
 fn memory(rt: HostRuntime) {
-    let found = failing::<Scoreboard>(rt.alloc(), &MEMORY);
+    let found = failing(rt.alloc(), Policy::AcceptanceOrder, &MEMORY);
     same(&rt, "first failing", found, None);
 }
 
 #[test]
 fn ports(rt: HostRuntime) {
     for table in [PORTS.as_slice(), DATA_FIRST.as_slice()] {
-        let found = failing::<Scoreboard>(rt.alloc(), table);
+        let found = failing(rt.alloc(), Policy::AcceptanceOrder, table);
         same(&rt, "first failing", found, None);
     }
 }
@@ -533,7 +503,9 @@ fn ports(rt: HostRuntime) {
 #[test]
 fn right_beats_and_bytes(rt: HostRuntime) {
     let setup = set_up(REGION).expect(&rt, "room");
-    let mut board = Scoreboard::new(rt.alloc(), &setup).expect(&rt, "memory");
+    let mut board = Scoreboard::new(rt.alloc(), Policy::AcceptanceOrder, &setup).expect(
+        &rt, "memory",
+    );
     same(
         &rt,
         "right beats",
@@ -546,13 +518,13 @@ fn right_beats_and_bytes(rt: HostRuntime) {
 /// A beat that its client offers; anything else is no step of a client, and a Pump stands for it.
 fn offer(beat: Beat) -> Step {
     match seen(beat) {
-        Seen::A(client, beat) => Step::Offer(client, beat),
+        ObservedBeat::A(client, beat) => Step::Offer(client, beat),
         _ => Step::Pump,
     }
 }
 
 /// Which of a run's beats a scoreboard finds wrong first, if it finds one.
-fn first_wrong(board: &mut Scoreboard, beats: &[Seen]) -> Option<usize> {
+fn first_wrong(board: &mut Scoreboard, beats: &[ObservedBeat]) -> Option<usize> {
     for (place, beat) in beats.iter().enumerate() {
         if board.judge(beat).is_some() {
             return Some(place);
@@ -597,13 +569,15 @@ fn what_a_run_shows(rt: HostRuntime) {
         let wanted = seen(*beat);
         same(&rt, ("beat", place), beats.get(place), Some(&wanted));
     }
-    let mut board = Scoreboard::new(rt.alloc(), &setup).expect(&rt, "memory");
+    let mut board = Scoreboard::new(rt.alloc(), Policy::AcceptanceOrder, &setup).expect(
+        &rt, "memory",
+    );
     same(&rt, "first wrong", first_wrong(&mut board, &beats), None);
 }
 
 #[test]
 fn refused_set_up(rt: HostRuntime) {
-    let fault = refusal::<Scoreboard>(rt.alloc());
+    let fault = refusal(rt.alloc(), Policy::AcceptanceOrder);
     same(&rt, "a region of no pages", fault, Some(EMPTY_REGION));
 }
 

@@ -1,8 +1,12 @@
--- What a scoreboard holds, what it says of a beat, and what it holds after it.
-use Rattle.std.specs.Prelude.{ℕ, ◌≡◌, ◌==◌, ◌+◌, Bool, true, false, ◌&&◌, ◌||◌, not, List, [], ◌∷◌, map, filter, length, sum_by, slice_index_or, Option, Some, None, Result, Ok, Err, if◌then◌else◌, slice_get, slice_set, drop, replicate}
+-- What a scoreboard holds, what it says of a beat, and what it holds after it, by its policy: whether the accepted requests take effect in order of
+-- acceptance, or those in flight together in any order. By the second a source is free from its reply's first beat on, a payload is compared where it
+-- tells a determined byte, so that the board keeps which bytes are determined, and W beats may come before their AW.
+use Rattle.std.specs.Prelude.{ℕ, ◌≡◌, ◌+◌, ◌-◌, ◌*◌, ◌==◌, Bool, true, false, ◌&&◌, not, List, [], ◌∷◌, map, length, sum_by, Option, Some, None, Result, Ok, Err, if◌then◌else◌, slice_get, slice_set}
 use Rattle.std.specs.Bool.{beq}
-use Rattle.std.specs.List.{range_with_len}
+use Rattle.std.specs.List.{flat_map, list_any, range_with_len}
+use Rattle.bus_words.specs.Lanes.{lane_byte, word_address}
 use Rattle.bus_words.specs.Tables.{first_broken}
+use Rattle.tl_messages.specs.Operations.{beats_of}
 use Rattle.tl_messages.specs.Requests.{HeldMessage, request_of}
 use Rattle.tl_messages.specs.declared.ABeat.{ABeat}
 use Rattle.tl_messages.specs.declared.DBeat.{DBeat}
@@ -11,85 +15,51 @@ use Rattle.tl_checker.specs.RequestRules.{TlPortLimits}
 use Rattle.tl_checker.specs.declared.Progress.{Progress}
 use Rattle.tl_checker.specs.declared.Progress.TheVariants.{More, Whole}
 use Rattle.tl_checker.specs.declared.TlRule.{TlRule}
-use Rattle.axi_checker.specs.OpenBursts.{OpenBursts, nothing_open, open_after}
-use Rattle.axi_checker.specs.declared.AxiBeat.{AxiBeat}
-use Rattle.axi_checker.specs.Rules.{AxiPortLimits, axi_fault}
-use Rattle.axi_checker.specs.declared.AxiRule.{AxiRule}
+use Rattle.axi_checker.specs.OpenBursts.{nothing_open}
 use Rattle.responses.specs.Shown.{shown}
 use Rattle.config.specs.Configs.{axi_port_of, port_of}
 use Rattle.config.specs.declared.Config.{Config}
 use Rattle.setups.specs.Setups.{SetupLists, faults_of}
 use Rattle.meaning.specs.Meaning.{zeros}
-use Rattle.scoreboard.specs.SerialMemory.{Memory, MemoryState, carried_out, meaning_in, memory_of}
+use Rattle.scoreboard.specs.AxiPorts.{PortBoard, drained, none_early, port_after, port_wrong}
+use Rattle.scoreboard.specs.Flights.{Flights, Footprint, InFlight, each_flight, flights_after, in_flight, is_busy, next_reply, no_flights, no_footprint, replies_left, with_flight}
+use Rattle.scoreboard.specs.Races.{after_joining, flight_beside, joining}
+use Rattle.scoreboard.specs.SerialMemory.{Memory, carried_out, meaning_in, place_in}
+use Rattle.scoreboard.specs.declared.Policy.{Policy}
+use Rattle.scoreboard.specs.declared.Policy.TheVariants.{AcceptanceOrder, RealTime}
 use Rattle.scoreboard.specs.declared.ReplyRule.{ReplyRule}
 use Rattle.scoreboard.specs.declared.ReplyRule.TheVariants as rule
-use Rattle.scoreboard.specs.declared.Seen.{Seen}
-use Rattle.scoreboard.specs.declared.Seen.TheVariants.{A, D, Axi as OnAxi, Drained}
+use Rattle.scoreboard.specs.declared.ReplyRule.TheVariants.{Payload}
+use Rattle.scoreboard.specs.declared.ObservedBeat.{ObservedBeat}
+use Rattle.scoreboard.specs.declared.ObservedBeat.TheVariants.{A, D, Axi as OnAxi, Drained}
 use Rattle.scoreboard.specs.declared.Wrong.{Wrong}
-use Rattle.scoreboard.specs.declared.Wrong.TheVariants.{NoClient, Request, Reply, Axi}
+use Rattle.scoreboard.specs.declared.Wrong.TheVariants.{NoClient, Request, Reply}
 
--- the replies that are due to a client: for each source from 0 to 255 the beats of the one of which none came, and the beats that are left of
--- the one that has begun
-pub record DueBoard : Type 0 where
-  pub due : List (List DBeat)
-  pub begun : List DBeat
-
--- a client: its port's limits, the message that has begun on channel A, and the replies that are due to it
+-- a client: its port's limits, the message that has begun on channel A, and its requests in flight
 pub record ClientBoard : Type 0 where
   pub limits : TlPortLimits
   pub front : Option HeldMessage
-  pub replies : DueBoard
+  pub flights : Flights
 
--- each client by its number, the memory as the accepted requests leave it, and what is outstanding on the AXI4 port
+-- each client by its number; the memory as the accepted requests leave it in order of acceptance; which of its bytes aren't the same in every order; and
+-- what is outstanding on the AXI4 port, and early
 pub record Board : Type 0 where
   pub clients : List ClientBoard
   pub memory : Memory
-  pub port : AxiPortLimits
-  pub open_bursts : OpenBursts
-
--- the same as it is held
-pub record BoardState : Type 0 where
-  pub clients : List ClientBoard
-  pub memory : MemoryState
-  pub port : AxiPortLimits
-  pub open_bursts : OpenBursts
-
-abbrev pub board_of : BoardState → Board
-board_of state =
-    record { clients = state.clients; memory = memory_of state.memory; port = state.port; open_bursts = state.open_bursts }
+  pub indeterminate : ℕ → Bool
+  pub axi : PortBoard
 
 -- ---- channel A
 
--- whether the next of some beats is of a source
-abbrev pub has_source : ℕ → List DBeat → Bool
-has_source source [] = false
-has_source source (beat ∷ beats) = beat.source == source
-
-abbrev pub none_left : List DBeat → Bool
-none_left [] = true
-none_left (beat ∷ beats) = false
-
--- the reply to a source's request, of which no beat came
-abbrev pub due_of : DueBoard → ℕ → List DBeat
-due_of replies source = slice_index_or replies.due source []
-
--- whether the whole reply of a source's request is still to be seen
-abbrev pub is_busy : DueBoard → ℕ → Bool
-is_busy replies source = not (none_left (due_of replies source)) || has_source source replies.begun
-
 -- what a client's port answers to a beat
-abbrev pub answer_to : ClientBoard → ABeat → Result Progress TlRule
-answer_to client beat = judged client.limits client.front beat (is_busy client.replies beat.source)
+abbrev pub answer_to : Policy → ClientBoard → ABeat → Result Progress TlRule
+answer_to policy client beat = judged client.limits client.front beat (is_busy policy client.flights beat.source)
 
 abbrev pub wrong_request : Result Progress TlRule → Option Wrong
 wrong_request (Ok progress) = None
 wrong_request (Err rule) = Some (Request rule)
 
 -- ---- channel D
-
--- the reply whose next beat may come: the one that has begun, else the one that is due to the beat's source
-abbrev pub next_reply : DueBoard → ℕ → List DBeat
-next_reply replies source = if none_left replies.begun then due_of replies source else replies.begun
 
 -- how a beat differs from the one that is due
 abbrev pub reply_rules : DBeat → DBeat → List (Bool × ReplyRule)
@@ -107,134 +77,156 @@ wrong_by due None = None
 wrong_by due (Some broken) = Some (Reply broken (Some due))
 
 -- what is wrong with a beat, by the beats that are left of the reply whose next it may be
-abbrev pub wrong_reply : List DBeat → DBeat → Option Wrong
-wrong_reply [] beat = Some (Reply rule.Unasked None)
-wrong_reply (due ∷ rest) beat = wrong_by due (first_broken (reply_rules due beat))
+abbrev pub wrong_beat : List DBeat → DBeat → Option Wrong
+wrong_beat [] beat = Some (Reply rule.Unasked None)
+wrong_beat (due ∷ rest) beat = wrong_by due (first_broken (reply_rules due beat))
+
+-- whether two payloads differ in a lane of beat k of a reply, and the byte there is determined
+abbrev pub differs_in : Footprint → ℕ → ℕ → ℕ → ℕ → Bool
+differs_in footprint k due payload lane =
+    footprint.determined (word_address footprint.address + 8 * k + lane) && not (lane_byte due lane == lane_byte payload lane)
+
+-- whether a beat, as beat k of a reply, tells of a determined byte something else than the one that is due; corrupt beats tell of none
+abbrev pub tells_otherwise : Footprint → ℕ → DBeat → DBeat → Bool
+tells_otherwise footprint k due beat =
+    footprint.reads && not due.corrupt && list_any (differs_in footprint k due.payload beat.payload) (range_with_len 0 8)
+
+abbrev pub is_payload : ReplyRule → Bool
+is_payload Payload = true
+is_payload rule = false
+
+-- another payload is wrong only if it tells otherwise of a determined byte
+abbrev pub unless_indeterminate : Bool → Option ReplyRule → Option ReplyRule
+unless_indeterminate otherwise None = None
+unless_indeterminate otherwise (Some rule) = if is_payload rule && not otherwise then None else Some rule
+
+-- the same of a request with this footprint: what it tells of indeterminate bytes isn't wrong
+abbrev pub wrong_told : Footprint → List DBeat → DBeat → Option Wrong
+wrong_told footprint [] beat = Some (Reply rule.Unasked None)
+wrong_told footprint (due ∷ rest) beat =
+    wrong_by due (unless_indeterminate (tells_otherwise footprint (beats_of footprint.size true - length (due ∷ rest)) due beat) (first_broken (reply_rules due beat)))
+
+-- what is wrong with a beat, by the request whose reply has its next beat there
+abbrev pub wrong_reply : Policy → Option InFlight → DBeat → Option Wrong
+wrong_reply policy None beat = Some (Reply rule.Unasked None)
+wrong_reply AcceptanceOrder (Some flight) beat = wrong_beat flight.beats beat
+wrong_reply RealTime (Some flight) beat = wrong_told flight.footprint flight.beats beat
 
 -- ---- one beat
 
-abbrev pub wrong_axi : Option AxiRule → Option Wrong
-wrong_axi None = None
-wrong_axi (Some broken) = Some (Axi broken)
+abbrev pub a_wrong : Policy → Option ClientBoard → ABeat → Option Wrong
+a_wrong policy None beat = Some NoClient
+a_wrong policy (Some client) beat = wrong_request (answer_to policy client beat)
 
-abbrev pub axi_wrong : Board → AxiBeat → Option Wrong
-axi_wrong board beat = wrong_axi (axi_fault board.port board.open_bursts beat)
-
-abbrev pub a_wrong : Option ClientBoard → ABeat → Option Wrong
-a_wrong None beat = Some NoClient
-a_wrong (Some client) beat = wrong_request (answer_to client beat)
-
-abbrev pub d_wrong : Option ClientBoard → DBeat → Option Wrong
-d_wrong None beat = Some NoClient
-d_wrong (Some client) beat = wrong_reply (next_reply client.replies beat.source) beat
+abbrev pub d_wrong : Policy → Option ClientBoard → DBeat → Option Wrong
+d_wrong policy None beat = Some NoClient
+d_wrong policy (Some client) beat = wrong_reply policy (next_reply client.flights beat.source) beat
 
 -- what is wrong with a beat, if anything is
-abbrev pub wrong_at : Board → Seen → Option Wrong
-wrong_at board (A client beat) = a_wrong (slice_get board.clients client) beat
-wrong_at board (D client beat) = d_wrong (slice_get board.clients client) beat
-wrong_at board (OnAxi beat) = axi_wrong board beat
-wrong_at board Drained = None
+abbrev pub wrong_at : Policy → Board → ObservedBeat → Option Wrong
+wrong_at policy board (A client beat) = a_wrong policy (slice_get board.clients client) beat
+wrong_at policy board (D client beat) = d_wrong policy (slice_get board.clients client) beat
+wrong_at policy board (OnAxi beat) = port_wrong policy board.axi beat
+wrong_at policy board Drained = None
+
+-- ---- a request is accepted: it is carried out, its reply is due, and it is in flight
+
+-- the footprints of all requests in flight
+abbrev pub footprints_of : List ClientBoard → List Footprint
+footprints_of clients = flat_map (λ client. map (λ flight. flight.footprint) (in_flight client.flights)) clients
+
+-- a client when a request of this footprint has joined those in flight
+abbrev pub client_beside : Footprint → ClientBoard → ClientBoard
+client_beside footprint client = record client { flights = each_flight (flight_beside footprint) client.flights }
+
+-- a request that is accepted
+abbrev pub flight_for : Memory → Footprint → HeldMessage → InFlight
+flight_for memory footprint message =
+    record { source = message.source; beats = shown (request_of message) (meaning_in memory (request_of message)).reply; footprint = footprint }
+
+-- its client
+abbrev pub with_accepted : InFlight → ClientBoard → ClientBoard
+with_accepted flight client = record client { front = None; flights = with_flight flight client.flights }
+
+-- its footprint beside those in flight
+abbrev pub joining_on : Board → HeldMessage → Footprint
+joining_on board message = joining board.indeterminate (footprints_of board.clients) (place_in board.memory (request_of message)) (request_of message)
+
+-- the board where it has this footprint beside those in flight
+abbrev pub joined_on : Board → ℕ → ClientBoard → HeldMessage → Footprint → Board
+joined_on board number client message footprint =
+    record board {
+      clients = slice_set (map (client_beside footprint) board.clients) number (with_accepted (flight_for board.memory footprint message) (client_beside footprint client));
+      memory = carried_out board.memory (request_of message);
+      indeterminate = after_joining board.indeterminate (footprints_of board.clients) footprint (request_of message).bytes;
+    }
+
+-- the board where a client's message is accepted. Where requests take effect in order of acceptance no footprint is kept
+abbrev pub accepted_on : Policy → Board → ℕ → ClientBoard → HeldMessage → Board
+accepted_on AcceptanceOrder board number client message =
+    record board {
+      clients = slice_set board.clients number (with_accepted (flight_for board.memory no_footprint message) client);
+      memory = carried_out board.memory (request_of message);
+    }
+accepted_on RealTime board number client message = joined_on board number client message (joining_on board message)
 
 -- ---- the board after a beat; one that is wrong changes nothing, but a reply's beat counts as come whatever it shows
 
 abbrev pub with_client : ℕ → ClientBoard → Board → Board
 with_client number changed board = record board { clients = slice_set board.clients number changed }
 
--- a client whose request is whole: its reply is due
-abbrev pub with_due : ClientBoard → ℕ → List DBeat → ClientBoard
-with_due client source beats = record client { front = None; replies = record client.replies { due = slice_set client.replies.due source beats } }
-
--- a client after its port's answer to a beat: where a request is whole, its reply is due
-abbrev pub client_after : Memory → ClientBoard → ABeat → Result Progress TlRule → ClientBoard
-client_after memory client beat (Err broken) = client
-client_after memory client beat (Ok More) = record client { front = Some (joined client.limits client.front beat) }
-client_after memory client beat (Ok Whole) =
-    with_due client (joined client.limits client.front beat).source
-    (shown (request_of (joined client.limits client.front beat)) (meaning_in memory (request_of (joined client.limits client.front beat))).reply)
-
--- the memory after it: a request that is whole is accepted, and carried out at once
-abbrev pub memory_after : Memory → ClientBoard → ABeat → Result Progress TlRule → Memory
-memory_after memory client beat (Err broken) = memory
-memory_after memory client beat (Ok More) = memory
-memory_after memory client beat (Ok Whole) = carried_out memory (request_of (joined client.limits client.front beat))
-
--- the reply to a source's request begins
-abbrev pub begin_reply : DueBoard → ℕ → DueBoard
-begin_reply replies source = record { due = slice_set replies.due source []; begun = due_of replies source }
-
--- a beat of the reply that has begun has come, where it is of its source
-abbrev pub after_begun : DueBoard → DBeat → DueBoard
-after_begun replies beat = if has_source beat.source replies.begun then record replies { begun = drop 1 replies.begun } else replies
-
--- the replies after a beat on channel D: where none has begun that of the beat's source begins
-abbrev pub after_reply_beat : DueBoard → DBeat → DueBoard
-after_reply_beat replies beat = if none_left replies.begun then after_begun (begin_reply replies beat.source) beat else after_begun replies beat
+-- after a client's port has answered, by the message with this beat
+abbrev pub answered_on : Policy → Board → ℕ → ClientBoard → HeldMessage → Result Progress TlRule → Board
+answered_on policy board number client message (Err broken) = board
+answered_on policy board number client message (Ok More) = with_client number (record client { front = Some message }) board
+answered_on policy board number client message (Ok Whole) = accepted_on policy board number client message
 
 -- after a beat on channel A; of no client, nothing changes
-abbrev pub after_a : Board → ℕ → Option ClientBoard → ABeat → Board
-after_a old number None beat = old
-after_a old number (Some client) beat =
-    record old {
-      clients = slice_set old.clients number (client_after old.memory client beat (answer_to client beat));
-      memory = memory_after old.memory client beat (answer_to client beat);
-    }
+abbrev pub after_a : Policy → Board → ℕ → Option ClientBoard → ABeat → Board
+after_a policy old number None beat = old
+after_a policy old number (Some client) beat = answered_on policy old number client (joined client.limits client.front beat) (answer_to policy client beat)
 
 -- after a beat on channel D
 abbrev pub after_d : Board → ℕ → Option ClientBoard → DBeat → Board
 after_d old number None beat = old
-after_d old number (Some client) beat = with_client number (record client { replies = after_reply_beat client.replies beat }) old
-
--- the outstanding bursts after a beat, by the rule that it breaks
-abbrev pub bursts_after : OpenBursts → AxiBeat → Option AxiRule → OpenBursts
-bursts_after open_bursts beat None = open_after open_bursts beat
-bursts_after open_bursts beat (Some broken) = open_bursts
-
-abbrev pub after_axi : Board → AxiBeat → Board
-after_axi old beat = record old { open_bursts = bursts_after old.open_bursts beat (axi_fault old.port old.open_bursts beat) }
+after_d old number (Some client) beat = with_client number (record client { flights = flights_after client.flights beat.source }) old
 
 -- the board after a beat
-abbrev pub after_seen : Board → Seen → Board
-after_seen old (A client beat) = after_a old client (slice_get old.clients client) beat
-after_seen old (D client beat) = after_d old client (slice_get old.clients client) beat
-after_seen old (OnAxi beat) = after_axi old beat
-after_seen old Drained = record old { open_bursts = nothing_open }
+abbrev pub after_seen : Policy → Board → ObservedBeat → Board
+after_seen policy old (A client beat) = after_a policy old client (slice_get old.clients client) beat
+after_seen policy old (D client beat) = after_d old client (slice_get old.clients client) beat
+after_seen policy old (OnAxi beat) = record old { axi = port_after policy old.axi beat }
+after_seen policy old Drained = record old { axi = drained old.axi }
 
 -- ---- what isn't finished
 
--- how many replies of a client aren't whole
-abbrev pub replies_left : DueBoard → ℕ
-replies_left replies = length (filter (λ beats. not (none_left beats)) replies.due) + (if none_left replies.begun then 0 else 1)
-
 -- how many accepted requests have a reply that isn't whole
 abbrev pub replies_open : List ClientBoard → ℕ
-replies_open clients = sum_by (λ client. replies_left client.replies) clients
+replies_open clients = sum_by (λ client. replies_left client.flights) clients
 
 -- ---- at the start
 
-abbrev pub opening_due : DueBoard
-opening_due = record { due = replicate 256 []; begun = [] }
-
 abbrev pub opening_client : Config → ℕ → ClientBoard
-opening_client config client = record { limits = port_of config client; front = None; replies = opening_due }
+opening_client config client = record { limits = port_of config client; front = None; flights = no_flights }
 
--- nothing was observed, and all bytes are zero
+-- nothing was observed, all bytes are zero, and none is indeterminate
 abbrev pub opening_board : SetupLists → Board
 opening_board setup =
     record {
       clients = map (opening_client setup.config) (range_with_len 0 setup.config.clients);
       memory = record { regions = setup.regions; faults = faults_of setup; bytes = zeros };
-      port = axi_port_of setup.config;
-      open_bursts = nothing_open;
+      indeterminate = λ x. false;
+      axi = none_early (axi_port_of setup.config) nothing_open;
     }
 
 -- ---- lists of beats
 
 -- the board after beats, whatever it finds of each
-abbrev pub after_all : Board → List Seen → Board
-after_all board [] = board
-after_all board (seen ∷ rest) = after_all (after_seen board seen) rest
+abbrev pub after_all : Policy → Board → List ObservedBeat → Board
+after_all policy board [] = board
+after_all policy board (seen ∷ rest) = after_all policy (after_seen policy board seen) rest
 
 -- the board after beats of which none was wrong
-abbrev pub IsReached : Board → List Seen → Board → Type 0
-IsReached start [] board = board ≡ start
-IsReached start (seen ∷ rest) board = (wrong_at start seen ≡ None) × IsReached (after_seen start seen) rest board
+abbrev pub IsReached : Policy → Board → List ObservedBeat → Board → Type 0
+IsReached policy start [] board = board ≡ start
+IsReached policy start (seen ∷ rest) board = (wrong_at policy start seen ≡ None) × IsReached policy (after_seen policy start seen) rest board

@@ -1,9 +1,137 @@
--- What every observed beat has.
-use Rattle.std.specs.Prelude.{◌<◌, ⊤}
-use Rattle.scoreboard.specs.declared.Seen.{Seen}
-use Rattle.scoreboard.specs.declared.Seen.TheVariants.{D}
+-- A board as it is held: of each request in flight a list of flags, of which those of its bytes count; and the memory's pages again, whose bytes aren't
+-- zero where they are indeterminate.
+use Rattle.std.specs.Prelude.{ℕ, ◌≡◌, ◌+◌, ◌-◌, ◌^◌, ◌<◌, ◌==◌, ⊤, Bool, true, false, ◌&&◌, not, List, length, map, Option, Some, None, Result, Ok, Err, nat_le, nat_lt, slice_index_or, slice_set}
+use Rattle.std.specs.List.{AllByRecursion, list_any}
+use Rattle.std.specs.Option.{option_map}
+use Rattle.bus_words.specs.Places.{AreDistinct}
+use Rattle.tl_messages.specs.Requests.{HeldMessage, request_of}
+use Rattle.tl_messages.specs.declared.DBeat.{DBeat}
+use Rattle.tl_checker.specs.RequestRules.{TlPortLimits}
+use Rattle.tl_checker.specs.declared.Progress.{Progress}
+use Rattle.tl_checker.specs.declared.Progress.TheVariants.{More, Whole}
+use Rattle.tl_checker.specs.declared.TlRule.{TlRule}
+use Rattle.subordinate.specs.Faults.{Faults, is_good, standing_at}
+use Rattle.subordinate.specs.InsidePages.{PagesState}
+use Rattle.scoreboard.specs.AxiPorts.{PortBoard}
+use Rattle.scoreboard.specs.Boards.{Board, ClientBoard, flight_for, with_accepted}
+use Rattle.scoreboard.specs.Flights.{Flights, Footprint, InFlight, is_of_source}
+use Rattle.scoreboard.specs.InsideSerial.{bytes_in}
+use Rattle.scoreboard.specs.SerialMemory.{MemoryState, carried_out, memory_of}
+use Rattle.scoreboard.specs.declared.Policy.{Policy}
+use Rattle.scoreboard.specs.declared.Policy.TheVariants.{AcceptanceOrder, RealTime}
 
--- a beat on channel D has a source from 0 to 255
-abbrev pub HasSource : Seen → Type 0
-HasSource (D client beat) = beat.source < 256
-HasSource _ = ⊤
+-- a footprint, whose determined bytes are flags by their place in its range
+pub record FootprintState : Type 0 where
+  pub reads : Bool
+  pub writes : Bool
+  pub address : ℕ
+  pub size : ℕ
+  pub determined : List Bool
+
+-- a request in flight
+pub record FlightState : Type 0 where
+  pub source : ℕ
+  pub beats : List DBeat
+  pub footprint : FootprintState
+
+-- a client's requests in flight, each with room for so many flags
+pub record FlightsState : Type 0 where
+  pub room : ℕ
+  pub due : List FlightState
+  pub begun : Option FlightState
+
+-- a client
+pub record ClientState : Type 0 where
+  pub limits : TlPortLimits
+  pub front : Option HeldMessage
+  pub flights : FlightsState
+
+-- a board, which has one policy throughout; with room for a request that came whole, and for its flight
+pub record BoardState : Type 0 where
+  pub policy : Policy
+  pub clients : List ClientState
+  pub memory : MemoryState
+  pub indeterminate : PagesState
+  pub axi : PortBoard
+  pub request : HeldMessage
+  pub joining : FlightState
+
+-- ---- what they stand for
+
+-- whether a byte is one of a request's, and determined
+abbrev pub determined_in : FootprintState → ℕ → Bool
+determined_in footprint x = nat_le footprint.address x && nat_lt x (footprint.address + 2 ^ footprint.size) && slice_index_or footprint.determined (x - footprint.address) false
+
+abbrev pub footprint_of : FootprintState → Footprint
+footprint_of footprint = record { reads = footprint.reads; writes = footprint.writes; address = footprint.address; size = footprint.size; determined = determined_in footprint }
+
+abbrev pub flight_of : FlightState → InFlight
+flight_of flight = record { source = flight.source; beats = flight.beats; footprint = footprint_of flight.footprint }
+
+abbrev pub flights_of : FlightsState → Flights
+flights_of flights = record { due = map flight_of flights.due; begun = option_map flight_of flights.begun }
+
+abbrev pub client_of : ClientState → ClientBoard
+client_of client = record { limits = client.limits; front = client.front; flights = flights_of client.flights }
+
+-- whether a byte is indeterminate
+abbrev pub is_marked : PagesState → ℕ → Bool
+is_marked pages x = not (bytes_in pages x == 0)
+
+abbrev pub board_of : BoardState → Board
+board_of state =
+    record { clients = map client_of state.clients; memory = memory_of state.memory; indeterminate = is_marked state.indeterminate; axi = state.axi }
+
+-- ---- channel A
+
+-- the message that has begun after an answer, by the message with this beat
+abbrev pub front_after : Option HeldMessage → HeldMessage → Result Progress TlRule → Option HeldMessage
+front_after front message (Err broken) = front
+front_after front message (Ok More) = Some message
+front_after front message (Ok Whole) = None
+
+-- a message that has begun is of a source to which no reply is due
+abbrev pub IsFrontFree : Option HeldMessage → Flights → Type 0
+IsFrontFree None flights = ⊤
+IsFrontFree (Some message) flights = list_any (is_of_source message.source) flights.due ≡ false
+
+-- a client that has begun nothing, and to which no reply is due for a source
+pub record IsFreeOf (source : ℕ) (client : ClientBoard) : Type 0 where
+  pub front : client.front ≡ None
+  pub free : list_any (is_of_source source) client.flights.due ≡ false
+
+-- a board where a client's message is carried out, and in flight with a footprint
+abbrev pub with_taken : Board → ℕ → ClientBoard → HeldMessage → Footprint → Board
+with_taken board number client message footprint =
+    record board {
+      clients = slice_set board.clients number (with_accepted (flight_for board.memory footprint message) client);
+      memory = carried_out board.memory (request_of message);
+    }
+
+-- ---- what stays so
+
+-- how many flags the footprints have room for
+abbrev pub room_by : Policy → ℕ
+room_by AcceptanceOrder = 1
+room_by RealTime = 4096
+
+-- all have this room
+abbrev pub HaveRoom : ℕ → List FlightState → Type 0
+HaveRoom room flights = AllByRecursion (λ flight. length flight.footprint.determined ≡ room) flights
+
+-- those of whose reply no beat came: no two are of one source, which is a byte
+pub record AreDue (room : ℕ) (due : List FlightState) : Type 0 where
+  pub rooms : HaveRoom room due
+  pub bytes : AllByRecursion (λ source. source < 256) (map (λ flight. flight.source) due)
+  pub distinct : AreDistinct (map (λ flight. flight.source) due)
+
+-- all clients' have this room
+abbrev pub ClientsHaveRoom : ℕ → List ClientState → Type 0
+ClientsHaveRoom room clients = AllByRecursion (λ client. client.flights.room ≡ room) clients
+
+-- a request that may write acts on a good page
+abbrev pub IsOnGoodPage : Faults → Footprint → Type 0
+IsOnGoodPage faults footprint = footprint.writes ≡ true → is_good (standing_at faults footprint.address) ≡ true
+
+abbrev pub AreOnGoodPages : Faults → List Footprint → Type 0
+AreOnGoodPages faults footprints = AllByRecursion (IsOnGoodPage faults) footprints

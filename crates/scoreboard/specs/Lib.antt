@@ -1,7 +1,13 @@
+pub mod AxiPorts
 pub mod Boards
+pub mod Flights
 pub mod InsideBoards
 pub mod InsideSerial
 pub mod Names
 pub mod Observed
+pub mod Orders
+pub mod Races
+pub mod RealTime
 pub mod Right
 pub mod SerialMemory
+pub mod Wider

@@ -6,8 +6,8 @@ use Rattle.tl_messages.specs.declared.ABeat.{ABeat}
 use Rattle.tl_messages.specs.declared.DBeat.{DBeat}
 use Rattle.axi_checker.specs.declared.AxiBeat.{AxiBeat}
 use Rattle.meaning.specs.InTurn.{AcceptedMessage, requests_of}
-use Rattle.scoreboard.specs.declared.Seen.{Seen}
-use Rattle.scoreboard.specs.declared.Seen.TheVariants.{A, D, Axi as OnAxi, Drained}
+use Rattle.scoreboard.specs.declared.ObservedBeat.{ObservedBeat}
+use Rattle.scoreboard.specs.declared.ObservedBeat.TheVariants.{A, D, Axi as OnAxi, Drained}
 
 -- the messages that came whole, of all clients in the order of their last beats; for each client the beats of the message that it has begun;
 -- for each client and source the beats on channel D; and the beats of the AXI4 port since it last went unwatched until nothing was outstanding
@@ -59,7 +59,7 @@ abbrev pub with_axi_beat : AxiBeat → Observed → Observed
 with_axi_beat beat observed = record observed { axi = observed.axi ++ beat ∷ [] }
 
 -- whichever it is; after a time unwatched the AXI4 port begins anew
-abbrev pub with_seen : Observed → Seen → Observed
+abbrev pub with_seen : Observed → ObservedBeat → Observed
 with_seen observed (A client beat) = with_request_beat client beat observed
 with_seen observed (D client beat) = with_reply_beat client beat observed
 with_seen observed (OnAxi beat) = with_axi_beat beat observed
@@ -68,10 +68,10 @@ with_seen observed Drained = record observed { axi = [] }
 -- ---- a list of beats
 
 -- each of them more
-abbrev pub with_all : Observed → List Seen → Observed
+abbrev pub with_all : Observed → List ObservedBeat → Observed
 with_all observed [] = observed
 with_all observed (seen ∷ rest) = with_all (with_seen observed seen) rest
 
 -- what they are, sorted
-abbrev pub observed_in : List Seen → Observed
+abbrev pub observed_in : List ObservedBeat → Observed
 observed_in seen = with_all nothing_observed seen

@@ -13,11 +13,11 @@ use Rattle.responses.specs.Shown.{Reply, shown}
 use Rattle.meaning.specs.InTurn.{IsSpelled, replies_of}
 use Rattle.setups.specs.Setups.{SetupLists}
 use Rattle.scoreboard.specs.Observed.{Observed, observed_in, requests_in}
-use Rattle.scoreboard.specs.declared.Seen.{Seen}
-use Rattle.scoreboard.specs.declared.Seen.TheVariants.{A, D}
+use Rattle.scoreboard.specs.declared.ObservedBeat.{ObservedBeat}
+use Rattle.scoreboard.specs.declared.ObservedBeat.TheVariants.{A, D}
 
 -- an observed TileLink beat is of a client that is there
-abbrev pub HasClient : ℕ → Seen → Type 0
+abbrev pub HasClient : ℕ → ObservedBeat → Type 0
 HasClient clients (A client beat) = client < clients
 HasClient clients (D client beat) = client < clients
 HasClient clients _ = ⊤
@@ -67,35 +67,35 @@ pub record IsPartly (replies : List (List DBeat)) (told : List DBeat) : Type 0 w
 abbrev pub IsFree : SetupLists → Observed → ℕ → List ABeat → Type 0
 IsFree setup observed client [] = ⊤
 IsFree setup observed client (first ∷ rest) =
-    first.source < 256 → left_of (replies_to setup observed client first.source) (observed.told client first.source) ≡ []
+    left_of (replies_to setup observed client first.source) (observed.told client first.source) ≡ []
 
 -- ---- a moment
 
--- what was observed up to a moment. A source is one of 0 to 255
+-- what was observed up to a moment
 pub record IsRightNow (setup : SetupLists) (observed : Observed) : Type 0 where
   -- the messages that came whole are spelled by clients of the set-up, and what else came on a channel A begins one
   pub spelled : AllByRecursion (IsSpelled setup) (zip observed.messages (requests_in observed))
   pub as_many : length (requests_in observed) ≡ length observed.messages
   pub begun : (client : ℕ) → IsFront (port_of setup.config client) (observed.begun client)
   -- each client was told, for each of its sources, the replies to its requests, of which at most the last isn't whole
-  pub told : (client source : ℕ) → source < 256 → IsTold (replies_to setup observed client source) (observed.told client source)
+  pub told : (client source : ℕ) → IsTold (replies_to setup observed client source) (observed.told client source)
   pub free : (client : ℕ) → IsFree setup observed client (observed.begun client)
   -- no beat of the AXI4 port broke a rule where it came
   pub axi : first_axi_fault (axi_port_of setup.config) nothing_open observed.axi ≡ None
 
 -- while a reply has begun on a client's channel, the next beat there is of its source
-abbrev pub IsContiguous : SetupLists → Observed → Seen → Type 0
+abbrev pub IsContiguous : SetupLists → Observed → ObservedBeat → Type 0
 IsContiguous setup observed (D client beat) =
-    (source : ℕ) → source < 256 → IsPartly (replies_to setup observed client source) (observed.told client source) → source ≡ beat.source
+    (source : ℕ) → IsPartly (replies_to setup observed client source) (observed.told client source) → source ≡ beat.source
 IsContiguous setup observed _ = ⊤
 
 -- ---- whole lists
 
 -- what was observed is right
-pub record IsRight (setup : SetupLists) (seen : List Seen) : Type 0 where
+pub record IsRight (setup : SetupLists) (seen : List ObservedBeat) : Type 0 where
   -- each TileLink beat is of a client that is there
   pub clients : AllByRecursion (HasClient setup.config.clients) seen
   -- it was right at each moment
-  pub always : (before after : List Seen) → seen ≡ before ++ after → IsRightNow setup (observed_in before)
+  pub always : (before after : List ObservedBeat) → seen ≡ before ++ after → IsRightNow setup (observed_in before)
   -- the beats of a reply aren't interleaved with others on its channel
-  pub contiguous : (before after : List Seen) (next : Seen) → seen ≡ before ++ next ∷ after → IsContiguous setup (observed_in before) next
+  pub contiguous : (before after : List ObservedBeat) (next : ObservedBeat) → seen ≡ before ++ next ∷ after → IsContiguous setup (observed_in before) next

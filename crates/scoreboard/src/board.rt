@@ -1,67 +1,99 @@
 //! The scoreboard.
-ghost use Rattle.std.specs.Prelude.{◌≡◌, ◌<◌, ◌≤◌, ◌⊎◌, ◌↔◌, List, [], ◌∷◌, ◌++◌, true, length, map, sum_by, if◌then◌else◌, None, Some, Err, IfErr, IfOk, IfSome, slice_get};
+ghost use Rattle.std.specs.Prelude.{◌≡◌, ◌<◌, ◌≤◌, ◌%◌, ◌⊎◌, ◌↔◌, ℕ, List, [], ◌∷◌, ◌++◌, true, false, length, map, None, Some, Err, Ok, IfErr, IfOk, IfSome, IsTrue, slice_get};
 ghost use Rattle.std.specs.List.{range_with_len};
+ghost use Rattle.tl_messages.specs.Operations.{has_data};
+ghost use Rattle.tl_messages.specs.Requests.{bytes_given};
 ghost use Rattle.config.specs.Configs.{is_valid};
-ghost use Rattle.subordinate.specs.Faults.{is_good, standing_at};
 ghost use Rattle.meaning.specs.InTurn.{bytes_of_all};
 ghost use Rattle.setups.specs.Setups.{SetupLists, lists_of, setup_fault};
 ghost use Rattle.setups.specs.declared.SetupFault.TheVariants.{NoMemory};
-ghost use Rattle.scoreboard.specs.Boards.{opening_client, replies_left, replies_open};
-ghost use Rattle.scoreboard.specs.InsideSerial.{bytes_in};
+ghost use Rattle.scoreboard.specs.Boards.{client_beside, footprints_of, opening_client, replies_open};
+ghost use Rattle.scoreboard.specs.InsideBoards.{AreOnGoodPages, ClientsHaveRoom, IsOnGoodPage, client_of, footprint_of, is_marked, room_by};
+ghost use Rattle.scoreboard.specs.Races.{after_joining, beside_all, beside_dependent};
+ghost use Rattle.scoreboard.specs.SerialMemory.{IsCheckedRequest, byte_at, memory_of};
 
-use crate::axi_port::AxiPort;
 use crate::clients::Client;
+use crate::early_port::EarlyPort;
+use crate::footprint::Footprint;
+use crate::in_flight::InFlight;
+use crate::marks::mark_given;
 use crate::serial::SerialMemory;
-use crate::{Seen, Wrong};
+use crate::{ObservedBeat, Policy, Wrong};
 use burst_plan::PageMap;
 use config::Config;
 use setups::{Setup, SetupFault, setup_fault};
 use std::alloc::{AllocError, Global};
 use std::marker::Model;
-use tl_messages::{ABeat, DBeat};
+use subordinate::Pages;
+use tl_checker::{Progress, TlRule};
+use tl_messages::{ABeat, DBeat, Request};
 
 /// Tells of each beat that was observed at the ports of a bridge whether it can be right: that the requests and the AXI4
-/// beats keep their rules, and that the replies are those of the accepted requests, carried out whole, one at a time, in
-/// order of acceptance.
+/// beats keep their rules, and that the replies are those of the accepted requests, carried out whole, one at a time, in an order
+/// that its policy allows: in order of acceptance, or in any in which a request whose whole reply was seen before another was accepted
+/// comes before it.
 ///
-/// A beat that breaks a rule changes nothing, but a beat of a due reply counts as come whatever it shows. All room is taken
-/// by `new`; no other call takes memory.
+/// A beat that breaks a rule changes nothing, but a beat of a due reply counts as come whatever it shows, and an AW that is wrong
+/// for the data before it alone opens its burst. All room is taken by `new`; no other call takes memory.
 pub struct Scoreboard {
+    policy: Policy,
     clients: Vec<Client>,
     serial: SerialMemory,
-    axi: AxiPort,
+    indeterminate: Pages,
+    axi: EarlyPort,
+    request: Request,
+    joining: InFlight,
 }
 
 impl Model for Scoreboard {
-    ghost use Rattle.std.specs.Prelude.{◌≤◌, length};
-    ghost use Rattle.scoreboard.specs.Boards.{BoardState};
+    ghost use Rattle.std.specs.Prelude.{◌≡◌, ◌≤◌, length, map};
+    ghost use Rattle.scoreboard.specs.Boards.{footprints_of};
+    ghost use Rattle.scoreboard.specs.InsideBoards.{AreOnGoodPages, BoardState, ClientsHaveRoom, client_of, room_by};
 
     ghost Value = { BoardState };
 
-    ghost view = { λ b. record { clients = b.clients.items; memory = b.serial; port = b.axi.port; open_bursts = b.axi.open_bursts } };
+    ghost view = { λ b. record { policy = b.policy; clients = b.clients.items; memory = b.serial; indeterminate = b.indeterminate; axi = b.axi; request = b.request; joining = b.joining } };
 
-    ghost invariant = { λ b. length b.clients.items ≤ 8 };
+    ghost invariant = { λ b. (length b.clients.items ≤ 8) × ClientsHaveRoom (room_by b.policy) b.clients.items
+        × (length b.joining.footprint.determined ≡ room_by b.policy) × (b.indeterminate.faults ≡ b.serial.pages.faults)
+        × AreOnGoodPages b.serial.pages.faults (footprints_of (map client_of b.clients.items)) };
 }
 
 // Written out, so that what lets go of one calls this, and proves nothing of its parts.
 impl Drop for Scoreboard {
     fn drop(self) {
         let Scoreboard {
+            policy: _,
             clients: _,
             serial: _,
+            indeterminate: _,
             axi: _,
+            request: _,
+            joining: _,
         } = self;
     }
 }
 
-/// Each client of a set-up, of which nothing was observed.
-fn opening_clients(alloc: Global, config: &Config) -> Result<Vec<Client>, AllocError>
-    requires { is_valid config.now ≡ true }
-    ensures { IfOk result (λ clients. clients.items ≡ map (opening_client config.now) (range_with_len 0 config.now.clients)) }
+/// For how many flags a footprint needs room.
+fn room_by(policy: Policy) -> usize
+    ensures room { result ≡ room_by policy }
+    ensures some { 1 ≤ result }
+{
+    match policy {
+        Policy::AcceptanceOrder => 1,
+        Policy::RealTime => 4096,
+    }
+}
+
+/// Each client of a set-up, of which nothing was observed, with room for so many flags in each footprint.
+fn opening_clients(alloc: Global, config: &Config, room: usize) -> Result<Vec<Client>, AllocError>
+    requires valid { is_valid config.now ≡ true }
+    requires room { 1 ≤ room }
+    ensures { IfOk result (λ clients. (map client_of clients.items ≡ map (opening_client config.now) (range_with_len 0 config.now.clients)) × ClientsHaveRoom room clients.items) }
 {
     let mut clients = Vec::with_capacity(alloc, usize::from(config.clients))?;
     for client in 0..config.clients {
-        clients.push(Client::new(alloc, config, client)?)?;
+        clients.push(Client::new(alloc, config, client, room)?)?;
     }
     Ok(clients)
 }
@@ -69,7 +101,7 @@ fn opening_clients(alloc: Global, config: &Config) -> Result<Vec<Client>, AllocE
 /// How many accepted requests of some clients, at most eight, have a reply that isn't whole.
 fn outstanding_of(clients: &[Client]) -> u16
     requires { length clients.now ≤ 8 }
-    ensures { result ≡ replies_open clients.now }
+    ensures { result ≡ replies_open (map client_of clients.now) }
 {
     let mut count = 0;
     for client in clients {
@@ -78,72 +110,145 @@ fn outstanding_of(clients: &[Client]) -> u16
     count
 }
 
+/// What the requests in flight of some clients may write isn't determined of another request.
+fn limit(joined: &mut InFlight, clients: &[Client])
+    ensures footprint { footprint_of joined.new.footprint ≡ beside_all (footprint_of joined.old.footprint) (footprints_of (map client_of clients.now)) }
+    ensures room { length joined.new.footprint.determined ≡ length joined.old.footprint.determined }
+{
+    for client in clients {
+        client.limit(joined);
+    }
+}
+
+/// All bytes are indeterminate of those requests of some clients of which what they write may depend on another.
+fn mark_beside(marks: &mut Pages, clients: &[Client], other: &Footprint)
+    requires good { AreOnGoodPages marks.old.faults (footprints_of (map client_of clients.now)) }
+    ensures faults { marks.new.faults ≡ marks.old.faults }
+    ensures bytes { is_marked marks.new ≡ beside_dependent (is_marked marks.old) (footprint_of other.now) (footprints_of (map client_of clients.now)) }
+{
+    for client in clients {
+        client.mark(marks, other);
+    }
+}
+
+/// What is indeterminate after a request that joins those of some clients.
+fn mark_written(marks: &mut Pages, clients: &[Client], footprint: &Footprint, request: &Request)
+    requires checked { IsCheckedRequest request.now }
+    requires same_byte { footprint.now.writes ≡ true → footprint.now.address % 4096 ≡ request.now.address % 4096 }
+    requires size { footprint.now.size ≡ request.now.size }
+    requires data { footprint.now.writes ≡ true → IsTrue (has_data request.now.operation) }
+    requires own { IsOnGoodPage marks.old.faults (footprint_of footprint.now) }
+    requires others { AreOnGoodPages marks.old.faults (footprints_of (map client_of clients.now)) }
+    ensures faults { marks.new.faults ≡ marks.old.faults }
+    ensures bytes { is_marked marks.new ≡ after_joining (is_marked marks.old) (footprints_of (map client_of clients.now)) (footprint_of footprint.now) (bytes_given request.now) }
+{
+    if !footprint.writes() {
+        return;
+    }
+    mark_given(marks, footprint, request);
+    mark_beside(marks, clients, footprint);
+}
+
+/// What a request may write isn't determined of the requests in flight of some clients.
+fn give_way(clients: &mut [Client], other: &Footprint)
+    ensures clients { map client_of clients.new ≡ map (client_beside (footprint_of other.now)) (map client_of clients.old) }
+    ensures room { (room : ℕ) → ClientsHaveRoom room clients.old → ClientsHaveRoom room clients.new }
+{
+    for client in clients.iter_mut() {
+        client.give_way(other);
+    }
+}
+
 impl Scoreboard {
-    ghost use Rattle.scoreboard.specs.Boards.{IsReached, a_wrong, after_a, after_d, after_seen, board_of, d_wrong, opening_board, replies_open, wrong_at};
-    ghost use Rattle.scoreboard.specs.SerialMemory.{byte_at, memory_of};
+    ghost use Rattle.scoreboard.specs.Boards.{ClientBoard, IsReached, a_wrong, accepted_on, after_a, after_d, after_seen, answer_to, d_wrong, joining_on, opening_board, with_client, wrong_at};
+    ghost use Rattle.scoreboard.specs.InsideBoards.{IsFreeOf, board_of, front_after, with_taken};
+    ghost use Rattle.tl_checker.specs.Ports.{joined};
+    ghost use Rattle.tl_checker.specs.declared.Progress.TheVariants.{Whole};
     ghost use Rattle.axi_checker.specs.OpenBursts.{open_count};
-    ghost use Rattle.scoreboard.specs.InsideBoards.{HasSource};
     ghost use Rattle.scoreboard.specs.Observed.{observed_in, requests_in};
+    ghost use Rattle.scoreboard.specs.RealTime.{JudgesRightly};
     ghost use Rattle.scoreboard.specs.Right.{IsRight};
+    ghost use Rattle.scoreboard.specs.Wider.{IsWiderAlong, LetsRightPass};
+    ghost use Rattle.scoreboard.specs.declared.Policy.TheVariants.{AcceptanceOrder, RealTime};
 
     /// A scoreboard of a set-up, of which nothing was observed: its clients, limits and regions are those that the observed
     /// ports allow, and all bytes of its good pages are zero.
     ///
     /// It refuses what `setup_fault` does, with that fault; its one other error is NoMemory.
-    pub fn new(alloc: Global, setup: &Setup) -> Result<Self, SetupFault>
+    pub fn new(alloc: Global, policy: Policy, setup: &Setup) -> Result<Self, SetupFault>
         ensures refused { IfSome (setup_fault (lists_of setup.now)) (λ fault. result ≡ Err fault) }
         ensures want { IfErr result (λ fault. (setup_fault (lists_of setup.now) ≡ Some fault) ⊎ (fault ≡ NoMemory)) }
-        ensures opens { IfOk result (λ board. board_of board ≡ opening_board (lists_of setup.now)) }
+        ensures opens { IfOk result (λ board. (board_of board ≡ opening_board (lists_of setup.now)) × (board.policy ≡ policy)) }
     {
         if let Some(fault) = setup_fault(setup) {
             return Err(fault);
         }
-        match Scoreboard::opening(alloc, setup) {
+        match Scoreboard::opening(alloc, policy, setup) {
             Ok(board) => Ok(board),
             Err(_) => Err(SetupFault::NoMemory),
         }
     }
 
-    fn opening(alloc: Global, setup: &Setup) -> Result<Self, AllocError>
+    fn opening(alloc: Global, policy: Policy, setup: &Setup) -> Result<Self, AllocError>
         requires { setup_fault (lists_of setup.now) ≡ None }
-        ensures { IfOk result (λ board. board_of board ≡ opening_board (lists_of setup.now)) }
+        ensures { IfOk result (λ board. (board_of board ≡ opening_board (lists_of setup.now)) × (board.policy ≡ policy)) }
     {
         let Ok(map) = PageMap::new(alloc, setup.regions.as_slice()) else {
             return Err(AllocError);
         };
         let pages = setup.pages.as_slice();
-        let serial = SerialMemory::new(alloc, map, pages, setup.bad_words.as_slice())?;
-        let clients = opening_clients(alloc, &setup.config)?;
-        let axi = AxiPort::new(alloc, &setup.config)?;
+        let bad = setup.bad_words.as_slice();
+        let room = room_by(policy);
+        let serial = SerialMemory::new(alloc, map, pages, bad)?;
+        let clients = opening_clients(alloc, &setup.config, room)?;
+        let indeterminate = Pages::new(alloc, pages, bad)?;
+        let axi = EarlyPort::new(alloc, &setup.config)?;
+        let request = Request::new(alloc)?;
+        let joining = InFlight::new(alloc, room)?;
         Ok(Scoreboard {
+            policy,
             clients,
             serial,
+            indeterminate,
             axi,
+            request,
+            joining,
         })
     }
 
     /// What is wrong with the next beat that was observed; none where nothing is.
-    pub fn judge(&mut self, seen: &Seen) -> Option<Wrong>
-        ensures answer { result ≡ wrong_at (board_of self.old) seen.now }
-        ensures state { board_of self.new ≡ after_seen (board_of self.old) seen.now }
-        ensures right { (setup : SetupLists) (before : List Seen) → IsReached (opening_board setup) before (board_of self.old) → (result ≡ None) ↔ IsRight setup (before ++ seen.now ∷ []) }
-        ensures memory { (setup : SetupLists) (before : List Seen) → IsReached (opening_board setup) before (board_of self.old)
+    ///
+    /// Where requests take effect in order of acceptance, nothing is wrong with a beat, if none was before it, exactly where all of them are
+    /// right together. Where they take effect in real time, nothing is wrong with beats that are right in order of acceptance; what
+    /// is said of any beat is what is said of it in order of acceptance, or nothing where that is SOURCE_BUSY, W_WITHOUT_AW or PAYLOAD, up
+    /// to the first SOURCE_BUSY or W_WITHOUT_AW; and a beat of a reply that is found wrong is wrong, by that rule, in each
+    /// order of the accepted requests in which none stands behind one that was accepted after its whole reply had come.
+    pub fn judge(&mut self, seen: &ObservedBeat) -> Option<Wrong>
+        ensures answer { result ≡ wrong_at self.old.policy (board_of self.old) seen.now }
+        ensures state { board_of self.new ≡ after_seen self.old.policy (board_of self.old) seen.now }
+        ensures policy { self.new.policy ≡ self.old.policy }
+        ensures exactly { self.old.policy ≡ AcceptanceOrder → (setup : SetupLists) (before : List ObservedBeat) → IsReached AcceptanceOrder (opening_board setup) before (board_of self.old)
+            → (result ≡ None) ↔ IsRight setup (before ++ seen.now ∷ []) }
+        ensures memory { self.old.policy ≡ AcceptanceOrder → (setup : SetupLists) (before : List ObservedBeat) → IsReached AcceptanceOrder (opening_board setup) before (board_of self.old)
             → (board_of self.old).memory.bytes ≡ bytes_of_all setup (requests_in (observed_in before)) }
+        ensures right { self.old.policy ≡ RealTime → LetsRightPass (board_of self.old) seen.now result }
+        ensures wider { self.old.policy ≡ RealTime → IsWiderAlong (board_of self.old) seen.now result }
+        ensures rightly { self.old.policy ≡ RealTime → JudgesRightly (board_of self.old) seen.now result }
     {
         self.judge_by_board(seen)
     }
 
     /// What is wrong with a beat, by what the board holds.
-    fn judge_by_board(&mut self, seen: &Seen) -> Option<Wrong>
-        ensures answer { result ≡ wrong_at (board_of self.old) seen.now }
-        ensures state { board_of self.new ≡ after_seen (board_of self.old) seen.now }
-        ensures source { HasSource seen.now }
+    fn judge_by_board(&mut self, seen: &ObservedBeat) -> Option<Wrong>
+        ensures answer { result ≡ wrong_at self.old.policy (board_of self.old) seen.now }
+        ensures state { board_of self.new ≡ after_seen self.old.policy (board_of self.old) seen.now }
+        ensures policy { self.new.policy ≡ self.old.policy }
     {
         match seen {
-            Seen::A(client, beat) => self.judge_request(*client, beat),
-            Seen::D(client, beat) => self.judge_reply(*client, beat),
-            Seen::Axi(beat) => self.axi.judge(beat),
-            Seen::Drained => {
+            ObservedBeat::A(client, beat) => self.judge_request(*client, beat),
+            ObservedBeat::D(client, beat) => self.judge_reply(*client, beat),
+            ObservedBeat::Axi(beat) => self.axi.judge(self.policy, beat),
+            ObservedBeat::Drained => {
                 self.axi.clear();
                 None
             }
@@ -152,51 +257,164 @@ impl Scoreboard {
 
     /// Judges a beat on a client's channel A.
     fn judge_request(&mut self, client: u8, beat: &ABeat) -> Option<Wrong>
-        ensures answer { result ≡ a_wrong (slice_get self.old.clients client) beat.now }
-        ensures state { board_of self.new ≡ after_a (board_of self.old) client (slice_get self.old.clients client) beat.now }
+        ensures answer { result ≡ a_wrong self.old.policy (slice_get (board_of self.old).clients client) beat.now }
+        ensures state { board_of self.new ≡ after_a self.old.policy (board_of self.old) client (slice_get (board_of self.old).clients client) beat.now }
+        ensures policy { self.new.policy ≡ self.old.policy }
+    {
+        let client = usize::from(client);
+        if client >= self.clients.len() {
+            return Some(Wrong::NoClient);
+        }
+        match self.take_beat(client, beat) {
+            Err(rule) => return Some(Wrong::Request(rule)),
+            Ok(Progress::More) => return None,
+            Ok(Progress::Whole) => {}
+        }
+        self.accept(client);
+        None
+    }
+
+    /// A client's port takes a beat on channel A.
+    fn take_beat(&mut self, client: usize, beat: &ABeat) -> Result<Progress, TlRule>
+        requires client { client < length self.old.clients }
+        ensures answer { (found : ClientBoard) → slice_get (board_of self.old).clients client ≡ Some found → result ≡ answer_to self.old.policy found beat.now }
+        ensures state { (found : ClientBoard) → slice_get (board_of self.old).clients client ≡ Some found
+            → board_of self.new ≡ with_client client (record found { front = front_after found.front (joined found.limits found.front beat.now) result }) (board_of self.old) }
+        ensures request { (found : ClientBoard) → slice_get (board_of self.old).clients client ≡ Some found → result ≡ Ok Whole
+            → self.new.request ≡ joined found.limits found.front beat.now }
+        ensures checked { result ≡ Ok Whole → IsCheckedRequest self.new.request }
+        ensures free { (found : ClientBoard) → slice_get (board_of self.new).clients client ≡ Some found → result ≡ Ok Whole → IsFreeOf self.new.request.source found }
+        ensures clients { length self.new.clients ≡ length self.old.clients }
+        ensures policy { self.new.policy ≡ self.old.policy }
+    {
+        let Scoreboard {
+            policy,
+            clients,
+            request,
+            ..
+        } = self;
+        clients[client].take_beat(*policy, beat, request)
+    }
+
+    /// The request that came whole is accepted: it is carried out, its reply is due to its client, and it is in flight beside the others.
+    fn accept(&mut self, client: usize)
+        requires client { client < length self.old.clients }
+        requires checked { IsCheckedRequest self.old.request }
+        requires free { (found : ClientBoard) → slice_get (board_of self.old).clients client ≡ Some found → IsFreeOf self.old.request.source found }
+        ensures state { (found : ClientBoard) → slice_get (board_of self.old).clients client ≡ Some found
+            → board_of self.new ≡ accepted_on self.old.policy (board_of self.old) client found self.old.request }
+        ensures policy { self.new.policy ≡ self.old.policy }
+    {
+        match self.policy {
+            Policy::AcceptanceOrder => self.accept_in_order(client),
+            Policy::RealTime => self.accept_in_real_time(client),
+        }
+    }
+
+    /// The same where requests take effect in order of acceptance.
+    fn accept_in_order(&mut self, client: usize)
+        requires client { client < length self.old.clients }
+        requires checked { IsCheckedRequest self.old.request }
+        requires free { (found : ClientBoard) → slice_get (board_of self.old).clients client ≡ Some found → IsFreeOf self.old.request.source found }
+        ensures state { (found : ClientBoard) → slice_get (board_of self.old).clients client ≡ Some found
+            → board_of self.new ≡ accepted_on AcceptanceOrder (board_of self.old) client found self.old.request }
+        ensures policy { self.new.policy ≡ self.old.policy }
+    {
+        self.joining.clear_footprint();
+        self.take_in(client);
+    }
+
+    /// The same where they take effect in real time.
+    fn accept_in_real_time(&mut self, client: usize)
+        requires policy { self.old.policy ≡ RealTime }
+        requires client { client < length self.old.clients }
+        requires checked { IsCheckedRequest self.old.request }
+        requires free { (found : ClientBoard) → slice_get (board_of self.old).clients client ≡ Some found → IsFreeOf self.old.request.source found }
+        ensures state { (found : ClientBoard) → slice_get (board_of self.old).clients client ≡ Some found
+            → board_of self.new ≡ accepted_on RealTime (board_of self.old) client found self.old.request }
+        ensures policy { self.new.policy ≡ self.old.policy }
+    {
+        self.join();
+        self.take_in(client);
+    }
+
+    /// The request that came whole is carried out, and in flight with its footprint.
+    fn take_in(&mut self, client: usize)
+        requires client { client < length self.old.clients }
+        requires checked { IsCheckedRequest self.old.request }
+        requires good { IsOnGoodPage self.old.memory.pages.faults (footprint_of self.old.joining.footprint) }
+        requires free { (found : ClientBoard) → slice_get (board_of self.old).clients client ≡ Some found → IsFreeOf self.old.request.source found }
+        ensures state { (found : ClientBoard) → slice_get (board_of self.old).clients client ≡ Some found
+            → board_of self.new ≡ with_taken (board_of self.old) client found self.old.request (footprint_of self.old.joining.footprint) }
+        ensures policy { self.new.policy ≡ self.old.policy }
     {
         let Scoreboard {
             clients,
             serial,
+            request,
+            joining,
             ..
         } = self;
-        let Some(found) = clients.get_mut(usize::from(client)) else {
-            return Some(Wrong::NoClient);
-        };
-        found.judge_request(serial, beat)
+        joining.carry_out(serial, request);
+        clients[client].join(joining);
+    }
+
+    /// The request that came whole gets its footprint beside those in flight.
+    fn join(&mut self)
+        requires policy { self.old.policy ≡ RealTime }
+        requires checked { IsCheckedRequest self.old.request }
+        ensures footprint { footprint_of self.new.joining.footprint ≡ joining_on (board_of self.old) self.old.request }
+        ensures good { IsOnGoodPage self.old.memory.pages.faults (footprint_of self.new.joining.footprint) }
+        ensures clients { map client_of self.new.clients ≡ map (client_beside (footprint_of self.new.joining.footprint)) (map client_of self.old.clients) }
+        ensures bytes { is_marked self.new.indeterminate
+            ≡ after_joining (is_marked self.old.indeterminate) (footprints_of (map client_of self.old.clients)) (footprint_of self.new.joining.footprint) (bytes_given self.old.request) }
+        ensures rest { self.new ≡ record self.old { clients = self.new.clients; indeterminate = self.new.indeterminate; joining = self.new.joining } }
+    {
+        let Scoreboard {
+            clients,
+            serial,
+            indeterminate,
+            request,
+            joining,
+            ..
+        } = self;
+        joining.start_footprint(indeterminate, serial.place(request), request);
+        limit(joining, clients);
+        let footprint = joining.footprint();
+        mark_written(indeterminate, clients, footprint, request);
+        give_way(clients, footprint);
     }
 
     /// Judges a beat on a client's channel D.
     fn judge_reply(&mut self, client: u8, beat: &DBeat) -> Option<Wrong>
-        ensures answer { result ≡ d_wrong (slice_get self.old.clients client) beat.now }
-        ensures state { board_of self.new ≡ after_d (board_of self.old) client (slice_get self.old.clients client) beat.now }
-        ensures source { beat.now.source < 256 }
+        ensures answer { result ≡ d_wrong self.old.policy (slice_get (board_of self.old).clients client) beat.now }
+        ensures state { board_of self.new ≡ after_d (board_of self.old) client (slice_get (board_of self.old).clients client) beat.now }
+        ensures policy { self.new.policy ≡ self.old.policy }
     {
-        // A source is below 256.
-        let _source = beat.source;
         let Some(found) = self.clients.get_mut(usize::from(client)) else {
             return Some(Wrong::NoClient);
         };
-        found.judge_reply(beat)
+        found.judge_reply(self.policy, beat)
     }
 
     /// How many accepted requests have a reply that wasn't observed whole.
     pub fn outstanding(&self) -> u16
-        ensures { result ≡ replies_open self.now.clients }
+        ensures { result ≡ replies_open (board_of self.now).clients }
     {
         outstanding_of(&self.clients)
     }
 
     /// How many bursts are outstanding on the AXI4 port.
     pub fn open_bursts(&self) -> usize
-        ensures { result ≡ open_count self.now.open_bursts }
+        ensures { result ≡ open_count self.now.axi.open_bursts }
     {
         self.axi.open_bursts()
     }
 
-    /// The byte at an address of a good page, as the requests accepted so far leave it; none outside these pages.
+    /// The byte at an address of a good page, as the requests accepted so far leave it in order of acceptance; none outside
+    /// these pages.
     pub fn byte(&self, address: u32) -> Option<u8>
-        ensures { result ≡ byte_at (memory_of self.now.memory) address }
+        ensures { result ≡ byte_at (board_of self.now).memory address }
     {
         self.serial.byte(address)
     }

@@ -1,33 +1,43 @@
-//! A client as a scoreboard sees it: what it has begun to ask, and the replies that are due to it.
-ghost use Rattle.std.specs.Prelude.{◌≡◌, ◌≤◌, true, IfOk};
+//! A client as a scoreboard sees it: what it has begun to ask, and its requests in flight.
+ghost use Rattle.std.specs.Prelude.{◌≡◌, ◌≤◌, ◌++◌, [], ◌∷◌, None, Ok, IfOk, false, length, map, true};
+ghost use Rattle.std.specs.List.{list_any};
+ghost use Rattle.tl_messages.specs.Requests.{request_of};
+ghost use Rattle.tl_checker.specs.Ports.{joined};
+ghost use Rattle.tl_checker.specs.declared.Progress.TheVariants.{Whole};
 ghost use Rattle.config.specs.Configs.{is_valid};
-ghost use Rattle.scoreboard.specs.Boards.{wrong_request};
+ghost use Rattle.scoreboard.specs.Boards.{answer_to, client_beside, opening_client, wrong_reply};
+ghost use Rattle.scoreboard.specs.Flights.{flights_after, in_flight, is_of_source, next_reply, replies_left};
+ghost use Rattle.scoreboard.specs.InsideBoards.{AreOnGoodPages, client_of, flights_of, footprint_of, front_after, is_marked};
+ghost use Rattle.scoreboard.specs.Races.{beside_all, beside_dependent};
+ghost use Rattle.scoreboard.specs.SerialMemory.{IsCheckedRequest};
 
-use crate::Wrong;
-use crate::replies::DueReplies;
-use crate::serial::SerialMemory;
+use crate::flights::Flights;
+use crate::footprint::Footprint;
+use crate::in_flight::InFlight;
+use crate::{Policy, Wrong};
 use config::Config;
 use std::alloc::{AllocError, Global};
 use std::marker::Model;
+use subordinate::Pages;
 use tl_checker::{Port, Progress, TlRule};
-use tl_messages::{ABeat, DBeat};
+use tl_messages::{ABeat, DBeat, Request};
 
-/// A client: its port, and the replies that are due to it.
+/// A client: its port, and its requests in flight.
 pub(crate) struct Client {
     port: Port,
-    replies: DueReplies,
+    flights: Flights,
 }
 
 impl Model for Client {
     ghost use Rattle.std.specs.Prelude.{◌≡◌, ◌≤◌, None};
-    ghost use Rattle.scoreboard.specs.Boards.{ClientBoard};
+    ghost use Rattle.scoreboard.specs.InsideBoards.{ClientState, IsFrontFree, flights_of};
 
-    ghost Value = { ClientBoard };
+    ghost Value = { ClientState };
 
-    ghost view = { λ c. record { limits = c.port.limits; front = c.port.front; replies = c.replies } };
+    ghost view = { λ c. record { limits = c.port.limits; front = c.port.front; flights = c.flights } };
 
-    // No whole request stands, so that the next beat may come.
-    ghost invariant = { λ c. (c.port.whole ≡ None) × (c.port.limits.max_size ≤ 12) };
+    // No whole request stands, so that the next beat may come, and a message that has begun is of a free source.
+    ghost invariant = { λ c. (c.port.whole ≡ None) × (c.port.limits.max_size ≤ 12) × IsFrontFree c.port.front (flights_of c.flights) };
 }
 
 // Written out, so that what lets go of one calls this, and proves nothing of its parts.
@@ -35,65 +45,102 @@ impl Drop for Client {
     fn drop(self) {
         let Client {
             port: _,
-            replies: _,
+            flights: _,
         } = self;
     }
 }
 
-/// What is wrong with a beat on channel A, by the port's answer to it.
-fn wrong_request(answer: Result<Progress, TlRule>) -> Option<Wrong>
-    ensures { result ≡ wrong_request answer }
-{
-    match answer {
-        Ok(_) => None,
-        Err(rule) => Some(Wrong::Request(rule)),
-    }
-}
-
 impl Client {
-    ghost use Rattle.scoreboard.specs.SerialMemory.{memory_of};
-    ghost use Rattle.scoreboard.specs.Boards.{after_reply_beat, answer_to, client_after, memory_after, next_reply, opening_client, replies_left, wrong_reply, wrong_request};
-
-    /// A client of these limits, of which nothing was observed. The one error is that memory was refused.
-    pub(crate) fn new(alloc: Global, config: &Config, client: u8) -> Result<Self, AllocError>
-        requires { is_valid config.now ≡ true }
-        ensures { IfOk result (λ made. made ≡ opening_client config.now client) }
+    /// A client of these limits, of which nothing was observed, with room for so many flags in each footprint. The one error is that
+    /// memory was refused.
+    pub(crate) fn new(
+        alloc: Global,
+        config: &Config,
+        client: u8,
+        room: usize,
+    ) -> Result<Self, AllocError>
+        requires valid { is_valid config.now ≡ true }
+        requires room { 1 ≤ room }
+        ensures { IfOk result (λ made. (client_of made ≡ opening_client config.now client) × (made.flights.room ≡ room)) }
     {
         let level = config.level_of(client);
         let port = Port::new(alloc, client, level, config.max_size)?;
-        let replies = DueReplies::new(alloc)?;
-        Ok(Client { port, replies })
+        let flights = Flights::new(alloc, room)?;
+        Ok(Client { port, flights })
     }
 
     /// How many of its accepted requests have a reply that isn't whole.
     pub(crate) fn outstanding(&self) -> u16
-        ensures count { result ≡ replies_left self.now.replies }
+        ensures count { result ≡ replies_left (flights_of self.now.flights) }
         ensures most { result ≤ 257 }
     {
-        self.replies.outstanding()
+        self.flights.outstanding()
     }
 
-    /// Judges a beat on channel A. The last of a request's beats has it carried out.
-    pub(crate) fn judge_request(&mut self, serial: &mut SerialMemory, beat: &ABeat) -> Option<Wrong>
-        ensures wrong { result ≡ wrong_request (answer_to self.old beat.now) }
-        ensures client { self.new ≡ client_after (memory_of serial.old) self.old beat.now (answer_to self.old beat.now) }
-        ensures memory { memory_of serial.new ≡ memory_after (memory_of serial.old) self.old beat.now (answer_to self.old beat.now) }
+    /// Takes a beat on channel A. Where it makes a request whole, this is put into `request`.
+    pub(crate) fn take_beat(
+        &mut self,
+        policy: Policy,
+        beat: &ABeat,
+        request: &mut Request,
+    ) -> Result<Progress, TlRule>
+        ensures answer { result ≡ answer_to policy (client_of self.old) beat.now }
+        ensures client { self.new ≡ record self.old { front = front_after self.old.front (joined self.old.limits self.old.front beat.now) result } }
+        ensures request { result ≡ Ok Whole → request.new ≡ joined self.old.limits self.old.front beat.now }
+        ensures checked { result ≡ Ok Whole → IsCheckedRequest request.new }
+        ensures free { result ≡ Ok Whole → list_any (is_of_source request.new.source) (flights_of self.old.flights).due ≡ false }
     {
-        let busy = self.replies.is_busy(beat.source);
+        let busy = self.flights.is_busy(policy, beat.source);
         let answer = self.port.take_beat(beat, busy);
-        let Some(request) = self.port.whole() else {
-            return wrong_request(answer);
-        };
-        self.replies.carry_out(serial, request);
-        self.port.clear_whole();
-        wrong_request(answer)
+        if self.port.whole().is_none() {
+            return answer;
+        }
+        self.port.take_whole(request);
+        answer
+    }
+
+    /// A request of a source to which no reply is due is in flight; a box takes its place.
+    pub(crate) fn join(&mut self, flight: &mut InFlight)
+        requires free { list_any (is_of_source flight.old.source) (flights_of self.old.flights).due ≡ false }
+        requires room { length flight.old.footprint.determined ≡ self.old.flights.room }
+        requires front { self.old.front ≡ None }
+        ensures client { self.new ≡ record self.old { flights = record self.old.flights { due = self.old.flights.due ++ flight.old ∷ [] } } }
+        ensures room { length flight.new.footprint.determined ≡ self.old.flights.room }
+    {
+        self.flights.join(flight);
     }
 
     /// Judges a beat on channel D.
-    pub(crate) fn judge_reply(&mut self, beat: &DBeat) -> Option<Wrong>
-        ensures wrong { result ≡ wrong_reply (next_reply self.old.replies beat.now.source) beat.now }
-        ensures state { self.new ≡ record self.old { replies = after_reply_beat self.old.replies beat.now } }
+    pub(crate) fn judge_reply(&mut self, policy: Policy, beat: &DBeat) -> Option<Wrong>
+        ensures wrong { result ≡ wrong_reply policy (next_reply (flights_of self.old.flights) beat.now.source) beat.now }
+        ensures state { client_of self.new ≡ record (client_of self.old) { flights = flights_after (flights_of self.old.flights) beat.now.source } }
+        ensures room { self.new.flights.room ≡ self.old.flights.room }
     {
-        self.replies.judge(beat)
+        self.flights.judge(policy, beat)
+    }
+
+    /// What any of its requests in flight may write isn't determined of another request.
+    pub(crate) fn limit(&self, joined: &mut InFlight)
+        ensures footprint { footprint_of joined.new.footprint ≡ beside_all (footprint_of joined.old.footprint) (map (λ flight. flight.footprint) (in_flight (flights_of self.now.flights))) }
+        ensures room { length joined.new.footprint.determined ≡ length joined.old.footprint.determined }
+    {
+        self.flights.limit(joined);
+    }
+
+    /// All bytes are indeterminate of those of its requests in flight of which what they write may depend on another.
+    pub(crate) fn mark(&self, marks: &mut Pages, other: &Footprint)
+        requires good { AreOnGoodPages marks.old.faults (map (λ flight. flight.footprint) (in_flight (flights_of self.now.flights))) }
+        ensures faults { marks.new.faults ≡ marks.old.faults }
+        ensures bytes { is_marked marks.new ≡ beside_dependent (is_marked marks.old) (footprint_of other.now) (map (λ flight. flight.footprint) (in_flight (flights_of self.now.flights))) }
+    {
+        self.flights.mark(marks, other);
+    }
+
+    /// What a request may write isn't determined of its requests in flight.
+    pub(crate) fn give_way(&mut self, other: &Footprint)
+        ensures client { client_of self.new ≡ client_beside (footprint_of other.now) (client_of self.old) }
+        ensures room { self.new.flights.room ≡ self.old.flights.room }
+    {
+        self.flights.give_way(other);
     }
 }

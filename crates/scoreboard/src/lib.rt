@@ -4,21 +4,33 @@
 mod axi_port;
 mod board;
 mod clients;
+mod early_port;
+mod flights;
+mod footprint;
+mod in_flight;
+mod marks;
 mod names;
-mod replies;
 mod serial;
 
 use axi_checker::{AxiBeat, AxiRule};
-pub use axi_port::AxiPort;
 pub use board::Scoreboard;
-pub use replies::DueReplies;
-pub use serial::{SerialMemory, put_word};
+pub use serial::SerialMemory;
 use tl_checker::TlRule;
 use tl_messages::{ABeat, DBeat};
 
+/// In which orders accepted requests may take effect.
+#[derive(Clone, Copy, Debug, PartialEq, Eq)]
+pub enum Policy {
+    /// In that of their acceptance alone. A source is busy until its reply's last beat, and an AW beat comes before its W beats.
+    AcceptanceOrder,
+    /// In each in which a request whose whole reply was seen before another was accepted comes before it. A source is free
+    /// from its reply's first beat on, and W beats may come before their AW.
+    RealTime,
+}
+
 /// What was observed: a beat that was taken at a port, where the two sides agreed on it, or that a port went unobserved.
 #[derive(Clone, Copy, Debug, PartialEq, Eq)]
-pub enum Seen {
+pub enum ObservedBeat {
     /// On channel A of a client.
     A(u8, ABeat),
     /// On channel D of a client.

@@ -2,7 +2,7 @@
 use Rattle.std.proofs.Common.{◌∙◌}
 use Rattle.axi_beats.specs.declared.WBeat.{WBeat}
 use Rattle.axi_checker.specs.declared.AxiBeat.TheVariants.{W as OnW}
-use Rattle.scoreboard.specs.declared.Seen.TheVariants.{Axi}
+use Rattle.scoreboard.specs.declared.ObservedBeat.TheVariants.{Axi}
 use Rattle.observed_run.proofs.SeenSteps.{shown_more}
 use Rattle.observed_run.proofs.runs.see_data.Goals as goal
 

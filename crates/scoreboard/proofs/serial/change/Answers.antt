@@ -11,8 +11,9 @@ use Rattle.responses.specs.Gathered.{GatherState, old_value, outline_of}
 use Rattle.subordinate.specs.Faults.{is_bad, is_good, standing_at}
 use Rattle.meaning.specs.Meaning.{bytes_at}
 use Rattle.scoreboard.specs.InsideSerial.{bytes_in}
-use Rattle.scoreboard.proofs.Changes.{atomic_beats, found_as, found_there, nothing_left, number_put}
-use Rattle.scoreboard.proofs.RequestWords.{range}
+use Rattle.scoreboard.proofs.memory_words.PutWords.{number_put}
+use Rattle.scoreboard.proofs.memory_words.WordReads.{atomic_beats, found_as, found_there, nothing_left}
+use Rattle.scoreboard.proofs.memory_words.RequestWords.{range}
 use Rattle.scoreboard.proofs.serial.change.Goals as goal
 
 pub read_words-requires-clause-range : goal.read_words-requires-clause-range

@@ -1,11 +1,11 @@
 -- Gets and atomics gather the words of their range.
-use Rattle.std.proofs.Common.{◌≡◌, true, false, sym, ◌∙◌, ap}
+use Rattle.std.proofs.Common.{sym, ◌∙◌, ap}
 use Rattle.tl_messages.specs.Operations.{reply_has_data}
 use Rattle.tl_messages.specs.Requests.{request_of}
 use Rattle.responses.specs.Gathered.{GatherState, gathered, outline_of}
 use Rattle.meaning.proofs.SerialReplies.{is_put}
-use Rattle.scoreboard.proofs.RequestWords.{range}
-use Rattle.scoreboard.proofs.WordReads.{reply_of_words}
+use Rattle.scoreboard.proofs.memory_words.RequestWords.{range}
+use Rattle.scoreboard.proofs.memory_words.WordReads.{reply_of_words}
 use Rattle.scoreboard.proofs.serial.perform.Goals as goal
 
 pub read_words-requires-clause-range : goal.read_words-requires-clause-range
@@ -13,18 +13,16 @@ read_words-requires-clause-range c = rw c.size.ensures.value (range c.args.reque
 
 pub returns-in-Get-clause-reply : goal.returns-in-Get-clause-reply
 returns-in-Get-clause-reply c =
-    let has : reply_has_data c.args.request.now.operation ≡ true = ap reply_has_data (sym c.operation.ensures ∙ c.in-Get.is) in
-    let isnt : is_put c.args.request.now.operation ≡ false = ap is_put (sym c.operation.ensures ∙ c.in-Get.is) in
+    let is = sym c.operation.ensures ∙ c.in-Get.is in
     ap (λ (s : GatherState). gathered (outline_of (request_of c.args.request.now)) s.gathering) c.read_words.ensures
     ∙ rw (c.requires.fresh.outline, c.requires.fresh.gathering, c.size.ensures.value)
-    (reply_of_words c.args.pages.now (request_of c.args.request.now) c.args.request.now.operation c.args.address has isnt c.requires.sound.2.atomic_size c.write_response-resp.ensures.good_pages
+    (reply_of_words c.args.pages.now (request_of c.args.request.now) c.args.request.now.operation c.args.address (ap reply_has_data is) (ap is_put is) c.requires.sound.2.atomic_size c.write_response-resp.ensures.good_pages
     (range c.args.request.now c.args.address c.requires.sound c.requires.same_byte) c.requires.sound.2.aligned c.requires.same_byte)
 
 pub returns-in-Atomic-clause-reply : goal.returns-in-Atomic-clause-reply
 returns-in-Atomic-clause-reply c =
-    let has : reply_has_data c.args.request.now.operation ≡ true = ap reply_has_data (sym c.operation.ensures ∙ c.in-Atomic.is) in
-    let isnt : is_put c.args.request.now.operation ≡ false = ap is_put (sym c.operation.ensures ∙ c.in-Atomic.is) in
+    let is = sym c.operation.ensures ∙ c.in-Atomic.is in
     ap (λ (s : GatherState). gathered (outline_of (request_of c.args.request.now)) s.gathering) c.change.ensures.gather
     ∙ rw (c.requires.fresh.outline, c.requires.fresh.gathering)
-    (reply_of_words c.args.pages.now (request_of c.args.request.now) c.args.request.now.operation c.args.address has isnt c.requires.sound.2.atomic_size c.write_response-resp.ensures.good_pages
+    (reply_of_words c.args.pages.now (request_of c.args.request.now) c.args.request.now.operation c.args.address (ap reply_has_data is) (ap is_put is) c.requires.sound.2.atomic_size c.write_response-resp.ensures.good_pages
     (range c.args.request.now c.args.address c.requires.sound c.requires.same_byte) c.requires.sound.2.aligned c.requires.same_byte)

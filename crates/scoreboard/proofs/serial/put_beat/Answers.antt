@@ -5,9 +5,9 @@ use Rattle.subordinate.specs.Faults.{is_good}
 use Rattle.tl_messages.specs.declared.MaskedWord.{MaskedWord}
 use Rattle.meaning.proofs.SerialReplies.{standing_of}
 use Rattle.scoreboard.specs.InsideSerial.{put_in_word}
-use Rattle.scoreboard.proofs.PutWords.{put_more}
-use Rattle.scoreboard.proofs.RequestWords.{beat_there, mask_within, word_at, word_of}
-use Rattle.scoreboard.proofs.WordRanges.{word_aligned, word_exists, word_in_page}
+use Rattle.scoreboard.proofs.memory_words.PutWords.{put_more}
+use Rattle.scoreboard.proofs.memory_words.RequestWords.{beat_there, mask_within, word_at, word_of}
+use Rattle.scoreboard.proofs.memory_words.WordRanges.{word_aligned, word_exists, word_in_page}
 use Rattle.scoreboard.proofs.serial.put_beat.Goals as goal
 
 pub overflow_add-address : goal.overflow_add-address

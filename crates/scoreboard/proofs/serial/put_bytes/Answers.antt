@@ -2,8 +2,8 @@
 use Rattle.std.proofs.Common.{◌≡◌, length, refl, ◌∙◌, arith}
 use Rattle.tl_messages.specs.Requests.{bytes_given}
 use Rattle.scoreboard.specs.InsideSerial.{bytes_in}
-use Rattle.scoreboard.proofs.PutWords.{put_all, put_none}
-use Rattle.scoreboard.proofs.RequestWords.{all_words}
+use Rattle.scoreboard.proofs.memory_words.PutWords.{put_all, put_none}
+use Rattle.scoreboard.proofs.memory_words.RequestWords.{all_words}
 use Rattle.scoreboard.proofs.serial.put_bytes.Goals as goal
 
 pub loop-k-init : goal.loop-k-init

@@ -1,6 +1,5 @@
 -- A word is one transfer, and its strobes fit.
-use Rattle.scoreboard.proofs.WordRanges.{one_transfer}
-use Rattle.scoreboard.proofs.WordWrites.{put_bytes, word_strobes_fit}
+use Rattle.scoreboard.proofs.memory_words.WordRanges.{one_transfer, put_bytes, word_strobes_fit}
 use Rattle.scoreboard.proofs.serial.put_word.Goals as goal
 
 pub write-requires-clause-transfer : goal.write-requires-clause-transfer

@@ -1,15 +1,46 @@
 -- There are at most eight clients, and the board holds what was made for it.
-use Rattle.std.proofs.Common.{◌≡◌, rules}
+use Rattle.std.proofs.Common.{◌≡◌, ◌≤◌, ap, length, map, refl, rules, sym, ◌∙◌}
+use Rattle.std.proofs.lemmas.List.{length-map}
+use Rattle.subordinate.specs.InsidePages.{PagesState}
 use Rattle.setups.specs.Setups.{lists_of}
-use Rattle.scoreboard.specs.SerialMemory.{opening_memory_state}
-use Rattle.scoreboard.proofs.BoardClients.{board_opens, few_clients}
+use Rattle.scoreboard.specs.InsideBoards.{client_of}
+use Rattle.scoreboard.specs.SerialMemory.{MemoryState, opening_memory_state}
+use Rattle.scoreboard.proofs.acceptance_order.BoardClients.{board_opens, device_fine, few_clients, nothing_written}
 use Rattle.scoreboard.proofs.board.Scoreboard.opening.Goals as goal
 
+pub new-requires-3 : goal.new-requires-3
+new-requires-3 c = record { fine = rw (c.as_slice-pages.ensures.value, c.as_slice-bad.ensures.value) (device_fine (lists_of c.args.setup.now) c.requires) }
+
+serial : (c : goal.In_ok-joining) → c.in_ok-serial.serial ≡ opening_memory_state c.args.setup.now.regions.items c.args.setup.now.pages.items c.args.setup.now.bad_words.items
+serial c = search rules
+
+marks : (c : goal.In_ok-joining) → c.in_ok-indeterminate.indeterminate
+    ≡ (opening_memory_state c.args.setup.now.regions.items c.args.setup.now.pages.items c.args.setup.now.bad_words.items).pages
+marks c = search rules
+
 pub invariant_of-result : goal.invariant_of-result
-invariant_of-result c = rw c.in_ok-clients.ensures (few_clients (lists_of c.args.setup.now) c.requires)
+invariant_of-result c =
+    let setup = lists_of c.args.setup.now in
+    let few : length (map client_of c.in_ok-clients.clients.items) ≤ 8 = rw c.in_ok-clients.ensures.0 (few_clients setup c.requires) in (
+      rw (length-map c.in_ok-clients.clients.items client_of) at few,
+      rw (← c.room_by-room.ensures.room) c.in_ok-clients.ensures.1,
+      c.in_ok-joining.ensures ∙ c.room_by-room.ensures.room,
+      ap (λ (pages : PagesState). pages.faults) (marks c) ∙ sym (ap (λ (memory : MemoryState). memory.pages.faults) (serial c)),
+      nothing_written c.in_ok-serial.serial.pages.faults setup c.in_ok-clients.clients.items c.in_ok-clients.ensures.0,
+    )
 
 pub returns : goal.returns
-returns c =
-    let setup = lists_of c.args.setup.now in
-    let memory : c.in_ok-serial.serial ≡ opening_memory_state setup.regions setup.pages setup.bad_words = search rules in
-    board_opens setup _ c.in_ok-clients.ensures memory (cc c.in_ok-axi.ensures) (cc c.in_ok-axi.ensures)
+returns c = (
+  board_opens (lists_of c.args.setup.now)
+      (record {
+        policy = c.args.policy;
+        clients = c.in_ok-clients.clients.items;
+        memory = c.in_ok-serial.serial;
+        indeterminate = c.in_ok-indeterminate.indeterminate;
+        axi = c.in_ok-axi.axi;
+        request = c.in_ok-request.request;
+        joining = c.in_ok-joining.joining;
+      })
+      c.in_ok-clients.ensures.0 (serial c) (marks c) (cc c.in_ok-axi.ensures),
+  refl,
+)

@@ -1,8 +1,0 @@
--- The clients so far are those of the first numbers.
-use Rattle.std.proofs.Common.{◌≡◌, map}
-use Rattle.std.specs.List.{range_with_len}
-use Rattle.scoreboard.specs.Boards.{opening_client}
-use Rattle.racing_board.proofs.board.opening_clients.Given as goal
-
-abbrev pub invariant-loop-client : goal.invariant-loop-client
-invariant-loop-client l = l.clients.items ≡ map (opening_client l.config) (range_with_len 0 l.client)

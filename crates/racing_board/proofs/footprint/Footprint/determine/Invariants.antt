@@ -1,9 +1,0 @@
--- The bytes before this one are determined or not as they have to be.
-use Rattle.std.proofs.Common.{◌≡◌, ◌<◌, ◌+◌, ◌&&◌, not, ℕ, get_or, false}
-use Rattle.racing_board.specs.InsideRaces.{doubt_in}
-use Rattle.racing_board.proofs.footprint.Footprint.determine.Given as goal
-
-abbrev pub invariant-loop-i : goal.invariant-loop-i
-invariant-loop-i l =
-    (l.self ≡ record l.fn.self { determined = l.self.determined })
-    × ((k : ℕ) → k < l.i → get_or l.self.determined k false ≡ not (l.fn.self.reads && doubt_in l.doubts (l.fn.self.address + k)))

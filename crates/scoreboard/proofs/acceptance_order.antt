@@ -1,0 +1,11 @@
+pub mod BoardClients
+pub mod BoardOf
+pub mod DueLists
+pub mod Meanings
+pub mod Owed
+pub mod Reached
+pub mod ReplySteps
+pub mod RequestBeats
+pub mod RequestSteps
+pub mod SeenLists
+pub mod Told

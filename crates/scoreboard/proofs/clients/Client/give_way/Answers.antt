@@ -1,0 +1,11 @@
+-- As much is due as before.
+use Rattle.scoreboard.specs.InsideBoards.{flights_of, footprint_of}
+use Rattle.scoreboard.proofs.held.FreeFronts.{front_beside}
+use Rattle.scoreboard.proofs.clients.Client.give_way.Goals as goal
+
+pub invariant_of-self : goal.invariant_of-self
+invariant_of-self c = (
+  c.self.invariant.0,
+  c.self.invariant.1,
+  rw c.give_way.ensures.flights (front_beside c.self.inside.port.front (flights_of c.self.inside.flights) (footprint_of c.args.other.now) c.self.invariant.2),
+)

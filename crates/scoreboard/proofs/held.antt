@@ -1,0 +1,10 @@
+pub mod BoardSteps
+pub mod Changed
+pub mod ClientFootprints
+pub mod EarlyBeats
+pub mod FootprintBytes
+pub mod FreeFronts
+pub mod Marks
+pub mod Others
+pub mod RequestAnswered
+pub mod Sources

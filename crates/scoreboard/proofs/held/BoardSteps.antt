@@ -1,0 +1,105 @@
+-- What a board holds after a beat, client by client, and that it stays held so.
+use Rattle.std.proofs.Common.{◌≡◌, ℕ, ◌<◌, ◌≤◌, Bool, List, [], ◌∷◌, ◌++◌, map, set, length, get_or, Option, Some, None, refl, sym, ◌∙◌, ap, ap₂}
+use Rattle.std.specs.Prelude.{slice_get}
+use Rattle.std.specs.Option.{option_map}
+use Rattle.std.proofs.lemmas.List.{length-set, map-append, map-set}
+use Rattle.std.proofs.lemmas.Option.{slice_get-map, slice_get_read}
+use Rattle.bus_words.proofs.MappedPlaces.{map_some}
+use Rattle.bus_words.proofs.PlaceChanges.{all-got, all-set}
+use Rattle.subordinate.specs.Faults.{Faults}
+use Rattle.tl_messages.specs.Requests.{HeldMessage, bytes_given, request_of}
+use Rattle.tl_messages.specs.declared.DBeat.{DBeat}
+use Rattle.scoreboard.specs.Boards.{Board, ClientBoard, accepted_on, after_d, client_beside, flight_for, footprints_of, joined_on, joining_on, with_accepted}
+use Rattle.scoreboard.specs.Flights.{Footprint, InFlight, flights_after, is_of_source, with_flight}
+use Rattle.scoreboard.specs.InsideBoards.{AreOnGoodPages, BoardState, ClientState, ClientsHaveRoom, FlightState, IsFreeOf, board_of, client_of, flight_of, flights_of, footprint_of, is_marked, with_taken}
+use Rattle.scoreboard.specs.Races.{after_joining, flight_beside}
+use Rattle.scoreboard.specs.SerialMemory.{Memory, MemoryState, carried_out, memory_of}
+use Rattle.scoreboard.specs.declared.Policy.TheVariants.{RealTime}
+use Rattle.scoreboard.proofs.held.ClientFootprints.{good_client, good_each, own}
+use Rattle.scoreboard.proofs.MappedLists.{any_map}
+
+-- ---- a client of a list
+
+pub client_there : (clients : List ClientState) (number : ℕ) (found : ClientState) → slice_get clients number ≡ Some found
+    → slice_get (map client_of clients) number ≡ Some (client_of found)
+client_there clients number found is = slice_get-map client_of clients number ∙ ap (option_map client_of) is
+
+pub there_at : (clients : List ClientState) (number : ℕ) (found : ClientState) → number < length clients → found ≡ get_or clients number found → slice_get clients number ≡ Some found
+there_at clients number found within is = slice_get_read clients (length clients) number found refl within is
+
+-- ---- a beat on channel D
+
+pub replied : (state : BoardState) (number : ℕ) (found new : ClientState) (beat : DBeat) → slice_get state.clients number ≡ Some found
+    → client_of new ≡ record (client_of found) { flights = flights_after (flights_of found.flights) beat.source }
+    → board_of (record state { clients = set state.clients number new }) ≡ after_d (board_of state) number (slice_get (board_of state).clients number) beat
+replied state number found new beat there is =
+    rw (client_there state.clients number found there)
+    (ap {B = Board} (λ (clients : List ClientBoard). record (board_of state) { clients = clients }) (map-set client_of state.clients number new ∙ ap (set (map client_of state.clients) number) is))
+
+-- ---- what stays so where a client changes
+
+abbrev pub AreKept : ℕ → Faults → List ClientState → Type 0
+AreKept room faults clients = (length clients ≤ 8) × ClientsHaveRoom room clients × AreOnGoodPages faults (footprints_of (map client_of clients))
+
+pub client_kept : (room : ℕ) (faults : Faults) (clients : List ClientState) (number : ℕ) (found new : ClientState) → slice_get clients number ≡ Some found
+    → new.flights.room ≡ found.flights.room → (AreOnGoodPages faults (own (client_of found)) → AreOnGoodPages faults (own (client_of new))) → AreKept room faults clients
+    → AreKept room faults (set clients number new)
+client_kept room faults clients number found new there same keeps held =
+    let has = λ (client : ClientState). client.flights.room ≡ room in
+    let good = λ (client : ClientState). AreOnGoodPages faults (own (client_of client)) in (
+      rw (length-set clients number new) held.0,
+      all-set has clients number new held.1 (same ∙ all-got has clients number found held.1 there),
+      good_client faults clients number new held.2 (keeps (all-got good clients number found (good_each faults clients held.2) there)),
+    )
+
+-- ---- a request that is taken in
+
+-- its client, with one flight more
+client_with : (found : ClientState) (flight : FlightState) → client_of (record found { flights = record found.flights { due = found.flights.due ++ flight ∷ [] } })
+    ≡ record (client_of found) { flights = with_flight (flight_of flight) (client_of found).flights }
+client_with found flight =
+    ap {B = ClientBoard} (λ (due : List InFlight). record (client_of found) { flights = record (client_of found).flights { due = due } })
+    (map-append flight_of found.flights.due (flight ∷ []))
+
+pub taken : (state : BoardState) (number : ℕ) (found new : ClientState) (serial : MemoryState) (flight joining : FlightState) (footprint : Footprint)
+    → new ≡ record found { flights = record found.flights { due = found.flights.due ++ flight ∷ [] } } → found.front ≡ None
+    → flight_of flight ≡ flight_for (memory_of state.memory) footprint state.request → memory_of serial ≡ carried_out (memory_of state.memory) (request_of state.request)
+    → board_of (record state { clients = set state.clients number new; memory = serial; joining = joining }) ≡ with_taken (board_of state) number (client_of found) state.request footprint
+taken state number found new serial flight joining footprint is free made out =
+    ap₂ {C = Board} (λ (clients : List ClientBoard) (memory : Memory). record (board_of state) { clients = clients; memory = memory })
+    (map-set client_of state.clients number new ∙ ap (set (map client_of state.clients) number) (ap client_of is ∙ client_with found flight ∙ accepted)) out
+  where
+    accepted : record (client_of found) { flights = with_flight (flight_of flight) (client_of found).flights }
+        ≡ with_accepted (flight_for (memory_of state.memory) footprint state.request) (client_of found)
+    accepted =
+        ap₂ {C = ClientBoard} (λ (front : Option HeldMessage) (one : InFlight). record (client_of found) { front = front; flights = with_flight one (client_of found).flights }) free made
+
+-- ---- clients that have given way
+
+-- a client that has given way was there before, and the other way round
+module _ (given clients : List ClientBoard) (footprint : Footprint) (number : ℕ) (is : given ≡ map (client_beside footprint) clients) where
+  pub is_there : (found : ClientBoard) → slice_get clients number ≡ Some found → slice_get given number ≡ Some (client_beside footprint found)
+  is_there found there = ap (λ cs. slice_get cs number) is ∙ slice_get-map (client_beside footprint) clients number ∙ ap (option_map (client_beside footprint)) there
+
+  pub was_there : (P : Type 0) (made : ClientBoard) → slice_get given number ≡ Some made → ((found : ClientBoard) → slice_get clients number ≡ Some found → client_beside footprint found ≡ made → P) → P
+  was_there P made there =
+      map_some (client_beside footprint) (slice_get clients number) made (sym (ap (λ cs. slice_get cs number) is ∙ slice_get-map (client_beside footprint) clients number) ∙ there)
+
+pub free_beside : (source : ℕ) (footprint : Footprint) (client : ClientBoard) → IsFreeOf source client → IsFreeOf source (client_beside footprint client)
+free_beside source footprint client free =
+    record { front = free.front; free = any_map (is_of_source source) (flight_beside footprint) client.flights.due ∙ free.free }
+
+-- taken in behind those that have given way, a request has joined them
+pub joined_taken : (old now : BoardState) (number : ℕ) (found : ClientBoard) → now ≡ record old { clients = now.clients; indeterminate = now.indeterminate; joining = now.joining }
+    → footprint_of now.joining.footprint ≡ joining_on (board_of old) old.request
+    → map client_of now.clients ≡ map (client_beside (footprint_of now.joining.footprint)) (map client_of old.clients)
+    → is_marked now.indeterminate ≡ after_joining (is_marked old.indeterminate) (footprints_of (map client_of old.clients)) (footprint_of now.joining.footprint) (bytes_given old.request)
+    → with_taken (board_of now) number (client_beside (footprint_of now.joining.footprint) found) now.request (footprint_of now.joining.footprint)
+    ≡ accepted_on RealTime (board_of old) number found old.request
+joined_taken old now number found rest footprint given marked =
+    ap {B = Board} (λ (b : BoardState). with_taken (record (board_of b) { clients = map client_of now.clients; indeterminate = is_marked now.indeterminate }) number (client_beside own_footprint found) b.request own_footprint) rest
+    ∙ ap₂ {C = Board} (λ (clients : List ClientBoard) (indeterminate : ℕ → Bool). with_taken (record (board_of old) { clients = clients; indeterminate = indeterminate }) number (client_beside own_footprint found) old.request own_footprint) given marked
+    ∙ ap (joined_on (board_of old) number found old.request) footprint
+  where
+    own_footprint : Footprint
+    own_footprint = footprint_of now.joining.footprint

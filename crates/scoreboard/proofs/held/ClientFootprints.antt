@@ -1,0 +1,131 @@
+-- The footprints of clients, one client after another; and that those that may write are on good pages.
+use Rattle.std.proofs.Common.{◌≡◌, ◌<◌, ◌+◌, ◌==◌, ℕ, Bool, true, false, List, [], ◌∷◌, ◌++◌, Option, None, Some, if◌then◌else◌, flat_map, map, drop, take, length, get_or, set, refl, sym, ◌∙◌, ap}
+use Rattle.std.specs.List.{AllByRecursion, find}
+use Rattle.std.specs.Option.{option_map, option_to_list}
+use Rattle.std.proofs.lemmas.List.{flat_map_more, map-append, take_more}
+use Rattle.bus_words.proofs.MappedPlaces.{all-mapped}
+use Rattle.bus_words.proofs.PlaceChanges.{all-append, all-find, all-map, all-set, all-without_first}
+use Rattle.subordinate.specs.Faults.{Faults}
+use Rattle.tl_messages.specs.declared.DBeat.{DBeat}
+use Rattle.scoreboard.specs.Boards.{ClientBoard, client_beside, footprints_of}
+use Rattle.scoreboard.specs.Flights.{Flights, Footprint, InFlight, begun_after, each_flight, flights_after, in_flight, is_of_source, with_left}
+use Rattle.scoreboard.specs.InsideBoards.{AreOnGoodPages, ClientState, FlightState, IsOnGoodPage, client_of, flight_of, flights_of, footprint_of}
+use Rattle.scoreboard.specs.Races.{flight_beside}
+
+-- those of one client
+abbrev pub own : ClientBoard → List Footprint
+own client = map (λ (flight : InFlight). flight.footprint) (in_flight client.flights)
+
+-- one client more
+pub footprints_more : (clients : List ClientState) (i : ℕ) (client : ClientState) → i < length clients → client ≡ get_or clients i client
+    → footprints_of (map client_of (take i clients)) ++ own (client_of client) ≡ footprints_of (map client_of (take (i + 1) clients))
+footprints_more clients i client below is =
+    flat_map_more own [] (map client_of (take i clients)) (client_of client)
+    ∙ sym (ap footprints_of (map-append client_of (take i clients) (client ∷ [])))
+    ∙ sym (ap (λ cs. footprints_of (map client_of cs)) (take_more clients i client below ∙ ap (λ c. take i clients ++ c ∷ []) (sym is)))
+
+-- ---- what holds of each of several lists
+
+pub all_join : {X : Type 0} (P : X → Type 0) (xs ys : List X) → AllByRecursion P xs → AllByRecursion P ys → AllByRecursion P (xs ++ ys)
+all_join P [] ys first rest = rest
+all_join P (x ∷ xs) ys first rest = (first.0, all_join P xs ys first.1 rest)
+
+pub all_parts : {X : Type 0} (P : X → Type 0) (xs ys : List X) → AllByRecursion P (xs ++ ys) → AllByRecursion P xs × AllByRecursion P ys
+all_parts P [] ys all = (tt, all)
+all_parts P (x ∷ xs) ys all = let rest = all_parts P xs ys all.1 in ((all.0, rest.0), rest.1)
+
+mapped_all : {X Y : Type 0} (P : Y → Type 0) (f : X → Y) (xs : List X) → AllByRecursion (λ x. P (f x)) xs → AllByRecursion P (map f xs)
+mapped_all P f [] all = tt
+mapped_all P f (x ∷ xs) all = (all.0, mapped_all P f xs all.1)
+
+all_flat : {X Y : Type 0} (P : Y → Type 0) (f : X → List Y) (xs : List X) → AllByRecursion P (flat_map f xs) → AllByRecursion (λ x. AllByRecursion P (f x)) xs
+all_flat P f [] all = tt
+all_flat P f (x ∷ xs) all = let parts = all_parts P (f x) (flat_map f xs) all in (parts.0, all_flat P f xs parts.1)
+
+flat_all : {X Y : Type 0} (P : Y → Type 0) (f : X → List Y) (xs : List X) → AllByRecursion (λ x. AllByRecursion P (f x)) xs → AllByRecursion P (flat_map f xs)
+flat_all P f [] all = tt
+flat_all P f (x ∷ xs) all = all_join P (f x) (flat_map f xs) all.0 (flat_all P f xs all.1)
+
+-- ---- on good pages
+
+module _ (faults : Faults) where
+  abbrev Good : InFlight → Type 0
+  Good flight = IsOnGoodPage faults flight.footprint
+
+  abbrev pub AreGood : Flights → Type 0
+  AreGood flights = AllByRecursion Good flights.due × AllByRecursion Good (option_to_list flights.begun)
+
+  good_parts : (flights : Flights) → AreOnGoodPages faults (map (λ (flight : InFlight). flight.footprint) (in_flight flights)) → AreGood flights
+  good_parts flights good =
+      all_parts Good flights.due (option_to_list flights.begun) (all-mapped (IsOnGoodPage faults) (λ (flight : InFlight). flight.footprint) (in_flight flights) good)
+
+  good_whole : (flights : Flights) → AreGood flights → AreOnGoodPages faults (map (λ (flight : InFlight). flight.footprint) (in_flight flights))
+  good_whole flights good =
+      mapped_all (IsOnGoodPage faults) (λ (flight : InFlight). flight.footprint) (in_flight flights) (all_join Good flights.due (option_to_list flights.begun) good.0 good.1)
+
+  -- of each client as it is held
+  pub good_each : (clients : List ClientState) → AreOnGoodPages faults (footprints_of (map client_of clients)) → AllByRecursion (λ client. AreOnGoodPages faults (own (client_of client))) clients
+  good_each clients good = all-mapped (λ client. AreOnGoodPages faults (own client)) client_of clients (all_flat (IsOnGoodPage faults) own (map client_of clients) good)
+
+  -- where one client of a list changes
+  pub good_client : (clients : List ClientState) (number : ℕ) (new : ClientState) → AreOnGoodPages faults (footprints_of (map client_of clients))
+      → AreOnGoodPages faults (own (client_of new)) → AreOnGoodPages faults (footprints_of (map client_of (set clients number new)))
+  good_client clients number new all good =
+      let has = λ (client : ClientState). AreOnGoodPages faults (own (client_of client)) in
+      flat_all (IsOnGoodPage faults) own (map client_of (set clients number new))
+      (mapped_all (λ client. AreOnGoodPages faults (own client)) client_of (set clients number new) (all-set has clients number new (good_each clients all) good))
+
+  -- after a beat on channel D
+  begun_good : (begun : Option InFlight) (source : ℕ) → AllByRecursion Good (option_to_list begun) → AllByRecursion Good (option_to_list (begun_after begun source))
+  begun_good None source good = tt
+  begun_good (Some flight) source good = by_source (flight.source == source)
+    where
+      left : (beats : List DBeat) → AllByRecursion Good (option_to_list (with_left flight beats))
+      left [] = tt
+      left (beat ∷ beats) = good
+
+      by_source : (b : Bool) → AllByRecursion Good (option_to_list (if b then with_left flight (drop 1 flight.beats) else Some flight))
+      by_source true = left (drop 1 flight.beats)
+      by_source false = good
+
+  pub own_after : (client : ClientBoard) (source : ℕ) → AreOnGoodPages faults (own client) → AreOnGoodPages faults (own (record client { flights = flights_after client.flights source }))
+  own_after client source good = good_whole (flights_after client.flights source) (by_begun client.flights.begun (good_parts client.flights good).1)
+    where
+      due : List InFlight
+      due = client.flights.due
+
+      all : AllByRecursion Good due
+      all = (good_parts client.flights good).0
+
+      found : (o : Option InFlight) → find (is_of_source source) due ≡ o → AllByRecursion Good (option_to_list o)
+      found None is = tt
+      found (Some flight) is = (all-find Good (is_of_source source) due flight all is, tt)
+
+      by_begun : (begun : Option InFlight) → AllByRecursion Good (option_to_list begun) → AreGood (flights_after (record { due = due; begun = begun }) source)
+      by_begun None none = (all-without_first Good (is_of_source source) due all, begun_good (find (is_of_source source) due) source (found (find (is_of_source source) due) refl))
+      by_begun (Some flight) some = (all, begun_good (Some flight) source some)
+
+  -- beside a request that joins
+  pub all_beside : (footprint : Footprint) (clients : List ClientBoard) → AreOnGoodPages faults (footprints_of clients)
+      → AreOnGoodPages faults (footprints_of (map (client_beside footprint) clients))
+  all_beside footprint clients good =
+      flat_all (IsOnGoodPage faults) own (map (client_beside footprint) clients)
+      (mapped_all (λ client. AreOnGoodPages faults (own client)) (client_beside footprint) clients
+      (all-map (λ client. AreOnGoodPages faults (own client)) (λ client. AreOnGoodPages faults (own (client_beside footprint client))) clients each (all_flat (IsOnGoodPage faults) own clients good)))
+    where
+      one : (begun : Option InFlight) → AllByRecursion Good (option_to_list begun) → AllByRecursion Good (option_to_list (option_map (flight_beside footprint) begun))
+      one None here = tt
+      one (Some flight) here = here
+
+      each : (client : ClientBoard) → AreOnGoodPages faults (own client) → AreOnGoodPages faults (own (client_beside footprint client))
+      each client here =
+          let parts = good_parts client.flights here in
+          good_whole (each_flight (flight_beside footprint) client.flights) (mapped_all Good (flight_beside footprint) client.flights.due parts.0, one client.flights.begun parts.1)
+
+  -- with a flight more
+  pub own_with : (found : ClientState) (flight : FlightState) → AreOnGoodPages faults (own (client_of found)) → IsOnGoodPage faults (footprint_of flight.footprint)
+      → AreOnGoodPages faults (own (client_of (record found { flights = record found.flights { due = found.flights.due ++ flight ∷ [] } })))
+  own_with found flight good here =
+      let parts = good_parts (flights_of found.flights) good in
+      good_whole (flights_of (record found.flights { due = found.flights.due ++ flight ∷ [] }))
+      (rw (map-append flight_of found.flights.due (flight ∷ [])) (all-append Good (map flight_of found.flights.due) (flight_of flight) parts.0 here), parts.1)

@@ -1,0 +1,77 @@
+-- A message that has begun is of a source to which no reply is due, and stays so.
+use Rattle.std.proofs.Common.{◌≡◌, ℕ, ◌≤◌, Bor, Bool, true, false, not, List, [], ◌∷◌, Option, Some, None, Result, Ok, Err, refl, sym, ◌∙◌, ap, arith}
+use Rattle.std.specs.Prelude.{is_some}
+use Rattle.std.specs.List.{list_any}
+use Rattle.std.specs.Option.{option_copied}
+use Rattle.std.proofs.lemmas.Bool.{or_parts}
+use Rattle.bus_words.specs.Places.{without_first}
+use Rattle.tl_messages.specs.Requests.{HeldMessage}
+use Rattle.tl_messages.specs.declared.ABeat.{ABeat}
+use Rattle.tl_checker.specs.Ports.{PortState, joined, judged, port_after}
+use Rattle.tl_checker.specs.RequestRules.{TlPortLimits}
+use Rattle.tl_checker.specs.declared.Progress.{Progress}
+use Rattle.tl_checker.specs.declared.Progress.TheVariants.{More, Whole}
+use Rattle.tl_checker.specs.declared.TlRule.{TlRule}
+use Rattle.tl_checker.proofs.BeatRules.{first_none}
+use Rattle.tl_checker.proofs.Taking.{answered_parts}
+use Rattle.scoreboard.specs.Flights.{Flights, Footprint, InFlight, begun_is_of, due_after, each_flight, flights_after, is_busy, is_of_source}
+use Rattle.scoreboard.specs.InsideBoards.{IsFrontFree}
+use Rattle.scoreboard.specs.Races.{flight_beside}
+use Rattle.scoreboard.specs.declared.Policy.{Policy}
+use Rattle.scoreboard.specs.declared.Policy.TheVariants.{AcceptanceOrder, RealTime}
+use Rattle.scoreboard.proofs.MappedLists.{any_map}
+
+-- ---- lists
+
+none_without_first : {X : Type 0} (p q : X → Bool) (xs : List X) → list_any p xs ≡ false → list_any p (without_first q xs) ≡ false
+none_without_first p q [] none = none
+none_without_first p q (x ∷ xs) none = let parts = or_parts (p x) (list_any p xs) none in grind (arith, parts, none_without_first p q xs parts.1)
+
+-- ---- a beat on channel A
+
+not_busy : (policy : Policy) (flights : Flights) (source : ℕ) → is_busy policy flights source ≡ false → list_any (is_of_source source) flights.due ≡ false
+not_busy AcceptanceOrder flights source free = (or_parts (list_any (is_of_source source) flights.due) (begun_is_of source flights.begun) free).0
+not_busy RealTime flights source free = free
+
+-- the message with a beat that is taken is of a free source
+pub joined_free : (policy : Policy) (limits : TlPortLimits) (front : Option HeldMessage) (beat : ABeat) (flights : Flights) (told : Progress) → IsFrontFree front flights
+    → judged limits front beat (is_busy policy flights beat.source) ≡ Ok told → list_any (is_of_source (joined limits front beat).source) flights.due ≡ false
+joined_free policy limits None beat flights told free is =
+    not_busy policy flights beat.source (first_none limits beat (is_busy policy flights beat.source) (answered_parts _ _ told is).0).1
+joined_free policy limits (Some held) beat flights told free is = free
+
+-- a port that has taken a beat, and holds no whole request
+pub taken_right : (policy : Policy) (port taken : PortState) (beat : ABeat) (flights : Flights) (answer : Result Progress TlRule) → port.limits.max_size ≤ 12
+    → IsFrontFree port.front flights → answer ≡ judged port.limits port.front beat (is_busy policy flights beat.source) → taken ≡ port_after port beat answer
+    → taken.whole ≡ None → (taken.whole ≡ None) × (taken.limits.max_size ≤ 12) × IsFrontFree taken.front flights
+taken_right policy port taken beat flights (Err broken) small free is becomes none = (none, rw becomes small, rw becomes free)
+taken_right policy port taken beat flights (Ok More) small free is becomes none = (none, rw becomes small, rw becomes (joined_free policy port.limits port.front beat flights More free (sym is)))
+taken_right policy port taken beat flights (Ok Whole) small free is becomes none =
+    let stands : Some (joined port.limits port.front beat) ≡ None = sym (ap (λ (p : PortState). p.whole) becomes) ∙ none in
+    absurd (cc (stands))
+
+-- the request that stands whole is the message with the beat
+pub whole_joined : (port taken : PortState) (beat : ABeat) (answer : Result Progress TlRule) (request : HeldMessage) → taken ≡ port_after port beat answer
+    → taken.whole ≡ Some request → answer ≡ Ok Whole → request ≡ joined port.limits port.front beat
+whole_joined port taken beat answer request becomes stands whole =
+    let stood : Some request ≡ Some (joined port.limits port.front beat) = sym stands ∙ ap (λ (p : PortState). p.whole) (becomes ∙ ap (port_after port beat) whole) in
+    cc (stood)
+
+pub none_copied : {X : Type 0} (o : Option (Bor X)) (b : Bool) → is_some o ≡ not b → b ≡ true → option_copied o ≡ None
+none_copied None b is empty = refl
+none_copied (Some x) b is empty = let same : true ≡ false = is ∙ ap not empty in absurd (cc (same))
+
+-- ---- what is due gets less, or as it was
+
+pub front_after_reply : (front : Option HeldMessage) (flights : Flights) (source : ℕ) → IsFrontFree front flights → IsFrontFree front (flights_after flights source)
+front_after_reply None flights source free = tt
+front_after_reply (Some held) flights source free = by_begun flights.begun
+  where
+    by_begun : (begun : Option InFlight) → list_any (is_of_source held.source) (due_after begun flights.due source) ≡ false
+    by_begun None = none_without_first (is_of_source held.source) (is_of_source source) flights.due free
+    by_begun (Some flight) = free
+
+pub front_beside : (front : Option HeldMessage) (flights : Flights) (footprint : Footprint) → IsFrontFree front flights
+    → IsFrontFree front (each_flight (flight_beside footprint) flights)
+front_beside None flights footprint free = tt
+front_beside (Some held) flights footprint free = any_map (is_of_source held.source) (flight_beside footprint) flights.due ∙ free

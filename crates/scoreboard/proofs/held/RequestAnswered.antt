@@ -1,0 +1,100 @@
+-- A board whose client has answered a beat on channel A.
+use Rattle.std.proofs.Common.{◌≡◌, ℕ, zero, suc, false, List, [], ◌∷◌, ◌++◌, map, set, Some, None, Result, Ok, Err, refl, sym, ◌∙◌, ap, subst}
+use Rattle.std.specs.Prelude.{slice_get}
+use Rattle.std.specs.List.{list_any}
+use Rattle.std.proofs.lemmas.List.{map-set, set-set}
+use Rattle.bus_words.proofs.StoredPlaces.{set_back}
+use Rattle.tl_messages.specs.Requests.{HeldMessage, request_of}
+use Rattle.tl_messages.specs.declared.ABeat.{ABeat}
+use Rattle.tl_checker.specs.Ports.{joined}
+use Rattle.tl_checker.specs.declared.Progress.{Progress}
+use Rattle.tl_checker.specs.declared.Progress.TheVariants.{More, Whole}
+use Rattle.tl_checker.specs.declared.TlRule.{TlRule}
+use Rattle.scoreboard.specs.Boards.{Board, ClientBoard, a_wrong, accepted_on, after_a, answer_to, answered_on, client_beside, flight_for, footprints_of, joining_on, with_accepted, with_client, wrong_request}
+use Rattle.scoreboard.specs.Flights.{Footprint, InFlight, is_of_source, no_footprint}
+use Rattle.scoreboard.specs.InsideBoards.{ClientState, IsFreeOf, client_of, flights_of, front_after}
+use Rattle.scoreboard.specs.Races.{after_joining, joining}
+use Rattle.scoreboard.specs.SerialMemory.{carried_out, place_in}
+use Rattle.scoreboard.specs.declared.Policy.{Policy}
+use Rattle.scoreboard.specs.declared.Policy.TheVariants.{AcceptanceOrder, RealTime}
+use Rattle.scoreboard.proofs.held.ClientFootprints.{own}
+
+-- ---- a client of a list that has let go of what it had begun
+
+same_footprints : (clients : List ClientBoard) (number : ℕ) (client : ClientBoard) → slice_get clients number ≡ Some client
+    → footprints_of (set clients number (record client { front = None })) ≡ footprints_of clients
+same_footprints [] number client there = refl
+same_footprints (first ∷ clients) zero client there = let same : first ≡ client = cc (there) in ap (λ (c : ClientBoard). own c ++ footprints_of clients) (sym same)
+same_footprints (first ∷ clients) (suc number) client there = ap (λ rest. own first ++ rest) (same_footprints clients number client there)
+
+-- that it had begun something is nothing to the request that it is of
+accepted_same : (policy : Policy) (board : Board) (number : ℕ) (client : ClientBoard) (message : HeldMessage) → slice_get board.clients number ≡ Some client
+    → accepted_on policy (with_client number (record client { front = None }) board) number (record client { front = None }) message ≡ accepted_on policy board number client message
+accepted_same AcceptanceOrder board number client message there =
+    ap {B = Board} (λ (clients : List ClientBoard). record board { clients = clients; memory = carried_out board.memory (request_of message) })
+    (set-set board.clients number (record client { front = None }) (with_accepted (flight_for board.memory no_footprint message) client))
+accepted_same RealTime board number client message there =
+    ap (λ (footprints : List Footprint). joined_beside (set board.clients number changed) changed footprints) (same_footprints board.clients number client there)
+    ∙ ap {B = Board} (λ (clients : List ClientBoard). record board {
+      clients = clients;
+      memory = carried_out board.memory (request_of message);
+      indeterminate = after_joining board.indeterminate (footprints_of board.clients) footprint (request_of message).bytes;
+    })
+    (ap (λ (clients : List ClientBoard). set clients number (with_accepted flight (client_beside footprint changed))) (map-set (client_beside footprint) board.clients number changed)
+    ∙ set-set (map (client_beside footprint) board.clients) number (client_beside footprint changed) (with_accepted flight (client_beside footprint changed)))
+  where
+    changed : ClientBoard
+    changed = record client { front = None }
+
+    footprint : Footprint
+    footprint = joining_on board message
+
+    flight : InFlight
+    flight = flight_for board.memory footprint message
+
+    -- the board where it has joined clients, of which these are the footprints
+    joined_beside : List ClientBoard → ClientBoard → List Footprint → Board
+    joined_beside clients own_client footprints =
+        let joined_footprint = joining board.indeterminate footprints (place_in board.memory (request_of message)) (request_of message) in
+        record board {
+          clients = set (map (client_beside joined_footprint) clients) number (with_accepted (flight_for board.memory joined_footprint message) (client_beside joined_footprint own_client));
+          memory = carried_out board.memory (request_of message);
+          indeterminate = after_joining board.indeterminate footprints joined_footprint (request_of message).bytes;
+        }
+
+-- ---- what the answer makes of the board
+
+module _ (policy : Policy) (board : Board) (number : ℕ) (found : ClientBoard) (beat : ABeat) (there : slice_get board.clients number ≡ Some found) where
+  abbrev message : HeldMessage
+  message = joined found.limits found.front beat
+
+  pub wrong_as : (answer : Result Progress TlRule) → answer ≡ answer_to policy found beat → wrong_request answer ≡ a_wrong policy (slice_get board.clients number) beat
+  wrong_as answer is = ap wrong_request is ∙ ap (λ o. a_wrong policy o beat) (sym there)
+
+  -- the board with its front after the answer
+  abbrev pub with_front : Result Progress TlRule → Board
+  with_front answer = with_client number (record found { front = front_after found.front message answer }) board
+
+  -- and after the request, where it is whole
+  abbrev pub After : Board → Result Progress TlRule → Type 0
+  After final (Err broken) = final ≡ with_front (Err broken)
+  After final (Ok More) = final ≡ with_front (Ok More)
+  After final (Ok Whole) = final ≡ accepted_on policy (with_front (Ok Whole)) number (record found { front = None }) message
+
+  pub state_as : (final : Board) (answer told : Result Progress TlRule) → answer ≡ told → answer ≡ answer_to policy found beat → After final told
+      → final ≡ after_a policy board number (slice_get board.clients number) beat
+  state_as final answer told is answers after =
+      by_answer told after ∙ ap (answered_on policy board number found message) (sym is ∙ answers) ∙ ap (λ o. after_a policy board number o beat) (sym there)
+    where
+      by_answer : (told : Result Progress TlRule) → After final told → final ≡ answered_on policy board number found message told
+      by_answer (Err broken) after = after ∙ ap {B = Board} (λ (clients : List ClientBoard). record board { clients = clients }) (set_back board.clients number found there)
+      by_answer (Ok More) after = after
+      by_answer (Ok Whole) after = after ∙ accepted_same policy board number found message there
+
+-- one whose request is whole has begun nothing, and its request is of a free source
+pub free_whole : (found new : ClientState) (message request : HeldMessage) (answer : Result Progress TlRule) → answer ≡ Ok Whole
+    → new ≡ record found { front = front_after found.front message answer } → list_any (is_of_source request.source) (flights_of found.flights).due ≡ false
+    → IsFreeOf request.source (client_of new)
+free_whole found new message request answer whole is free =
+    let changed = is ∙ ap (λ (told : Result Progress TlRule). record found { front = front_after found.front message told }) whole in
+    subst (λ (client : ClientState). IsFreeOf request.source (client_of client)) (sym changed) (record { front = refl; free = free })

@@ -1,0 +1,132 @@
+-- The sources of the requests to which a reply is due: no two are the same, so that they are as many as there are sources, or fewer.
+use Rattle.std.proofs.Common.{◌≡◌, ◌≢◌, ◌<◌, ◌≤◌, ◌==◌, ℕ, zero, suc, Bool, true, false, List, [], ◌∷◌, ◌++◌, map, length, get_or, refl, sym, subst, arith, ◌∙◌, ap}
+use Rattle.std.specs.Prelude.{if◌then◌else◌, Option, Some, None, is_some}
+use Rattle.std.specs.List.{AllByRecursion, find, list_any, position, remove}
+use Rattle.std.specs.Option.{option_len}
+use Rattle.std.proofs.lemmas.Bool.{eqb-false, eqb-true, or_parts}
+use Rattle.std.proofs.lemmas.List.{get_or-map, length-append, length-map, map-append}
+use Rattle.std.proofs.lemmas.Simd.{map-map}
+use Rattle.bus_words.specs.Places.{AreDistinct, without_first}
+use Rattle.bus_words.proofs.DistinctPlaces.{distinct-append, distinct-remove, distinct-without_first}
+use Rattle.bus_words.proofs.FirstPlaces.{find-first, find-none, position_is_first, without_first-first}
+use Rattle.bus_words.proofs.MappedPlaces.{map-remove, position_map}
+use Rattle.bus_words.proofs.PlaceChanges.{all-append, all-remove}
+use Rattle.scoreboard.specs.Flights.{Flights, Footprint, InFlight, is_of_source}
+use Rattle.scoreboard.specs.InsideBoards.{AreDue, FlightState, FlightsState, HaveRoom, flight_of}
+use Rattle.scoreboard.specs.Races.{flight_beside}
+
+-- ---- distinct numbers below a bound
+
+below : (n : ℕ) (numbers : List ℕ) → AllByRecursion (λ m. m ≢ n) numbers → AllByRecursion (λ m. m < suc n) numbers → AllByRecursion (λ m. m < n) numbers
+below n [] others all = tt
+below n (m ∷ numbers) others all = (omega (arith, others.0, all.0), below n numbers others.1 all.1)
+
+-- those below the next number, without this one
+without_last : (n : ℕ) (numbers : List ℕ) → AreDistinct numbers → AllByRecursion (λ m. m < suc n) numbers → AllByRecursion (λ m. m < n) (without_first (λ m. m == n) numbers)
+without_last n [] distinct all = tt
+without_last n (m ∷ numbers) distinct all = by_test (m == n) refl (without_last n numbers distinct.1 all.1)
+  where
+    by_test : (b : Bool) → (m == n) ≡ b → AllByRecursion (λ k. k < n) (without_first (λ k. k == n) numbers)
+        → AllByRecursion (λ k. k < n) (if b then numbers else m ∷ without_first (λ k. k == n) numbers)
+    by_test true is rest = below n numbers (subst (λ k. AllByRecursion (λ j. j ≢ k) numbers) (eqb-true m n is) distinct.0) all.1
+    by_test false is rest = (omega (arith, all.0, eqb-false m n is), rest)
+
+one_out : {X : Type 0} (p : X → Bool) (xs : List X) → length xs ≤ suc (length (without_first p xs))
+one_out p [] = omega arith
+one_out p (x ∷ xs) = grind (arith, one_out p xs)
+
+-- there are no more of them than numbers below it
+few_below : (n : ℕ) (numbers : List ℕ) → AreDistinct numbers → AllByRecursion (λ m. m < n) numbers → length numbers ≤ n
+few_below zero [] distinct all = omega arith
+few_below zero (m ∷ numbers) distinct all = absurd (omega (arith, all.0))
+few_below (suc n) numbers distinct all =
+    let less = few_below n (without_first (λ m. m == n) numbers) (distinct-without_first (λ m. m == n) numbers distinct) (without_last n numbers distinct all) in
+    omega (arith, less, one_out (λ m. m == n) numbers)
+
+-- ---- those that are due
+
+few_due : (room : ℕ) (due : List FlightState) → AreDue room due → length due ≤ 256
+few_due room due are = rw (sym (length-map due (λ flight. flight.source))) (few_below 256 (map (λ flight. flight.source) due) are.distinct are.bytes)
+
+-- none is of a source to which none is due
+others_due : (source : ℕ) (due : List FlightState) → list_any (is_of_source source) (map flight_of due) ≡ false → AllByRecursion (λ m. m ≢ source) (map (λ flight. flight.source) due)
+others_due source [] none = tt
+others_due source (flight ∷ due) none =
+    let parts = or_parts (flight.source == source) (list_any (is_of_source source) (map flight_of due)) none in (eqb-false flight.source source parts.0, others_due source due parts.1)
+
+-- one has begun at most
+pub few_begun : {X : Type 0} (begun : Option X) → option_len begun ≤ 1
+few_begun None = omega arith
+few_begun (Some flight) = omega arith
+
+-- with one more of another source, of which there are so many at most
+pub record AreJoined (room : ℕ) (due : List FlightState) (flight : FlightState) : Type 0 where
+  pub all : AreDue room (due ++ flight ∷ [])
+  pub few : length due < 256
+
+pub due_more : (old : FlightsState) (room : ℕ) (due : List FlightState) (begun : Option FlightState) (flight : FlightState) → record { room = room; due = due; begun = begun } ≡ old → AreDue room due
+    → list_any (is_of_source flight.source) (map flight_of old.due) ≡ false → length flight.footprint.determined ≡ old.room → flight.source < 256 → AreJoined room due flight
+due_more old room due begun flight is are none wide low =
+    let sources = map-append (λ (flight : FlightState). flight.source) due (flight ∷ []) in
+    let free = others_due flight.source due (ap (λ (flights : FlightsState). list_any (is_of_source flight.source) (map flight_of flights.due)) is ∙ none) in
+    let all : AreDue room (due ++ flight ∷ []) = record {
+      rooms = all-append (λ (flight : FlightState). length flight.footprint.determined ≡ room) due flight are.rooms (wide ∙ sym (ap (λ (flights : FlightsState). flights.room) is));
+      bytes = rw sources (all-append (λ source. source < 256) (map (λ flight. flight.source) due) flight.source are.bytes low);
+      distinct = rw sources (distinct-append flight.source (map (λ flight. flight.source) due) are.distinct free);
+    } in
+    record { all = all; few = omega (arith, few_due room (due ++ flight ∷ []) all, length-append due (flight ∷ [])) }
+
+-- one fewer
+pub due_without : (room : ℕ) (due : List FlightState) (place : ℕ) → AreDue room due → AreDue room (remove due place)
+due_without room due place are =
+    let sources = map-remove (λ (flight : FlightState). flight.source) due place in
+    record {
+      rooms = all-remove (λ (flight : FlightState). length flight.footprint.determined ≡ room) due place are.rooms;
+      bytes = rw sources (all-remove (λ source. source < 256) (map (λ flight. flight.source) due) place are.bytes);
+      distinct = rw sources (distinct-remove (map (λ flight. flight.source) due) place are.distinct);
+    }
+
+-- when each has given way to another
+pub due_beside : (room : ℕ) (old new : List FlightState) (other : Footprint) → AreDue room old → map flight_of new ≡ map (flight_beside other) (map flight_of old) → (HaveRoom room old → HaveRoom room new)
+    → AreDue room new
+due_beside room old new other are given rooms =
+    let source = λ (flight : InFlight). flight.source in
+    let same = sym (map-map source flight_of new) ∙ ap (map source) given ∙ map-map source (flight_beside other) (map flight_of old) ∙ map-map source flight_of old in
+    record { rooms = rooms are.rooms; bytes = rw same are.bytes; distinct = rw same are.distinct }
+
+-- ---- the one of a source
+
+abbrev pub flights_with : List InFlight → Option InFlight → Flights
+flights_with due begun = record { due = due; begun = begun }
+
+-- whether there is one is whether there is a first
+pub any_placed : {X : Type 0} (p : X → Bool) (xs : List X) → is_some (position p xs) ≡ list_any p xs
+any_placed p [] = refl
+any_placed p (x ∷ xs) = grind (arith, any_placed p xs)
+
+none_out : {X : Type 0} (p : X → Bool) (xs : List X) → position p xs ≡ None → without_first p xs ≡ xs
+none_out p [] none = refl
+none_out p (x ∷ xs) none = grind (arith, none_out p xs)
+
+module _ (source : ℕ) (due : List FlightState) where
+  -- its place among those that are held
+  pub placed : position (is_of_source source) (map flight_of due) ≡ position (λ flight. flight.source == source) due
+  placed = position_map flight_of (is_of_source source) due
+
+  -- it begins
+  pub begins : (place : ℕ) (flight : FlightState) → position (λ flight. flight.source == source) due ≡ Some place → flight ≡ get_or due place flight
+      → flights_with (map flight_of (remove due place)) (Some (flight_of flight))
+      ≡ flights_with (without_first (is_of_source source) (map flight_of due)) (find (is_of_source source) (map flight_of due))
+  begins place flight found is =
+      let at = position_is_first (is_of_source source) (map flight_of due) place (placed ∙ found) in
+      let within : place < length due = (position_is_first (λ (flight : FlightState). flight.source == source) due place found).within in
+      let there = find-first (is_of_source source) (map flight_of due) place (flight_of flight) at in
+      let same = get_or-map flight_of due place flight (flight_of flight) within ∙ ap flight_of (sym is) in
+      rw (without_first-first (is_of_source source) (map flight_of due) place at, map-remove flight_of due place, there, same) refl
+
+  -- there is none
+  pub begins_none : position (λ flight. flight.source == source) due ≡ None
+      → flights_with (map flight_of due) None ≡ flights_with (without_first (is_of_source source) (map flight_of due)) (find (is_of_source source) (map flight_of due))
+  begins_none missing =
+      let none = placed ∙ missing in
+      rw (none_out (is_of_source source) (map flight_of due) none, find-none (is_of_source source) (map flight_of due) none) refl

@@ -1,0 +1,4 @@
+pub mod PutWords
+pub mod RequestWords
+pub mod WordRanges
+pub mod WordReads

@@ -1,0 +1,26 @@
+pub mod Acceptance
+pub mod AlikeBeats
+pub mod Apart
+pub mod Arranged
+pub mod Blames
+pub mod CheckedRequests
+pub mod Entries
+mod Examples
+pub mod Explained
+pub mod FlightLists
+pub mod FlightsAlone
+pub mod Insertion
+pub mod JudgedRightly
+pub mod Lengths
+pub mod Places
+pub mod ReplyBeats
+pub mod ReplyBytes
+pub mod ReplyMoves
+pub mod ReplySeen
+pub mod ReplySteps
+pub mod RequestActs
+pub mod RequestSeen
+pub mod StepOrders
+pub mod Verdicts
+pub mod WiderRuns
+pub mod WiderVerdicts

@@ -1,0 +1,140 @@
+-- Worked values of orders: what is accepted, what is due in each order of it, and what a board says; and where the laws on lists of beats end.
+use Rattle.std.proofs.Common.{◌≡◌, ℕ, true, false, List, [], ◌∷◌, ◌++◌, length, Some, None, refl, sym, ◌∙◌, inl, inr, arith}
+use Rattle.std.proofs.lemmas.Bool.{false≢true}
+use Rattle.std.proofs.lemmas.Option.{none-some}
+use Rattle.std.specs.Prelude.{replicate}
+use Rattle.tl_messages.specs.declared.ABeat.{ABeat}
+use Rattle.tl_messages.specs.declared.DBeat.{DBeat}
+use Rattle.tl_checker.specs.declared.Level.TheVariants.{Uh}
+use Rattle.subordinate.specs.Pages.{zero_words}
+use Rattle.subordinate.specs.declared.PageKind.TheVariants.{Good}
+use Rattle.setups.specs.Setups.{SetupLists}
+use Rattle.scoreboard.specs.Boards.{after_all, opening_board, wrong_at}
+use Rattle.scoreboard.specs.Right.{IsRight}
+use Rattle.scoreboard.specs.declared.ReplyRule.TheVariants.{Payload, Unasked}
+use Rattle.scoreboard.specs.declared.ObservedBeat.{ObservedBeat}
+use Rattle.scoreboard.specs.declared.ObservedBeat.TheVariants.{A, D}
+use Rattle.scoreboard.specs.declared.Wrong.TheVariants.{Reply}
+use Rattle.scoreboard.specs.Orders.{board_after, due_beats}
+use Rattle.scoreboard.specs.RealTime.{KeepsRealTime, accepted_in, arranged}
+use Rattle.scoreboard.specs.Wider.{TellsNoMore}
+use Rattle.scoreboard.specs.declared.Policy.TheVariants.{AcceptanceOrder, RealTime}
+use Rattle.scoreboard.proofs.acceptance_order.Reached.{right_nothing}
+
+-- two clients and one good page, to which a region leads that permits all
+abbrev setup : SetupLists
+setup =
+    record {
+      config = record { clients = 2; quota = 4; ids = 16; depth = 2; max_len = 16; max_size = 12; levels = replicate 8 Uh; axi_bytes = 8 };
+      regions = record { tl_page = 0; pages = 4; axi_page = 0x10; get = true; put = true; atomic = true; hint = true } ∷ [];
+      pages = (0x10, Good) ∷ [];
+      bad_words = [];
+    }
+
+-- opcode, param, size, source, address, mask and payload
+abbrev a : ℕ → ℕ → ℕ → ℕ → ℕ → ℕ → ℕ → ABeat
+a opcode param size source address mask payload =
+    record { opcode = opcode; param = param; size = size; source = source; address = address; mask = mask; payload = payload; corrupt = false }
+
+-- client 0 puts the byte at 0x0b, client 1 gets its word
+abbrev put : ObservedBeat
+put = A 0 (a 0 0 0 5 0x0b 0x08 0xaa000000)
+
+abbrev get : ObservedBeat
+get = A 1 (a 4 0 3 2 0x08 0xff 0)
+
+abbrev acknowledged : DBeat
+acknowledged = record { opcode = 0; param = 0; size = 0; source = 5; denied = false; payload = 0; corrupt = false }
+
+abbrev told : ℕ → DBeat
+told payload = record { opcode = 1; param = 0; size = 3; source = 2; denied = false; payload = payload; corrupt = false }
+
+-- ---- both in flight
+
+abbrev race : List ObservedBeat
+race = put ∷ get ∷ []
+
+-- what the get is told is what stands there where it takes effect
+both_orders : (length (accepted_in setup race) ≡ 2)
+    × (due_beats setup (arranged setup race (0 ∷ 1 ∷ [])) 1 2 ≡ told 0xaa000000 ∷ [])
+    × (due_beats setup (arranged setup race (1 ∷ 0 ∷ [])) 1 2 ≡ told 0 ∷ [])
+unfolding zero_words
+both_orders = (refl, refl, refl)
+
+-- neither is blamed, nor is another value of the byte that both may have been told; and that the put's reply comes first says nothing of their order
+either_told : (wrong_at RealTime (board_after setup race) (D 1 (told 0xaa000000)) ≡ None)
+    × (wrong_at RealTime (board_after setup race) (D 1 (told 0)) ≡ None)
+    × (wrong_at RealTime (board_after setup (race ++ D 0 acknowledged ∷ [])) (D 1 (told 0)) ≡ None)
+unfolding zero_words
+either_told = (refl, refl, refl)
+
+-- a byte that nobody puts is the same in both orders; and the byte is indeterminate for none of those that come later: the put was alone when it came
+others_same : (wrong_at RealTime (board_after setup race) (D 1 (told 0xaa000001)) ≡ Some (Reply Payload (Some (told 0xaa000000))))
+    × ((board_after setup race).indeterminate 0x1000b ≡ false)
+unfolding zero_words
+others_same = (refl, refl)
+
+-- ---- one behind the other
+
+abbrev apart : List ObservedBeat
+apart = put ∷ D 0 acknowledged ∷ get ∷ []
+
+-- the board blames the beat, which is right in an order out of real time
+zero_blamed : (wrong_at RealTime (board_after setup apart) (D 1 (told 0)) ≡ Some (Reply Payload (Some (told 0xaa000000))))
+    × (due_beats setup (arranged setup apart (1 ∷ 0 ∷ [])) 1 2 ≡ told 0 ∷ [])
+unfolding zero_words
+zero_blamed = (refl, refl)
+
+-- the order in which it would be right doesn't keep real time
+not_before : KeepsRealTime setup apart (1 ∷ 0 ∷ []) → ⊥
+unfolding zero_words
+not_before keeps =
+    keeps.0.0
+    (record { first = put ∷ D 0 acknowledged ∷ []; rest = get ∷ []; parts = refl; accepted = omega arith; ended = refl; not_yet = omega arith })
+
+-- ---- two puts together
+
+abbrev again : ObservedBeat
+again = A 1 (a 0 0 0 6 0x0b 0x08 0xbb000000)
+
+abbrev two_puts : List ObservedBeat
+two_puts = put ∷ again ∷ D 0 acknowledged ∷ D 1 (record acknowledged { source = 6 }) ∷ get ∷ []
+
+-- either is the last in an order, so whatever is told of the byte is right
+either_last : (wrong_at RealTime (board_after setup two_puts) (D 1 (told 0xaa000000)) ≡ None)
+    × (wrong_at RealTime (board_after setup two_puts) (D 1 (told 0xbb000000)) ≡ None)
+    × (due_beats setup (arranged setup two_puts (1 ∷ 0 ∷ 2 ∷ [])) 1 2 ≡ told 0xaa000000 ∷ [])
+    × (due_beats setup (arranged setup two_puts (0 ∷ 1 ∷ 2 ∷ [])) 1 2 ≡ told 0xbb000000 ∷ [])
+unfolding zero_words
+either_last = (refl, refl, refl, refl)
+
+-- ---- where the laws end
+
+-- beats before that are right don't make the next one right: nothing was observed, and a reply comes
+unasked : wrong_at RealTime (board_after setup []) (D 0 acknowledged) ≡ Some (Reply Unasked None)
+unfolding zero_words
+unasked = refl
+
+not_whatever_comes_next : ((before : List ObservedBeat) → IsRight setup before → wrong_at RealTime (board_after setup before) (D 0 acknowledged) ≡ None) → ⊥
+not_whatever_comes_next law = none-some (Reply Unasked None) (sym (law [] (right_nothing setup)) ∙ unasked)
+
+-- client 1 gets two words, and with the first of them asks for them again by the same source: a board of acceptance order finds the
+-- source busy
+abbrev get_two : ObservedBeat
+get_two = A 1 (a 4 0 4 2 0 0xff 0)
+
+abbrev word : DBeat
+word = record { opcode = 1; param = 0; size = 4; source = 2; denied = false; payload = 0; corrupt = false }
+
+abbrev twice : List ObservedBeat
+twice = get_two ∷ D 1 word ∷ get_two ∷ D 1 word ∷ []
+
+-- it finds the reply to the second request unasked, which one of real time has taken: beside one that found a source busy, this board may tell less
+not_behind_busy_sources : TellsNoMore (wrong_at AcceptanceOrder (after_all AcceptanceOrder (opening_board setup) twice) (D 1 word)) (wrong_at RealTime (board_after setup twice) (D 1 word)) → ⊥
+unfolding zero_words
+not_behind_busy_sources law = refuted law
+  where
+    refuted : TellsNoMore (Some (Reply Unasked None)) None → ⊥
+    refuted (inl same) = none-some (Reply Unasked None) same
+    refuted (inr (inl wide, none)) = false≢true wide
+    refuted (inr (inr wide, none)) = false≢true wide

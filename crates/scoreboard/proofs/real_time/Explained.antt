@@ -1,0 +1,120 @@
+-- What a board knows of an order: the bytes that aren't indeterminate are what the order leaves, and what is left of each reply was made of
+-- bytes that are those before its request, where they are determined. And it knows so at the start.
+use Rattle.std.proofs.Common.{◌≡◌, ℕ, zero, suc, ◌+◌, true, false, List, [], map, set, Option, Some, None, inl, inr, refl, sym, ◌∙◌, ap, subst, arith}
+use Rattle.std.specs.Prelude.{is_some, slice_get}
+use Rattle.std.specs.List.{list_any, range_with_len}
+use Rattle.std.proofs.Math.Path.{fun_ext}
+use Rattle.std.proofs.lemmas.Bool.{cases_eq}
+use Rattle.std.proofs.lemmas.Option.{slice_get-map, slice_get_within}
+use Rattle.bus_words.proofs.StoredPlaces.{get_set, get_set-other}
+use Rattle.config.specs.declared.Config.{Config}
+use Rattle.meaning.specs.Meaning.{zeros}
+use Rattle.setups.specs.Setups.{SetupLists}
+use Rattle.scoreboard.specs.AxiPorts.{PortBoard}
+use Rattle.scoreboard.specs.Boards.{Board, ClientBoard, opening_board, opening_client}
+use Rattle.scoreboard.specs.Flights.{Flights, InFlight, no_flights}
+use Rattle.scoreboard.specs.Orders.{Order, begun_to}
+use Rattle.scoreboard.proofs.real_time.Apart.{AreApart, AreEither}
+use Rattle.scoreboard.proofs.real_time.CheckedRequests.{IsFrontRight, front_none}
+use Rattle.scoreboard.proofs.real_time.Entries.{AreDistinct, Each, Stands, run}
+use Rattle.scoreboard.proofs.real_time.Places.{HaveSources, Place, begun_at, due_at, flight_at, flight_in, flights_at, flights_kept, footprint_at, footprint_in, none_in}
+use Rattle.scoreboard.proofs.real_time.ReplyMoves.{waits_for}
+use Rattle.scoreboard.proofs.real_time.RequestActs.{AreBytes}
+
+-- no two requests of a client that wait for their replies are of one source, and what each has begun goes with it
+pub record AreClients (clients : List ClientBoard) : Type 0 where
+  pub sources : (number : ℕ) (client : ClientBoard) → slice_get clients number ≡ Some client → HaveSources client.flights
+  pub fronts : (number : ℕ) (client : ClientBoard) → slice_get clients number ≡ Some client → IsFrontRight client
+
+pub record Explains (board : Board) (order : Order) : Type 0 where
+  pub clients : AreClients board.clients
+  pub small : AreBytes board.memory.bytes
+  pub apart : AreApart (footprint_at board.clients)
+  pub either : AreEither board.indeterminate (footprint_at board.clients)
+  pub distinct : AreDistinct order
+  pub entries : Each board.memory.faults board.memory.regions (Stands board.memory.faults board.memory.regions (flight_at board.clients)) zeros order
+  pub known : (x : ℕ) → board.indeterminate x ≡ false → run board.memory.faults board.memory.regions zeros order x ≡ board.memory.bytes x
+  pub waiting : (client source : ℕ) → is_some (flight_at board.clients (due_at client source)) ≡ true → list_any (waits_for client source) order ≡ true
+  pub begun : (client : ℕ) → is_some (flight_at board.clients (begun_at client)) ≡ true → list_any (begun_to client) order ≡ true
+
+-- ---- one client changes
+
+-- what holds of a client still holds of each
+pub each_client : (P : ClientBoard → Type 0) (clients : List ClientBoard) (number : ℕ) (old changed : ClientBoard) → slice_get clients number ≡ Some old
+    → ((other : ℕ) (client : ClientBoard) → slice_get clients other ≡ Some client → P client) → P changed
+    → (other : ℕ) (client : ClientBoard) → slice_get (set clients number changed) other ≡ Some client → P client
+each_client P clients number old changed is all own other client there =
+    elim (cases_eq other number) [
+      | inl same ↦ subst P (cc (get_set clients number changed (slice_get_within clients number old is), same, there)) own
+      | inr differ ↦ all other client (sym (get_set-other clients number other changed differ) ∙ there)
+    ]
+
+pub clients_with : (clients : List ClientBoard) (number : ℕ) (old changed : ClientBoard) → slice_get clients number ≡ Some old → AreClients clients
+    → HaveSources changed.flights → IsFrontRight changed → AreClients (set clients number changed)
+clients_with clients number old changed is are sources front =
+    record {
+      sources = each_client (λ client. HaveSources client.flights) clients number old changed is are.sources sources;
+      fronts = each_client IsFrontRight clients number old changed is are.fronts front;
+    }
+
+-- where the same is in flight
+pub explains_as : (board : Board) (order : Order) (clients : List ClientBoard) (port : PortBoard) → flight_at board.clients ≡ flight_at clients → AreClients clients
+    → Explains board order → Explains (record board { clients = clients; axi = port }) order
+explains_as board order clients port same are explains =
+    record {
+      clients = are;
+      small = explains.small;
+      apart = subst (λ (f : Place → Option InFlight). AreApart (λ place. footprint_in (f place))) same explains.apart;
+      either = subst (λ (f : Place → Option InFlight). AreEither board.indeterminate (λ place. footprint_in (f place))) same explains.either;
+      distinct = explains.distinct;
+      entries = subst (λ (f : Place → Option InFlight). Each board.memory.faults board.memory.regions
+          (Stands board.memory.faults board.memory.regions f) zeros order) same explains.entries;
+      known = explains.known;
+      waiting = λ client source some. explains.waiting client source (ap (λ (f : Place → Option InFlight). is_some (f (due_at client source))) same ∙ some);
+      begun = λ client some. explains.begun client (ap (λ (f : Place → Option InFlight). is_some (f (begun_at client))) same ∙ some);
+    }
+
+-- a client that keeps its requests in flight
+pub explains_with : (board : Board) (order : Order) (number : ℕ) (old changed : ClientBoard) → slice_get board.clients number ≡ Some old
+    → changed.flights ≡ old.flights → IsFrontRight changed
+    → Explains board order → Explains (record board { clients = set board.clients number changed }) order
+explains_with board order number old changed is same front explains =
+    explains_as board order (set board.clients number changed) board.axi
+    (fun_ext (λ place. ap (λ (f : Flights). flight_in f place.source) (sym (flights_kept board.clients number old changed is same place.client))))
+    (clients_with board.clients number old changed is explains.clients (subst HaveSources (sym same) (explains.clients.sources number old is)) front) explains
+
+-- ---- at the start
+
+opening_at : (config : Config) (from count number : ℕ) (client : ClientBoard)
+    → slice_get (map (opening_client config) (range_with_len from count)) number ≡ Some client
+    → (k : ℕ) × (client ≡ opening_client config k)
+opening_at config from zero number client is = absurd (cc (is))
+opening_at config from (suc count) zero client is = (from, cc (is))
+opening_at config from (suc count) (suc number) client is = opening_at config (from + 1) count number client is
+
+opening_flights : (config : Config) (from count number : ℕ) → flights_at (map (opening_client config) (range_with_len from count)) number ≡ no_flights
+opening_flights config from count number = rw (slice_get-map (opening_client config) (range_with_len from count) number) (grind arith)
+
+pub explains_opening : (setup : SetupLists) → Explains (opening_board setup) []
+explains_opening setup =
+    record {
+      clients =
+          record {
+            sources = λ number client is. let found = opening_at setup.config 0 setup.config.clients number client is in
+                subst HaveSources (sym (ap (λ (c : ClientBoard). c.flights) found.1)) tt;
+            fronts = λ number client is. let found = opening_at setup.config 0 setup.config.clients number client is in
+                front_none client (ap (λ (c : ClientBoard). c.front) found.1);
+          };
+      small = record { at = λ x. omega arith };
+      apart = record
+          { apart = λ i j x differ determined. absurd (cc (sym (ap (λ (o : Option InFlight). (footprint_in o).determined x) (nothing i)) ∙ determined)) };
+      either = record { either = λ i reads. absurd (cc (sym (ap (λ (o : Option InFlight). (footprint_in o).reads) (nothing i)) ∙ reads)) };
+      distinct = tt;
+      entries = tt;
+      known = λ x certain. refl;
+      waiting = λ client source some. absurd (cc (sym (ap (λ (o : Option InFlight). is_some o) (nothing (due_at client source))) ∙ some));
+      begun = λ client some. absurd (cc (sym (ap (λ (o : Option InFlight). is_some o) (nothing (begun_at client))) ∙ some));
+    }
+  where
+    nothing : (place : Place) → flight_at (opening_board setup).clients place ≡ None
+    nothing place = none_in (opening_board setup).clients place (opening_flights setup.config 0 setup.config.clients place.client)

@@ -1,0 +1,71 @@
+-- Boards without their footprints: requests in flight are found, join and end as with them.
+use Rattle.std.proofs.Common.{◌≡◌, ℕ, List, [], ◌∷◌, map, Option, None, ◌∙◌, ap, ap₂, arith}
+use Rattle.std.specs.Prelude.{slice_set}
+use Rattle.std.specs.List.{range_with_len}
+use Rattle.std.specs.Option.{option_map}
+use Rattle.std.proofs.lemmas.List.{map-append, map-set}
+use Rattle.std.proofs.lemmas.Simd.{map-map}
+use Rattle.bus_words.proofs.MappedPlaces.{map_same}
+use Rattle.tl_messages.specs.Requests.{HeldMessage}
+use Rattle.setups.specs.Setups.{SetupLists}
+use Rattle.scoreboard.specs.Boards.{Board, ClientBoard, accepted_on, client_beside, flight_for, joined_on, opening_board, opening_client, with_accepted, with_client}
+use Rattle.scoreboard.specs.Flights.{Flights, Footprint, InFlight, each_flight, flights_after, is_busy, is_of_source, next_reply}
+use Rattle.scoreboard.specs.Races.{flight_beside}
+use Rattle.scoreboard.specs.Wider.{board_alone, client_alone, flight_alone}
+use Rattle.scoreboard.specs.declared.Policy.{Policy}
+use Rattle.scoreboard.specs.declared.Policy.TheVariants.{AcceptanceOrder, RealTime}
+use Rattle.scoreboard.proofs.MappedLists.{any_map, find_map, without_first_map}
+
+-- ---- a client's requests
+
+pub busy_alone : (policy : Policy) (flights : Flights) (source : ℕ) → is_busy policy (each_flight flight_alone flights) source ≡ is_busy policy flights source
+busy_alone AcceptanceOrder flights source = grind (arith, any_map (is_of_source source) flight_alone flights.due)
+busy_alone RealTime flights source = any_map (is_of_source source) flight_alone flights.due
+
+pub next_alone : (flights : Flights) (source : ℕ) → next_reply (each_flight flight_alone flights) source ≡ option_map flight_alone (next_reply flights source)
+next_alone flights source = grind (arith, find_map (is_of_source source) flight_alone flights.due)
+
+-- after a beat on channel D
+pub flights_alone : (flights : Flights) (source : ℕ) → each_flight flight_alone (flights_after flights source) ≡ flights_after (each_flight flight_alone flights) source
+flights_alone flights source =
+    ap₂ {C = Flights} (λ (due : List InFlight) (begun : Option InFlight). record { due = due; begun = begun })
+    (grind (arith, without_first_map (is_of_source source) flight_alone flights.due)) (rw (next_alone flights source) (grind arith))
+
+-- ---- a client
+
+beside_alone : (footprint : Footprint) (client : ClientBoard) → client_alone (client_beside footprint client) ≡ client_alone client
+beside_alone footprint client =
+    ap₂ {C = ClientBoard} (λ (due : List InFlight) (begun : Option InFlight). record client { flights = record { due = due; begun = begun } })
+    (map-map flight_alone (flight_beside footprint) client.flights.due) (grind arith)
+
+accepted_alone : (flight : InFlight) (client : ClientBoard) → client_alone (with_accepted flight client) ≡ with_accepted (flight_alone flight) (client_alone client)
+accepted_alone flight client =
+    ap {B = ClientBoard} (λ (due : List InFlight). record client { front = None; flights = record (each_flight flight_alone client.flights) { due = due } })
+    (map-append flight_alone client.flights.due (flight ∷ []))
+
+-- ---- a board
+
+abbrev with_clients : Board → List ClientBoard → Board
+with_clients board clients = record (board_alone board) { clients = clients }
+
+-- with one client changed
+pub client_changed_alone : (board : Board) (number : ℕ) (client : ClientBoard) → board_alone (with_client number client board) ≡ with_client number (client_alone client) (board_alone board)
+client_changed_alone board number client = ap (with_clients board) (map-set client_alone board.clients number client)
+
+-- with one request more
+pub joined_alone : (board : Board) (number : ℕ) (client : ClientBoard) (message : HeldMessage) (footprint : Footprint)
+    → board_alone (joined_on board number client message footprint) ≡ accepted_on AcceptanceOrder (board_alone board) number (client_alone client) message
+joined_alone board number client message footprint =
+    let flight : InFlight = flight_for board.memory footprint message in
+    ap (with_clients (joined_on board number client message footprint))
+    (map-set client_alone (map (client_beside footprint) board.clients) number (with_accepted flight (client_beside footprint client))
+    ∙ ap₂ (λ (clients : List ClientBoard) (changed : ClientBoard). slice_set clients number changed)
+    (map-map client_alone (client_beside footprint) board.clients
+    ∙ map_same (λ other. client_alone (client_beside footprint other)) client_alone board.clients (beside_alone footprint))
+    (accepted_alone flight (client_beside footprint client) ∙ ap (with_accepted (flight_alone flight)) (beside_alone footprint client)))
+
+-- nothing is in flight at the start
+pub opens_alone : (setup : SetupLists) → board_alone (opening_board setup) ≡ opening_board setup
+opens_alone setup =
+    ap (with_clients (opening_board setup))
+    (map-map client_alone (opening_client setup.config) (range_with_len 0 setup.config.clients))

@@ -1,0 +1,115 @@
+-- A beat on channel D: the board still knows what it knew of an order.
+use Rattle.std.proofs.Common.{◌≡◌, ℕ, ◌==◌, Bool, true, false, set, Option, Some, None, IfSome, refl, sym, ◌∙◌, ap, subst, arith}
+use Rattle.std.specs.Prelude.{slice_get}
+use Rattle.std.specs.List.{list_any}
+use Rattle.std.proofs.lemmas.Bool.Decides.{nat_tests}
+use Rattle.bus_words.proofs.PlaceChanges.{find-passes}
+use Rattle.tl_messages.specs.Requests.{HeldMessage}
+use Rattle.tl_messages.specs.declared.DBeat.{DBeat}
+use Rattle.meaning.specs.Meaning.{Bytes, zeros}
+use Rattle.scoreboard.specs.Boards.{Board, ClientBoard, after_d}
+use Rattle.scoreboard.specs.Flights.{InFlight, flights_after, is_of_source, next_reply}
+use Rattle.scoreboard.specs.Orders.{Entry, Order, after_beat, begun_to}
+use Rattle.scoreboard.proofs.real_time.CheckedRequests.{IsFrontRight}
+use Rattle.scoreboard.proofs.real_time.Entries.{Stands}
+use Rattle.scoreboard.proofs.real_time.Explained.{Explains, clients_with, explains_with}
+use Rattle.scoreboard.proofs.real_time.Places.{HaveSources, Place, flight_at}
+use Rattle.scoreboard.proofs.real_time.ReplyMoves.{AreMoved, Moves, begun_next, distinct_next, each_next, run_moved, waiting_next}
+use Rattle.scoreboard.proofs.real_time.ReplySeen.{are_moved, flights_still, free_after, next_is, sources_after, still_apart, still_either}
+use Rattle.scoreboard.proofs.real_time.ReplySteps.{begun_as, counts_none, due_counted, moves_all, next_at, none_due}
+
+module _ (board : Board) (order : Order) (number source : ℕ) (explains : Explains board order) where
+  abbrev begun : Bool
+  begun = list_any (begun_to number) order
+
+  abbrev from : Place
+  from = next_at (list_any (begun_to number) order) number source
+
+  -- of a client that isn't there nothing is due
+  nobody : slice_get board.clients number ≡ None → Explains board (after_beat order number source)
+  nobody none =
+      subst (Explains board)
+      (sym (counts_none board order explains number source (λ flight there own.
+      absurd (cc (sym (none_due board.clients begun number source none) ∙ there))))) explains
+
+  module _ (client : ClientBoard) (there : slice_get board.clients number ≡ Some client) where
+    abbrev changed : ClientBoard
+    changed = record client { flights = flights_after client.flights source }
+
+    abbrev Kept : Type 0
+    Kept = Explains (record board { clients = set board.clients number changed }) (after_beat order number source)
+
+    sources : HaveSources client.flights
+    sources = explains.clients.sources number client there
+
+    due : flight_at board.clients from ≡ next_reply client.flights source
+    due = next_is board.clients number source client there begun (begun_as board order explains number source)
+
+    front : IsFrontRight changed
+    front =
+        let right = explains.clients.fronts number client there in
+        record { heard = right.heard; free = still client.front right.free }
+      where
+        still : (o : Option HeldMessage) → IfSome o (λ held. list_any (is_of_source held.source) client.flights.due ≡ false)
+            → IfSome o (λ held. list_any (is_of_source held.source) changed.flights.due ≡ false)
+        still None free = tt
+        still (Some held) free = free_after source client.flights held.source free
+
+    -- a beat of the source of the request to which it is due
+    moved : ((flight : InFlight) → next_reply client.flights source ≡ Some flight → flight.source ≡ source) → Kept
+    moved own =
+        record {
+          clients = clients_with board.clients number client changed there explains.clients (sources_after source client.flights sources) front;
+          small = explains.small;
+          apart = still_apart number source from (flight_at board.clients) now are explains.apart;
+          either = still_either number source from (flight_at board.clients) now are board.indeterminate explains.either;
+          distinct = distinct_next begun number source board.memory.faults board.memory.regions from (flight_at board.clients) now are moves
+              order zeros explains.entries explains.distinct;
+          entries = each_next begun number source board.memory.faults board.memory.regions from (flight_at board.clients) now are moves order zeros explains.entries;
+          known = λ x certain. ap (λ (f : Bytes). f x) (run_moved begun number source board.memory.faults board.memory.regions order zeros) ∙ explains.known x certain;
+          waiting = λ c place. waiting_next begun number source board.memory.faults board.memory.regions from (flight_at board.clients) now are moves
+              c place order zeros explains.entries (explains.waiting c place);
+          begun = λ c. begun_next begun number source board.memory.faults board.memory.regions from (flight_at board.clients) now are moves
+              c order zeros explains.entries (due_counted board order explains number source of_source) (explains.begun c);
+        }
+      where
+        now : Place → Option InFlight
+        now = flight_at (set board.clients number changed)
+
+        are : AreMoved number source from (flight_at board.clients) now
+        are = are_moved board.clients number source client there begun (begun_as board order explains number source) sources
+
+        of_source : (flight : InFlight) → flight_at board.clients from ≡ Some flight → flight.source ≡ source
+        of_source flight is = own flight (sym due ∙ is)
+
+        moves : (entry : Entry) (m : Bytes)
+            → Stands board.memory.faults board.memory.regions (flight_at board.clients) entry m
+            → Moves begun number source from entry
+        moves = moves_all board order explains number source of_source
+
+    -- a beat of another source than that of the reply that has begun
+    other : (flight : InFlight) → client.flights.begun ≡ Some flight → (flight.source == source) ≡ false → Kept
+    other flight is differ =
+        let kept = flights_still source client.flights flight is differ in
+        subst (Explains (record board { clients = set board.clients number changed }))
+        (sym (counts_none board order explains number source (λ next at own. grind (arith, nat_tests, is, differ, due, at, own))))
+        (explains_with board order number client changed there kept front explains)
+
+    pub explains_own : Kept
+    explains_own = by_begun client.flights.begun refl
+      where
+        by_source : (flight : InFlight) → client.flights.begun ≡ Some flight → (b : Bool) → (flight.source == source) ≡ b → Kept
+        by_source flight is false differ = other flight is differ
+        by_source flight is true same = moved (λ next at. grind (arith, nat_tests, is, at, same))
+
+        by_begun : (o : Option InFlight) → client.flights.begun ≡ o → Kept
+        by_begun (Some flight) is = by_source flight is (flight.source == source) refl
+        by_begun None is = moved (λ next at. grind (arith, nat_tests, is, at, find-passes (is_of_source source) client.flights.due next))
+
+pub explains_reply : (board : Board) (order : Order) (number : ℕ) (beat : DBeat) → Explains board order
+    → Explains (after_d board number (slice_get board.clients number) beat) (after_beat order number beat.source)
+explains_reply board order number beat explains = by_client (slice_get board.clients number) refl
+  where
+    by_client : (o : Option ClientBoard) → slice_get board.clients number ≡ o → Explains (after_d board number o beat) (after_beat order number beat.source)
+    by_client None none = nobody board order number beat.source explains none
+    by_client (Some client) there = explains_own board order number beat.source explains client there

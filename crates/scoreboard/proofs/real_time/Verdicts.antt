@@ -1,0 +1,63 @@
+-- A beat that is blamed by a rule breaks the same rule against a beat that is alike.
+use Rattle.std.proofs.Common.{◌≡◌, ℕ, ◌+◌, ◌==◌, Bool, true, false, not, List, [], ◌∷◌, ◌++◌, take, Option, Some, None, sym, ◌∙◌, ap, subst, arith}
+use Rattle.std.proofs.lemmas.Bool.Decides.{nat_tests}
+use Rattle.bus_words.specs.Tables.{first_broken}
+use Rattle.bus_words.proofs.Ranges.{none_passes}
+use Rattle.tl_messages.specs.declared.DBeat.{DBeat}
+use Rattle.scoreboard.specs.declared.ReplyRule.{ReplyRule}
+use Rattle.scoreboard.specs.declared.ReplyRule.TheVariants as rule
+use Rattle.scoreboard.specs.declared.Wrong.TheVariants as wrong
+use Rattle.scoreboard.specs.Boards.{differs_in, reply_rules, tells_otherwise, unless_indeterminate, wrong_beat, wrong_by, wrong_told}
+use Rattle.scoreboard.specs.Flights.{Footprint}
+use Rattle.scoreboard.proofs.real_time.AlikeBeats.{Alike, LeftAlike, Same, Words}
+
+-- where a payload differs it tells of nothing that is determined
+tells_nothing : (footprint : Footprint) (k : ℕ) (due other beat : DBeat) → Alike footprint k due other → beat.payload ≡ other.payload
+    → tells_otherwise footprint k due beat ≡ false
+tells_nothing footprint k due other beat alike is =
+    rw (none_passes (differs_in footprint k due.payload beat.payload) 0 8
+    (λ lane below. grind (arith, nat_tests, is, alike.payload (0 + lane) (omega (arith, below))))) (grind arith)
+
+-- what is blamed by a rule breaks this rule, and a payload tells otherwise
+is_blamed : (due : DBeat) (otherwise : Bool) (first : Option ReplyRule) (broken : ReplyRule) (told : Option DBeat)
+    → wrong_by due (unless_indeterminate otherwise first) ≡ Some (wrong.Reply broken told)
+    → (first ≡ Some broken) × (broken ≡ rule.Payload → otherwise ≡ true)
+is_blamed due otherwise None broken told is = absurd (cc (is))
+is_blamed due otherwise (Some r) broken told is = (grind (arith, is), λ payload. grind (arith, is, payload))
+
+-- the first rule that is broken stays, where the last is broken too if it is that
+kept_rule : (rows : List (Bool × ReplyRule)) (last broken : ReplyRule) (f g : Bool) → first_broken (rows ++ (f, last) ∷ []) ≡ Some broken
+    → (broken ≡ last → g ≡ true) → first_broken (rows ++ (g, last) ∷ []) ≡ Some broken
+kept_rule [] last broken f g is as_last = grind (arith, is, as_last)
+kept_rule ((true, first) ∷ rows) last broken f g is as_last = is
+kept_rule ((false, first) ∷ rows) last broken f g is as_last = kept_rule rows last broken f g is as_last
+
+same_rule : (footprint : Footprint) (k : ℕ) (due other beat : DBeat) (broken : ReplyRule) (told : Option DBeat) → Alike footprint k due other
+    → wrong_by due (unless_indeterminate (tells_otherwise footprint k due beat) (first_broken (reply_rules due beat))) ≡ Some (wrong.Reply broken told)
+    → first_broken (reply_rules other beat) ≡ Some broken
+same_rule footprint k due other beat broken told alike is =
+    let blamed = is_blamed due (tells_otherwise footprint k due beat) (first_broken (reply_rules due beat)) broken told is in
+    let differs : broken ≡ rule.Payload → not (beat.payload == other.payload) ≡ true =
+    λ payload. grind (arith, nat_tests, tells_nothing footprint k due other beat alike, blamed.1 payload) in
+    subst (λ (o : DBeat). first_broken (reply_rules o beat) ≡ Some broken) (sym alike.rest)
+    (kept_rule (take 5 (reply_rules due beat)) rule.Payload broken (not (beat.payload == due.payload)) (not (beat.payload == other.payload)) blamed.0 differs)
+
+-- the beats that are blamed by a rule break it
+abbrev pub IsBroken : List DBeat → DBeat → ReplyRule → Type 0
+IsBroken beats beat broken = (other : Option DBeat) × (wrong_beat beats beat ≡ Some (wrong.Reply broken other))
+
+same_broken : (footprint : Footprint) (beats : List DBeat) (beat : DBeat) (broken : ReplyRule) (told : Option DBeat)
+    → wrong_told footprint beats beat ≡ Some (wrong.Reply broken told) → IsBroken beats beat broken
+same_broken footprint [] beat broken told is = (None, cc (is))
+same_broken footprint (due ∷ rest) beat broken told is = (Some due, ap (wrong_by due) (is_blamed due _ (first_broken (reply_rules due beat)) broken told is).0)
+
+-- beats that are blamed break the rule against those that are left of the same reply, made of other bytes
+pub left_broken : (footprint : Footprint) (mine theirs : List DBeat) (beat : DBeat) (broken : ReplyRule) (told : Option DBeat) → LeftAlike footprint mine theirs
+    → wrong_told footprint mine beat ≡ Some (wrong.Reply broken told) → IsBroken theirs beat broken
+left_broken footprint mine theirs beat broken told (Same same) is =
+    same_broken footprint theirs beat broken told (sym (ap (λ (beats : List DBeat). wrong_told footprint beats beat) same) ∙ is)
+left_broken footprint mine theirs beat broken told (Words k due other rest others is_mine is_theirs alike place) is =
+    let blamed =
+    sym (ap (λ (n : ℕ). wrong_by due (unless_indeterminate (tells_otherwise footprint n due beat) (first_broken (reply_rules due beat)))) place)
+    ∙ sym (ap (λ (beats : List DBeat). wrong_told footprint beats beat) is_mine) ∙ is in
+    (Some other, rw is_theirs (ap (wrong_by other) (same_rule footprint k due other beat broken told alike blamed)))

@@ -1,0 +1,132 @@
+-- What a board of real time says of a beat, beside one of acceptance order that holds the same: no more, and less only of a busy source, of a W
+-- beat without a write and of another payload.
+use Rattle.std.proofs.Common.{◌≡◌, Bool, true, false, ◌&&◌, ◌||◌, if◌then◌else◌, List, [], ◌∷◌, ◌++◌, take, Option, Some, None, Result, Err}
+use Rattle.std.proofs.Common.{◌⊎◌, inl, inr, refl, ◌∙◌, ap, arith}
+use Rattle.std.specs.Prelude.{slice_get}
+use Rattle.std.specs.List.{list_any}
+use Rattle.std.specs.Option.{option_map}
+use Rattle.std.proofs.lemmas.Option.{slice_get-map}
+use Rattle.bus_words.specs.Tables.{first_broken}
+use Rattle.tl_messages.specs.Requests.{HeldMessage}
+use Rattle.tl_messages.specs.declared.ABeat.{ABeat}
+use Rattle.tl_messages.specs.declared.DBeat.{DBeat}
+use Rattle.tl_checker.specs.Ports.{joined, judged, judged_by, progress_of}
+use Rattle.tl_checker.specs.RequestRules.{TlPortLimits, first_beat_rules, first_fault}
+use Rattle.tl_checker.specs.declared.Progress.{Progress}
+use Rattle.tl_checker.specs.declared.TlRule.{TlRule}
+use Rattle.tl_checker.specs.declared.TlRule.TheVariants.{SourceBusy}
+use Rattle.axi_checker.specs.declared.AxiBeat.{AxiBeat}
+use Rattle.axi_checker.specs.declared.AxiBeat.TheVariants.{Ar as OnAr, Aw as OnAw, B as OnB, R as OnR, W as OnW}
+use Rattle.axi_checker.specs.Rules.{axi_fault}
+use Rattle.scoreboard.specs.AxiPorts.{PortBoard, none_early, tells_no_write, wrong_in_order, wrong_with_early}
+use Rattle.scoreboard.specs.Boards.{Board, ClientBoard, a_wrong, answer_to, d_wrong, reply_rules, unless_indeterminate, wrong_at, wrong_beat, wrong_by, wrong_reply, wrong_request, wrong_told}
+use Rattle.scoreboard.specs.Flights.{Footprint, InFlight, begun_is_of, is_of_source, next_reply}
+use Rattle.scoreboard.specs.Wider.{TellsNoMore, board_alone, client_alone, flight_alone, tells_apart, tells_busy}
+use Rattle.scoreboard.specs.declared.Policy.TheVariants.{AcceptanceOrder, RealTime}
+use Rattle.scoreboard.specs.declared.ReplyRule.{ReplyRule}
+use Rattle.scoreboard.specs.declared.ObservedBeat.{ObservedBeat}
+use Rattle.scoreboard.specs.declared.ObservedBeat.TheVariants.{A, D, Axi as OnAxi, Drained}
+use Rattle.scoreboard.specs.declared.Wrong.{Wrong}
+use Rattle.scoreboard.proofs.held.EarlyBeats.{aw_wrong}
+use Rattle.scoreboard.proofs.real_time.FlightsAlone.{busy_alone, next_alone}
+
+-- where nothing is wrong in order of acceptance, nothing is in real time
+pub none_told : (compared verdict : Option Wrong) → TellsNoMore compared verdict → compared ≡ None → verdict ≡ None
+none_told compared verdict (inl same) none = same ∙ none
+none_told compared verdict (inr (passes, nothing)) none = nothing
+
+-- ---- channel A
+
+-- what a port answers where a source is busy, and where it isn't: the same, or the first is a refusal for that alone
+abbrev AnswersFree : Result Progress TlRule → Result Progress TlRule → Type 0
+AnswersFree busy free = (free ≡ busy) ⊎ ((busy ≡ Err SourceBusy) × (wrong_request free ≡ None))
+
+-- whether the last rule of a table is broken decides only where no other is
+last_rule : (rows : List (Bool × TlRule)) (last : TlRule)
+    → (first_broken (rows ++ (true, last) ∷ []) ≡ first_broken (rows ++ (false, last) ∷ []))
+    ⊎ ((first_broken (rows ++ (true, last) ∷ []) ≡ Some last) × (first_broken (rows ++ (false, last) ∷ []) ≡ None))
+last_rule [] last = inr (refl, refl)
+last_rule ((true, first) ∷ rows) last = inl refl
+last_rule ((false, first) ∷ rows) last = last_rule rows last
+
+-- whether a source is busy is asked last, and of a first beat alone
+answers_free : (limits : TlPortLimits) (front : Option HeldMessage) (beat : ABeat)
+    → AnswersFree (judged limits front beat true) (judged limits front beat false)
+answers_free limits (Some held) beat = inl refl
+answers_free limits None beat =
+    by_rules (progress_of (joined limits None beat)) (first_fault limits None beat true) (first_fault limits None beat false)
+    (last_rule (take 8 (first_beat_rules limits beat false)) SourceBusy)
+  where
+    by_rules : (progress : Progress) (busy free : Option TlRule) → (busy ≡ free) ⊎ ((busy ≡ Some SourceBusy) × (free ≡ None))
+        → AnswersFree (judged_by busy progress) (judged_by free progress)
+    by_rules progress busy free (inl same) = inl (rw same refl)
+    by_rules progress busy free (inr (is, none)) = inr (rw is refl, rw none refl)
+
+-- a source that is busy in real time is in order of acceptance
+answers_to : (client : ClientBoard) (beat : ABeat) → AnswersFree (answer_to AcceptanceOrder (client_alone client) beat) (answer_to RealTime client beat)
+answers_to client beat =
+    rw (busy_alone AcceptanceOrder client.flights beat.source)
+    (by_busy (list_any (is_of_source beat.source) client.flights.due) (begun_is_of beat.source client.flights.begun))
+  where
+    by_busy : (due begun : Bool) → AnswersFree (judged client.limits client.front beat (due || begun)) (judged client.limits client.front beat due)
+    by_busy true begun = inl refl
+    by_busy false true = answers_free client.limits client.front beat
+    by_busy false false = inl refl
+
+a_told : (found : Option ClientBoard) (beat : ABeat) → TellsNoMore (a_wrong AcceptanceOrder (option_map client_alone found) beat) (a_wrong RealTime found beat)
+a_told None beat = inl refl
+a_told (Some client) beat =
+    elim (answers_to client beat) [
+      | inl same ↦ inl (ap wrong_request same)
+      | inr (refused, taken) ↦ inr (inl (ap (λ (answer : Result Progress TlRule). tells_apart (wrong_request answer)) refused), taken)
+    ]
+
+-- a beat that isn't refused for a busy source is answered the same
+pub same_answer : (client : ClientBoard) (beat : ABeat) → tells_busy (wrong_request (answer_to AcceptanceOrder (client_alone client) beat)) ≡ false
+    → answer_to RealTime client beat ≡ answer_to AcceptanceOrder (client_alone client) beat
+same_answer client beat free = elim (answers_to client beat) [ inl same ↦ same | inr (refused, taken) ↦ absurd (cc (free, refused)) ]
+
+-- ---- channel D
+
+rule_told : (otherwise : Bool) (due : DBeat) (broken : Option ReplyRule)
+    → TellsNoMore (wrong_by due broken) (wrong_by due (unless_indeterminate otherwise broken))
+rule_told otherwise due broken = grind arith
+
+told_less : (footprint : Footprint) (dues : List DBeat) (beat : DBeat) → TellsNoMore (wrong_beat dues beat) (wrong_told footprint dues beat)
+told_less footprint [] beat = inl refl
+told_less footprint (due ∷ rest) beat = rule_told _ due (first_broken (reply_rules due beat))
+
+reply_told : (next : Option InFlight) (beat : DBeat) → TellsNoMore (wrong_reply AcceptanceOrder (option_map flight_alone next) beat) (wrong_reply RealTime next beat)
+reply_told None beat = inl refl
+reply_told (Some flight) beat = told_less flight.footprint flight.beats beat
+
+d_told : (found : Option ClientBoard) (beat : DBeat) → TellsNoMore (d_wrong AcceptanceOrder (option_map client_alone found) beat) (d_wrong RealTime found beat)
+d_told None beat = inl refl
+d_told (Some client) beat = rw (next_alone client.flights beat.source) (reply_told (next_reply client.flights beat.source) beat)
+
+-- ---- the AXI4 port
+
+-- a W beat without a write is early, if there is room
+w_told : (verdict : Option Wrong) → TellsNoMore verdict (if tells_no_write verdict && true then None else verdict)
+w_told verdict = grind arith
+
+-- a port on which nothing is early
+pub nothing_early : (port : PortBoard) → port.early ≡ [] → port ≡ none_early port.limits port.open_bursts
+nothing_early port none = ap (λ early. record port { early = early }) none
+
+axi_told : (port : PortBoard) (beat : AxiBeat) → port.early ≡ [] → TellsNoMore (wrong_in_order port beat) (wrong_with_early port beat)
+axi_told port (OnAw beat) none =
+    inl (ap (λ (p : PortBoard). wrong_with_early p (OnAw beat)) (nothing_early port none)
+    ∙ aw_wrong port.limits port.open_bursts beat (axi_fault port.limits port.open_bursts (OnAw beat)))
+axi_told port (OnW beat) none = rw none (w_told (wrong_in_order port (OnW beat)))
+axi_told port (OnB beat) none = inl refl
+axi_told port (OnAr beat) none = inl refl
+axi_told port (OnR beat) none = inl refl
+
+-- ---- any beat
+
+pub tells_no_more : (board : Board) (seen : ObservedBeat) → board.axi.early ≡ [] → TellsNoMore (wrong_at AcceptanceOrder (board_alone board) seen) (wrong_at RealTime board seen)
+tells_no_more board (A client beat) none = rw (slice_get-map client_alone board.clients client) (a_told (slice_get board.clients client) beat)
+tells_no_more board (D client beat) none = rw (slice_get-map client_alone board.clients client) (d_told (slice_get board.clients client) beat)
+tells_no_more board (OnAxi beat) none = axi_told board.axi beat none
+tells_no_more board Drained none = inl refl

@@ -1,0 +1,254 @@
+//! A client's requests in flight.
+ghost use Rattle.std.specs.Prelude.{◌≡◌, ◌<◌, ◌≤◌, ◌==◌, ◌++◌, [], ◌∷◌, ℕ, None, Some, IfOk, false, length, map};
+ghost use Rattle.std.specs.List.{list_any, position};
+ghost use Rattle.std.specs.Vec.{vec_capacity};
+ghost use Rattle.bus_words.specs.Places.{without_first};
+ghost use Rattle.scoreboard.specs.Boards.{wrong_reply};
+ghost use Rattle.scoreboard.specs.Flights.{begun_after, due_to, each_flight, flights_after, in_flight, is_busy, is_of_source, next_reply, replies_left};
+ghost use Rattle.scoreboard.specs.InsideBoards.{AreOnGoodPages, HaveRoom, flight_of, flights_of, footprint_of, is_marked};
+ghost use Rattle.scoreboard.specs.Races.{beside_all, beside_dependent, flight_beside};
+
+use crate::footprint::Footprint;
+use crate::in_flight::InFlight;
+use crate::marks::mark_dependent;
+use crate::{Policy, ReplyRule, Wrong};
+use std::alloc::{AllocError, Global};
+use std::marker::Model;
+use std::mem;
+use subordinate::Pages;
+use tl_messages::DBeat;
+
+/// How many requests of a client may be in flight: one of each source, and one whose reply has begun.
+const MOST: usize = 257;
+
+/// A client's requests in flight: those of whose reply no beat came, in order of acceptance, and the one whose reply has begun. All room
+/// is taken by `new`.
+pub(crate) struct Flights {
+    room: usize,
+    due: Vec<InFlight>,
+    begun: Option<InFlight>,
+    spare: Vec<InFlight>,
+}
+
+impl Model for Flights {
+    ghost use Rattle.std.specs.Prelude.{◌≡◌, ◌≤◌, ◌+◌, length};
+    ghost use Rattle.std.specs.Option.{option_len, option_to_list};
+    ghost use Rattle.std.specs.Vec.{vec_capacity};
+    ghost use Rattle.scoreboard.specs.InsideBoards.{AreDue, FlightsState, HaveRoom};
+
+    ghost Value = { FlightsState };
+
+    ghost view = { λ f. record { room = f.room; due = f.due.items; begun = f.begun } };
+
+    // There are boxes enough: as many requests are in flight as there are sources, and one more, or fewer.
+    ghost invariant = { λ f. AreDue f.room f.due.items × HaveRoom f.room (option_to_list f.begun) × HaveRoom f.room f.spare.items
+        × (length f.due.items + option_len f.begun + length f.spare.items ≡ 257) × (256 ≤ vec_capacity f.due) × (257 ≤ vec_capacity f.spare) };
+}
+
+// Written out, so that what lets go of one calls this, and proves nothing of its parts.
+impl Drop for Flights {
+    fn drop(self) {
+        let Flights {
+            room: _,
+            due: _,
+            begun: _,
+            spare: _,
+        } = self;
+    }
+}
+
+/// Boxes for so many requests, with nothing in flight.
+fn empty_boxes(alloc: Global, boxes: usize, room: usize) -> Result<Vec<InFlight>, AllocError>
+    requires { 1 ≤ room }
+    ensures { IfOk result (λ made. (length made.items ≡ boxes) × HaveRoom room made.items × (boxes ≤ vec_capacity made)) }
+{
+    let mut made = Vec::with_capacity(alloc, boxes)?;
+    for _ in 0..boxes {
+        made.push(InFlight::new(alloc, room)?)?;
+    }
+    Ok(made)
+}
+
+/// The place of the first request of a source.
+fn place_of(due: &[InFlight], source: u8) -> Option<usize>
+    ensures { result ≡ position (λ flight. flight.source == source) due.now }
+{
+    due.iter().position(|flight| flight.source() == source)
+}
+
+/// What any of some requests may write isn't determined of another.
+fn limit_by(joined: &mut InFlight, due: &[InFlight])
+    ensures footprint { footprint_of joined.new.footprint ≡ beside_all (footprint_of joined.old.footprint) (map (λ flight. flight.footprint) (map flight_of due.now)) }
+    ensures room { length joined.new.footprint.determined ≡ length joined.old.footprint.determined }
+{
+    for flight in due {
+        joined.give_way(flight.footprint());
+    }
+}
+
+/// All bytes are indeterminate of those requests of which what they write may depend on another.
+fn mark_each(marks: &mut Pages, due: &[InFlight], other: &Footprint)
+    requires good { AreOnGoodPages marks.old.faults (map (λ flight. flight.footprint) (map flight_of due.now)) }
+    ensures faults { marks.new.faults ≡ marks.old.faults }
+    ensures bytes { is_marked marks.new ≡ beside_dependent (is_marked marks.old) (footprint_of other.now) (map (λ flight. flight.footprint) (map flight_of due.now)) }
+{
+    for flight in due {
+        mark_dependent(marks, flight.footprint(), other);
+    }
+}
+
+/// What a request may write isn't determined of others.
+fn give_way_each(due: &mut [InFlight], other: &Footprint)
+    ensures flights { map flight_of due.new ≡ map (flight_beside (footprint_of other.now)) (map flight_of due.old) }
+    ensures rooms { (room : ℕ) → HaveRoom room due.old → HaveRoom room due.new }
+{
+    for flight in due.iter_mut() {
+        flight.give_way(other);
+    }
+}
+
+impl Flights {
+    /// Nothing is in flight, and footprints have room for so many flags. The one error is that memory was refused.
+    pub(crate) fn new(alloc: Global, room: usize) -> Result<Self, AllocError>
+        requires { 1 ≤ room }
+        ensures { IfOk result (λ made. made ≡ record { room = room; due = []; begun = None }) }
+    {
+        let due = Vec::with_capacity(alloc, 256)?;
+        let spare = empty_boxes(alloc, MOST, room)?;
+        Ok(Flights {
+            room,
+            due,
+            begun: None,
+            spare,
+        })
+    }
+
+    /// Whether a reply is due to a source of which no beat came.
+    fn is_due(&self, source: u8) -> bool
+        ensures { result ≡ list_any (is_of_source source) (flights_of self.now).due }
+    {
+        place_of(&self.due, source).is_some()
+    }
+
+    /// Whether a source has a live request.
+    pub(crate) fn is_busy(&self, policy: Policy, source: u8) -> bool
+        ensures { result ≡ is_busy policy (flights_of self.now) source }
+    {
+        if self.is_due(source) {
+            return true;
+        }
+        match (policy, &self.begun) {
+            (Policy::AcceptanceOrder, Some(flight)) => flight.source() == source,
+            _ => false,
+        }
+    }
+
+    /// How many replies aren't whole.
+    pub(crate) fn outstanding(&self) -> u16
+        ensures count { result ≡ replies_left (flights_of self.now) }
+        ensures most { result ≤ 257 }
+    {
+        let due = self.due.len() as u16;
+        match &self.begun {
+            None => due,
+            Some(_) => due + 1,
+        }
+    }
+
+    /// A request of a source to which none is due is in flight, with its reply; a box takes its place.
+    pub(crate) fn join(&mut self, flight: &mut InFlight)
+        requires free { list_any (is_of_source flight.old.source) (flights_of self.old).due ≡ false }
+        requires room { length flight.old.footprint.determined ≡ self.old.room }
+        ensures flights { self.new ≡ record self.old { due = self.old.due ++ flight.old ∷ [] } }
+        ensures room { length flight.new.footprint.determined ≡ self.old.room }
+    {
+        // It is a byte, so that there is a box.
+        let _source = flight.source();
+        let mut joined = self.spare.pop().unwrap();
+        mem::swap(&mut joined, flight);
+        self.due.push_reserved(joined);
+    }
+
+    /// The reply to a source's request begins, where none has begun.
+    fn begin(&mut self, source: u8)
+        requires { self.old.begun ≡ None }
+        ensures flights { flights_of self.new ≡ record { due = without_first (is_of_source source) (flights_of self.old).due; begun = due_to (flights_of self.old) source } }
+        ensures room { self.new.room ≡ self.old.room }
+    {
+        let Some(place) = place_of(&self.due, source) else {
+            return;
+        };
+        self.begun = Some(self.due.remove(place));
+    }
+
+    /// A beat of a source has come of the reply that has begun.
+    fn count(&mut self, source: u8)
+        ensures flights { flights_of self.new ≡ record (flights_of self.old) { begun = begun_after (flights_of self.old).begun source } }
+        ensures room { self.new.room ≡ self.old.room }
+    {
+        let Some(mut flight) = self.begun.take() else {
+            return;
+        };
+        if flight.source() != source {
+            self.begun = Some(flight);
+            return;
+        }
+        if flight.left() <= 1 {
+            self.spare.push_reserved(flight);
+            return;
+        }
+        flight.count();
+        self.begun = Some(flight);
+    }
+
+    /// Judges a beat on channel D, which then has come of the reply whose next it may be, if it is of its source.
+    pub(crate) fn judge(&mut self, policy: Policy, beat: &DBeat) -> Option<Wrong>
+        ensures wrong { result ≡ wrong_reply policy (next_reply (flights_of self.old) beat.now.source) beat.now }
+        ensures flights { flights_of self.new ≡ flights_after (flights_of self.old) beat.now.source }
+        ensures room { self.new.room ≡ self.old.room }
+    {
+        if self.begun.is_none() {
+            self.begin(beat.source);
+        }
+        let Some(flight) = &self.begun else {
+            return Some(Wrong::Reply(ReplyRule::Unasked, None));
+        };
+        let wrong = flight.wrong_reply(policy, beat);
+        self.count(beat.source);
+        wrong
+    }
+
+    /// What any of them may write isn't determined of another request.
+    pub(crate) fn limit(&self, joined: &mut InFlight)
+        ensures footprint { footprint_of joined.new.footprint ≡ beside_all (footprint_of joined.old.footprint) (map (λ flight. flight.footprint) (in_flight (flights_of self.now))) }
+        ensures room { length joined.new.footprint.determined ≡ length joined.old.footprint.determined }
+    {
+        limit_by(joined, &self.due);
+        if let Some(flight) = &self.begun {
+            joined.give_way(flight.footprint());
+        }
+    }
+
+    /// All bytes are indeterminate of those of which what they write may depend on another.
+    pub(crate) fn mark(&self, marks: &mut Pages, other: &Footprint)
+        requires good { AreOnGoodPages marks.old.faults (map (λ flight. flight.footprint) (in_flight (flights_of self.now))) }
+        ensures faults { marks.new.faults ≡ marks.old.faults }
+        ensures bytes { is_marked marks.new ≡ beside_dependent (is_marked marks.old) (footprint_of other.now) (map (λ flight. flight.footprint) (in_flight (flights_of self.now))) }
+    {
+        mark_each(marks, &self.due, other);
+        if let Some(flight) = &self.begun {
+            mark_dependent(marks, flight.footprint(), other);
+        }
+    }
+
+    /// What a request may write isn't determined of them.
+    pub(crate) fn give_way(&mut self, other: &Footprint)
+        ensures flights { flights_of self.new ≡ each_flight (flight_beside (footprint_of other.now)) (flights_of self.old) }
+        ensures room { self.new.room ≡ self.old.room }
+    {
+        give_way_each(&mut self.due, other);
+        if let Some(flight) = &mut self.begun {
+            flight.give_way(other);
+        }
+    }
+}

@@ -1,0 +1,242 @@
+//! A request in flight, with its reply.
+ghost use Rattle.std.specs.Prelude.{◌≡◌, ◌≤◌, ◌<◌, ◌-◌, ◌^◌, Some, IfOk, IfSome, drop, length, slice_get, true};
+ghost use Rattle.bus_words.specs.Tables.{first_broken};
+ghost use Rattle.tl_messages.specs.Operations.{beats_of};
+ghost use Rattle.tl_messages.specs.Requests.{request_of};
+ghost use Rattle.responses.specs.Shown.{shown};
+ghost use Rattle.scoreboard.specs.Boards.{differs_in, is_payload, reply_rules, tells_otherwise, wrong_reply};
+ghost use Rattle.scoreboard.specs.Flights.{no_footprint};
+ghost use Rattle.scoreboard.specs.InsideBoards.{flight_of, footprint_of, is_marked};
+ghost use Rattle.scoreboard.specs.InsideSerial.{IsMemoryRange};
+ghost use Rattle.scoreboard.specs.Races.{alone, flight_beside};
+ghost use Rattle.scoreboard.specs.SerialMemory.{IsCheckedRequest, carried_out, meaning_in, memory_of};
+
+use crate::footprint::Footprint;
+use crate::serial::SerialMemory;
+use crate::{Policy, ReplyRule, Wrong};
+use bus_words::lane_byte;
+use std::alloc::{AllocError, Global};
+use std::marker::Model;
+use subordinate::Pages;
+use tl_messages::{DBeat, ReplyBox, Request, beats_of};
+
+/// A request in flight: its source, the beats of its reply, of which some may have come, and its footprint.
+pub(crate) struct InFlight {
+    source: u8,
+    reply: ReplyBox,
+    came: u16,
+    footprint: Footprint,
+}
+
+impl Model for InFlight {
+    ghost use Rattle.std.specs.Prelude.{◌<◌, ◌≤◌, drop, length};
+    ghost use Rattle.scoreboard.specs.InsideBoards.{FlightState};
+
+    ghost Value = { FlightState };
+
+    ghost view = { λ f. record { source = f.source; beats = drop f.came f.reply; footprint = f.footprint } };
+
+    ghost invariant = { λ f. (f.came ≤ length f.reply) × (f.source < 256) };
+}
+
+// Written out, so that what lets go of one calls this, and proves nothing of its parts.
+impl Drop for InFlight {
+    fn drop(self) {
+        let InFlight {
+            source: _,
+            reply: _,
+            came: _,
+            footprint: _,
+        } = self;
+    }
+}
+
+/// How a beat differs from the one that is due.
+fn difference(due: &DBeat, beat: &DBeat) -> Option<ReplyRule>
+    ensures { result ≡ first_broken (reply_rules due.now beat.now) }
+{
+    if beat.source != due.source {
+        return Some(ReplyRule::Interleaved);
+    }
+    if beat.opcode != due.opcode || beat.param != due.param {
+        return Some(ReplyRule::Opcode);
+    }
+    if beat.size != due.size {
+        return Some(ReplyRule::Size);
+    }
+    if beat.denied != due.denied {
+        return Some(ReplyRule::Denied);
+    }
+    if beat.corrupt != due.corrupt {
+        return Some(ReplyRule::Corrupt);
+    }
+    if beat.payload != due.payload {
+        return Some(ReplyRule::Payload);
+    }
+    None
+}
+
+/// Whether lane `lane` of beat `k` of a reply tells of a determined byte, and two payloads differ there.
+fn differs_in(footprint: &Footprint, k: u16, due: u64, payload: u64, lane: u8) -> bool
+    requires { lane < 8 }
+    ensures { result ≡ differs_in (footprint_of footprint.now) k due payload lane }
+{
+    let first = footprint.address() % 8;
+    let place = 8 * u32::from(k) + u32::from(lane);
+    if place < first || place - first >= footprint.bytes() {
+        return false;
+    }
+    footprint.is_determined(place - first) && lane_byte(due, lane) != lane_byte(payload, lane)
+}
+
+/// Whether a beat, as beat `k` of a reply, tells of a determined byte something else than the one that is due.
+fn tells_otherwise(footprint: &Footprint, k: u16, due: &DBeat, beat: &DBeat) -> bool
+    ensures { result ≡ tells_otherwise (footprint_of footprint.now) k due.now beat.now }
+{
+    if !footprint.reads() || due.corrupt {
+        return false;
+    }
+    for lane in 0..8u8 {
+        if differs_in(footprint, k, due.payload, beat.payload, lane) {
+            return true;
+        }
+    }
+    false
+}
+
+/// Whether a rule is the one on payloads.
+fn is_payload(rule: ReplyRule) -> bool
+    ensures { result ≡ is_payload rule }
+{
+    matches!(rule, ReplyRule::Payload)
+}
+
+/// Which beat of a reply, from 0, is its next, where so many are left.
+fn beat_number(footprint: &Footprint, left: u16) -> u16
+    ensures { result ≡ beats_of footprint.now.size true - left }
+{
+    beats_of(footprint.size(), true).saturating_sub(left)
+}
+
+impl InFlight {
+    /// A box for a request, whose footprint has room for so many flags. The one error is that memory was refused.
+    pub(crate) fn new(alloc: Global, room: usize) -> Result<Self, AllocError>
+        requires { 1 ≤ room }
+        ensures { IfOk result (λ made. length made.footprint.determined ≡ room) }
+    {
+        let reply = ReplyBox::new(alloc)?;
+        let footprint = Footprint::new(alloc, room)?;
+        Ok(InFlight {
+            source: 0,
+            reply,
+            came: 0,
+            footprint,
+        })
+    }
+
+    /// Its source.
+    pub(crate) fn source(&self) -> u8
+        ensures value { result ≡ self.now.source }
+        ensures byte { self.now.source < 256 }
+    {
+        self.source
+    }
+
+    /// Its footprint.
+    pub(crate) fn footprint(&self) -> &Footprint
+        ensures { result.now ≡ self.now.footprint }
+    {
+        &self.footprint
+    }
+
+    /// Its footprint becomes that of a request of which nobody asks.
+    pub(crate) fn clear_footprint(&mut self)
+        ensures footprint { footprint_of self.new.footprint ≡ no_footprint }
+        ensures room { length self.new.footprint.determined ≡ length self.old.footprint.determined }
+    {
+        self.footprint.clear();
+    }
+
+    /// Its footprint becomes that of a request that acts at an address, where it acts on a good page, alone.
+    pub(crate) fn start_footprint(&mut self, marks: &Pages, place: Option<u32>, request: &Request)
+        requires range { IfSome place (λ address. IsMemoryRange address request.now.size) }
+        requires room { 2 ^ request.now.size ≤ length self.old.footprint.determined }
+        ensures footprint { footprint_of self.new.footprint ≡ alone (is_marked marks.now) place (request_of request.now) }
+        ensures room { length self.new.footprint.determined ≡ length self.old.footprint.determined }
+    {
+        self.footprint.start(marks, place, request);
+    }
+
+    /// How many beats of its reply are left.
+    pub(crate) fn left(&self) -> u16
+        ensures { result ≡ length self.now.beats }
+    {
+        self.reply.beats() - self.came
+    }
+
+    /// The next beat of its reply.
+    fn next_beat(&self) -> Option<DBeat>
+        ensures { result ≡ slice_get self.now.beats 0 }
+    {
+        if self.came >= self.reply.beats() {
+            return None;
+        }
+        Some(self.reply.beat(self.came))
+    }
+
+    /// A beat of its reply has come.
+    pub(crate) fn count(&mut self)
+        requires { 0 < length self.old.beats }
+        ensures { self.new ≡ record self.old { beats = drop 1 self.old.beats } }
+    {
+        // At most 512 have come.
+        let _beats = self.reply.beats();
+        self.came += 1;
+    }
+
+    /// It becomes a request that is carried out, of whose reply no beat came; its footprint stays.
+    pub(crate) fn carry_out(&mut self, serial: &mut SerialMemory, request: &Request)
+        requires { IsCheckedRequest request.now }
+        ensures memory { memory_of serial.new ≡ carried_out (memory_of serial.old) (request_of request.now) }
+        ensures flight { self.new ≡ record {
+          source = request.now.source;
+          beats = shown (request_of request.now) (meaning_in (memory_of serial.old) (request_of request.now)).reply;
+          footprint = self.old.footprint;
+        } }
+    {
+        self.source = request.source();
+        self.came = 0;
+        serial.carry_out(request, &mut self.reply);
+    }
+
+    /// What is wrong with a beat on channel D, whose next it may be.
+    pub(crate) fn wrong_reply(&self, policy: Policy, beat: &DBeat) -> Option<Wrong>
+        ensures { result ≡ wrong_reply policy (Some (flight_of self.now)) beat.now }
+    {
+        let Some(due) = self.next_beat() else {
+            return Some(Wrong::Reply(ReplyRule::Unasked, None));
+        };
+        let rule = difference(&due, beat)?;
+        if policy == Policy::RealTime && is_payload(rule) && !self.tells_otherwise(&due, beat) {
+            return None;
+        }
+        Some(Wrong::Reply(rule, Some(due)))
+    }
+
+    /// Whether a beat, as the next of its reply, tells of a determined byte something else than the one that is due.
+    fn tells_otherwise(&self, due: &DBeat, beat: &DBeat) -> bool
+        ensures { result ≡ tells_otherwise (footprint_of self.now.footprint) (beats_of self.now.footprint.size true - length self.now.beats) due.now beat.now }
+    {
+        let number = beat_number(&self.footprint, self.left());
+        tells_otherwise(&self.footprint, number, due, beat)
+    }
+
+    /// What another request may write isn't determined.
+    pub(crate) fn give_way(&mut self, other: &Footprint)
+        ensures flight { flight_of self.new ≡ flight_beside (footprint_of other.now) (flight_of self.old) }
+        ensures room { length self.new.footprint.determined ≡ length self.old.footprint.determined }
+        ensures source { self.new.source ≡ self.old.source }
+    {
+        self.footprint.give_way(other);
+    }
+}
