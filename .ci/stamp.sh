@@ -1,8 +1,15 @@
-# What ./tlbridge, ./tlscore and ./test know of a program, by its name, `tool`, or of the first where there is none: where it
-# stands, and what it was built from. They read this file at the top of the repository.
-: "${tool:=tlbridge}"
-program=crates/$tool/out/$tool
-stamp=out/$tool.stamp
+# What ./tlbridge, ./tlscore and ./test know of a program, by its name: where it stands, and what it was built from. They read
+# this file at the top of the repository.
+
+# Prints where a program stands.
+program_of() {
+    printf 'crates/%s/out/%s' "$1" "$1"
+}
+
+# Prints where it is noted what a program was built from.
+stamp_of() {
+    printf 'out/%s.stamp' "$1"
+}
 
 # Prints the checksum of each source. A source that was edited, added, deleted or put back changes this, whatever its date.
 sources() {
@@ -10,13 +17,14 @@ sources() {
         LC_ALL=C sort
 }
 
-# Notes that the program as it stands was built from the sources that are given. They were listed before the build, so
-# where one was changed since, nothing is noted.
+# Notes that a program as it stands was built from the sources that are given. They were listed before the build, so where
+# one was changed since, nothing is noted.
 note_built_from() {
-    made=$(cksum "$program") && [ "$1" = "$(sources)" ] && printf '%s\n' "$1" "$made" >"$stamp"
+    made=$(cksum "$(program_of "$1")") && [ "$2" = "$(sources)" ] && printf '%s\n' "$2" "$made" >"$(stamp_of "$1")"
 }
 
-# Tells whether the program stands there as it was built from the sources as they are now.
+# Tells whether a program stands there as it was built from the sources as they are now.
 is_built() {
-    [ -x "$program" ] && [ -r "$stamp" ] && { sources && cksum "$program"; } | cmp -s - "$stamp"
+    [ -x "$(program_of "$1")" ] && [ -r "$(stamp_of "$1")" ] &&
+        { sources && cksum "$(program_of "$1")"; } | cmp -s - "$(stamp_of "$1")"
 }

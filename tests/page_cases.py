@@ -3,7 +3,7 @@ each crate has a page, and in ARCHITECTURE a row with its files of definitions, 
 it stands on its page, the pages that are written by docs/definitions.py are up to date, docs/TRUSTED.md lists each definition
 that a clause of its statements names, and no file that is kept is a log or names a folder of one machine.
 
-    python3 .ci/page_cases.py
+    python3 tests/page_cases.py
 """
 
 import re
@@ -12,7 +12,7 @@ import sys
 from pathlib import Path
 
 TOP = Path(__file__).resolve().parent.parent
-sys.path[:0] = [str(TOP / "tests"), str(TOP / "docs")]
+sys.path.insert(0, str(TOP / "docs"))
 sys.dont_write_bytecode = True
 
 import definitions  # noqa: E402

@@ -1,7 +1,7 @@
 """Tries the program as it was built, and the launcher over a stand-in for rt. A case that fails has one line; the last
 line is 'N passed, M failed'. What is wanted stands beside the examples, in docs/SCRIPT.md and in the tables here.
 
-    python3 .ci/program_cases.py PROGRAM
+    python3 tests/program_cases.py PROGRAM
 
 Where tlscore was built too, its cases are tried as well.
 """
@@ -13,7 +13,7 @@ import sys
 from pathlib import Path
 
 TOP = Path(__file__).resolve().parent.parent
-sys.path[:0] = [str(TOP / ".ci"), str(TOP / "examples" / "testbench")]
+sys.path.insert(0, str(TOP / "examples" / "testbench"))
 sys.dont_write_bytecode = True
 
 import client  # noqa: E402
