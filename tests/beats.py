@@ -9,7 +9,7 @@ import subprocess
 import sys
 from pathlib import Path
 
-from shim import told
+from ends import told
 
 TOP = Path(__file__).resolve().parent.parent
 TESTS = TOP / "crates" / "world_tests" / "out" / "world_tests_tests"

@@ -14,8 +14,8 @@ import time
 from contextlib import contextmanager
 from pathlib import Path
 
+from ends import told
 from scripts import SCRIPTS
-from shim import told
 
 ROUNDS, RUNS, SECONDS = 50, 10, 300
 EXAMPLE = next(it for it in SCRIPTS if it.name == "threads.script")

@@ -16,7 +16,7 @@ sys.path.insert(0, str(TOP / "docs"))
 sys.dont_write_bytecode = True
 
 import definitions  # noqa: E402
-from shim import told  # noqa: E402
+from ends import told  # noqa: E402
 
 NAMED = re.compile(r"`(\w+)::(\w+)`,\s+`(\w+)`")
 PAGE = re.compile(r"`((?:docs|examples|crates)/[\w./-]+)`")

@@ -14,8 +14,8 @@ import sys
 from collections import Counter
 from dataclasses import dataclass, field, replace
 
+from ends import told
 from model import GET
-from shim import told
 
 from client import Interactive  # model.py says where it stands
 from random_bench import random_request

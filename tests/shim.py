@@ -1,5 +1,6 @@
 """Runs a program with refuse.c between it and the C library."""
 
+import errno
 import os
 import shutil
 import struct
@@ -8,6 +9,8 @@ import tempfile
 from dataclasses import dataclass
 from pathlib import Path
 
+from ends import Ended
+
 HERE = Path(__file__).resolve().parent
 KINDS = ("growth", "read", "write", "thread")
 LAYOUT = struct.Struct("14q")
@@ -15,12 +18,9 @@ FOR_EVER = 1 << 62
 
 
 @dataclass(frozen=True)
-class Ran:
+class Ran(Ended):
     """How a run ended, and how many calls of each kind it made."""
 
-    status: int
-    text: bytes
-    line: bytes  # on standard error
     counts: dict
 
 
@@ -40,6 +40,16 @@ class Shim:
             raise SystemExit("a C compiler is needed, cc or gcc\n0 passed, 1 failed")
         subprocess.run([compiler, "-O1", "-shared", "-fPIC", "-o", self.library, str(HERE / "refuse.c"), "-ldl"], check=True)
 
+    def refused(self, words, given, kind, count, error=0, most=0, onward=True):
+        """Runs the program anew for each call of a kind up to a number, refused alone and, where that is asked for, with all after
+        it. Yields the call's number, whether it alone was refused, how the run ended, and a name."""
+        with_errno = f" with {errno.errorcode[error]}" if error else ""
+        for at in range(1, count + 1):
+            for until in (at, FOR_EVER) if onward else (at,):
+                others = "" if until == at else ", and all after it,"
+                ran = self.run(words, given, kind, at, until, error, most)
+                yield at, until == at, ran, f"{kind} {at} of {count}{others} refused{with_errno}"
+
     def run(self, words, given, refuse=None, at=0, until=None, error=0, most=0):
         """Runs the program on words and standard input. Of the calls of the kind `refuse` those from `at` to `until`, by
         default the one at `at`, are refused, a read or a write with the errno `error`; no read or write moves more than
@@ -55,14 +65,3 @@ class Shim:
             ran = subprocess.run([self.program, *words], stdin=file, capture_output=True, timeout=60, env=environment)
         counts = LAYOUT.unpack(Path(self.orders).read_bytes())[:4]
         return Ran(ran.returncode, ran.stdout, ran.stderr, dict(zip(KINDS, counts)))
-
-
-def told(cases):
-    """Tries cases, each a name and what is wrong with it (None where nothing is), and prints the last line."""
-    passed = failed = 0
-    for name, why in cases:
-        passed, failed = passed + (not why), failed + bool(why)
-        if why:
-            print(f"FAILED: {name}: {why}", flush=True)
-    print(f"{passed} passed, {failed} failed")
-    return 1 if failed else 0

@@ -12,8 +12,8 @@ import subprocess
 import sys
 from pathlib import Path
 
+from ends import Ended, told
 from scripts import SCRIPTS
-from shim import told
 
 FIRST, LONG, THREADS = SCRIPTS[0], SCRIPTS[1], SCRIPTS[4]
 SETUP = b"config 2 4 16 2 16 12 hh\nregion 0 4 10 gpah\npage 10 4 good\n"
@@ -23,22 +23,16 @@ SPAWN = b"thread fault: 3 Spawn\n"
 SECONDS, MEGA = 30, 1 << 20
 
 
-def wrong(ran, status, text, line):
-    if (ran.returncode, ran.stderr) != (status, line):
-        return f"status {ran.returncode} with {ran.stderr[-200:]!r}, not {status} with {line!r}"
-    return None if text is None or ran.stdout == text else f"its text begins {ran.stdout[:80]!r}"
-
-
 def given(program, word, text, status, trace, line):
-    return wrong(subprocess.run([program, word], input=text, capture_output=True, timeout=SECONDS), status, trace, line)
+    ran = subprocess.run([program, word], input=text, capture_output=True, timeout=SECONDS)
+    return Ended.of(ran).wrong(status, trace, line)
 
 
 def piped(program, command, word, status, line):
     """What another program prints is the standard input."""
     whole = f'{command} 2>/dev/null | {{ timeout {SECONDS - 1} "$0" {word}; echo "status $?"; }}'
     ran = subprocess.run(["sh", "-c", whole, program], capture_output=True)
-    ran.returncode = int(ran.stdout.rpartition(b" ")[2])
-    return wrong(ran, status, None, line)
+    return Ended(int(ran.stdout.rpartition(b" ")[2]), ran.stdout, ran.stderr).wrong(status, None, line)
 
 
 def fault(line, word=0):
@@ -77,11 +71,10 @@ def of_input(program):
         yield f"{word}: zeros without end", lambda w=word: piped(program, "cat /dev/zero", w, 2, fault(1))
 
 
-def opened(program, word, text, into, out, status, line):
+def opened(program, word, into, out, status, line):
     """Standard input and output are the descriptors given."""
     ran = subprocess.run([program, word], stdin=into, stdout=out, stderr=subprocess.PIPE, timeout=SECONDS)
-    ran.stdout = text
-    return wrong(ran, status, text, line)
+    return Ended.of(ran).wrong(status, None, line)
 
 
 def nothing_there_yet(program, word):
@@ -89,7 +82,7 @@ def nothing_there_yet(program, word):
     reads, writes = os.pipe()
     os.set_blocking(reads, False)
     try:
-        return opened(program, word, b"", reads, subprocess.DEVNULL, 3, READ)
+        return opened(program, word, reads, subprocess.DEVNULL, 3, READ)
     finally:
         os.close(reads)
         os.close(writes)
@@ -103,8 +96,8 @@ def other_way(program, script, name):
     os.close(writes)
     try:
         if name == "input":
-            return opened(program, script.word, b"", file, subprocess.DEVNULL, 3, READ)
-        return opened(program, script.word, b"", reads, file, 3, WRITE)
+            return opened(program, script.word, file, subprocess.DEVNULL, 3, READ)
+        return opened(program, script.word, reads, file, 3, WRITE)
     finally:
         os.close(file)
         os.close(reads)

@@ -16,8 +16,8 @@ import time
 from dataclasses import dataclass
 from pathlib import Path
 
+from ends import told
 from model import ARITHMETIC, GET, INTENT, LOGICAL, PUT_FULL, PUT_PARTIAL, Memory, Setup
-from shim import told
 
 from client import ABeat, beats_of, byte_of, reply_of  # model.py says where it stands
 from random_bench import full_mask

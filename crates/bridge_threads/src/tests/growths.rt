@@ -1,5 +1,5 @@
 //! What takes memory. Each test makes one thing: it is there, or the memory for it was refused, and then the fault that says so
-//! is the test's error. `tests/growth.py` refuses each growth of these tests in turn.
+//! is the test's error. `tests/refusals.py` refuses each growth of these tests in turn.
 use super::gates::Open;
 use super::given::*;
 use crate::{Shared, run_threads};
