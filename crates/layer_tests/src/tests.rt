@@ -5,6 +5,7 @@ use std::process::Abort;
 mod bursts;
 mod data;
 mod flights;
+mod lines;
 mod memories;
 mod messages;
 mod monitors;
@@ -12,7 +13,6 @@ mod plans;
 mod ports;
 mod replies;
 mod words;
-mod writers;
 
 /// Has the test fail where two values differ; `case` says of what they are.
 pub(crate) fn same<C: Debug + Drop, T: Debug + Drop + PartialEq>(

@@ -1,20 +1,30 @@
+//! The rules of the five channels of a monitor, and whole bursts.
 ghost use Rattle.std.specs.Prelude.{◌≡◌, None, IsSome};
 ghost use Rattle.axi_checker.specs.OpenBursts.{write_to_fill};
 
 use super::same;
 use axi_beats::{ArBeat, AwBeat, BBeat, BurstBox, RBeat, Resp, WBeat};
-use axi_checker::{AxiRule, Monitor};
+use axi_checker::{AxiBeat, AxiRule, Monitor};
 use std::test::Fail;
 
-/// A beat on one of the five channels.
+/// A beat: the ID, address, len and size of an AW or AR; strobes and last of a W; ID and response of a B; those and last of an
+/// R.
 #[derive(Clone, Copy)]
 enum Beat {
-    Aw(AwBeat),
-    W(WBeat),
-    B(BBeat),
-    Ar(ArBeat),
-    R(RBeat),
+    Aw(u8, u32, u8, u8),
+    /// An AW whose addresses don't rise.
+    Fixed(u8, u32, u8, u8),
+    W(u8, bool),
+    B(u8, Resp),
+    Ar(u8, u32, u8, u8),
+    R(u8, Resp, bool),
 }
+
+use Beat::{Ar, Aw, B, Fixed, R, W};
+use Resp::{ExOkay, Okay, SlvErr};
+
+/// A beat, and the number and the name of the rule that it breaks, if it breaks one.
+type Row = (Beat, Result<(), (u8, &'static str)>);
 
 fn write(id: u8, address: u32, len: u8, size: u8) -> AwBeat {
     AwBeat {
@@ -44,361 +54,159 @@ fn data(strobes: u8, last: bool) -> WBeat {
     }
 }
 
-fn response(id: u8, resp: Resp) -> Beat {
-    Beat::B(BBeat { id, resp })
-}
-
-fn read_data(id: u8, resp: Resp, last: bool) -> Beat {
-    Beat::R(RBeat {
-        id,
-        payload: 0,
-        resp,
-        last,
-    })
-}
-
-/// The number of the rule that a beat breaks, 0 where it is taken.
-fn broken(monitor: &mut Monitor, beat: Beat) -> u8 {
-    let taken = match beat {
-        Beat::Aw(beat) => monitor.aw(&beat),
-        Beat::W(beat) => monitor.w(&beat),
-        Beat::B(beat) => monitor.b(&beat),
-        Beat::Ar(beat) => monitor.ar(&beat),
-        Beat::R(beat) => monitor.r(&beat),
-    };
-    match taken {
-        Ok(()) => 0,
-        Err(rule) => rule.number(),
+fn beat_of(beat: Beat) -> AxiBeat {
+    match beat {
+        Aw(id, address, len, size) => AxiBeat::Aw(write(id, address, len, size)),
+        Fixed(id, address, len, size) => AxiBeat::Aw(AwBeat {
+            burst: 0,
+            ..write(id, address, len, size)
+        }),
+        W(strobes, last) => AxiBeat::W(data(strobes, last)),
+        B(id, resp) => AxiBeat::B(BBeat { id, resp }),
+        Ar(id, address, len, size) => AxiBeat::Ar(read(id, address, len, size)),
+        R(id, resp, last) => AxiBeat::R(RBeat {
+            id,
+            payload: 0,
+            resp,
+            last,
+        }),
     }
 }
 
-/// The first place in a list of beats whose beat breaks another rule than the one beside it (0 where it is to be taken).
-fn first_difference(monitor: &mut Monitor, beats: &[(Beat, u8)]) -> Option<usize> {
-    for (place, (beat, rule)) in beats.iter().enumerate() {
-        if broken(monitor, *beat) != *rule {
+/// Beats on a fresh monitor of a port of two IDs, each of which may have one burst outstanding on a side.
+struct List {
+    name: &'static str,
+    bus_bytes: u8,
+    rows: &'static [Row],
+}
+
+const LISTS: &[List] = &[
+    List {
+        name: "each rule once",
+        bus_bytes: 8,
+        rows: &[
+            (Aw(0, 0x10000, 0, 4), Err((1, "SIZE"))),
+            (Fixed(0, 0x10000, 0, 3), Err((2, "BURST_KIND"))),
+            (Ar(2, 0x10ff8, 1, 3), Err((3, "CROSS_4K"))),
+            (Ar(2, 0x10000, 1, 3), Err((4, "ID_RANGE"))),
+            (Ar(1, 0x10000, 1, 3), Ok(())),
+            (Ar(1, 0x10010, 0, 3), Err((5, "DEPTH"))),
+            (W(0xff, true), Err((6, "W_WITHOUT_AW"))),
+            (Aw(1, 0x10000, 0, 2), Ok(())),
+            (W(0x1f, false), Err((7, "STROBE"))),
+            (W(0x0f, false), Err((8, "WLAST"))),
+            (B(1, Okay), Err((9, "B_WITHOUT_WRITE"))),
+            (W(0x0f, true), Ok(())),
+            (R(0, Okay, true), Err((10, "R_WITHOUT_READ"))),
+            (R(1, ExOkay, true), Err((11, "RLAST"))),
+            (R(1, ExOkay, false), Err((12, "EXOKAY"))),
+            (B(2, ExOkay), Err((4, "ID_RANGE"))),
+            (B(1, ExOkay), Err((12, "EXOKAY"))),
+            (B(1, SlvErr), Ok(())),
+            (R(1, SlvErr, false), Ok(())),
+            (R(1, Okay, true), Ok(())),
+        ],
+    },
+    List {
+        name: "a burst over the end of a page, and one up to it",
+        bus_bytes: 8,
+        rows: &[
+            (Aw(0, 0x10ff8, 1, 3), Err((3, "CROSS_4K"))),
+            (Aw(0, 0x10ff8, 0, 3), Ok(())),
+        ],
+    },
+    List {
+        name: "strobes of two transfers of four bytes, of which the first has lane 3 alone",
+        bus_bytes: 8,
+        rows: &[
+            (Aw(0, 0x10003, 1, 2), Ok(())),
+            (W(0x10, false), Err((7, "STROBE"))),
+            (W(0x08, false), Ok(())),
+            (W(0xf0, true), Ok(())),
+        ],
+    },
+    List {
+        name: "a response ahead of the last data, and last data that don't say so",
+        bus_bytes: 8,
+        rows: &[
+            (Aw(0, 0x10000, 1, 3), Ok(())),
+            (W(0xff, false), Ok(())),
+            (B(0, Okay), Err((9, "B_WITHOUT_WRITE"))),
+            (W(0xff, false), Err((8, "WLAST"))),
+        ],
+    },
+    List {
+        name: "a bus of four bytes has four lanes",
+        bus_bytes: 4,
+        rows: &[
+            (Ar(0, 0x10008, 0, 3), Err((1, "SIZE"))),
+            (Aw(0, 0x10008, 1, 2), Ok(())),
+            (W(0x1f, false), Err((7, "STROBE"))),
+            (W(0x0f, false), Ok(())),
+            (W(0xf0, true), Err((7, "STROBE"))),
+            (W(0x0f, true), Ok(())),
+        ],
+    },
+];
+
+/// The place of the first row whose beat a monitor answers otherwise.
+fn first_other(monitor: &mut Monitor, rows: &[Row]) -> Option<usize> {
+    for (place, (beat, wanted)) in rows.iter().enumerate() {
+        let answer = match monitor.take(&beat_of(*beat)) {
+            Ok(()) => Ok(()),
+            Err(rule) => Err((rule.number(), rule.name())),
+        };
+        if answer != *wanted {
             return Some(place);
         }
     }
     None
 }
 
-/// Two IDs with one burst each on either side, on a bus of eight bytes.
 #[test]
-fn rules_in_their_order(rt: HostRuntime) -> Result<(), Fail> {
-    let wide = AwBeat {
-        burst: 0,
-        ..write(2, 0x10ff8, 255, 4)
-    };
-    let wrapping = ArBeat {
-        burst: 2,
-        ..read(2, 0x10ff8, 255, 3)
-    };
-    let mut monitor = Monitor::new(rt.alloc(), 2, 1, 8)?;
-    let beats = [
-        (Beat::W(data(0xff, true)), 6),
-        (response(2, Resp::ExOkay), 4),
-        (response(0, Resp::ExOkay), 9),
-        (read_data(2, Resp::ExOkay, true), 4),
-        (read_data(0, Resp::ExOkay, true), 10),
-        (Beat::Aw(wide), 1),
-        (Beat::Aw(AwBeat { size: 3, ..wide }), 2),
-        (
-            Beat::Ar(ArBeat {
-                size: 4,
-                ..wrapping
-            }),
-            1,
-        ),
-        (Beat::Ar(wrapping), 2),
-        (Beat::Aw(write(2, 0x10ff8, 1, 3)), 3),
-        (Beat::Ar(read(2, 0x10ff8, 1, 3)), 3),
-        (Beat::Aw(write(2, 0x10ff8, 0, 3)), 4),
-        (Beat::Ar(read(2, 0x10ff8, 0, 3)), 4),
-        (Beat::Aw(write(1, 0x10ff8, 0, 3)), 0),
-        (Beat::Aw(write(1, 0x10ff8, 0, 3)), 5),
-        (Beat::Ar(read(1, 0x10ff8, 0, 3)), 0),
-        (Beat::Ar(read(1, 0x10ff8, 0, 3)), 5),
-        (Beat::Aw(write(0, 0x10003, 1, 2)), 0),
-        (response(1, Resp::Okay), 9),
-        (Beat::W(data(0xff, false)), 8),
-        (Beat::W(data(0xff, true)), 0),
-        (response(1, Resp::ExOkay), 12),
-        (Beat::W(data(0x10, true)), 7),
-        (Beat::W(data(0x08, true)), 8),
-        (Beat::W(data(0x08, false)), 0),
-        (response(0, Resp::Okay), 9),
-        (Beat::W(data(0x08, false)), 7),
-        (Beat::W(data(0xf0, false)), 8),
-        (Beat::W(data(0xf0, true)), 0),
-        (Beat::W(data(0, true)), 6),
-        (response(0, Resp::DecErr), 0),
-        (response(0, Resp::Okay), 9),
-        (response(1, Resp::SlvErr), 0),
-        (read_data(1, Resp::ExOkay, false), 11),
-        (read_data(1, Resp::ExOkay, true), 12),
-        (read_data(1, Resp::SlvErr, true), 0),
-        (read_data(1, Resp::Okay, true), 10),
-    ];
-    let other = first_difference(&mut monitor, &beats);
-    same(&rt, "first other beat", other, None);
-    Ok(())
-}
-
-/// A strobe outside its transfer's lanes: the first of two transfers of four bytes has lane 3 alone, the second lanes 4 to
-/// 7.
-#[test]
-fn strobes_of_an_uneven_burst(rt: HostRuntime) -> Result<(), Fail> {
-    let mut monitor = Monitor::new(rt.alloc(), 1, 1, 8)?;
-    let beats = [
-        (Beat::Aw(write(0, 0x10003, 1, 2)), 0),
-        (Beat::W(data(0x10, false)), 7),
-        (Beat::W(data(0x08, false)), 0),
-        (Beat::W(data(0xf0, true)), 0),
-    ];
-    same(
-        &rt,
-        "first other beat",
-        first_difference(&mut monitor, &beats),
-        None,
-    );
-    Ok(())
-}
-
-/// Bursts of one ID are served in the order of their addresses; those of different IDs in any order.
-#[test]
-fn bursts_of_one_id_in_order(rt: HostRuntime) -> Result<(), Fail> {
-    let mut monitor = Monitor::new(rt.alloc(), 16, 2, 8)?;
-    let beats = [
-        (response(16, Resp::Okay), 4),
-        (Beat::Ar(read(0, 0x10000, 1, 3)), 0),
-        (Beat::Ar(read(0, 0x10008, 0, 3)), 0),
-        (Beat::Ar(read(0, 0x10010, 0, 3)), 5),
-        (Beat::Ar(read(15, 0x10018, 0, 3)), 0),
-        (read_data(0, Resp::Okay, true), 11),
-        (read_data(0, Resp::ExOkay, true), 11),
-        (read_data(0, Resp::ExOkay, false), 12),
-        (read_data(0, Resp::Okay, false), 0),
-        (read_data(15, Resp::Okay, true), 0),
-        (read_data(0, Resp::Okay, false), 11),
-        (read_data(0, Resp::Okay, true), 0),
-        (read_data(0, Resp::Okay, false), 11),
-        (Beat::Ar(read(0, 0x10020, 255, 3)), 0),
-        (read_data(0, Resp::Okay, true), 0),
-        (read_data(0, Resp::Okay, true), 11),
-        (Beat::Aw(write(3, 0x10000, 1, 3)), 0),
-        (Beat::Aw(write(3, 0x10004, 0, 2)), 0),
-        (Beat::Aw(write(3, 0x10008, 0, 3)), 5),
-        (Beat::W(data(0x0f, false)), 0),
-        (response(3, Resp::Okay), 9),
-        (Beat::W(data(0xff, false)), 8),
-        (Beat::W(data(0xff, true)), 0),
-        (Beat::W(data(0x0f, true)), 7),
-        (response(3, Resp::Okay), 0),
-        (response(3, Resp::Okay), 9),
-        (Beat::W(data(0xf0, true)), 0),
-        (response(3, Resp::Okay), 0),
-    ];
-    same(
-        &rt,
-        "first other beat",
-        first_difference(&mut monitor, &beats),
-        None,
-    );
-    Ok(())
-}
-
-/// A bus of four bytes has four lanes; a payload's other half is never looked at.
-#[test]
-fn bus_of_four_bytes(rt: HostRuntime) -> Result<(), Fail> {
-    let mut monitor = Monitor::new(rt.alloc(), 1, 4, 4)?;
-    let beats = [
-        (Beat::Aw(write(0, 0x10008, 0, 3)), 1),
-        (Beat::Ar(read(0, 0x10008, 0, 3)), 1),
-        (Beat::Aw(write(0, 0x10008, 1, 2)), 0),
-        (Beat::Aw(write(0, 0x1000d, 0, 0)), 0),
-        (Beat::W(data(0x1f, false)), 7),
-        (Beat::W(data(0x0f, false)), 0),
-        (Beat::W(data(0xf0, true)), 7),
-        (Beat::W(data(0x0f, true)), 0),
-        (Beat::W(data(0x20, true)), 7),
-        (Beat::W(data(0x02, true)), 0),
-        (Beat::Ar(read(0, 0x10ffc, 0, 2)), 0),
-        (Beat::Ar(read(0, 0x10ffc, 1, 2)), 3),
-    ];
-    same(
-        &rt,
-        "first other beat",
-        first_difference(&mut monitor, &beats),
-        None,
-    );
-    Ok(())
-}
-
-/// Whole bursts, judged where nothing is outstanding.
-#[test]
-fn judges_whole_bursts(rt: HostRuntime) -> Result<(), Fail> {
-    let monitor = Monitor::new(rt.alloc(), 16, 2, 8)?;
-    let mut held = BurstBox::new(rt.alloc())?;
-    let full = data(0xff, false);
-    let last = data(0xff, true);
-    for (aw, count, rule) in [
-        // Data that end too early, rightly, and too late.
-        (write(0, 0x10000, 1, 3), 0, Some(AxiRule::WLast)),
-        (write(0, 0x10000, 1, 3), 1, Some(AxiRule::WLast)),
-        (write(0, 0x10000, 1, 3), 2, None),
-        (write(0, 0x10000, 1, 3), 3, Some(AxiRule::WWithoutAw)),
-        // `last` comes too early, and too late.
-        (write(0, 0x10000, 2, 3), 3, Some(AxiRule::WLast)),
-        (write(0, 0x10000, 0, 3), 3, Some(AxiRule::WLast)),
-        // An address at fault, whatever the data, and strobes outside the transfer.
-        (write(16, 0x10000, 2, 3), 0, Some(AxiRule::IdRange)),
-        (write(0, 0x10ff8, 1, 3), 3, Some(AxiRule::Cross4K)),
-        (write(0, 0xfffffff8, 1, 3), 2, Some(AxiRule::Cross4K)),
-        (write(0, 0x10000, 1, 2), 3, Some(AxiRule::Strobe)),
-    ] {
-        let beats = [full, last, last];
-        held.set_write(aw, &beats[..beats.len().min(count)]);
-        same(&rt, (aw, count), monitor.judge(&held), rule);
-    }
-    for (ar, rule) in [
-        (read(0, 0x10ff8, 0, 3), None),
-        (read(0, 0x10ff8, 1, 3), Some(AxiRule::Cross4K)),
-        (read(0, 0x10ff8, 0, 4), Some(AxiRule::Size)),
-    ] {
-        held.set_read(ar);
-        same(&rt, ar, monitor.judge(&held), rule);
+fn lists_of_beats(rt: HostRuntime) -> Result<(), Fail> {
+    for list in LISTS {
+        let bus_bytes = if list.bus_bytes == 4 { 4 } else { 8 };
+        let mut monitor = Monitor::new(rt.alloc(), 2, 1, bus_bytes)?;
+        same(&rt, list.name, first_other(&mut monitor, list.rows), None);
     }
     Ok(())
 }
 
-/// A burst judged where its ID has as many outstanding as the port allows.
-#[test]
-fn judges_by_what_is_outstanding(rt: HostRuntime) -> Result<(), Fail> {
-    let mut monitor = Monitor::new(rt.alloc(), 1, 1, 8)?;
-    let mut held = BurstBox::new(rt.alloc())?;
-    held.set_read(read(0, 0x10000, 0, 3));
-    same(&rt, "a read alone", monitor.judge(&held), None);
-    let taken = monitor.ar(&read(0, 0x10000, 0, 3));
-    same(&rt, "a read is taken", taken, Ok(()));
-    if taken.is_ok() {
-        let depth = Some(AxiRule::Depth);
-        same(&rt, "a second read", monitor.judge(&held), depth);
-        held.set_write(write(0, 0x10000, 0, 3), &[data(0xff, true)]);
-        same(&rt, "a write beside it", monitor.judge(&held), None);
-    }
-    Ok(())
-}
-
-/// Takes the burst that a box holds, if it breaks no rule.
-fn takes(monitor: &mut Monitor, held: &BurstBox) -> bool
+/// Takes the burst that a box holds, or tells the rule that it breaks.
+fn takes(monitor: &mut Monitor, held: &BurstBox) -> Option<AxiRule>
     requires full { IsSome held.now }
     requires ready { write_to_fill monitor.old.open_bursts ≡ None }
     ensures { write_to_fill monitor.new.open_bursts ≡ None }
 {
-    if monitor.judge(held).is_some() {
-        return false;
+    let rule = monitor.judge(held);
+    if rule.is_none() {
+        monitor.take_burst(held);
     }
-    monitor.take_burst(held);
-    true
+    rule
 }
 
-/// Bursts taken whole, and then their answers.
 #[test]
-fn takes_whole_bursts(rt: HostRuntime) -> Result<(), Fail> {
-    let mut monitor = Monitor::new(rt.alloc(), 1, 2, 8)?;
-    let mut held = BurstBox::new(rt.alloc())?;
-    let full = data(0xff, false);
-    held.set_write(write(0, 0x10000, 1, 3), &[full, data(0xff, true)]);
-    same(&rt, "a write", takes(&mut monitor, &held), true);
-    held.set_read(read(0, 0x10000, 2, 3));
-    same(&rt, "a read", takes(&mut monitor, &held), true);
-    same(&rt, "a second read", takes(&mut monitor, &held), true);
-    same(&rt, "a third read", takes(&mut monitor, &held), false);
-    let answers = [
-        (Beat::W(full), 6),
-        (read_data(0, Resp::Okay, false), 0),
-        (read_data(0, Resp::Okay, false), 0),
-    ];
-    same(
-        &rt,
-        "first answers",
-        first_difference(&mut monitor, &answers),
-        None,
-    );
-    same(&rt, "answered reads", monitor.answered_reads(), 2);
-    let answers = [
-        (read_data(0, Resp::Okay, true), 0),
-        (read_data(0, Resp::Okay, false), 0),
-        (response(0, Resp::Okay), 0),
-        (response(0, Resp::Okay), 9),
-    ];
-    same(
-        &rt,
-        "last answers",
-        first_difference(&mut monitor, &answers),
-        None,
-    );
-    same(&rt, "answered reads", monitor.answered_reads(), 1);
-    Ok(())
-}
-
-/// After beats that nobody saw nothing is outstanding: no data are due and nothing waits for an answer, the ID may have bursts
-/// again, and the port has the limits that it had.
-#[test]
-fn clears_what_is_outstanding(rt: HostRuntime) -> Result<(), Fail> {
+fn whole_bursts(rt: HostRuntime) -> Result<(), Fail> {
     let mut monitor = Monitor::new(rt.alloc(), 1, 1, 8)?;
-    let seen = [
-        (Beat::Aw(write(0, 0x10000, 1, 3)), 0),
-        (Beat::W(data(0xff, false)), 0),
-        (Beat::Ar(read(0, 0x10000, 1, 3)), 0),
-        (read_data(0, Resp::Okay, false), 0),
-    ];
-    let later = [
-        (Beat::W(data(0xff, true)), 6),
-        (response(0, Resp::Okay), 9),
-        (read_data(0, Resp::Okay, true), 10),
-        (Beat::Aw(write(1, 0x10000, 0, 3)), 4),
-        (Beat::Aw(write(0, 0x10000, 0, 4)), 1),
-        (Beat::Aw(write(0, 0x10000, 0, 3)), 0),
-        (Beat::Aw(write(0, 0x10000, 0, 3)), 5),
-        (Beat::Ar(read(0, 0x10000, 0, 3)), 0),
-        (Beat::Ar(read(0, 0x10000, 0, 3)), 5),
-        (Beat::W(data(0xff, true)), 0),
-        (response(0, Resp::Okay), 0),
-        (read_data(0, Resp::Okay, true), 0),
-    ];
-    same(
-        &rt,
-        "beats before",
-        first_difference(&mut monitor, &seen),
-        None,
+    let mut held = BurstBox::new(rt.alloc())?;
+    held.set_write(write(0, 0x10000, 1, 3), &[data(0xff, false)]);
+    let short = takes(&mut monitor, &held);
+    same(&rt, "data that end early", short, Some(AxiRule::WLast));
+    held.set_write(
+        write(0, 0x10000, 1, 3),
+        &[data(0xff, false), data(0xff, true)],
     );
+    same(&rt, "a write", takes(&mut monitor, &held), None);
+    held.set_read(read(0, 0x10000, 1, 3));
+    same(&rt, "a read", takes(&mut monitor, &held), None);
+    let second = takes(&mut monitor, &held);
+    same(&rt, "a second read", second, Some(AxiRule::Depth));
+    same(&rt, "both", monitor.outstanding(), 2);
+    let first = monitor.take(&beat_of(R(0, Okay, false)));
+    same(&rt, "the first data", first, Ok(()));
+    same(&rt, "beats that came", monitor.answered_reads(), 1);
     monitor.clear();
-    same(
-        &rt,
-        "beats after",
-        first_difference(&mut monitor, &later),
-        None,
-    );
+    same(&rt, "none", monitor.outstanding(), 0);
     Ok(())
-}
-
-#[test]
-fn numbers_and_names(rt: HostRuntime) {
-    for (rule, number, name) in [
-        (AxiRule::Size, 1, "SIZE"),
-        (AxiRule::BurstKind, 2, "BURST_KIND"),
-        (AxiRule::Cross4K, 3, "CROSS_4K"),
-        (AxiRule::IdRange, 4, "ID_RANGE"),
-        (AxiRule::Depth, 5, "DEPTH"),
-        (AxiRule::WWithoutAw, 6, "W_WITHOUT_AW"),
-        (AxiRule::Strobe, 7, "STROBE"),
-        (AxiRule::WLast, 8, "WLAST"),
-        (AxiRule::BWithoutWrite, 9, "B_WITHOUT_WRITE"),
-        (AxiRule::RWithoutRead, 10, "R_WITHOUT_READ"),
-        (AxiRule::RLast, 11, "RLAST"),
-        (AxiRule::ExOkay, 12, "EXOKAY"),
-    ] {
-        same(&rt, rule, (rule.number(), rule.name()), (number, name));
-    }
 }

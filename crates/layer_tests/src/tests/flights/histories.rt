@@ -79,9 +79,9 @@ fn draw_plan(lot: &mut u64, beat: &ABeat, is_narrow: bool) -> Option<Plan> {
     let way = match draw(lot, 8) {
         0 => Way::Nowhere,
         _ if is_narrow => Way::Narrow(start),
-        _ => Way::Other(start),
+        _ => Way::Wide(start),
     };
-    plan_of(beat.address, beat.size, way)
+    plan_of(beat.size, way)
 }
 
 impl Pair {
