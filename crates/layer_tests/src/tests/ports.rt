@@ -166,6 +166,8 @@ fn messages(rt: HostRuntime) -> Result<(), Fail> {
     for (beat, wanted) in MESSAGES {
         same(&rt, beat, answer(&mut port, beat), wanted);
     }
+    let stands = port.whole().is_some_and(|request| request.corrupt());
+    same(&rt, "what stands is corrupt", stands, true);
     let mut request = Request::new(rt.alloc())?;
     if port.whole().is_some() {
         port.take_whole(&mut request);
