@@ -107,12 +107,12 @@ fn asked(opcode: u8, source: u8) -> ABeat {
 
 /// A table of eight requests of each of eight clients, all of this opcode and of the same bytes.
 fn full(alloc: Global, opcode: u8) -> Result<Flight, AllocError> {
-    let plan = plan_of(3, Way::Wide(0x10000));
     let mut request = Request::new(alloc)?;
     let mut flight = Flight::new(alloc, 8, 8, 16, 2)?;
     for number in 0..64u8 {
         let client = number / 8;
         begin(&mut request, client, &asked(opcode, number % 8));
+        let plan = plan_of(3, Way::Wide(0x10000));
         accept(&mut flight, client, &request, plan);
     }
     Ok(flight)

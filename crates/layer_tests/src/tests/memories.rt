@@ -211,7 +211,10 @@ fn boxed(alloc: Global, burst: Burst) -> Option<BurstBox> {
 
 /// Whether a box holds the data of a write.
 fn has_data(held: &BurstBox, data: &[Data]) -> bool {
-    for (k, beat) in (0..held.w_beats()).zip(data) {
+    for k in 0..held.w_beats() {
+        let Some(beat) = data.get(usize::from(k)) else {
+            return false;
+        };
         let w = held.w(k);
         if (w.payload, w.strobes, w.last) != *beat {
             return false;
