@@ -1,0 +1,101 @@
+//! A board of each policy: what a text doesn't ask of it.
+use super::{ACK, PUT, REGION, SEEN, refused_set_up, same, set_up};
+use burst_plan::MapFault;
+use scoreboard::{ObservedBeat, Policy, ReplyRule, Scoreboard, Wrong};
+use setups::SetupFault;
+use std::test::Fail;
+use tl_checker::TlRule;
+use tl_messages::DBeat;
+
+const POLICIES: [Policy; 2] = [Policy::AcceptanceOrder, Policy::RealTime];
+
+#[test]
+fn what_is_left_after_each_beat(rt: HostRuntime) -> Result<(), Fail> {
+    let setup = set_up(REGION).expect(&rt, "room");
+    for policy in POLICIES {
+        let mut board = Scoreboard::new(rt.alloc(), policy, &setup)?;
+        for (place, (seen, outstanding, open)) in SEEN.iter().enumerate() {
+            let case = (policy, place);
+            same(&rt, case, board.judge(seen), None);
+            let left = (board.outstanding(), board.open_bursts());
+            same(&rt, case, left, (*outstanding, *open));
+        }
+    }
+    Ok(())
+}
+
+#[test]
+fn bytes_from_the_request_on(rt: HostRuntime) -> Result<(), Fail> {
+    let setup = set_up(REGION).expect(&rt, "room");
+    for policy in POLICIES {
+        let mut board = Scoreboard::new(rt.alloc(), policy, &setup)?;
+        same(&rt, policy, board.byte(0x1000f), Some(0));
+        same(&rt, policy, board.judge(&ObservedBeat::A(0, PUT)), None);
+        for (address, byte) in [
+            (0x10007, Some(0)),
+            (0x10008, Some(0x88)),
+            (0x1000f, Some(0x11)),
+            (0x14000, None),
+        ] {
+            same(&rt, (policy, address), board.byte(address), byte);
+        }
+    }
+    Ok(())
+}
+
+/// Beats, and what is wrong with each.
+const WRONG: [(ObservedBeat, Option<Wrong>); 5] = [
+    (
+        ObservedBeat::D(0, ACK),
+        Some(Wrong::Reply(ReplyRule::Unasked, None)),
+    ),
+    (ObservedBeat::A(0, PUT), None),
+    (
+        ObservedBeat::A(0, PUT),
+        Some(Wrong::Request(TlRule::SourceBusy)),
+    ),
+    (
+        ObservedBeat::D(
+            0,
+            DBeat {
+                denied: true,
+                ..ACK
+            },
+        ),
+        Some(Wrong::Reply(ReplyRule::Denied, Some(ACK))),
+    ),
+    (ObservedBeat::D(2, ACK), Some(Wrong::NoClient)),
+];
+
+#[test]
+fn what_is_wrong(rt: HostRuntime) -> Result<(), Fail> {
+    let setup = set_up(REGION).expect(&rt, "room");
+    for policy in POLICIES {
+        let mut board = Scoreboard::new(rt.alloc(), policy, &setup)?;
+        for (place, (seen, wrong)) in WRONG.iter().enumerate() {
+            same(&rt, (policy, place), board.judge(seen), *wrong);
+        }
+    }
+    Ok(())
+}
+
+#[test]
+fn a_region_of_no_pages(rt: HostRuntime) {
+    let setup = refused_set_up().expect(&rt, "room");
+    let fault = SetupFault::Map(MapFault::RegionEmpty(0));
+    for policy in POLICIES {
+        let refused = Scoreboard::new(rt.alloc(), policy, &setup).err();
+        same(&rt, policy, refused, Some(fault));
+    }
+}
+
+#[test]
+fn rules_have_names(rt: HostRuntime) {
+    for (rule, number, name) in [
+        (ReplyRule::Unasked, 1, "UNASKED"),
+        (ReplyRule::Interleaved, 2, "INTERLEAVED"),
+        (ReplyRule::Payload, 7, "PAYLOAD"),
+    ] {
+        same(&rt, rule, (rule.number(), rule.name()), (number, name));
+    }
+}

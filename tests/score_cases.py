@@ -1,0 +1,442 @@
+"""Histories of beats observed at the ports of a bridge, and what tlscore says of each. A line of a history is a line of its
+input; behind `->` stands what is said of it: what is wrong with a beat, the byte that was asked for, or the fault. Behind an arrow
+alone stands what is left at the end.
+
+    python3 tests/score_cases.py TLSCORE
+"""
+
+import re
+import sys
+from pathlib import Path
+
+from program_cases import started, wrong
+from shim import told
+
+TOP = Path(__file__).resolve().parent.parent
+BEATS = {"A", "D", "AW", "W", "B", "AR", "R"}
+CONFIG = "config 2 4 16 2 16 12 hh"
+SETUP = f"{CONFIG}\nregion 0 4 10 gpah\npage 10 4 good"
+PUT = "A 0 0 0 3 5 8 ff 1122334455667788 0"
+# As many W beats as the longest burst has, none of them the last.
+LONGEST = "\n".join(["W 0 ff 0"] * 256)
+
+# By both profiles, behind a set-up whose word at 10018 is bad.
+BY_EACH = {
+    "an acknowledgement of another opcode, of another size, and one that is corrupt": """
+        A 0 0 0 3 5 8 ff 1122334455667788 0
+        D 0 1 0 3 5 0 0 0 -> reply 3 OPCODE expected D 0 0 0 3 5 0 0000000000000000 0
+        A 0 0 0 3 5 8 ff 1122334455667788 0
+        D 0 0 0 4 5 0 0 0 -> reply 4 SIZE expected D 0 0 0 3 5 0 0000000000000000 0
+        A 0 0 0 3 5 8 ff 1122334455667788 0
+        D 0 0 0 3 5 0 0 1 -> reply 6 CORRUPT expected D 0 0 0 3 5 0 0000000000000000 0
+        -> outstanding 0 open 0
+        """,
+    "strobes, last beats and data that break a rule, and bursts that stay open": """
+        AW 0 10003 1 2 1
+        W 0 10 0 -> axi 7 STROBE
+        W 0 08 0
+        W 0 f0 0 -> axi 8 WLAST
+        R 0 0 OKAY 1 -> axi 10 R_WITHOUT_READ
+        AR 0 10000 1 3 1
+        R 0 0 OKAY 0
+        -> outstanding 0 open 2
+        """,
+    "AXI4 beats that went unobserved": """
+        A 0 0 0 3 5 8 ff 1122334455667788 0
+        AW 0 10008 0 3 1
+        AW 0 10000 1 3 1
+        AW 0 10000 0 3 1 -> axi 5 DEPTH
+        AR 3 1000c 1 2 1
+        R 3 0 OKAY 0
+        A 1 0 0 4 1 0 ff 1 0
+        = drained 9
+        B 0 OKAY -> axi 9 B_WITHOUT_WRITE
+        R 3 0 OKAY 1 -> axi 10 R_WITHOUT_READ
+        D 0 0 0 3 5 0 0 0
+        A 1 0 0 4 1 0 ff 2 0
+        AW 0 10000 0 3 1
+        AW 0 10008 0 3 1
+        W 1 ff 1
+        B 0 OKAY
+        -> outstanding 1 open 1
+        """,
+    "a request and a reply of a client that isn't there": """
+        D 2 0 0 3 5 0 0 0 -> client 1 NO_CLIENT
+        A 2 4 0 3 5 8 ff 0 0 -> client 1 NO_CLIENT
+        -> outstanding 0 open 0
+        """,
+    "the bytes that a Put leaves": """
+        A 0 0 0 3 5 8 ff 1122334455667788 0
+        AR 0 10008 0 3 1
+        mem 10007 -> = mem 00
+        mem 10008 -> = mem 88
+        mem 1000f -> = mem 11
+        mem 14000 -> = mem --
+        -> outstanding 1 open 1
+        """,
+}
+
+# Rows of examples/scoreboard of which `profile tilelink` says the same.
+STORED = (
+    "right",
+    "wrong-payload",
+    "wrong-denied",
+    "reply-to-nobody",
+    "reply-twice",
+    "reply-too-early",
+    "replies-interleaved",
+    "source-busy",
+    "beats-swapped",
+    "bad-word",
+)
+
+BY_BRIDGE = {
+    "write data before their address": """
+        W 1122334455667788 ff 1 -> axi 6 W_WITHOUT_AW
+        AW 0 10008 0 3 1
+        B 0 OKAY -> axi 9 B_WITHOUT_WRITE
+        W 1122334455667788 ff 1
+        B 0 OKAY
+        -> outstanding 0 open 0
+        """,
+    "a source that asks again before the last beat of its reply": """
+        A 0 4 0 4 1 0 ff 0 0
+        D 0 1 0 4 1 0 0 0
+        A 0 4 0 4 1 0 ff 0 0 -> request 9 SOURCE_BUSY
+        D 0 1 0 4 1 0 0 0
+        D 0 1 0 4 1 0 0 0 -> reply 1 UNASKED
+        D 0 1 0 4 1 0 0 0 -> reply 1 UNASKED
+        -> outstanding 0 open 0
+        """,
+}
+
+BY_TILELINK = {
+    # Puts that race with Gets: bytes that a Put in flight may write are read before it or after it.
+    "a Get beside a Put in flight reads what was there, or what is put": """
+        A 0 0 0 3 5 8 ff 1122334455667788 0
+        A 1 4 0 3 7 8 ff 0 0
+        A 1 4 0 3 8 8 ff 0 0
+        D 1 1 0 3 7 0 0 0
+        D 1 1 0 3 8 0 1122334455667788 0
+        D 0 0 0 3 5 0 0 0
+        -> outstanding 0 open 0
+        """,
+    "a Put that comes after a Get, whose reply is still to be seen": """
+        A 1 4 0 3 7 8 ff 0 0
+        A 1 4 0 3 8 10 ff 0 0
+        A 0 0 0 3 5 8 ff 1122334455667788 0
+        D 0 0 0 3 5 0 0 0
+        D 1 1 0 3 7 0 1122334455667788 0
+        D 1 1 0 3 8 0 1122334455667788 0 -> reply 7 PAYLOAD expected D 1 1 0 3 8 0 0000000000000000 0
+        -> outstanding 0 open 0
+        """,
+    "a Get after a Put whose whole reply was seen reads what was put": """
+        A 0 0 0 3 5 8 ff 1122334455667788 0
+        D 0 0 0 3 5 0 0 0
+        A 1 4 0 3 7 8 ff 0 0
+        D 1 1 0 3 7 0 0 0 -> reply 7 PAYLOAD expected D 1 1 0 3 7 0 1122334455667788 0
+        -> outstanding 0 open 0
+        """,
+    "bytes outside the Put stay determined, in the same word and in another": """
+        A 0 0 0 2 5 8 0f 55667788 0
+        A 1 4 0 3 7 8 ff 0 0
+        A 1 4 0 3 8 8 ff 0 0
+        A 1 4 0 4 9 0 ff 0 0
+        D 1 1 0 3 7 0 0 0
+        D 1 1 0 3 8 0 100000000 0 -> reply 7 PAYLOAD expected D 1 1 0 3 8 0 0000000055667788 0
+        D 1 1 0 4 9 0 1 0 -> reply 7 PAYLOAD expected D 1 1 0 4 9 0 0000000000000000 0
+        D 1 1 0 4 9 0 0 0
+        -> outstanding 1 open 0
+        """,
+    "lanes that a Get doesn't ask for, payloads of beats that are corrupt": """
+        A 0 4 0 2 6 c f0 0 0
+        D 0 1 0 2 6 0 ffffffff 0
+        A 0 4 0 2 6 c f0 0 0
+        D 0 1 0 2 6 0 100000000 0 -> reply 7 PAYLOAD expected D 0 1 0 2 6 0 0000000000000000 0
+        A 0 4 0 3 6 5000 ff 0 0
+        D 0 1 0 3 6 1 1122334455667788 1
+        A 0 4 0 3 6 5000 ff 0 0
+        D 0 1 0 3 6 0 0 1 -> reply 5 DENIED expected D 0 1 0 3 6 1 0000000000000000 1
+        A 0 4 0 3 6 18 ff 0 0
+        D 0 1 0 3 6 0 1122334455667788 1
+        -> outstanding 0 open 0
+        """,
+    # Requests that race with others which write, and what they leave.
+    "two Puts leave their bytes indeterminate, until a Put is alone": """
+        A 0 0 0 3 5 8 ff 1122334455667788 0
+        A 1 0 0 3 6 8 ff 1 0
+        D 1 0 0 3 6 0 0 0
+        D 0 0 0 3 5 0 0 0
+        A 1 4 0 3 7 8 ff 0 0
+        D 1 1 0 3 7 0 1122334455667788 0
+        A 1 4 0 3 7 8 ff 0 0
+        D 1 1 0 3 7 0 1 0
+        A 0 0 0 2 5 8 0f 2 0
+        D 0 0 0 2 5 0 0 0
+        A 1 4 0 3 7 8 ff 0 0
+        D 1 1 0 3 7 0 1122334400000002 0
+        A 1 4 0 3 7 8 ff 0 0
+        D 1 1 0 3 7 0 3 0 -> reply 7 PAYLOAD expected D 1 1 0 3 7 0 0000000000000002 0
+        -> outstanding 0 open 0
+        """,
+    "an atomic beside a Put in flight leaves all that it writes indeterminate": """
+        A 0 0 0 0 5 8 01 ff 0
+        D 0 0 0 0 5 0 0 0
+        A 0 0 0 0 5 8 01 0 0
+        A 1 2 4 3 2 8 ff 1 0
+        D 1 1 0 3 2 0 ff 0
+        D 0 0 0 0 5 0 0 0
+        A 1 4 0 3 7 8 ff 0 0
+        D 1 1 0 3 7 0 100 0
+        A 1 4 0 3 7 10 ff 0 0
+        D 1 1 0 3 7 0 100 0 -> reply 7 PAYLOAD expected D 1 1 0 3 7 0 0000000000000000 0
+        -> outstanding 0 open 0
+        """,
+    "a Put beside an atomic in flight leaves all that the atomic writes indeterminate": """
+        A 0 0 0 0 5 8 01 ff 0
+        D 0 0 0 0 5 0 0 0
+        A 1 2 4 3 2 8 ff 1 0
+        A 0 0 0 0 5 8 01 0 0
+        D 1 1 0 3 2 0 100 0 -> reply 7 PAYLOAD expected D 1 1 0 3 2 0 00000000000000ff 0
+        D 0 0 0 0 5 0 0 0
+        A 1 4 0 3 7 8 ff 0 0
+        D 1 1 0 3 7 0 1 0
+        -> outstanding 0 open 0
+        """,
+    "an atomic that is alone leaves no byte indeterminate": """
+        A 0 0 0 3 5 8 ff ff 0
+        D 0 0 0 3 5 0 0 0
+        A 1 2 4 3 2 8 ff 1 0
+        D 1 1 0 3 2 0 ff 0
+        A 1 4 0 3 7 8 ff 0 0
+        D 1 1 0 3 7 0 1 0 -> reply 7 PAYLOAD expected D 1 1 0 3 7 0 0000000000000100 0
+        -> outstanding 0 open 0
+        """,
+    # A source's next request comes while its reply goes on.
+    "a source that asks again before the last beat of its reply": """
+        A 0 4 0 4 1 0 ff 0 0
+        D 0 1 0 4 1 0 0 0
+        A 0 4 0 4 1 0 ff 0 0
+        D 0 1 0 4 1 0 0 0
+        D 0 1 0 4 1 0 0 0
+        D 0 1 0 4 1 0 0 0
+        -> outstanding 0 open 0
+        """,
+    "a source is free from its reply's first beat on": """
+        A 0 4 0 5 1 40 ff 0 0
+        A 0 0 0 3 1 48 ff 1122334455667788 0 -> request 9 SOURCE_BUSY
+        D 0 1 0 5 1 0 0 0
+        A 0 0 0 3 1 48 ff 1122334455667788 0
+        D 0 1 0 5 1 0 1122334455667788 0
+        D 0 1 0 5 1 0 1122334455667788 0 -> reply 7 PAYLOAD expected D 0 1 0 5 1 0 0000000000000000 0
+        D 0 1 0 5 1 0 0 0
+        A 1 4 0 3 7 48 ff 0 0
+        D 1 1 0 3 7 0 0 0
+        D 0 0 0 3 1 0 0 0
+        A 1 4 0 3 7 48 ff 0 0
+        D 1 1 0 3 7 0 0 0 -> reply 7 PAYLOAD expected D 1 1 0 3 7 0 1122334455667788 0
+        -> outstanding 0 open 0
+        """,
+    "a reply that nobody asked for takes no request out of flight": """
+        A 0 0 0 3 5 8 ff 1122334455667788 0
+        D 1 0 0 3 5 0 0 0 -> reply 1 UNASKED
+        D 0 0 0 3 4 0 0 0 -> reply 1 UNASKED
+        D 2 0 0 3 5 0 0 0 -> client 1 NO_CLIENT
+        A 1 4 0 3 7 8 ff 0 0
+        D 1 1 0 3 7 0 0 0
+        -> outstanding 1 open 0
+        """,
+    # W beats that come before their AW.
+    "the data of a burst, then its address": """
+        A 0 0 0 3 5 8 ff 1122334455667788 0
+        W 1122334455667788 ff 1
+        AW 0 10008 0 3 1
+        B 0 OKAY
+        D 0 0 0 3 5 0 0 0
+        B 0 OKAY -> axi 9 B_WITHOUT_WRITE
+        -> outstanding 0 open 0
+        """,
+    "the data of two bursts, of four beats and of one": """
+        W 1 ff 0
+        W 2 00 0
+        W 3 0f 0
+        W 4 ff 1
+        W 5 f0 1
+        B 0 OKAY -> axi 9 B_WITHOUT_WRITE
+        AW 0 10000 3 3 1
+        AW 1 10104 0 2 1
+        B 1 OKAY
+        B 0 OKAY
+        -> outstanding 0 open 0
+        """,
+    "the first data of a burst, its address, and the others": """
+        W 1 ff 0
+        AW 0 10000 1 3 1
+        B 0 OKAY -> axi 9 B_WITHOUT_WRITE
+        W 2 ff 0 -> axi 8 WLAST
+        W 2 ff 1
+        W 3 ff 1
+        B 0 OKAY
+        AW 0 10010 0 3 1
+        AW 1 10010 0 3 1
+        -> outstanding 0 open 2
+        """,
+    "a last beat too soon is told at the address, and doesn't count": """
+        W 1 ff 1
+        AW 0 10000 1 3 1 -> axi 8 WLAST
+        W 1 ff 0
+        W 2 ff 1
+        B 0 OKAY
+        -> outstanding 0 open 0
+        """,
+    "more data than the address asks for": """
+        W 1 ff 0
+        W 2 ff 1
+        W 3 ff 1
+        AW 0 10000 0 3 1 -> axi 8 WLAST
+        B 0 OKAY
+        AW 0 10008 0 3 1
+        B 0 OKAY
+        -> outstanding 0 open 0
+        """,
+    "a strobe outside its lanes, before a last beat too soon": """
+        W 0 10 0
+        W 0 08 1
+        W 0 08 0
+        AW 0 10003 1 2 1 -> axi 7 STROBE
+        W 0 f0 1
+        B 0 OKAY
+        -> outstanding 0 open 0
+        """,
+    "an address that breaks a rule takes no data": """
+        W 1 ff 1
+        AW 16 10000 0 3 1 -> axi 4 ID_RANGE
+        AW 0 10000 0 3 1
+        B 0 OKAY
+        -> outstanding 0 open 0
+        """,
+    "data before what went unobserved are no data of what comes after it": """
+        W 1 ff 0
+        = drained 9
+        AW 0 10000 0 3 1
+        B 0 OKAY -> axi 9 B_WITHOUT_WRITE
+        W 2 ff 1
+        B 0 OKAY
+        -> outstanding 0 open 0
+        """,
+    "data of the longest burst come first, and one beat more": f"""{LONGEST}
+        W 0 ff 0 -> axi 6 W_WITHOUT_AW
+        AW 0 10000 255 3 1 -> axi 8 WLAST
+        W 0 ff 1
+        B 0 OKAY
+        -> outstanding 0 open 0
+        """,
+}
+
+# Inputs with set-up lines of their own.
+INPUTS = {
+    "a Get that overtakes a Put, by the profile of this bridge": f"""{SETUP}
+        profile bridge
+        {PUT}
+        A 1 4 0 3 7 8 ff 0 0
+        D 0 0 0 3 5 0 0 0
+        D 1 1 0 3 7 0 0 0 -> reply 7 PAYLOAD expected D 1 1 0 3 7 0 1122334455667788 0
+        -> outstanding 0 open 0
+        """,
+    "a profile straight behind the config line": f"""{CONFIG}
+        profile tilelink
+        region 0 4 10 gpah
+        page 10 4 good
+        {PUT}
+        A 1 4 0 3 7 8 ff 0 0
+        D 0 0 0 3 5 0 0 0
+        D 1 1 0 3 7 0 0 0
+        -> outstanding 0 open 0
+        """,
+    "a profile behind an answer": f"""{SETUP}
+        = reply 0
+        profile tilelink
+        {PUT}
+        A 1 4 0 3 7 8 ff 0 0
+        D 0 0 0 3 5 0 0 0
+        D 1 1 0 3 7 0 0 0
+        -> outstanding 0 open 0
+        """,
+    "three transfers a burst, by the profile of TileLink": """config 1 1 1 1 3 12 h
+        profile tilelink
+        D 0 0 0 3 5 0 0 0 -> set-up fault: BadConfig 0
+        """,
+    **{
+        f"a region of no pages, by profile {profile}": f"""{CONFIG}
+        region 0 0 10 gpah
+        profile {profile}
+        {PUT} -> set-up fault: RegionEmpty 0
+        """
+        for profile in ("bridge", "tilelink")
+    },
+    "a profile before the config line": f"profile tilelink -> fault at word 1\n{CONFIG}",
+    "a profile that isn't there, before the config line": "profile axi -> fault at word 1",
+    "a second profile": f"{SETUP}\nprofile bridge\nprofile bridge -> fault at word 1",
+    "a second profile that isn't there": f"{CONFIG}\nprofile tilelink\nprofile axi -> fault at word 1",
+    "a profile behind a beat": f"{SETUP}\n{PUT}\nprofile tilelink -> fault at word 1",
+    "a profile behind a question": f"{SETUP}\nmem 10000 -> = mem 00\nprofile tilelink -> fault at word 1",
+    "a profile without a name": f"{CONFIG}\nprofile -> fault at word 2",
+    "a profile in capitals": f"{CONFIG}\nprofile TileLink -> fault at word 2",
+    "a profile that isn't there, and a word too many": f"{CONFIG}\nprofile axi bridge -> fault at word 2",
+    "a profile, and a word too many": f"{CONFIG}\nprofile tilelink bridge -> fault at word 3",
+}
+
+
+def case_of(history: str) -> tuple[bytes, int, bytes, bytes]:
+    """What is given, and what is wanted: the status, the text, and the line on standard error."""
+    given, text, fault, beats, wrongs = [], [], "", 0, 0
+    for line in history.strip().splitlines():
+        asked, _, said = (it.strip() for it in line.partition("->"))
+        if asked:
+            given.append(asked)
+            beats += asked.split()[0] in BEATS
+        if said.startswith("fault at "):
+            fault = f"script fault: line {len(given)}, {said.removeprefix('fault at ')}"
+        elif said.startswith("set-up fault"):
+            fault = said
+        elif said.startswith("outstanding"):
+            text.append(f"= judged {beats} wrong {wrongs} {said}")
+        elif said.startswith("="):
+            text.append(said)
+        elif said:
+            wrongs += 1
+            text.append(f"= wrong {len(given)} {said}")
+    status = 2 if fault else min(wrongs, 1)
+    return whole(given), status, whole(text), whole([fault] if fault else [])
+
+
+def whole(lines: list[str]) -> bytes:
+    return "".join(f"{line}\n" for line in lines).encode()
+
+
+def stored_by_tilelink(row: str) -> tuple[bytes, int, bytes, bytes]:
+    """A stored row with `profile tilelink` behind its first line: the lines behind it are one further down."""
+    text, line, status = ((TOP / f"examples/scoreboard/{row}.{kind}").read_bytes() for kind in ("out", "err", "status"))
+    first, _, rest = (TOP / f"examples/scoreboard/{row}.in").read_bytes().partition(b"\n")
+    later = re.sub(rb"(?m)^= wrong (\d+)", lambda found: b"= wrong %d" % (int(found[1]) + 1), text)
+    return first + b"\nprofile tilelink\n" + rest, int(status), later, line
+
+
+def all_cases():
+    """The name of each case, what is given, and what is wanted."""
+    for profile, histories in (("bridge", BY_EACH | BY_BRIDGE), ("tilelink", BY_EACH | BY_TILELINK)):
+        for name, history in histories.items():
+            yield f"{name}, by profile {profile}", *case_of(f"{SETUP}\nbad 10018\nprofile {profile}\n{history.strip()}")
+    for row in STORED:
+        yield f"{row}, by profile tilelink", *stored_by_tilelink(row)
+    for name, lines in INPUTS.items():
+        yield name, *case_of(lines)
+
+
+def cases(program: str):
+    for name, given, *wanted in all_cases():
+        yield f"tlscore: {name}", wrong(started([program], given), *wanted)
+
+
+if __name__ == "__main__":
+    sys.exit(told(cases(sys.argv[1])))
