@@ -1,9 +1,8 @@
 use super::same;
-use script_text::{ScriptFault, read_script};
+use script_text::read_script;
 use std::test::Fail;
 use threads_script::Asked;
 use tl_messages::ABeat;
-use world::SetupFault;
 
 /// What a script asks for: two clients' beats, the words of three memory threads, and two addresses.
 const ASKS: &str =
@@ -46,39 +45,5 @@ fn what_a_script_asks_for(rt: HostRuntime) -> Result<(), Fail> {
     }
     let addresses = asked.addresses();
     same(&rt, "addresses", addresses, [0x10008, 0].as_slice());
-    Ok(())
-}
-
-/// Scripts with a fault.
-const FAULTY: [(&str, ScriptFault); 5] = [
-    ("", ScriptFault::Script { line: 1, word: 1 }),
-    (
-        "config 1 1 1 1 3 12 h\nmem 0\nword 1\n",
-        ScriptFault::Script { line: 3, word: 1 },
-    ),
-    (
-        "config 1 1 1 1 1 12 h\na 1 4 0 3 0 8 ff 0 0\n",
-        ScriptFault::Script { line: 2, word: 2 },
-    ),
-    (
-        "config 1 1 1 1 1 12 h\nword 7 4\n",
-        ScriptFault::Script { line: 2, word: 3 },
-    ),
-    (
-        "config 1 1 1 1 3 12 h\nword 1\n",
-        ScriptFault::Setup(SetupFault::BadConfig),
-    ),
-];
-
-#[test]
-fn scripts_with_a_fault(rt: HostRuntime) -> Result<(), Fail> {
-    let alloc = rt.alloc();
-    for (script, fault) in FAULTY {
-        let mut output = Vec::new(alloc);
-        let nothing = Asked::new(alloc)?;
-        let ended = read_script(nothing, alloc, &mut script.as_bytes(), &mut output);
-        same(&rt, script, ended.err(), Some(fault));
-        same(&rt, ("output", script), output.len(), 0);
-    }
     Ok(())
 }

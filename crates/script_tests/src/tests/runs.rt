@@ -1,13 +1,10 @@
 use super::same;
-use burst_plan::MapFault;
 use run_script::run_text;
 use script_text::ScriptFault;
 use std::alloc::{AllocError, Global};
 use std::io;
 use std::io::{ErrorKind, Read, Write};
 use std::test::Fail;
-use subordinate::DeviceFault;
-use world::SetupFault;
 
 /// The first script, line by line, and each line's trace.
 const FIRST: [(&str, &str); 9] = [
@@ -27,48 +24,6 @@ const FIRST: [(&str, &str); 9] = [
     ("take 0\n", "= reply 0\nD 0 0 0 3 5 0 0000000000000000 0\n"),
     ("mem 10008\n", "= mem 88\n"),
 ];
-
-/// Whole scripts: how each ends, and its trace.
-const SCRIPTS: [(&str, Result<bool, ScriptFault>, &str); 6] = [
-    (
-        "config 2 4 16 2 16 12 hh\nr 0\ndrain\nwork\n",
-        Ok(false),
-        "= nothing\n= drained 0\n= work 0\n",
-    ),
-    (
-        "config 1 1 1 1 1 12 h\nmem 0\nmem G\n",
-        Err(ScriptFault::Script { line: 3, word: 2 }),
-        "= mem --\n",
-    ),
-    (
-        "config 1 1 1 1 3 12 h\nmem 0\n",
-        Err(ScriptFault::Setup(SetupFault::BadConfig)),
-        "",
-    ),
-    (
-        "config 1 1 1 1 1 12 h\nregion 0 4 10 gpah\nregion 3 1 20 gpah",
-        Err(ScriptFault::Setup(SetupFault::Map(MapFault::RegionOverlap(1)))),
-        "",
-    ),
-    (
-        "config 1 1 1 1 1 12 h\npage 0 3 good\npage 2 1 good",
-        Err(ScriptFault::Setup(SetupFault::Device(DeviceFault::PageTwice(3)))),
-        "",
-    ),
-    ("", Err(ScriptFault::Script { line: 1, word: 1 }), ""),
-];
-
-#[test]
-fn scripts(rt: HostRuntime) -> Result<(), Fail> {
-    let alloc = rt.alloc();
-    for (script, wanted, trace) in SCRIPTS {
-        let mut output = Vec::new(alloc);
-        let ending = run_text(alloc, &mut script.as_bytes(), &mut output);
-        same(&rt, script, ending, wanted);
-        same(&rt, script, output.as_slice(), trace.as_bytes());
-    }
-    Ok(())
-}
 
 /// A reader that gives a line at a time. After the last the input ends, or the read is interrupted.
 #[derive(Drop)]
@@ -165,33 +120,29 @@ fn reads_that_fail(rt: HostRuntime) -> Result<(), Fail> {
     Ok(())
 }
 
+/// Runs the first script over a writer whose call number `fails` fails.
+fn ran(alloc: Global, fails: u32) -> (Result<bool, ScriptFault>, Writer) {
+    let mut reader = Lines {
+        left: &FIRST,
+        ends: true,
+    };
+    let mut writer = Writer::failing_at(alloc, fails);
+    let ending = run_text(alloc, &mut reader, &mut writer);
+    (ending, writer)
+}
+
 #[test]
 fn writes_that_fail(rt: HostRuntime) -> Result<(), Fail> {
-    let alloc = rt.alloc();
-    let trace = trace_of(alloc, FIRST.len())?;
-    let mut writes = 0u32;
-    for fails in 0..1_000u32 {
-        let mut reader = Lines {
-            left: &FIRST,
-            ends: true,
-        };
-        let mut writer = Writer::failing_at(alloc, fails);
-        let ending = run_text(alloc, &mut reader, &mut writer);
-        if writer.calls <= fails {
-            same(&rt, "no write fails", ending, Ok(false));
-            same(&rt, "trace", writer.text.as_slice(), trace.as_slice());
-            // One for each of the six commands, before the next line is read, and none for the set-up's lines.
-            same(&rt, "flushes", writer.flushes, 6);
-            break;
-        }
+    let (ending, whole) = ran(rt.alloc(), u32::MAX);
+    same(&rt, "no write fails", ending, Ok(false));
+    let trace = trace_of(rt.alloc(), FIRST.len())?;
+    same(&rt, "trace", whole.text.as_slice(), trace.as_slice());
+    // One for each of the six commands, before the next line is read, and none for the set-up's lines.
+    same(&rt, "flushes", whole.flushes, 6);
+    same(&rt, "ten lines, and flushes", 16 <= whole.calls, true);
+    for fails in 0..whole.calls {
+        let (ending, _) = ran(rt.alloc(), fails);
         same(&rt, ("write", fails), ending, Err(ScriptFault::Write));
-        writes = writes.saturating_add(1);
     }
-    same(
-        &rt,
-        ("writes", writes),
-        16 <= writes && writes < 1_000,
-        true,
-    );
     Ok(())
 }
