@@ -5,7 +5,7 @@ use line_text::{
 };
 use script_text::{ScriptFault, answer_line};
 use std::io;
-use std::io::Write;
+use std::io::{ErrorKind, Write};
 use std::test::Fail;
 use tl_checker::TlRule;
 use world::Answer;
@@ -73,13 +73,22 @@ fn faults_as_text(rt: HostRuntime) -> Result<(), Fail> {
     Ok(())
 }
 
-/// A writer that takes nothing, and has no fault either.
+/// A writer each of whose writes is interrupted once before it is taken; a full one takes nothing.
 #[derive(Drop)]
-struct Full;
+struct Slow {
+    text: Vec<u8>,
+    was_interrupted: bool,
+    is_full: bool,
+}
 
-impl Write for Full {
-    fn write(&mut self, _buf: &[u8]) -> io::Result<usize> {
-        Ok(0)
+impl Write for Slow {
+    fn write(&mut self, buf: &[u8]) -> io::Result<usize> {
+        self.was_interrupted = !self.was_interrupted;
+        match (self.is_full, self.was_interrupted) {
+            (true, _) => Ok(0),
+            (false, true) => Err(io::Error::from(ErrorKind::Interrupted)),
+            (false, false) => self.text.write(buf),
+        }
     }
 
     fn flush(&mut self) -> io::Result<()> {
@@ -88,7 +97,17 @@ impl Write for Full {
 }
 
 #[test]
-fn writes_that_take_nothing(rt: HostRuntime) {
-    let ending = answer_line(&Answer::Idle, &mut Full);
+fn writes_that_are_interrupted(rt: HostRuntime) -> Result<(), Fail> {
+    let mut writer = Slow {
+        text: Vec::new(rt.alloc()),
+        was_interrupted: false,
+        is_full: false,
+    };
+    answer_line(&Answer::Accepted(7), &mut writer)?;
+    let wanted = b"= accepted 7\n".as_slice();
+    same(&rt, "text", writer.text.as_slice(), wanted);
+    writer.is_full = true;
+    let ending = answer_line(&Answer::Idle, &mut writer);
     same(&rt, "a full writer", ending, Err(WriteFault));
+    Ok(())
 }

@@ -1,7 +1,7 @@
 use super::same;
 use run_script::run_text;
 use script_text::ScriptFault;
-use std::alloc::{AllocError, Global};
+use std::alloc::Global;
 use std::io;
 use std::io::{ErrorKind, Read, Write};
 use std::test::Fail;
@@ -55,16 +55,6 @@ struct Writer {
 }
 
 impl Writer {
-    /// Before its first call.
-    fn failing_at(alloc: Global, fails: u32) -> Writer {
-        Writer {
-            text: Vec::new(alloc),
-            calls: 0,
-            fails,
-            flushes: 0,
-        }
-    }
-
     /// Counts a call.
     fn called(&mut self) -> io::Result<()> {
         let call = self.calls;
@@ -89,60 +79,51 @@ impl Write for Writer {
     }
 }
 
-/// The trace of so many lines.
-fn trace_of(alloc: Global, count: usize) -> Result<Vec<u8>, AllocError> {
-    let mut trace = Vec::new(alloc);
-    for (_, text) in FIRST.iter().take(count) {
-        trace.extend_from_slice(text.as_bytes())?;
-    }
-    Ok(trace)
-}
-
-#[test]
-fn reads_that_fail(rt: HostRuntime) -> Result<(), Fail> {
-    let alloc = rt.alloc();
-    for count in 0..FIRST.len() {
-        let mut reader = Lines {
-            left: &FIRST[..count],
-            ends: false,
-        };
-        let mut output = Vec::new(alloc);
-        let ending = run_text(alloc, &mut reader, &mut output);
-        same(&rt, ("lines", count), ending, Err(ScriptFault::Read));
-        let trace = trace_of(alloc, count)?;
-        same(
-            &rt,
-            ("trace of lines", count),
-            output.as_slice(),
-            trace.as_slice(),
-        );
-    }
-    Ok(())
-}
-
 /// Runs the first script over a writer whose call number `fails` fails.
 fn ran(alloc: Global, fails: u32) -> (Result<bool, ScriptFault>, Writer) {
     let mut reader = Lines {
         left: &FIRST,
         ends: true,
     };
-    let mut writer = Writer::failing_at(alloc, fails);
+    let mut writer = Writer {
+        text: Vec::new(alloc),
+        calls: 0,
+        fails,
+        flushes: 0,
+    };
     let ending = run_text(alloc, &mut reader, &mut writer);
     (ending, writer)
 }
 
 #[test]
-fn writes_that_fail(rt: HostRuntime) -> Result<(), Fail> {
+fn reads_that_fail(rt: HostRuntime) -> Result<(), Fail> {
+    let mut trace = Vec::new(rt.alloc());
+    for count in 0..FIRST.len() {
+        let mut reader = Lines {
+            left: &FIRST[..count],
+            ends: false,
+        };
+        let mut output = Vec::new(rt.alloc());
+        let ending = run_text(rt.alloc(), &mut reader, &mut output);
+        same(&rt, ("lines", count), ending, Err(ScriptFault::Read));
+        same(&rt, ("trace", count), output.as_slice(), trace.as_slice());
+        trace.extend_from_slice(FIRST[count].1.as_bytes())?;
+    }
     let (ending, whole) = ran(rt.alloc(), u32::MAX);
-    same(&rt, "no write fails", ending, Ok(false));
-    let trace = trace_of(rt.alloc(), FIRST.len())?;
+    same(&rt, "none fails", ending, Ok(false));
     same(&rt, "trace", whole.text.as_slice(), trace.as_slice());
+    Ok(())
+}
+
+#[test]
+fn writes_that_fail(rt: HostRuntime) {
+    let (_, whole) = ran(rt.alloc(), u32::MAX);
     // One for each of the six commands, before the next line is read, and none for the set-up's lines.
     same(&rt, "flushes", whole.flushes, 6);
-    same(&rt, "ten lines, and flushes", 16 <= whole.calls, true);
+    // Ten lines, and the flushes.
+    same(&rt, "calls", 16 <= whole.calls, true);
     for fails in 0..whole.calls {
         let (ending, _) = ran(rt.alloc(), fails);
         same(&rt, ("write", fails), ending, Err(ScriptFault::Write));
     }
-    Ok(())
 }
