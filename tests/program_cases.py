@@ -247,16 +247,18 @@ def of_scripts(program):
 
 
 def of_examples(program):
-    """Each example against its trace, as it is and with CR LF; each faulty one also against its line on standard error."""
-    for script in sorted(TOP.glob("examples/**/*.script")):
+    """Each example and each row against its trace, an example with CR LF too; each faulty one also against its line on standard
+    error."""
+    for script in (*sorted(TOP.glob("examples/**/*.script")), *sorted(TOP.glob("tests/rows/**/*.script"))):
         fault = script.with_suffix(".fault")
         word = next((it for it in ("check", "threads") if script.stem.startswith(it)), "run")
         status = 2 if fault.exists() else 1 if word == "check" else 0
         wanted = status, script.with_suffix(".trace").read_bytes(), fault.read_bytes() if fault.exists() else b""
         given, name = script.read_bytes(), str(script.relative_to(TOP))
         yield name, lambda w=word, g=given, x=wanted: wrong(started([program, w], g), *x)
-        crlf = given.replace(b"\n", b"\r\n")
-        yield f"{name} with CR LF", lambda w=word, g=crlf, x=wanted: wrong(started([program, w], g), *x)
+        if name.startswith("examples"):
+            crlf = given.replace(b"\n", b"\r\n")
+            yield f"{name} with CR LF", lambda w=word, g=crlf, x=wanted: wrong(started([program, w], g), *x)
 
 
 def score_of(program):
@@ -337,10 +339,10 @@ def of_scores(program):
         yield name, lambda g=given, x=wanted: wrong(started([score], g), *x)
         yield f"{name} with CR LF", lambda g=given.replace(b"\n", b"\r\n"), x=wanted: wrong(started([score], g), *x)
     yield "tlscore: a word", lambda: wrong(started([score, "run"], b""), 6, b"", b"usage: tlscore\n")
-    for script in sorted(TOP.glob("examples/*.script")):
-        if not script.stem.startswith(("check", "threads")):
+    for script in (*sorted(TOP.glob("examples/*.script")), *sorted(TOP.glob("tests/rows/**/*.script"))):
+        if not script.stem.startswith(("check", "threads")) and not script.with_suffix(".fault").exists():
             given = setup_of(script) + script.with_suffix(".trace").read_bytes()
-            yield f"tlscore: the trace of {script.stem}", lambda g=given: of_right(started([score], g))
+            yield f"tlscore: the trace of {script.relative_to(TOP).with_suffix('')}", lambda g=given: of_right(started([score], g))
     for how, *wanted in (
         ("<&-", 3, b"", READ), (">&-", 3, b"", WRITE), (">/dev/full", 3, b"", WRITE), ("</", 3, b"", READ),
     ):
