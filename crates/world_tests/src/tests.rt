@@ -1,17 +1,13 @@
 mod answers;
-mod atomics;
 mod beats;
 mod bench;
 mod bridge_bench;
 mod choices;
 mod constructors;
-mod errors;
 mod limits;
-mod narrow;
 mod offers;
 mod order;
 mod pages;
 mod replayer;
 mod reports;
-mod requests;
 mod runs;

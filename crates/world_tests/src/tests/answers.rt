@@ -1,8 +1,9 @@
-//! A bridge alone: answers that the free memory never gives, those that break a rule, which change nothing, and what a
-//! bridge counts.
+//! A bridge alone: answers that the free memory never gives, those that break a rule, which change nothing, what a bridge
+//! counts, and one box for a thousand bursts.
 use super::bench::*;
 use super::bridge_bench::BridgeBench;
 use axi_checker::AxiRule;
+use std::alloc::Global;
 
 const SCRIPTS: &[Script] = &[
     Script {
@@ -250,4 +251,45 @@ const SCRIPTS: &[Script] = &[
 #[test]
 fn scripts(rt: HostRuntime) {
     assert_eq!(rt; failing::<BridgeBench>(rt.alloc(), SCRIPTS), None);
+}
+
+/// One AXI4 ID, and one burst unanswered: there is one box.
+const ONE_BOX: Lists = Lists {
+    limits: Limits {
+        ids: 1,
+        depth: 1,
+        ..USUAL
+    },
+    ..PLAIN
+};
+
+/// A Put, and what comes of it.
+fn round_of(round: u64) -> [Event; 7] {
+    [
+        Offer(0, Put(3, 0, 8, round), Accepted(round)),
+        Write(round, 0, 0x10008, 0, 3),
+        Data(0, round, 0xff),
+        Perform(round, 0, Done),
+        B(0, Okay),
+        Take(0, Reply(round)),
+        Shows(1, 0, 3, 0, false),
+    ]
+}
+
+/// How many rounds go so on a fresh one before one that doesn't; none where the set-up is refused.
+fn rounds<D: Driven>(alloc: Global) -> Option<u64> {
+    let mut driven = D::fresh(alloc, ONE_BOX)?;
+    for round in 0..1000 {
+        if carried_by(&mut driven, &round_of(round)) != 7 {
+            return Some(round);
+        }
+    }
+    Some(1000)
+}
+
+/// Each round's burst goes in the one box there is, which has come back; so it is in a world too.
+#[test]
+fn a_thousand_puts_in_one_box(rt: HostRuntime) {
+    assert_eq!(rt; rounds::<BridgeBench>(rt.alloc()), Some(1000));
+    assert_eq!(rt; rounds::<WorldBench>(rt.alloc()), Some(1000));
 }

@@ -187,8 +187,6 @@ pub(crate) enum Event {
     // These are for a world. A bridge alone passes over `Perform`, `NoR`, `Word` and `Choices`, and plays the drain.
     /// The memory performs a beat of the burst with a serial.
     Perform(u64, u16, Answer),
-    /// It performs so many beats of a burst, from the first on.
-    PerformAll(u64, u16),
     /// The memory has no B of an ID to give.
     NoB(u8),
     /// The memory has no R of an ID to give.
@@ -226,8 +224,8 @@ pub(crate) use Answer::{
 pub(crate) use Beat::{A, Corrupt, Get, Put};
 pub(crate) use Event::{
     B, Byte, CanPump, Choices, Choose, Data, Drain, FirstDone, Idle, InFlight, LastR, NoB, NoBurst,
-    NoR, Offer, OfferAll, Payload, Perform, PerformAll, R, Read, Shown, Shows, Stock, Take, Unsent,
-    Word, Work, Write, WrongB, WrongR, ZeroReads,
+    NoR, Offer, OfferAll, Payload, Perform, R, Read, Shown, Shows, Stock, Take, Unsent, Word, Work,
+    Write, WrongB, WrongR, ZeroReads,
 };
 pub(crate) use Resp::{DecErr, ExOkay, Okay, SlvErr};
 
@@ -248,7 +246,6 @@ pub(crate) fn carried_by<D: Driven>(driven: &mut D, events: &[Event]) -> usize {
             OfferAll(client, beat, count, answer) => {
                 offers_all(driven, client, beat, count, answer)
             }
-            PerformAll(serial, beats) => performs_all(driven, serial, beats),
             ZeroReads(id, beats) => reads_zeros(driven, id, beats),
             event => driven.carries(event),
         };
@@ -308,15 +305,6 @@ fn offers_all<D: Driven>(
     for k in 0..count {
         let wanted = if k < count - 1 { More } else { answer };
         if !driven.carries(Offer(client, put_beat(fields, k), wanted)) {
-            return false;
-        }
-    }
-    true
-}
-
-fn performs_all<D: Driven>(driven: &mut D, serial: u64, beats: u16) -> bool {
-    for beat in 0..beats {
-        if !driven.carries(Perform(serial, beat, Done)) {
             return false;
         }
     }

@@ -225,7 +225,7 @@ impl BridgeBench {
         !self.bridge.can_pump() && pump(&mut self.bridge).is_none()
     }
 
-    /// Whether the bridge shows what an event tells. What a bridge alone can't do or show is passed over.
+    /// Whether the bridge shows what an event tells. What the memory performs is passed over.
     fn sees(&mut self, event: Event) -> bool {
         match event {
             Data(k, payload, strobes) => match self.unanswered.last() {
@@ -239,7 +239,7 @@ impl BridgeBench {
             CanPump(can) => self.bridge.can_pump() == can,
             Unsent(work) => self.bridge.unsent_work() == work,
             Stock(count) => self.bridge.stock() == count,
-            Perform(_, _, _) | NoR(_) | Word(_, _) | Choices(_) => true,
+            Perform(_, _, _) => true,
             _ => is_replied(&self.reply, event),
         }
     }

@@ -1,4 +1,4 @@
-//! What bridge and memory can do by themselves, and drains.
+//! A world: what bridge and memory can do by themselves, who has a reply to take, and the burst that went last.
 use super::bench::*;
 use tl_checker::TlRule;
 use world::Step;
@@ -11,14 +11,12 @@ const ONE_EACH: Lists = Lists {
 
 pub(crate) const SCRIPTS: &[Script] = &[
     Script {
-        name: "the work of a Put",
+        name: "the choices of a Put",
         lists: PLAIN,
         events: &[
             Choices(0),
             Drain(0),
-            NoBurst,
             Offer(0, Put(3, 5, 0x08, 0x1122334455667788), Accepted(0)),
-            Work(3),
             Choices(1),
             Choose(0, Step::Pump),
             Write(0, 0, 0x10008, 0, 3),
@@ -32,7 +30,6 @@ pub(crate) const SCRIPTS: &[Script] = &[
             B(0, Okay),
             Work(0),
             Choices(0),
-            Drain(0),
         ],
     },
     // Two reads, a write, and a Get that isn't sent: Pump comes first, then the beats by serial and place, then the Bs
@@ -82,30 +79,6 @@ pub(crate) const SCRIPTS: &[Script] = &[
             Choices(0),
             FirstDone(0, true),
             FirstDone(1, true),
-        ],
-    },
-    // From any place in a run, the drain goes on with what is left.
-    Script {
-        name: "a drain of what is left",
-        lists: PLAIN,
-        events: &[
-            OfferAll(0, Put(6, 0, 0, 0), 8, Accepted(0)),
-            Offer(1, Get(3, 0, 0x20), Accepted(1)),
-            Offer(1, A(2, 4, 3, 1, 0x100, 0xff, 1), Accepted(2)),
-            Work(19),
-            Write(0, 0, 0x10000, 7, 3),
-            PerformAll(0, 3),
-            Read(1, 1, 0x10100, 0, 3),
-            Perform(1, 0, Done),
-            Work(13),
-            Drain(13),
-            Take(1, Reply(1)),
-            Payload(0, 0x0505050505050505, false),
-            Take(1, Reply(2)),
-            Payload(0, 0, false),
-            Take(0, Reply(0)),
-            Word(0x10038, 0x0808080808080808),
-            Word(0x10100, 1),
         ],
     },
     Script {
@@ -192,54 +165,4 @@ pub(crate) const SCRIPTS: &[Script] = &[
 #[test]
 fn scripts(rt: HostRuntime) {
     assert_eq!(rt; failing::<WorldBench>(rt.alloc(), SCRIPTS), None);
-}
-
-/// Requests, and the work that each is.
-const WORK: &[(Lists, Beat, u64)] = &[
-    // A Get of so many bytes has a beat and an R for each eight, and an AR for each 128.
-    (PLAIN, Get(3, 0, 0), 3),
-    (PLAIN, A(4, 0, 0, 0, 5, 0x20, 0), 3),
-    (PLAIN, Get(4, 0, 0), 5),
-    (PLAIN, Get(7, 0, 0), 33),
-    (PLAIN, Get(8, 0, 0), 66),
-    (PLAIN, Get(12, 0, 0x3000), 1056),
-    (PLAIN, Put(3, 0, 0, 1), 3),
-    (PLAIN, A(1, 0, 3, 0, 0, 0, 1), 3),
-    (PLAIN, A(2, 4, 3, 0, 0, 0xff, 1), 6),
-    (PLAIN, A(3, 0, 0, 0, 1, 0x02, 0xff00), 6),
-    (PLAIN, A(5, 0, 12, 0, 0, 0xff, 0), 0),
-    (PLAIN, Get(3, 0, 0x4000), 0),
-    // On a bus of four bytes each transfer of these counts a beat, and in a read an R.
-    (NARROW, A(4, 0, 2, 0, 4, 0xf0, 0), 3),
-    (NARROW, Get(3, 0, 0), 5),
-    (NARROW, Get(4, 0, 0), 9),
-    (NARROW, Get(6, 0, 0), 33),
-    (NARROW, Get(7, 0, 0), 66),
-    (NARROW, A(2, 4, 2, 0, 4, 0xf0, 0), 6),
-    (NARROW, A(2, 4, 3, 0, 0, 0xff, 1), 9),
-];
-
-/// A request of client 0, and a drain, which takes no reply.
-fn drained(beat: Beat, work: u64) -> [Event; 9] {
-    [
-        Offer(0, beat, Accepted(0)),
-        Work(work),
-        Drain(work),
-        Work(0),
-        InFlight(0),
-        Choices(0),
-        Drain(0),
-        FirstDone(0, true),
-        Take(0, Reply(0)),
-    ]
-}
-
-/// On good pages a drain makes as many steps as there is work.
-#[test]
-fn a_drain_answers_the_work(rt: HostRuntime) {
-    for (lists, beat, work) in WORK {
-        let events = drained(*beat, *work);
-        let done = carried::<WorldBench>(rt.alloc(), *lists, &events);
-        assert_eq!(rt; done, Some(events.len()), "{beat:?} {work}");
-    }
 }

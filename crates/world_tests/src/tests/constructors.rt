@@ -1,7 +1,7 @@
 //! What takes memory. Each test makes one thing: it is there, or the memory for it was refused, and then the fault that says so
 //! is the test's error. `tests/refusals.py` refuses each growth of these tests in turn.
 use super::bench::*;
-use super::{atomics, choices, errors, narrow, offers, order, requests};
+use super::{choices, offers, runs};
 use axi_beats::BurstBox;
 use axi_checker::Monitor;
 use bridge_core::Bridge;
@@ -127,16 +127,16 @@ fn a_run(rt: HostRuntime) -> Result<(), Fail> {
     Ok(())
 }
 
-/// The scripts that drive a world.
+/// The scripts that drive a world, with the longest run.
 const SCRIPTS: &[&[Script]] = &[
-    offers::SCRIPTS,
-    requests::SCRIPTS,
-    order::SCRIPTS,
     choices::SCRIPTS,
-    atomics::SCRIPTS,
-    errors::SCRIPTS,
-    errors::DENIED,
-    narrow::SCRIPTS,
+    offers::SCRIPTS,
+    offers::DENIED,
+    &[Script {
+        name: "errors and an atomic",
+        lists: runs::WITH_A_BAD_WORD,
+        events: runs::ERRORS_AND_AN_ATOMIC,
+    }],
 ];
 
 /// The world of a script, with a box for its replies.

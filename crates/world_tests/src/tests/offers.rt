@@ -1,4 +1,4 @@
-//! Beats that aren't taken.
+//! A bridge alone: beats that aren't taken, and requests that send nothing.
 use super::bench::*;
 use super::bridge_bench::BridgeBench;
 use tl_checker::{Level, TlRule};
@@ -18,7 +18,6 @@ pub(crate) const SCRIPTS: &[Script] = &[
             // A begun message isn't accepted, and makes no work.
             InFlight(0),
             Work(0),
-            Choices(0),
             Drain(0),
             Offer(0, Put(4, 0, 0x08, 0x22), Refused(TlRule::BurstControl)),
             InFlight(0),
@@ -27,8 +26,6 @@ pub(crate) const SCRIPTS: &[Script] = &[
             Drain(4),
             Take(0, Reply(0)),
             Shows(1, 0, 4, 0, false),
-            Word(0x10000, 0x11),
-            Word(0x10008, 0x22),
         ],
     },
     // The quota counts a client's own requests, done ones too; a source is free once its reply was taken.
@@ -73,16 +70,61 @@ pub(crate) const SCRIPTS: &[Script] = &[
             Take(0, Reply(0)),
             Offer(0, Put(4, 1, 0, 3), Accepted(1)),
             Drain(4),
-            Word(0x10000, 1),
-            Word(0x10008, 3),
+        ],
+    },
+];
+
+/// Requests that send nothing.
+pub(crate) const DENIED: &[Script] = &[
+    Script {
+        name: "corrupt requests are denied, and Intents answered",
+        lists: PLAIN,
+        events: &[
+            Offer(0, Corrupt(0, 0, 3, 0, 0x08, 0xff, 1), Accepted(0)),
+            Idle,
+            Work(0),
+            Take(0, Reply(0)),
+            Shows(1, 0, 3, 0, true),
+            Payload(0, 0, false),
+            Offer(0, A(5, 1, 12, 1, 0, 0xff, 0), Accepted(1)),
+            Idle,
+            Work(0),
+            Take(0, Reply(1)),
+            Shows(1, 2, 12, 1, false),
+            Payload(0, 0, false),
+            // An atomic whose operand is corrupt has a reply with data, which are corrupt too.
+            Offer(0, Corrupt(2, 4, 3, 0, 0x08, 0xff, 1), Accepted(2)),
+            Idle,
+            Take(0, Reply(2)),
+            Shows(1, 1, 3, 0, true),
+            Payload(0, 0, true),
+        ],
+    },
+    // One corrupt beat is enough, wherever it stands; a beat that is refused leaves the message as it is.
+    Script {
+        name: "a Put with one corrupt beat is denied",
+        lists: PLAIN,
+        events: &[
+            Offer(0, Corrupt(0, 0, 4, 0, 0, 0xff, 1), More),
+            Offer(0, A(0, 0, 4, 0, 0, 0x7f, 2), Refused(TlRule::Mask)),
+            Offer(0, Put(4, 0, 0, 2), Accepted(0)),
+            Idle,
+            Take(0, Reply(0)),
+            Shows(1, 0, 4, 0, true),
+            Payload(0, 0, false),
+            Offer(0, Put(4, 0, 0, 1), More),
+            Offer(0, Corrupt(0, 0, 4, 0, 0, 0xff, 2), Accepted(1)),
+            Idle,
+            Take(0, Reply(1)),
+            Shows(1, 0, 4, 0, true),
         ],
     },
 ];
 
 #[test]
 fn scripts(rt: HostRuntime) {
-    assert_eq!(rt; failing::<WorldBench>(rt.alloc(), SCRIPTS), None);
     assert_eq!(rt; failing::<BridgeBench>(rt.alloc(), SCRIPTS), None);
+    assert_eq!(rt; failing::<BridgeBench>(rt.alloc(), DENIED), None);
 }
 
 /// Client 0 is at TL-UL, client 1 at TL-UH.
@@ -113,12 +155,11 @@ const BROKEN: &[(u8, Beat, TlRule)] = &[
 ];
 
 /// A client's beat that is refused by a rule, and changes nothing: the next request has number 0.
-fn refused(client: u8, beat: Beat, rule: TlRule) -> [Event; 8] {
+fn refused(client: u8, beat: Beat, rule: TlRule) -> [Event; 7] {
     [
         Offer(client, beat, Refused(rule)),
         InFlight(0),
         Work(0),
-        Choices(0),
         Idle,
         Take(0, Nothing),
         Take(1, Nothing),
@@ -130,71 +171,7 @@ fn refused(client: u8, beat: Beat, rule: TlRule) -> [Event; 8] {
 fn beats_that_break_a_rule_change_nothing(rt: HostRuntime) {
     for (client, beat, rule) in BROKEN {
         let events = refused(*client, *beat, *rule);
-        let done = carried::<WorldBench>(rt.alloc(), TWO_LEVELS, &events);
-        assert_eq!(rt; done, Some(events.len()), "{client} {beat:?}");
         let done = carried::<BridgeBench>(rt.alloc(), TWO_LEVELS, &events);
-        assert_eq!(rt;
-            done,
-            Some(events.len()),
-            "{client} {beat:?}, a bridge alone"
-        );
+        assert_eq!(rt; done, Some(events.len()), "{client} {beat:?}");
     }
-}
-
-/// Eight live requests of each of eight clients.
-const EIGHT: Lists = Lists {
-    limits: Limits {
-        clients: 8,
-        quota: 8,
-        ..USUAL
-    },
-    ..PLAIN
-};
-
-/// All of them are there.
-const FULL: &[Event] = &[
-    InFlight(64),
-    Work(192),
-    Offer(7, Get(3, 8, 0), NotReady),
-    Drain(192),
-    Word(0x10000, 63),
-];
-
-/// How many Puts are accepted, eight of each client.
-fn accepted(bench: &mut WorldBench) -> u8 {
-    for number in 0..64u8 {
-        let n = u64::from(number);
-        let beat = Put(3, number % 8, 0, n);
-        if !bench.carries(Offer(number / 8, beat, Accepted(n))) {
-            return number;
-        }
-    }
-    64
-}
-
-/// A client takes the reply to a Put of eight bytes.
-fn reply_of(number: u8) -> [Event; 2] {
-    [
-        Take(number / 8, Reply(u64::from(number))),
-        Shows(1, 0, 3, number % 8, false),
-    ]
-}
-
-/// How many replies the clients take, each the one that it has to be.
-fn taken(bench: &mut WorldBench) -> u8 {
-    for number in 0..64u8 {
-        if carried_by(bench, &reply_of(number)) != 2 {
-            return number;
-        }
-    }
-    64
-}
-
-/// Of 64 live requests each has its client and its source.
-#[test]
-fn eight_clients_with_eight_requests_each(rt: HostRuntime) {
-    let mut bench = WorldBench::fresh(rt.alloc(), EIGHT).expect(&rt, "a world");
-    assert_eq!(rt; accepted(&mut bench), 64);
-    assert_eq!(rt; carried_by(&mut bench, FULL), FULL.len());
-    assert_eq!(rt; taken(&mut bench), 64);
 }

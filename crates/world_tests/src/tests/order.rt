@@ -1,4 +1,4 @@
-//! Requests that wait for others, and requests that don't.
+//! A bridge alone: requests that wait for others, and requests that don't.
 use super::bench::*;
 use super::bridge_bench::BridgeBench;
 
@@ -11,7 +11,7 @@ const SHORT: Lists = Lists {
     ..PLAIN
 };
 
-pub(crate) const SCRIPTS: &[Script] = &[
+const SCRIPTS: &[Script] = &[
     Script {
         name: "a held Get sees the Put",
         lists: PLAIN,
@@ -26,14 +26,11 @@ pub(crate) const SCRIPTS: &[Script] = &[
             Data(4, 0x0505050505050505, 0xff),
             Data(7, 0x0808080808080808, 0xff),
             Idle,
-            PerformAll(0, 8),
-            Idle,
             Take(1, Nothing),
             B(0, Okay),
             Work(3),
             InFlight(1),
             Read(1, 0, 0x10020, 0, 3),
-            Perform(1, 0, Done),
             LastR(0, 0x0505050505050505, Okay),
             Take(1, Reply(1)),
             Shows(1, 1, 3, 0, false),
@@ -50,7 +47,6 @@ pub(crate) const SCRIPTS: &[Script] = &[
             Offer(1, Get(3, 0, 0x40), Accepted(1)),
             Write(0, 0, 0x10000, 7, 3),
             Read(1, 1, 0x10040, 0, 3),
-            Perform(1, 0, Done),
             LastR(1, 0, Okay),
             Take(1, Reply(1)),
             Shows(1, 1, 3, 0, false),
@@ -74,19 +70,15 @@ pub(crate) const SCRIPTS: &[Script] = &[
             Write(0, 0, 0x10000, 0, 3),
             Data(0, 0x7777777777777777, 0xff),
             Idle,
-            Perform(0, 0, Done),
             B(0, Okay),
             Write(1, 0, 0x10000, 7, 3),
             Idle,
-            PerformAll(1, 8),
             B(0, Okay),
             Read(2, 0, 0x10038, 0, 3),
-            Perform(2, 0, Done),
             LastR(0, 0x0808080808080808, Okay),
             Take(1, Reply(2)),
             Shows(1, 1, 3, 0, false),
             Payload(0, 0x0808080808080808, false),
-            Word(0x10000, 0x0101010101010101),
         ],
     },
     Script {
@@ -97,11 +89,8 @@ pub(crate) const SCRIPTS: &[Script] = &[
             Offer(0, Get(3, 1, 0x8000), Accepted(1)),
             Write(0, 0, 0x10000, 0, 3),
             Idle,
-            Perform(0, 0, Done),
-            Idle,
             B(0, Okay),
             Read(1, 0, 0x10000, 0, 3),
-            Perform(1, 0, Done),
             LastR(0, 0x1122334455667788, Okay),
             Take(0, Reply(0)),
             Take(0, Reply(1)),
@@ -122,19 +111,15 @@ pub(crate) const SCRIPTS: &[Script] = &[
             Read(0, 0, 0x10000, 1, 3),
             Read(1, 1, 0x10008, 0, 3),
             Idle,
-            Perform(1, 0, Done),
             LastR(1, 0, Okay),
             Idle,
             FirstDone(0, false),
             FirstDone(1, true),
-            PerformAll(0, 2),
             R(0, 0, Okay),
             Idle,
             LastR(0, 0, Okay),
             Write(2, 0, 0x10008, 0, 3),
             Data(0, 0x99, 0xff),
-            Perform(2, 0, Done),
-            Word(0x10008, 0x99),
         ],
     },
     Script {
@@ -146,7 +131,6 @@ pub(crate) const SCRIPTS: &[Script] = &[
             Take(0, Nothing),
             Read(0, 0, 0x10000, 0, 3),
             Read(1, 1, 0x10008, 0, 3),
-            Perform(1, 0, Done),
             LastR(1, 0, Okay),
             FirstDone(0, true),
             FirstDone(1, false),
@@ -155,7 +139,6 @@ pub(crate) const SCRIPTS: &[Script] = &[
             Take(0, Nothing),
             // The box still holds the reply that was taken.
             Shows(1, 1, 3, 1, false),
-            Perform(0, 0, Done),
             Take(0, Nothing),
             LastR(0, 0, Okay),
             Take(0, Reply(0)),
@@ -178,8 +161,6 @@ pub(crate) const SCRIPTS: &[Script] = &[
             Offer(1, Get(4, 0, 0x40), Accepted(3)),
             Read(2, 0, 0x10000, 1, 3),
             Read(3, 1, 0x10040, 1, 3),
-            PerformAll(3, 2),
-            PerformAll(2, 2),
             R(1, 0x11, Okay),
             R(0, 0x0101010101010101, Okay),
             LastR(1, 0x12, Okay),
@@ -204,9 +185,6 @@ pub(crate) const SCRIPTS: &[Script] = &[
             Read(2, 0, 0x10000, 1, 3),
             Read(3, 0, 0x10010, 1, 3),
             Idle,
-            PerformAll(3, 2),
-            NoR(0),
-            PerformAll(2, 2),
             R(0, 0x0101010101010101, Okay),
             LastR(0, 0x0202020202020202, Okay),
             R(0, 0x0303030303030303, Okay),
@@ -224,6 +202,5 @@ pub(crate) const SCRIPTS: &[Script] = &[
 
 #[test]
 fn scripts(rt: HostRuntime) {
-    assert_eq!(rt; failing::<WorldBench>(rt.alloc(), SCRIPTS), None);
     assert_eq!(rt; failing::<BridgeBench>(rt.alloc(), SCRIPTS), None);
 }

@@ -2,19 +2,13 @@
 use super::bench::*;
 use axi_beats::{ArBeat, AwBeat, WBeat};
 use std::alloc::Global;
-use subordinate::PageKind;
 use tl_checker::TlRule;
 use tl_messages::{DBeat, ReplyBox};
 use world::{Answer, Step};
 use world_run::{Handed, RunRecord, SentBeat, opened, ordered_step, run};
 
-/// Two good pages and one that gives slave errors, behind a region of four; a word of the first is bad.
-const MIXED: Lists = Lists {
-    pages: &[
-        (0x10, PageKind::Good),
-        (0x11, PageKind::Good),
-        (0x12, PageKind::SlaveError),
-    ],
+/// A word of the first page is bad.
+pub(crate) const WITH_A_BAD_WORD: Lists = Lists {
     bad_words: &[0x10018],
     ..PLAIN
 };
@@ -43,112 +37,8 @@ fn answers_of(alloc: Global, events: &[Event]) -> Option<Vec<Answer>> {
     Some(answers)
 }
 
-/// A write of two words and a read that waits for it, of two clients, and a read of another word, which goes at once.
-const TWO_CLIENTS: &[Event] = &[
-    Offer(0, Put(4, 5, 0x20, 0x11), More),
-    Offer(1, Get(3, 7, 0x100), Accepted(0)),
-    Offer(0, Put(4, 5, 0x20, 0x22), Accepted(1)),
-    Offer(1, Get(4, 8, 0x20), Accepted(2)),
-    Offer(2, Get(4, 8, 0x20), NoClient),
-    Read(0, 0, 0x10100, 0, 3),
-    Write(1, 1, 0x10020, 1, 3),
-    Idle,
-    Perform(1, 1, Done),
-    Perform(1, 1, Already),
-    Perform(2, 0, NoSuch),
-    NoB(1),
-    Perform(1, 0, Done),
-    B(1, Okay),
-    Read(2, 1, 0x10020, 1, 3),
-    Perform(2, 1, Done),
-    NoR(1),
-    Perform(2, 0, Done),
-    R(1, 0x11, Okay),
-    LastR(1, 0x22, Okay),
-    Take(1, Reply(2)),
-    Take(1, Nothing),
-    Perform(0, 0, Done),
-    LastR(0, 0, Okay),
-    Take(1, Reply(0)),
-    Take(2, NoClient),
-];
-
-const HANDED: &[Handed] = &[
-    Handed {
-        client: 1,
-        number: 2,
-        first: 0,
-        beats: 2,
-    },
-    Handed {
-        client: 1,
-        number: 0,
-        first: 2,
-        beats: 1,
-    },
-];
-
-/// A beat of the reply to a Get, size 4 and source 8.
-const READ_BEAT: DBeat = DBeat {
-    opcode: 1,
-    param: 0,
-    size: 4,
-    source: 8,
-    denied: false,
-    payload: 0x11,
-    corrupt: false,
-};
-
-const D_BEATS: &[DBeat] = &[
-    READ_BEAT,
-    DBeat {
-        payload: 0x22,
-        ..READ_BEAT
-    },
-    DBeat {
-        size: 3,
-        source: 7,
-        payload: 0,
-        ..READ_BEAT
-    },
-];
-
-const SENT: &[SentBeat] = &[
-    SentBeat::Ar(ArBeat {
-        id: 0,
-        address: 0x10100,
-        len: 0,
-        size: 3,
-        burst: 1,
-    }),
-    SentBeat::Aw(AwBeat {
-        id: 1,
-        address: 0x10020,
-        len: 1,
-        size: 3,
-        burst: 1,
-    }),
-    SentBeat::W(WBeat {
-        payload: 0x11,
-        strobes: 0xff,
-        last: false,
-    }),
-    SentBeat::W(WBeat {
-        payload: 0x22,
-        strobes: 0xff,
-        last: true,
-    }),
-    SentBeat::Ar(ArBeat {
-        id: 1,
-        address: 0x10020,
-        len: 1,
-        size: 3,
-        burst: 1,
-    }),
-];
-
 /// A Get over the bad word, one outside of all regions, a partial Put and an ADD; then what a client may not do.
-const ERRORS_AND_AN_ATOMIC: &[Event] = &[
+pub(crate) const ERRORS_AND_AN_ATOMIC: &[Event] = &[
     Offer(0, Get(4, 1, 0x10), Accepted(0)),
     Offer(1, Get(4, 2, 0x5000), Accepted(1)),
     Offer(1, A(1, 0, 3, 3, 8, 0x3c, 0x8877665544332211), Accepted(2)),
@@ -176,7 +66,7 @@ const ERRORS_AND_AN_ATOMIC: &[Event] = &[
     Take(0, Reply(3)),
 ];
 
-const HANDED_WITH_ERRORS: &[Handed] = &[
+const HANDED: &[Handed] = &[
     Handed {
         client: 1,
         number: 1,
@@ -203,33 +93,36 @@ const HANDED_WITH_ERRORS: &[Handed] = &[
     },
 ];
 
-/// A beat of the reply to a Get that is denied, size 4 and source 2.
+/// A beat of the reply to the Get over the bad word.
+const READ_BEAT: DBeat = DBeat {
+    opcode: 1,
+    param: 0,
+    size: 4,
+    source: 1,
+    denied: false,
+    payload: 0,
+    corrupt: false,
+};
+
+/// A beat of the reply to the Get that is denied.
 const DENIED: DBeat = DBeat {
     source: 2,
     denied: true,
-    payload: 0,
     corrupt: true,
     ..READ_BEAT
 };
 
-const D_BEATS_WITH_ERRORS: &[DBeat] = &[
+const D_BEATS: &[DBeat] = &[
     DENIED,
     DENIED,
     DBeat {
         opcode: 0,
         size: 3,
         source: 3,
-        payload: 0,
         ..READ_BEAT
     },
+    READ_BEAT,
     DBeat {
-        source: 1,
-        payload: 0,
-        ..READ_BEAT
-    },
-    DBeat {
-        source: 1,
-        payload: 0,
         corrupt: true,
         ..READ_BEAT
     },
@@ -242,7 +135,7 @@ const D_BEATS_WITH_ERRORS: &[DBeat] = &[
 ];
 
 /// The ADD finds 44330000, and adds 10000.
-const SENT_WITH_ERRORS: &[SentBeat] = &[
+const SENT: &[SentBeat] = &[
     SentBeat::Ar(ArBeat {
         id: 0,
         address: 0x10010,
@@ -316,28 +209,12 @@ const RUNS: &[Run] = &[
         after: &[InFlight(0), Work(0), Choices(0)],
     },
     Run {
-        name: "two clients",
-        lists: MIXED,
-        events: TWO_CLIENTS,
+        name: "errors and an atomic",
+        lists: WITH_A_BAD_WORD,
+        events: ERRORS_AND_AN_ATOMIC,
         replies: HANDED,
         d_beats: D_BEATS,
         sent: SENT,
-        after: &[
-            Byte(0x10020, Some(0x11)),
-            Byte(0x10028, Some(0x22)),
-            Byte(0x12000, None),
-            InFlight(0),
-            FirstDone(0, true),
-            FirstDone(1, false),
-        ],
-    },
-    Run {
-        name: "errors and an atomic",
-        lists: MIXED,
-        events: ERRORS_AND_AN_ATOMIC,
-        replies: HANDED_WITH_ERRORS,
-        d_beats: D_BEATS_WITH_ERRORS,
-        sent: SENT_WITH_ERRORS,
         after: &[Word(0x10008, 0x0000665544340000), InFlight(0), Work(0)],
     },
 ];
@@ -375,16 +252,7 @@ fn runs(rt: HostRuntime) {
     }
 }
 
-/// The same steps one by one, where the world shows each burst.
-#[test]
-fn steps(rt: HostRuntime) {
-    for wanted in RUNS {
-        let done = carried::<WorldBench>(rt.alloc(), wanted.lists, wanted.events);
-        assert_eq!(rt; done, Some(wanted.events.len()), "{}", wanted.name);
-    }
-}
-
-/// The same of a world that makes these steps by hand, by the calls whose contracts tell of the order.
+/// The same of a world that makes the steps by hand, by the calls whose contracts tell of the order.
 fn seen_after_steps(alloc: Global, wanted: &Run) -> Option<usize> {
     let setup = set_up(wanted.lists)?;
     let world = opened(alloc, &setup).ok()?;
