@@ -3,6 +3,7 @@
 use super::bench::*;
 use super::bridge_bench::BridgeBench;
 use axi_checker::AxiRule;
+use bridge_core::Config;
 use std::alloc::Global;
 
 const SCRIPTS: &[Script] = &[
@@ -56,9 +57,6 @@ const SCRIPTS: &[Script] = &[
             Work(62),
             WrongR(0, ExOkay, false, AxiRule::ExOkay),
             Work(62),
-            ZeroReads(0, 14),
-            LastR(0, 0, Okay),
-            Work(32),
         ],
     },
     Script {
@@ -255,7 +253,7 @@ fn scripts(rt: HostRuntime) {
 
 /// One AXI4 ID, and one burst unanswered: there is one box.
 const ONE_BOX: Lists = Lists {
-    limits: Limits {
+    config: Config {
         ids: 1,
         depth: 1,
         ..USUAL

@@ -5,50 +5,24 @@ use bridge_core::Config;
 use burst_plan::Region;
 use std::alloc::Global;
 use subordinate::PageKind;
-use tl_checker::Level;
+use tl_checker::Level::{self, Uh, Ul};
 use tl_messages::{ABeat, DBeat, ReplyBox};
 use world::{Answer, Setup, Step, World};
 
-/// The limits of a bridge whose clients past the first are at TL-UH.
-#[derive(Clone, Copy)]
-pub(crate) struct Limits {
-    pub(crate) clients: u8,
-    pub(crate) quota: u8,
-    pub(crate) ids: u8,
-    pub(crate) depth: u8,
-    pub(crate) max_len: u16,
-    pub(crate) max_size: u8,
-    pub(crate) first_level: Level,
-    pub(crate) axi_bytes: u8,
-}
-
-/// Two clients, four live requests of each, 16 IDs, two bursts unanswered.
-pub(crate) const USUAL: Limits = Limits {
+/// Two clients at TL-UH, four live requests of each, 16 IDs, two bursts unanswered.
+pub(crate) const USUAL: Config = Config {
     clients: 2,
     quota: 4,
     ids: 16,
     depth: 2,
     max_len: 16,
     max_size: 12,
-    first_level: Level::Uh,
+    levels: [Uh; 8],
     axi_bytes: 8,
 };
 
-/// The same limits as the bridge has them.
-pub(crate) fn config_of(limits: Limits) -> Config {
-    let mut levels = [Level::Uh; 8];
-    levels[0] = limits.first_level;
-    Config {
-        clients: limits.clients,
-        quota: limits.quota,
-        ids: limits.ids,
-        depth: limits.depth,
-        max_len: limits.max_len,
-        max_size: limits.max_size,
-        levels,
-        axi_bytes: limits.axi_bytes,
-    }
-}
+/// Client 0 is at TL-UL, all others are at TL-UH.
+pub(crate) const FIRST_AT_UL: [Level; 8] = [Ul, Uh, Uh, Uh, Uh, Uh, Uh, Uh];
 
 /// Leads TileLink pages 0 to 3 to AXI pages 0x10 to 0x13.
 pub(crate) const FOUR_PAGES: Region = Region {
@@ -71,7 +45,7 @@ pub(crate) const ALIAS: Region = Region {
 /// What a set-up is made of.
 #[derive(Clone, Copy)]
 pub(crate) struct Lists {
-    pub(crate) limits: Limits,
+    pub(crate) config: Config,
     pub(crate) regions: &'static [Region],
     pub(crate) pages: &'static [(u32, PageKind)],
     pub(crate) bad_words: &'static [u32],
@@ -79,7 +53,7 @@ pub(crate) struct Lists {
 
 /// The usual limits, four pages, and a good page behind each.
 pub(crate) const PLAIN: Lists = Lists {
-    limits: USUAL,
+    config: USUAL,
     regions: &[FOUR_PAGES],
     pages: &[
         (0x10, PageKind::Good),
@@ -92,7 +66,7 @@ pub(crate) const PLAIN: Lists = Lists {
 
 /// The same on a bus of four bytes.
 pub(crate) const NARROW: Lists = Lists {
-    limits: Limits {
+    config: Config {
         axi_bytes: 4,
         ..USUAL
     },
@@ -107,7 +81,7 @@ pub(crate) const TWO_WAYS: Lists = Lists {
 
 /// The set-up of some lists; none where these are too long for it.
 pub(crate) fn set_up(lists: Lists) -> Option<Setup> {
-    let mut setup = Setup::new(config_of(lists.limits));
+    let mut setup = Setup::new(lists.config);
     setup.regions.try_extend_from_slice(lists.regions).ok()?;
     setup.pages.try_extend_from_slice(lists.pages).ok()?;
     setup.bad_words.try_extend_from_slice(lists.bad_words).ok()?;
@@ -171,8 +145,6 @@ pub(crate) enum Event {
     R(u8, u64, Resp),
     /// The last R of a burst of an ID comes.
     LastR(u8, u64, Resp),
-    /// So many Rs of an ID come with a payload of zero and OKAY, none of which is the last of its burst.
-    ZeroReads(u8, u16),
     /// A client takes a reply.
     Take(u8, Answer),
     /// The reply that was taken last: how many beats, and the opcode, size, source and denied of each.
@@ -197,8 +169,6 @@ pub(crate) enum Event {
     Shown(u8, u32, u8, u8),
     /// A byte of memory.
     Byte(u32, Option<u8>),
-    /// The eight bytes of memory from an address on.
-    Word(u32, u64),
     /// How many steps bridge and memory can make.
     Choices(u32),
     /// One of these steps.
@@ -224,8 +194,8 @@ pub(crate) use Answer::{
 pub(crate) use Beat::{A, Corrupt, Get, Put};
 pub(crate) use Event::{
     B, Byte, CanPump, Choices, Choose, Data, Drain, FirstDone, Idle, InFlight, LastR, NoB, NoBurst,
-    NoR, Offer, OfferAll, Payload, Perform, R, Read, Shown, Shows, Stock, Take, Unsent, Word, Work,
-    Write, WrongB, WrongR, ZeroReads,
+    NoR, Offer, OfferAll, Payload, Perform, R, Read, Shown, Shows, Stock, Take, Unsent, Work,
+    Write, WrongB, WrongR,
 };
 pub(crate) use Resp::{DecErr, ExOkay, Okay, SlvErr};
 
@@ -246,7 +216,6 @@ pub(crate) fn carried_by<D: Driven>(driven: &mut D, events: &[Event]) -> usize {
             OfferAll(client, beat, count, answer) => {
                 offers_all(driven, client, beat, count, answer)
             }
-            ZeroReads(id, beats) => reads_zeros(driven, id, beats),
             event => driven.carries(event),
         };
         if !is_carried {
@@ -311,41 +280,38 @@ fn offers_all<D: Driven>(
     true
 }
 
-fn reads_zeros<D: Driven>(driven: &mut D, id: u8, beats: u16) -> bool {
-    for _ in 0..beats {
-        if !driven.carries(R(id, 0, Okay)) {
-            return false;
-        }
+/// An AR beat of rising addresses.
+pub(crate) const fn ar_beat(id: u8, address: u32, len: u8, size: u8) -> ArBeat {
+    ArBeat {
+        id,
+        address,
+        len,
+        size,
+        burst: 1,
     }
-    true
+}
+
+/// An AW beat of rising addresses.
+pub(crate) const fn aw_beat(id: u8, address: u32, len: u8, size: u8) -> AwBeat {
+    AwBeat {
+        id,
+        address,
+        len,
+        size,
+        burst: 1,
+    }
 }
 
 /// Whether a box holds the burst that an event tells of.
 pub(crate) fn holds(burst: &BurstBox, event: Event) -> bool {
     match event {
         Read(_, id, address, len, size) | Shown(id, address, len, size) => {
-            !burst.is_empty()
-                && !burst.is_write()
-                && burst.ar()
-                    == ArBeat {
-                        id,
-                        address,
-                        len,
-                        size,
-                        burst: 1,
-                    }
+            !burst.is_empty() && !burst.is_write() && burst.ar() == ar_beat(id, address, len, size)
         }
         Write(_, id, address, len, size) => {
             burst.is_write()
                 && burst.w_beats() == u16::from(len) + 1
-                && burst.aw()
-                    == AwBeat {
-                        id,
-                        address,
-                        len,
-                        size,
-                        burst: 1,
-                    }
+                && burst.aw() == aw_beat(id, address, len, size)
         }
         _ => true,
     }
@@ -476,18 +442,6 @@ impl Driven for WorldBench {
     }
 }
 
-/// Whether the eight bytes from an address on are those of a word, the least significant first.
-pub(crate) fn holds_word(world: &World, address: u32, word: u64) -> bool {
-    let mut rest = word;
-    for k in 0..8u32 {
-        if world.byte(address.wrapping_add(k)) != Some((rest % 256) as u8) {
-            return false;
-        }
-        rest /= 256;
-    }
-    true
-}
-
 impl WorldBench {
     /// Whether the world shows what an event tells.
     fn sees(&mut self, event: Event) -> bool {
@@ -498,7 +452,6 @@ impl WorldBench {
             NoBurst => self.world.last_burst().is_empty(),
             Shown(_, _, _, _) => holds(self.world.last_burst(), event),
             Byte(address, byte) => self.world.byte(address) == byte,
-            Word(address, word) => holds_word(&self.world, address, word),
             FirstDone(client, done) => self.world.first_done(client) == done,
             InFlight(count) => self.world.in_flight() == count,
             Work(work) => self.world.work_left() == work,

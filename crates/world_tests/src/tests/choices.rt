@@ -1,11 +1,12 @@
 //! A world: what bridge and memory can do by themselves, who has a reply to take, and the burst that went last.
 use super::bench::*;
+use bridge_core::Config;
 use tl_checker::TlRule;
 use world::Step;
 
 /// One live request of each client.
 const ONE_EACH: Lists = Lists {
-    limits: Limits { quota: 1, ..USUAL },
+    config: Config { quota: 1, ..USUAL },
     ..PLAIN
 };
 
@@ -20,15 +21,12 @@ pub(crate) const SCRIPTS: &[Script] = &[
             Choices(1),
             Choose(0, Step::Pump),
             Write(0, 0, 0x10008, 0, 3),
-            Work(2),
             Choices(1),
             Choose(0, Step::Perform(0, 0)),
             Perform(0, 0, Done),
-            Work(1),
             Choices(1),
             Choose(0, Step::AnswerB(0)),
             B(0, Okay),
-            Work(0),
             Choices(0),
         ],
     },

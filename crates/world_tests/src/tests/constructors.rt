@@ -12,7 +12,7 @@ use std::alloc::Global;
 use std::test::Fail;
 use subordinate::{Device, PageKind};
 use tl_checker::{Level, Port};
-use tl_messages::{ABeat, ReplyBox, Request};
+use tl_messages::{ReplyBox, Request};
 use world::{Setup, SetupFault, Step, World};
 use world_run::{opened, run};
 
@@ -68,7 +68,7 @@ fn gather(rt: HostRuntime) -> Result<(), Fail> {
 #[test]
 fn bridge(rt: HostRuntime) -> Result<(), Fail> {
     let map = PageMap::new(rt.alloc(), &[FOUR_PAGES])?;
-    Bridge::new(rt.alloc(), config_of(USUAL), map)?;
+    Bridge::new(rt.alloc(), USUAL, map)?;
     Ok(())
 }
 
@@ -98,31 +98,18 @@ fn opened_world(rt: HostRuntime) -> Result<(), Fail> {
     Ok(())
 }
 
-/// A Put of a word, performed and answered, and its reply.
-const STEPS: &[Step] = &[
-    Step::Offer(
-        0,
-        ABeat {
-            opcode: 0,
-            param: 0,
-            size: 3,
-            source: 0,
-            address: 8,
-            mask: 0xff,
-            payload: 7,
-            corrupt: false,
-        },
-    ),
-    Step::Pump,
-    Step::Perform(0, 0),
-    Step::AnswerB(0),
-    Step::Take(0),
-];
-
 /// A run takes memory for what it records too.
 #[test]
 fn a_run(rt: HostRuntime) -> Result<(), Fail> {
-    let ran = run(rt.alloc(), &given(PLAIN)?, STEPS)?;
+    let put = a_beat(Put(3, 0, 8, 7));
+    let steps = [
+        Step::Offer(0, put),
+        Step::Pump,
+        Step::Perform(0, 0),
+        Step::AnswerB(0),
+        Step::Take(0),
+    ];
+    let ran = run(rt.alloc(), &given(PLAIN)?, &steps)?;
     assert_eq!(rt; ran.answers.last(), Some(&Reply(0)));
     Ok(())
 }
@@ -131,7 +118,6 @@ fn a_run(rt: HostRuntime) -> Result<(), Fail> {
 const SCRIPTS: &[&[Script]] = &[
     choices::SCRIPTS,
     offers::SCRIPTS,
-    offers::DENIED,
     &[Script {
         name: "errors and an atomic",
         lists: runs::WITH_A_BAD_WORD,

@@ -1,11 +1,12 @@
 //! A bridge alone: beats that aren't taken, and requests that send nothing.
 use super::bench::*;
 use super::bridge_bench::BridgeBench;
-use tl_checker::{Level, TlRule};
+use bridge_core::Config;
+use tl_checker::TlRule;
 
 /// One live request of each client.
 const ONE_EACH: Lists = Lists {
-    limits: Limits { quota: 1, ..USUAL },
+    config: Config { quota: 1, ..USUAL },
     ..PLAIN
 };
 
@@ -72,10 +73,7 @@ pub(crate) const SCRIPTS: &[Script] = &[
             Drain(4),
         ],
     },
-];
-
-/// Requests that send nothing.
-pub(crate) const DENIED: &[Script] = &[
+    // Requests that send nothing.
     Script {
         name: "corrupt requests are denied, and Intents answered",
         lists: PLAIN,
@@ -124,13 +122,12 @@ pub(crate) const DENIED: &[Script] = &[
 #[test]
 fn scripts(rt: HostRuntime) {
     assert_eq!(rt; failing::<BridgeBench>(rt.alloc(), SCRIPTS), None);
-    assert_eq!(rt; failing::<BridgeBench>(rt.alloc(), DENIED), None);
 }
 
 /// Client 0 is at TL-UL, client 1 at TL-UH.
 const TWO_LEVELS: Lists = Lists {
-    limits: Limits {
-        first_level: Level::Ul,
+    config: Config {
+        levels: FIRST_AT_UL,
         ..USUAL
     },
     ..PLAIN

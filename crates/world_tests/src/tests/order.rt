@@ -1,10 +1,11 @@
 //! A bridge alone: requests that wait for others, and requests that don't.
 use super::bench::*;
 use super::bridge_bench::BridgeBench;
+use bridge_core::Config;
 
 /// Bursts of at most two transfers.
 const SHORT: Lists = Lists {
-    limits: Limits {
+    config: Config {
         max_len: 2,
         ..USUAL
     },

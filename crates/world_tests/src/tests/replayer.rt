@@ -1,6 +1,7 @@
 //! Long runs of two clients whose turns come by lot, beside a plain replayer: it carries out each request as it is
 //! accepted, one after another, on an array of bytes. Every reply and the memory at the end have to be the same.
 use super::bench::*;
+use bridge_core::Config;
 use std::alloc::{AllocError, Global};
 use tl_checker::TlRule;
 use tl_messages::{ABeat, DBeat, ReplyBox};
@@ -387,14 +388,14 @@ fn ten_thousand_turns(rt: HostRuntime) {
 #[test]
 fn two_thousand_turns_with_many_bursts(rt: HostRuntime) {
     const WIDE: Lists = Lists {
-        limits: Limits {
+        config: Config {
             max_len: 4,
             ..USUAL
         },
         ..TWO_WAYS
     };
     const SLIM: Lists = Lists {
-        limits: Limits {
+        config: Config {
             max_len: 4,
             axi_bytes: 4,
             ..USUAL

@@ -1,10 +1,10 @@
 //! Whole runs: a list of steps, and the record of what they gave.
 use super::bench::*;
-use axi_beats::{ArBeat, AwBeat, WBeat};
+use axi_beats::WBeat;
 use std::alloc::Global;
 use tl_checker::TlRule;
 use tl_messages::{DBeat, ReplyBox};
-use world::{Answer, Step};
+use world::{Answer, Step, World};
 use world_run::{Handed, RunRecord, SentBeat, opened, ordered_step, run};
 
 /// A word of the first page is bad.
@@ -13,28 +13,16 @@ pub(crate) const WITH_A_BAD_WORD: Lists = Lists {
     ..PLAIN
 };
 
-fn put<T: Copy>(items: &mut Vec<T>, item: T) -> Option<()> {
-    items.push(item).ok()
-}
-
-/// The steps that some events make.
-fn steps_of(alloc: Global, events: &[Event]) -> Option<Vec<Step>> {
+/// The steps that some events make, and the answers that they have to give.
+fn steps_of(alloc: Global, events: &[Event]) -> Option<(Vec<Step>, Vec<Answer>)> {
     let mut steps = Vec::new(alloc);
-    for event in events {
-        let made = step_of(*event)?;
-        put(&mut steps, made.0)?;
-    }
-    Some(steps)
-}
-
-/// The answers that they have to give.
-fn answers_of(alloc: Global, events: &[Event]) -> Option<Vec<Answer>> {
     let mut answers = Vec::new(alloc);
     for event in events {
-        let made = step_of(*event)?;
-        put(&mut answers, made.1)?;
+        let (step, answer) = step_of(*event)?;
+        steps.push(step).ok()?;
+        answers.push(answer).ok()?;
     }
-    Some(answers)
+    Some((steps, answers))
 }
 
 /// A Get over the bad word, one outside of all regions, a partial Put and an ADD; then what a client may not do.
@@ -64,33 +52,6 @@ pub(crate) const ERRORS_AND_AN_ATOMIC: &[Event] = &[
     Take(1, Reply(2)),
     Take(0, Reply(0)),
     Take(0, Reply(3)),
-];
-
-const HANDED: &[Handed] = &[
-    Handed {
-        client: 1,
-        number: 1,
-        first: 0,
-        beats: 2,
-    },
-    Handed {
-        client: 1,
-        number: 2,
-        first: 2,
-        beats: 1,
-    },
-    Handed {
-        client: 0,
-        number: 0,
-        first: 3,
-        beats: 2,
-    },
-    Handed {
-        client: 0,
-        number: 3,
-        first: 5,
-        beats: 1,
-    },
 ];
 
 /// A beat of the reply to the Get over the bad word.
@@ -134,143 +95,113 @@ const D_BEATS: &[DBeat] = &[
     },
 ];
 
-/// The ADD finds 44330000, and adds 10000.
-const SENT: &[SentBeat] = &[
-    SentBeat::Ar(ArBeat {
-        id: 0,
-        address: 0x10010,
-        len: 1,
-        size: 3,
-        burst: 1,
-    }),
-    SentBeat::Aw(AwBeat {
-        id: 1,
-        address: 0x10008,
-        len: 0,
-        size: 3,
-        burst: 1,
-    }),
-    SentBeat::W(WBeat {
-        payload: 0x0000665544330000,
-        strobes: 0x3c,
-        last: true,
-    }),
-    SentBeat::Ar(ArBeat {
-        id: 0,
-        address: 0x10008,
-        len: 0,
-        size: 2,
-        burst: 1,
-    }),
-    SentBeat::Aw(AwBeat {
-        id: 0,
-        address: 0x10008,
-        len: 0,
-        size: 2,
-        burst: 1,
-    }),
-    SentBeat::W(WBeat {
-        payload: 0x44340000,
-        strobes: 0x0f,
-        last: true,
-    }),
-];
-
-/// A run, and its record.
-struct Run {
-    name: &'static str,
-    lists: Lists,
-    events: &'static [Event],
-    replies: &'static [Handed],
-    d_beats: &'static [DBeat],
-    sent: &'static [SentBeat],
-    /// What is seen of the world at the end.
-    after: &'static [Event],
-}
-
-const RUNS: &[Run] = &[
-    Run {
-        name: "no steps",
-        lists: PLAIN,
-        events: &[],
-        replies: &[],
-        d_beats: &[],
-        sent: &[],
-        after: &[Byte(0x10000, Some(0)), InFlight(0)],
-    },
-    // Nothing was accepted.
-    Run {
-        name: "a run that stops in a message",
-        lists: PLAIN,
-        events: &[Offer(0, Put(4, 0, 0, 1), More)],
-        replies: &[],
-        d_beats: &[],
-        sent: &[],
-        after: &[InFlight(0), Work(0), Choices(0)],
-    },
-    Run {
-        name: "errors and an atomic",
-        lists: WITH_A_BAD_WORD,
-        events: ERRORS_AND_AN_ATOMIC,
-        replies: HANDED,
-        d_beats: D_BEATS,
-        sent: SENT,
-        after: &[Word(0x10008, 0x0000665544340000), InFlight(0), Work(0)],
-    },
-];
-
-/// Whether the record of a run has these answers, and the replies and beats that it has to have.
-fn is_recorded(ran: &RunRecord, answers: &[Answer], wanted: &Run) -> bool {
-    ran.answers.as_slice() == answers
-        && ran.replies.as_slice() == wanted.replies
-        && ran.d_beats.as_slice() == wanted.d_beats
-        && ran.sent.as_slice() == wanted.sent
-}
-
-/// How many of the things to be seen of the world after a run are so; none where its record isn't as it has to be.
-fn seen_after(alloc: Global, wanted: &Run) -> Option<usize> {
-    let setup = set_up(wanted.lists)?;
-    let steps = steps_of(alloc, wanted.events)?;
-    let answers = answers_of(alloc, wanted.events)?;
-    let ran = run(alloc, &setup, steps.as_slice()).ok()?;
-    if !is_recorded(&ran, answers.as_slice(), wanted) {
-        return None;
+fn handed(client: u8, number: u64, first: usize, beats: u16) -> Handed {
+    Handed {
+        client,
+        number,
+        first,
+        beats,
     }
+}
+
+/// How the replies lie in these beats.
+fn replies() -> [Handed; 4] {
+    [
+        handed(1, 1, 0, 2),
+        handed(1, 2, 2, 1),
+        handed(0, 0, 3, 2),
+        handed(0, 3, 5, 1),
+    ]
+}
+
+/// The one W beat of a write.
+fn w_beat(payload: u64, strobes: u8) -> SentBeat {
+    SentBeat::W(WBeat {
+        payload,
+        strobes,
+        last: true,
+    })
+}
+
+/// What goes to the memory. The ADD finds 44330000, and adds 10000.
+fn sent() -> [SentBeat; 6] {
+    [
+        SentBeat::Ar(ar_beat(0, 0x10010, 1, 3)),
+        SentBeat::Aw(aw_beat(1, 0x10008, 0, 3)),
+        w_beat(0x0000665544330000, 0x3c),
+        SentBeat::Ar(ar_beat(0, 0x10008, 0, 2)),
+        SentBeat::Aw(aw_beat(0, 0x10008, 0, 2)),
+        w_beat(0x44340000, 0x0f),
+    ]
+}
+
+/// What is seen of the world at the end.
+const AFTER: &[Event] = &[
+    Byte(0x10009, Some(0)),
+    Byte(0x1000a, Some(0x34)),
+    Byte(0x1000b, Some(0x44)),
+    Byte(0x1000d, Some(0x66)),
+    Byte(0x1000e, Some(0)),
+    InFlight(0),
+    Work(0),
+];
+
+/// The record of a run; none where its answers aren't those that the events have to give.
+fn record_of(alloc: Global, lists: Lists, events: &[Event]) -> Option<RunRecord> {
+    let setup = set_up(lists)?;
+    let (steps, answers) = steps_of(alloc, events)?;
+    let ran = run(alloc, &setup, steps.as_slice()).ok()?;
+    if ran.answers.as_slice() == answers.as_slice() {
+        Some(ran)
+    } else {
+        None
+    }
+}
+
+/// How many of these things a world shows before one that it doesn't; none where memory was refused.
+fn seen(alloc: Global, world: World, events: &[Event]) -> Option<usize> {
     let reply = ReplyBox::new(alloc).ok()?;
-    let mut bench = WorldBench {
-        world: ran.world,
-        reply,
-    };
-    Some(carried_by(&mut bench, wanted.after))
+    let mut bench = WorldBench { world, reply };
+    Some(carried_by(&mut bench, events))
 }
 
 #[test]
-fn runs(rt: HostRuntime) {
-    for wanted in RUNS {
-        let seen = seen_after(rt.alloc(), wanted);
-        assert_eq!(rt; seen, Some(wanted.after.len()), "{}", wanted.name);
+fn errors_and_an_atomic(rt: HostRuntime) {
+    let ran = record_of(rt.alloc(), WITH_A_BAD_WORD, ERRORS_AND_AN_ATOMIC).expect(&rt, "a run");
+    assert!(rt; ran.replies.as_slice() == replies().as_slice());
+    assert!(rt; ran.d_beats.as_slice() == D_BEATS);
+    assert!(rt; ran.sent.as_slice() == sent().as_slice());
+    assert_eq!(rt; seen(rt.alloc(), ran.world, AFTER), Some(AFTER.len()));
+}
+
+/// No steps, and one that begins a message: nothing is accepted.
+#[test]
+fn nothing_accepted(rt: HostRuntime) {
+    let begun = [Offer(0, Put(4, 0, 0, 1), More)];
+    for events in [&[], begun.as_slice()] {
+        let ran = record_of(rt.alloc(), PLAIN, events).expect(&rt, "a run");
+        assert!(rt; ran.replies.is_empty() && ran.d_beats.is_empty() && ran.sent.is_empty());
+        let after = [Byte(0x10000, Some(0)), InFlight(0), Work(0), Choices(0)];
+        assert_eq!(rt; seen(rt.alloc(), ran.world, &after), Some(after.len()));
     }
 }
 
-/// The same of a world that makes the steps by hand, by the calls whose contracts tell of the order.
-fn seen_after_steps(alloc: Global, wanted: &Run) -> Option<usize> {
-    let setup = set_up(wanted.lists)?;
-    let world = opened(alloc, &setup).ok()?;
-    let reply = ReplyBox::new(alloc).ok()?;
-    let mut bench = WorldBench { world, reply };
-    for event in wanted.events {
+/// A world that makes the steps by hand, by the calls whose contracts tell of the order; none where one isn't answered so.
+fn stepped(alloc: Global, lists: Lists, events: &[Event]) -> Option<World> {
+    let setup = set_up(lists)?;
+    let mut world = opened(alloc, &setup).ok()?;
+    let mut reply = ReplyBox::new(alloc).ok()?;
+    for event in events {
         let (step, answer) = step_of(*event)?;
-        if ordered_step(&mut bench.world, &step, &mut bench.reply) != answer {
+        if ordered_step(&mut world, &step, &mut reply) != answer {
             return None;
         }
     }
-    Some(carried_by(&mut bench, wanted.after))
+    Some(world)
 }
 
 #[test]
 fn ordered_steps(rt: HostRuntime) {
-    for wanted in RUNS {
-        let seen = seen_after_steps(rt.alloc(), wanted);
-        assert_eq!(rt; seen, Some(wanted.after.len()), "{}", wanted.name);
-    }
+    let world = stepped(rt.alloc(), WITH_A_BAD_WORD, ERRORS_AND_AN_ATOMIC).expect(&rt, "a world");
+    assert_eq!(rt; seen(rt.alloc(), world, AFTER), Some(AFTER.len()));
 }
