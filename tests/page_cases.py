@@ -1,7 +1,8 @@
 """Tries the pages: each guarantee of README names a call and a clause that the source has, each page that it names is there,
 each crate has a page, and in ARCHITECTURE a row with its files of definitions, each example of the library stands in a test as
 it stands on its page, the pages that are written by docs/definitions.py are up to date, docs/TRUSTED.md lists each definition
-that a clause of its statements names, and no file that is kept is a log or names a folder of one machine.
+that a clause of its statements names, each place that docs/ROWS.md names is there, and no file that is kept is a log or names a
+folder of one machine.
 
     python3 tests/page_cases.py
 """
@@ -31,6 +32,9 @@ CLAUSE = re.compile(r"(?ms)^ *ensures (?:(\w+) )?{(.*?)}$")
 NAME = re.compile(r"(?:\b(\w+)\.)?([A-Za-z_]\w*)")
 # A guarantee of the list, from its dash to its end.
 GUARANTEE = re.compile(r"(?m)^- .*(?:\n  .*)*")
+# A place of a worked row: a file, and what is named of it up to the next place: entries and comments in quotes, functions and tables.
+PLACE = re.compile(r"`((?:[\w-]+/)+[\w.-]+)`([^;]*)")
+ENTRY, DEFINED = re.compile(r'"([^"]+)"'), re.compile(r"`(\w+)`")
 # A folder of one machine, in which a path goes on.
 MACHINE = re.compile(rb"(?<![\w.])/(?:home|mnt|opt|root|srv|tmp|work|Users)/\w")
 
@@ -91,6 +95,29 @@ def tables():
         yield f"the definitions of {crate}", f"ARCHITECTURE has others: {', '.join(apart)}" if apart else None
 
 
+def lacking(path, named):
+    """What a file of a worked row lacks, of what is named of it; a script has its trace beside it."""
+    files = [TOP / path, *([(TOP / path).with_suffix(".trace")] if path.endswith(".script") else [])]
+    absent = [it.name for it in files if not it.is_file()]
+    if absent:
+        return absent
+    text = files[0].read_text()
+    entries = [it for it in ENTRY.findall(named) if f'"{it}"' not in text and f"// {it}\n" not in text]
+    return entries + [it for it in DEFINED.findall(named) if not re.search(rf"(?m)\b(?:fn|def|const) {it}\b|^{it} = ", text)]
+
+
+def rows():
+    """Each place of a worked row: its file, and what is named of it."""
+    page = (TOP / "docs" / "ROWS.md").read_text()
+    listed = re.findall(r"(?m)^\| (.*) \| (.*`.*) \|$", page)
+    yield "the worked rows", None if listed else "ROWS.md lists none"
+    for row, places in listed:
+        found = PLACE.findall(places)
+        missing = sorted(name for path, named in found for name in lacking(path, named))
+        why = f"it lacks {', '.join(missing)}" if missing else None if found else "it has no place"
+        yield f"the row: {row[:60]}", why
+
+
 def without_space(text):
     return "".join(text.split())
 
@@ -137,6 +164,7 @@ def cases():
     yield from tables()
     yield from examples()
     yield from trusted()
+    yield from rows()
     yield from kept()
     written = subprocess.run([sys.executable, TOP / "docs" / "definitions.py", "--check"], capture_output=True, text=True)
     why = written.stdout.strip() or written.stderr.strip()[-200:]
