@@ -1,7 +1,13 @@
 """How a run of a program ends, how that isn't as it is wanted, and the last line of a file of cases."""
 
+import subprocess
 from dataclasses import dataclass
 from itertools import zip_longest
+
+# Lines on standard error, as docs/SCRIPT.md has them.
+USAGE = b"usage: tlbridge run, check or threads\n"
+READ, WRITE = b"read fault\n", b"write fault\n"
+MEMORY, SPAWN = b"out of memory\n", b"thread fault: 3 Spawn\n"
 
 
 @dataclass(frozen=True)
@@ -28,6 +34,11 @@ class Ended:
         both = zip_longest(self.text.split(b"\n"), text.split(b"\n"))
         number, got, wanted = next((number, *it) for number, it in enumerate(both, 1) if it[0] != it[1])
         return f"line {number} of {len(self.text)} bytes of text is {got!r}, not {wanted!r}"
+
+
+def started(words, given, seconds=120):
+    """Runs a program with its words on a standard input."""
+    return Ended.of(subprocess.run(words, input=given, capture_output=True, timeout=seconds))
 
 
 def told(cases):

@@ -4,11 +4,10 @@ and of the last one where that is a command without its line feed.
     python3 tests/fronts.py PROGRAM
 """
 
-import subprocess
 import sys
 from pathlib import Path
 
-from ends import Ended, told
+from ends import started, told
 from scripts import SCRIPTS
 
 # How many of a long script's first bytes are its fronts, beyond which one in so many is tried.
@@ -27,7 +26,7 @@ def fronts(program, script):
     tried = faults = 0
     for length in lengths_of(script):
         given = script.given[:length]
-        ran = Ended.of(subprocess.run([program, script.word], input=given, capture_output=True, timeout=SECONDS))
+        ran = started([program, script.word], given, SECONDS)
         tried, faults = tried + 1, faults + (ran.status == 2)
         yield f"the first {length} bytes", wrong(script, ran, given.count(b"\n"), given.rpartition(b"\n")[2].decode())
     print(f"{script.name}: {tried} fronts, {faults} of them with a fault in the last line")

@@ -20,11 +20,12 @@ import client  # noqa: E402
 import launcher_cases  # noqa: E402
 import random_bench  # noqa: E402
 import script_cases  # noqa: E402
+from ends import READ, USAGE, WRITE, Ended, started  # noqa: E402
 
 FIRST = (TOP / "examples/first.script").read_bytes()
 TRACE = (TOP / "examples/first.trace").read_bytes()
-SETUP = b"config 2 4 16 2 16 12 hh\nregion 0 4 10 gpah\npage 10 4 good\n"
-CONFIG = b"config 1 1 1 1 1 12 h\n"
+SETUP = script_cases.SETUP.encode()
+CONFIG = script_cases.CONFIG.encode() + b"\n"
 THREADS = (TOP / "examples/threads.script").read_bytes()
 THREADED = (TOP / "examples/threads.trace").read_bytes()
 GET = b"a 0 4 0 3 0 8 ff 0 0\n"
@@ -35,8 +36,6 @@ LARGE_GET, INTENT = b"a 0 4 0 12 0 0 ff 0 0\n", b"a 0 5 0 3 0 8 ff 0 0\n"
 ONE_LIVE = b"config 1 1 16 2 16 12 h\nregion 0 4 10 gpah\npage 10 4 good\n"
 HINTED = b"D 0 2 0 3 0 0 0000000000000000 0\n"
 MOST_STEPS = ONE_LIVE + LARGE_GET * 189 + GET * 6 + INTENT * 4
-USAGE = b"usage: tlbridge run, check or threads\n"
-READ, WRITE = b"read fault\n", b"write fault\n"
 # A script on a page, by its word, and, by its status, its trace, or its line on standard error where it has no trace.
 SHOWN = re.compile(r"(?m)^```script (\w+)\n((?:(?!```).*\n)*)```\n\n```(trace|fault) (\d)\n((?:(?!```).*\n)*)```$")
 
@@ -217,33 +216,16 @@ REDIRECTED = {
 }
 
 
-def wrong(ran, status, text, line):
-    """Tells in one line how a run isn't as it is wanted, or nothing."""
-    if ran.returncode != status:
-        return f"status {ran.returncode}, not {status}; it said {ran.stderr[-200:]!r}"
-    if ran.stderr != line:
-        return f"{ran.stderr[-200:]!r} on standard error, not {line!r}"
-    if ran.stdout != text:
-        got, wanted = ran.stdout.split(b"\n"), text.split(b"\n")
-        at = next((i for i, (a, b) in enumerate(zip(got, wanted)) if a != b), min(len(got), len(wanted)))
-        return f"line {at + 1} of the text is {got[at:at + 1]!r}, not {wanted[at:at + 1]!r}"
-    return None
-
-
-def started(words, given):
-    return subprocess.run(words, input=given, capture_output=True, timeout=120)
-
-
 def of_table(program):
     for name, (words, given, *wanted) in TABLE.items():
-        yield name, lambda w=words, g=given, x=wanted: wrong(started([program, *w], g), *x)
+        yield name, lambda w=words, g=given, x=wanted: started([program, *w], g).wrong(*x)
     for name, (line, given, *wanted) in REDIRECTED.items():
-        yield name, lambda s=line, g=given, x=wanted: wrong(started(["sh", "-c", s, program], g), *x)
+        yield name, lambda s=line, g=given, x=wanted: started(["sh", "-c", s, program], g).wrong(*x)
 
 
 def of_scripts(program):
     for name, word, given, *wanted in script_cases.cases():
-        yield name, lambda w=word, g=given, x=wanted: wrong(started([program, w], g), *x)
+        yield name, lambda w=word, g=given, x=wanted: started([program, w], g).wrong(*x)
 
 
 def of_examples(program):
@@ -255,10 +237,10 @@ def of_examples(program):
         status = 2 if fault.exists() else 1 if word == "check" else 0
         wanted = status, script.with_suffix(".trace").read_bytes(), fault.read_bytes() if fault.exists() else b""
         given, name = script.read_bytes(), str(script.relative_to(TOP))
-        yield name, lambda w=word, g=given, x=wanted: wrong(started([program, w], g), *x)
+        yield name, lambda w=word, g=given, x=wanted: started([program, w], g).wrong(*x)
         if name.startswith("examples"):
             crlf = given.replace(b"\n", b"\r\n")
-            yield f"{name} with CR LF", lambda w=word, g=crlf, x=wanted: wrong(started([program, w], g), *x)
+            yield f"{name} with CR LF", lambda w=word, g=crlf, x=wanted: started([program, w], g).wrong(*x)
 
 
 def score_of(program):
@@ -276,7 +258,7 @@ def of_pages(program):
             name, shown = f"script {number + 1} of {page.name}", shown.encode()
             wanted = (int(status), b"", shown) if kind == "fault" else (int(status), shown, b"")
             words = [score_of(program)] if word == "score" else [program, word]
-            yield name, lambda w=words, g=script.encode(), x=wanted: wrong(started(w, g), *x)
+            yield name, lambda w=words, g=script.encode(), x=wanted: started(w, g).wrong(*x)
 
 
 def reader_gone(program, word, given):
@@ -287,8 +269,7 @@ def reader_gone(program, word, given):
         ran = subprocess.run([program, word], input=given, stdout=writes, stderr=subprocess.PIPE, timeout=120)
     finally:
         os.close(writes)
-    ran.stdout = b""
-    return wrong(ran, 3, b"", WRITE)
+    return Ended.of(ran).wrong(3, None, WRITE)
 
 
 def talks(program):
@@ -336,9 +317,9 @@ def of_scores(program):
     for row in sorted(TOP.glob("examples/scoreboard/*.in")):
         wanted = int(row.with_suffix(".status").read_text().split()[-1]), row.with_suffix(".out").read_bytes(), row.with_suffix(".err").read_bytes()
         given, name = row.read_bytes(), f"tlscore: {row.stem}"
-        yield name, lambda g=given, x=wanted: wrong(started([score], g), *x)
-        yield f"{name} with CR LF", lambda g=given.replace(b"\n", b"\r\n"), x=wanted: wrong(started([score], g), *x)
-    yield "tlscore: a word", lambda: wrong(started([score, "run"], b""), 6, b"", b"usage: tlscore\n")
+        yield name, lambda g=given, x=wanted: started([score], g).wrong(*x)
+        yield f"{name} with CR LF", lambda g=given.replace(b"\n", b"\r\n"), x=wanted: started([score], g).wrong(*x)
+    yield "tlscore: a word", lambda: started([score, "run"], b"").wrong(6, b"", b"usage: tlscore\n")
     for script in (*sorted(TOP.glob("examples/*.script")), *sorted(TOP.glob("tests/rows/**/*.script"))):
         if not script.stem.startswith(("check", "threads")) and not script.with_suffix(".fault").exists():
             given = setup_of(script) + script.with_suffix(".trace").read_bytes()
@@ -347,14 +328,14 @@ def of_scores(program):
         ("<&-", 3, b"", READ), (">&-", 3, b"", WRITE), (">/dev/full", 3, b"", WRITE), ("</", 3, b"", READ),
     ):
         given = (TOP / "examples/scoreboard/right.in").read_bytes()
-        yield f"tlscore {how}", lambda h=how, g=given, x=wanted: wrong(started(["sh", "-c", f'"$0" {h}', score], g), *x)
+        yield f"tlscore {how}", lambda h=how, g=given, x=wanted: started(["sh", "-c", f'"$0" {h}', score], g).wrong(*x)
 
 
 def of_right(ran):
     """Tells how a run isn't one that found nothing wrong."""
-    last = ran.stdout.splitlines()[-1:]
-    if ran.returncode or ran.stderr or not last or b" wrong 0 " not in last[0]:
-        return f"status {ran.returncode}, {ran.stderr[-200:]!r}, {ran.stdout[-200:]!r}"
+    last = ran.text.splitlines()[-1:]
+    if ran.status or ran.line or not last or b" wrong 0 " not in last[0]:
+        return f"status {ran.status}, {ran.line[-200:]!r}, {ran.text[-200:]!r}"
     return None
 
 

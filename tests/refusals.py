@@ -16,14 +16,13 @@ import errno
 import sys
 from pathlib import Path
 
-from ends import told
+from ends import MEMORY, READ, SPAWN, USAGE, WRITE, told
 from scripts import SCRIPTS, SETUP, Script
 from shim import FOR_EVER, Shim
 
 TOP = Path(__file__).resolve().parent.parent
 # In this order.
-LINES = {6: b"usage: tlbridge run, check or threads\n", 4: b"out of memory\n", 5: b"thread fault: 3 Spawn\n"}
-READ, WRITE = b"read fault\n", b"write fault\n"
+LINES = {6: USAGE, 4: MEMORY, 5: SPAWN}
 # Where no command comes the world is made at the input's end.
 NO_COMMAND = (
     Script("a set-up alone", "run", tuple((line, "") for line in SETUP), 0),

@@ -9,13 +9,13 @@ import re
 import sys
 from pathlib import Path
 
-from program_cases import started, wrong
-from shim import told
+import script_cases
+from ends import started, told
 
 TOP = Path(__file__).resolve().parent.parent
 BEATS = {"A", "D", "AW", "W", "B", "AR", "R"}
-CONFIG = "config 2 4 16 2 16 12 hh"
-SETUP = f"{CONFIG}\nregion 0 4 10 gpah\npage 10 4 good"
+SETUP = script_cases.SETUP.rstrip()
+CONFIG = SETUP.partition("\n")[0]
 PUT = "A 0 0 0 3 5 8 ff 1122334455667788 0"
 # As many W beats as the longest burst has, none of them the last.
 LONGEST = "\n".join(["W 0 ff 0"] * 256)
@@ -435,7 +435,7 @@ def all_cases():
 
 def cases(program: str):
     for name, given, *wanted in all_cases():
-        yield f"tlscore: {name}", wrong(started([program], given), *wanted)
+        yield f"tlscore: {name}", started([program], given).wrong(*wanted)
 
 
 if __name__ == "__main__":

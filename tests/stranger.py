@@ -12,20 +12,17 @@ import subprocess
 import sys
 from pathlib import Path
 
-from ends import Ended, told
+import script_cases
+from ends import MEMORY, READ, SPAWN, USAGE, WRITE, Ended, started, told
 from scripts import SCRIPTS
 
 FIRST, LONG, THREADS = SCRIPTS[0], SCRIPTS[1], SCRIPTS[4]
-SETUP = b"config 2 4 16 2 16 12 hh\nregion 0 4 10 gpah\npage 10 4 good\n"
-READ, WRITE = b"read fault\n", b"write fault\n"
-USAGE, MEMORY = b"usage: tlbridge run, check or threads\n", b"out of memory\n"
-SPAWN = b"thread fault: 3 Spawn\n"
+SETUP = script_cases.SETUP.encode()
 SECONDS, MEGA = 30, 1 << 20
 
 
 def given(program, word, text, status, trace, line):
-    ran = subprocess.run([program, word], input=text, capture_output=True, timeout=SECONDS)
-    return Ended.of(ran).wrong(status, trace, line)
+    return started([program, word], text, SECONDS).wrong(status, trace, line)
 
 
 def piped(program, command, word, status, line):
