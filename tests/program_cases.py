@@ -304,12 +304,6 @@ def of_pipes(program):
         yield f"the random bench, seed {seed}", lambda s=seed: bench(program, s, 2_000)
 
 
-def setup_of(script):
-    """The set-up lines of a script."""
-    words = (b"config", b"region", b"page", b"bad")
-    return b"".join(line for line in script.read_bytes().splitlines(True) if line.split()[:1] and line.split()[0] in words)
-
-
 def of_scores(program):
     """What was observed, against what tlscore says of it: each row, its words, and each trace of a run, which is right."""
     score = score_of(program)
@@ -322,7 +316,7 @@ def of_scores(program):
     yield "tlscore: a word", lambda: started([score, "run"], b"").wrong(6, b"", b"usage: tlscore\n")
     for script in (*sorted(TOP.glob("examples/*.script")), *sorted(TOP.glob("tests/rows/**/*.script"))):
         if not script.stem.startswith(("check", "threads")) and not script.with_suffix(".fault").exists():
-            given = setup_of(script) + script.with_suffix(".trace").read_bytes()
+            given = script_cases.setup_of(script.read_bytes()) + script.with_suffix(".trace").read_bytes()
             yield f"tlscore: the trace of {script.relative_to(TOP).with_suffix('')}", lambda g=given: of_right(started([score], g))
     for how, *wanted in (
         ("<&-", 3, b"", READ), (">&-", 3, b"", WRITE), (">/dev/full", 3, b"", WRITE), ("</", 3, b"", READ),

@@ -4,7 +4,8 @@ A growth of memory: words that can't be had come first (status 6), then want of 
 that can't be made (status 5), nothing being written in any case; then the program asks no more, however long a script of `run`
 or `check` is, and ends as it does with memory enough. Where one growth alone is refused a vector may ask once more, for just
 what it needs: then nothing is wanting, and the run asked once more than it does with memory enough. The calls of the libraries
-that take memory have tests of their own, as those of `crates/world_tests`, of which each growth is refused too.
+that take memory have tests of their own, as those of `crates/world_tests`, of which each growth is refused too. Each script of
+`tests/rows` asks no more often than its set-up alone.
 
 A thread that can't be made is told. A read that fails is told, and the text of the lines that were read whole stands. A write
 that fails is told, and what was written is a front of the text; one that is interrupted is tried again.
@@ -17,6 +18,7 @@ import sys
 from pathlib import Path
 
 from ends import MEMORY, READ, SPAWN, USAGE, WRITE, told
+from script_cases import setup_of
 from scripts import SCRIPTS, SETUP, Script
 from shim import FOR_EVER, Shim
 
@@ -124,10 +126,17 @@ def worlds():
         yield f"growth {at} of all", wrong_call(shim.run(names[1:], b"", "growth", at, FOR_EVER), "NoMemory")
 
 
-def growths_of_long(shim, long, alone):
-    """A long script asks no more often than its set-up alone."""
-    counts = [shim.run([it.word], it.given).counts["growth"] for it in (long, alone)]
-    yield f"no more often than {alone.name}", None if len({*counts}) == 1 else f"{counts}"
+def growths_of_long(shim, word, long, alone):
+    """A script asks no more often than its set-up alone."""
+    counts = [shim.run([word], it).counts["growth"] for it in (long, alone)]
+    yield "no more growths than of its set-up alone", None if counts[0] == counts[1] > 0 else f"{counts}"
+
+
+def rows():
+    """Each worked row of `run` whose set-up is right: its name and its script."""
+    for script in sorted(TOP.glob("tests/rows/**/*.script")):
+        if not script.with_suffix(".fault").exists():
+            yield str(script.relative_to(TOP)), script.read_bytes()
 
 
 def threads(shim, script, count):
@@ -201,8 +210,10 @@ def is_long(script):
 def of_growths(shim):
     for script in (*SCRIPTS, *NO_COMMAND, TWELVE):
         yield script.name, growths(shim, script)
-    yield SCRIPTS[1].name, growths_of_long(shim, SCRIPTS[1], NO_COMMAND[0])
-    yield SCRIPTS[3].name, growths_of_long(shim, SCRIPTS[3], NO_COMMAND[1])
+    for script, alone in ((SCRIPTS[1], NO_COMMAND[0]), (SCRIPTS[3], NO_COMMAND[1])):
+        yield script.name, growths_of_long(shim, script.word, script.given, alone.given)
+    for name, script in rows():
+        yield name, growths_of_long(shim, "run", script, setup_of(script))
     for crate, name, errors in CALLS:
         yield f"{crate}, {name}", growths_of_call(crate, name, errors)
     yield "worlds", worlds()

@@ -241,6 +241,12 @@ BAD_CONFIGS = (
 ENDED = 0, ""
 
 
+def setup_of(script):
+    """The set-up lines of a script."""
+    words = (b"config", b"region", b"page", b"bad")
+    return b"".join(line for line in script.splitlines(True) if line.split()[:1] and line.split()[0] in words)
+
+
 def script_fault(line, word):
     return 2, f"script fault: line {line}, word {word}\n"
 
