@@ -3,7 +3,6 @@
 use super::bench::*;
 use super::bridge_bench::BridgeBench;
 use axi_checker::AxiRule;
-use bridge_core::Config;
 use std::alloc::Global;
 
 const SCRIPTS: &[Script] = &[
@@ -253,7 +252,7 @@ fn scripts(rt: HostRuntime) {
 
 /// One AXI4 ID, and one burst unanswered: there is one box.
 const ONE_BOX: Lists = Lists {
-    config: Config {
+    limits: Limits {
         ids: 1,
         depth: 1,
         ..USUAL

@@ -5,24 +5,50 @@ use bridge_core::Config;
 use burst_plan::Region;
 use std::alloc::Global;
 use subordinate::PageKind;
-use tl_checker::Level::{self, Uh, Ul};
+use tl_checker::Level;
 use tl_messages::{ABeat, DBeat, ReplyBox};
 use world::{Answer, Setup, Step, World};
 
-/// Two clients at TL-UH, four live requests of each, 16 IDs, two bursts unanswered.
-pub(crate) const USUAL: Config = Config {
+/// The limits of a bridge whose clients past the first are at TL-UH.
+#[derive(Clone, Copy)]
+pub(crate) struct Limits {
+    pub(crate) clients: u8,
+    pub(crate) quota: u8,
+    pub(crate) ids: u8,
+    pub(crate) depth: u8,
+    pub(crate) max_len: u16,
+    pub(crate) max_size: u8,
+    pub(crate) first_level: Level,
+    pub(crate) axi_bytes: u8,
+}
+
+/// Two clients, four live requests of each, 16 IDs, two bursts unanswered.
+pub(crate) const USUAL: Limits = Limits {
     clients: 2,
     quota: 4,
     ids: 16,
     depth: 2,
     max_len: 16,
     max_size: 12,
-    levels: [Uh; 8],
+    first_level: Level::Uh,
     axi_bytes: 8,
 };
 
-/// Client 0 is at TL-UL, all others are at TL-UH.
-pub(crate) const FIRST_AT_UL: [Level; 8] = [Ul, Uh, Uh, Uh, Uh, Uh, Uh, Uh];
+/// The same limits as the bridge has them.
+pub(crate) fn config_of(limits: Limits) -> Config {
+    let mut levels = [Level::Uh; 8];
+    levels[0] = limits.first_level;
+    Config {
+        clients: limits.clients,
+        quota: limits.quota,
+        ids: limits.ids,
+        depth: limits.depth,
+        max_len: limits.max_len,
+        max_size: limits.max_size,
+        levels,
+        axi_bytes: limits.axi_bytes,
+    }
+}
 
 /// Leads TileLink pages 0 to 3 to AXI pages 0x10 to 0x13.
 pub(crate) const FOUR_PAGES: Region = Region {
@@ -45,7 +71,7 @@ pub(crate) const ALIAS: Region = Region {
 /// What a set-up is made of.
 #[derive(Clone, Copy)]
 pub(crate) struct Lists {
-    pub(crate) config: Config,
+    pub(crate) limits: Limits,
     pub(crate) regions: &'static [Region],
     pub(crate) pages: &'static [(u32, PageKind)],
     pub(crate) bad_words: &'static [u32],
@@ -53,7 +79,7 @@ pub(crate) struct Lists {
 
 /// The usual limits, four pages, and a good page behind each.
 pub(crate) const PLAIN: Lists = Lists {
-    config: USUAL,
+    limits: USUAL,
     regions: &[FOUR_PAGES],
     pages: &[
         (0x10, PageKind::Good),
@@ -66,10 +92,16 @@ pub(crate) const PLAIN: Lists = Lists {
 
 /// The same on a bus of four bytes.
 pub(crate) const NARROW: Lists = Lists {
-    config: Config {
+    limits: Limits {
         axi_bytes: 4,
         ..USUAL
     },
+    ..PLAIN
+};
+
+/// The same as the first, with one live request of each client.
+pub(crate) const ONE_EACH: Lists = Lists {
+    limits: Limits { quota: 1, ..USUAL },
     ..PLAIN
 };
 
@@ -81,7 +113,7 @@ pub(crate) const TWO_WAYS: Lists = Lists {
 
 /// The set-up of some lists; none where these are too long for it.
 pub(crate) fn set_up(lists: Lists) -> Option<Setup> {
-    let mut setup = Setup::new(lists.config);
+    let mut setup = Setup::new(config_of(lists.limits));
     setup.regions.try_extend_from_slice(lists.regions).ok()?;
     setup.pages.try_extend_from_slice(lists.pages).ok()?;
     setup.bad_words.try_extend_from_slice(lists.bad_words).ok()?;
@@ -156,7 +188,7 @@ pub(crate) enum Event {
     /// The work that is left; a bridge alone counts each beat as unperformed until its answer has come.
     Work(u64),
 
-    // These are for a world. A bridge alone passes over `Perform`, `NoR`, `Word` and `Choices`, and plays the drain.
+    // These are for a world. A bridge alone passes over `Perform`, and plays the drain.
     /// The memory performs a beat of the burst with a serial.
     Perform(u64, u16, Answer),
     /// The memory has no B of an ID to give.

@@ -1,14 +1,7 @@
 //! A world: what bridge and memory can do by themselves, who has a reply to take, and the burst that went last.
 use super::bench::*;
-use bridge_core::Config;
 use tl_checker::TlRule;
 use world::Step;
-
-/// One live request of each client.
-const ONE_EACH: Lists = Lists {
-    config: Config { quota: 1, ..USUAL },
-    ..PLAIN
-};
 
 pub(crate) const SCRIPTS: &[Script] = &[
     Script {

@@ -68,7 +68,7 @@ fn gather(rt: HostRuntime) -> Result<(), Fail> {
 #[test]
 fn bridge(rt: HostRuntime) -> Result<(), Fail> {
     let map = PageMap::new(rt.alloc(), &[FOUR_PAGES])?;
-    Bridge::new(rt.alloc(), USUAL, map)?;
+    Bridge::new(rt.alloc(), config_of(USUAL), map)?;
     Ok(())
 }
 

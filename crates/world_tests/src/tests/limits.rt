@@ -1,6 +1,6 @@
 //! Set-ups that are refused. Which ones are, is said by contracts, and tried by the scripts of `tests/rows/limits`.
 use super::bench::*;
-use bridge_core::{Bridge, BridgeFault, Config};
+use bridge_core::{Bridge, BridgeFault};
 use burst_plan::{MapFault, PageMap, Region};
 use std::alloc::Global;
 use std::test::Fail;
@@ -19,7 +19,7 @@ fn refuses(alloc: Global, lists: Lists, fault: Option<SetupFault>) -> bool {
         && run(alloc, &setup, &[]).err() == fault
 }
 
-const NO_QUOTA: Config = Config { quota: 0, ..USUAL };
+const NO_QUOTA: Limits = Limits { quota: 0, ..USUAL };
 
 const NO_PAGE: &[Region] = &[Region {
     pages: 0,
@@ -30,12 +30,12 @@ const TWICE: &[(u32, PageKind)] = &[(0x10, PageKind::Good), (0x10, PageKind::Sla
 
 #[test]
 fn set_ups(rt: HostRuntime) {
-    let (config, regions, pages) = (NO_QUOTA, NO_PAGE, TWICE);
+    let (limits, regions, pages) = (NO_QUOTA, NO_PAGE, TWICE);
     let map_fault = SetupFault::Map(MapFault::RegionEmpty(0));
     let device_fault = SetupFault::Device(DeviceFault::PageTwice(1));
     for (lists, fault) in [
         (PLAIN, None),
-        (Lists { config, ..PLAIN }, Some(SetupFault::BadConfig)),
+        (Lists { limits, ..PLAIN }, Some(SetupFault::BadConfig)),
         (Lists { regions, ..PLAIN }, Some(map_fault)),
         (Lists { pages, ..PLAIN }, Some(device_fault)),
     ] {
@@ -46,7 +46,8 @@ fn set_ups(rt: HostRuntime) {
 /// Limits alone, and a bridge alone that is made with them.
 #[test]
 fn limits(rt: HostRuntime) -> Result<(), Fail> {
-    for (config, fault) in [(USUAL, None), (NO_QUOTA, Some(BridgeFault::BadConfig))] {
+    for (limits, fault) in [(USUAL, None), (NO_QUOTA, Some(BridgeFault::BadConfig))] {
+        let config = config_of(limits);
         let map = PageMap::new(rt.alloc(), &[FOUR_PAGES])?;
         assert_eq!(rt; config.is_valid(), fault.is_none());
         assert_eq!(rt; Bridge::new(rt.alloc(), config, map).err(), fault);
@@ -57,10 +58,10 @@ fn limits(rt: HostRuntime) -> Result<(), Fail> {
 /// Each client has its own level; TL-UL where there can be no such client.
 #[test]
 fn levels(rt: HostRuntime) {
-    let config = Config {
-        levels: FIRST_AT_UL,
+    let config = config_of(Limits {
+        first_level: Level::Ul,
         ..USUAL
-    };
+    });
     for (client, level) in [
         (0, Level::Ul),
         (1, Level::Uh),

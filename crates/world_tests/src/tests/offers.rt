@@ -1,14 +1,7 @@
 //! A bridge alone: beats that aren't taken, and requests that send nothing.
 use super::bench::*;
 use super::bridge_bench::BridgeBench;
-use bridge_core::Config;
-use tl_checker::TlRule;
-
-/// One live request of each client.
-const ONE_EACH: Lists = Lists {
-    config: Config { quota: 1, ..USUAL },
-    ..PLAIN
-};
+use tl_checker::{Level, TlRule};
 
 pub(crate) const SCRIPTS: &[Script] = &[
     Script {
@@ -17,11 +10,9 @@ pub(crate) const SCRIPTS: &[Script] = &[
         events: &[
             Offer(0, Put(4, 0, 0x00, 0x11), More),
             // A begun message isn't accepted, and makes no work.
-            InFlight(0),
             Work(0),
             Drain(0),
             Offer(0, Put(4, 0, 0x08, 0x22), Refused(TlRule::BurstControl)),
-            InFlight(0),
             Work(0),
             Offer(0, Put(4, 0, 0x00, 0x22), Accepted(0)),
             Drain(4),
@@ -43,7 +34,6 @@ pub(crate) const SCRIPTS: &[Script] = &[
             Offer(1, Get(3, 4, 0), Accepted(4)),
             Work(15),
             Drain(15),
-            InFlight(0),
             Offer(0, Get(3, 4, 0), NotReady),
             Offer(0, Get(3, 0, 0), Refused(TlRule::SourceBusy)),
             Take(0, Reply(0)),
@@ -53,7 +43,6 @@ pub(crate) const SCRIPTS: &[Script] = &[
             Offer(0, Get(3, 0, 0), Accepted(6)),
             Offer(2, Get(3, 4, 0), NoClient),
             Take(2, NoClient),
-            FirstDone(2, false),
             Take(1, Reply(4)),
             Take(1, Nothing),
         ],
@@ -126,8 +115,8 @@ fn scripts(rt: HostRuntime) {
 
 /// Client 0 is at TL-UL, client 1 at TL-UH.
 const TWO_LEVELS: Lists = Lists {
-    config: Config {
-        levels: FIRST_AT_UL,
+    limits: Limits {
+        first_level: Level::Ul,
         ..USUAL
     },
     ..PLAIN

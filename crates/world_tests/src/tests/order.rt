@@ -1,11 +1,10 @@
 //! A bridge alone: requests that wait for others, and requests that don't.
 use super::bench::*;
 use super::bridge_bench::BridgeBench;
-use bridge_core::Config;
 
 /// Bursts of at most two transfers.
 const SHORT: Lists = Lists {
-    config: Config {
+    limits: Limits {
         max_len: 2,
         ..USUAL
     },
@@ -21,7 +20,6 @@ const SCRIPTS: &[Script] = &[
             Work(10),
             Offer(1, Get(3, 0, 0x20), Accepted(1)),
             Work(13),
-            InFlight(2),
             Write(0, 0, 0x10000, 7, 3),
             Data(0, 0x0101010101010101, 0xff),
             Data(4, 0x0505050505050505, 0xff),
@@ -30,7 +28,6 @@ const SCRIPTS: &[Script] = &[
             Take(1, Nothing),
             B(0, Okay),
             Work(3),
-            InFlight(1),
             Read(1, 0, 0x10020, 0, 3),
             LastR(0, 0x0505050505050505, Okay),
             Take(1, Reply(1)),
@@ -53,7 +50,6 @@ const SCRIPTS: &[Script] = &[
             Shows(1, 1, 3, 0, false),
             Payload(0, 0, false),
             Take(0, Nothing),
-            InFlight(1),
             // The Put's burst, of which nothing was performed.
             Work(9),
             Drain(9),
@@ -133,10 +129,7 @@ const SCRIPTS: &[Script] = &[
             Read(0, 0, 0x10000, 0, 3),
             Read(1, 1, 0x10008, 0, 3),
             LastR(1, 0, Okay),
-            FirstDone(0, true),
-            FirstDone(1, false),
             Take(0, Reply(1)),
-            FirstDone(0, false),
             Take(0, Nothing),
             // The box still holds the reply that was taken.
             Shows(1, 1, 3, 1, false),

@@ -27,7 +27,7 @@ const ACK: DBeat = DBeat {
 #[test]
 fn library(rt: HostRuntime) -> Result<(), Fail> {
     let alloc = rt.alloc();
-    let (config, region, put) = (USUAL, FOUR_PAGES, a_beat(PUT));
+    let (config, region, put) = (config_of(USUAL), FOUR_PAGES, a_beat(PUT));
 
     use world_run::Step::{AnswerB, Offer, Perform, Pump, Take};
     use world_run::{PageKind, Setup, run};
@@ -157,7 +157,7 @@ fn bridge_alone(
     map: PageMap,
     mut reply: ReplyBox,
 ) -> Result<(Offered, Option<BurstBox>, Taken, ReplyBox), Fault> {
-    let (config, put) = (USUAL, a_beat(PUT));
+    let (config, put) = (config_of(USUAL), a_beat(PUT));
     let b = BBeat { id: 0, resp: Okay };
 
     use bridge_core::Bridge;

@@ -1,7 +1,6 @@
 //! Long runs of two clients whose turns come by lot, beside a plain replayer: it carries out each request as it is
 //! accepted, one after another, on an array of bytes. Every reply and the memory at the end have to be the same.
 use super::bench::*;
-use bridge_core::Config;
 use std::alloc::{AllocError, Global};
 use tl_checker::TlRule;
 use tl_messages::{ABeat, DBeat, ReplyBox};
@@ -388,14 +387,14 @@ fn ten_thousand_turns(rt: HostRuntime) {
 #[test]
 fn two_thousand_turns_with_many_bursts(rt: HostRuntime) {
     const WIDE: Lists = Lists {
-        config: Config {
+        limits: Limits {
             max_len: 4,
             ..USUAL
         },
         ..TWO_WAYS
     };
     const SLIM: Lists = Lists {
-        config: Config {
+        limits: Limits {
             max_len: 4,
             axi_bytes: 4,
             ..USUAL

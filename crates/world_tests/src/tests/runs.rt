@@ -137,10 +137,8 @@ fn sent() -> [SentBeat; 6] {
 
 /// What is seen of the world at the end.
 const AFTER: &[Event] = &[
-    Byte(0x10009, Some(0)),
     Byte(0x1000a, Some(0x34)),
     Byte(0x1000b, Some(0x44)),
-    Byte(0x1000d, Some(0x66)),
     Byte(0x1000e, Some(0)),
     InFlight(0),
     Work(0),
