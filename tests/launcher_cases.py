@@ -4,6 +4,7 @@ each takes a moment: the `program` that it makes prints what its source had, its
 import os
 import shutil
 import subprocess
+import sys
 import tempfile
 import time
 from pathlib import Path
@@ -11,17 +12,17 @@ from pathlib import Path
 TOP = Path(__file__).resolve().parent.parent
 CANNOT = 70
 
-# The stand-in. Each call is noted; what else it does, the variable DOES says.
+# The stand-in. Each call is noted; what else it does, the variable DOES says, to the tree at the path TREE.
 RT = """#!/bin/sh
 echo "$1 ${PWD##*/}" >>"$NOTED"
 echo 'a line of the prover'
-[ "$1" = run ] || exit 0
-text=$(cat src/main.rt)
+[ "$1" = run ] || { mkdir -p out/rlib && echo made >"out/rlib/${PWD##*/}.rlib"; exit; }
+text=$(cat src/main.rt) && [ -r ../low/out/rlib/low.rlib ] || exit 1
 case $DOES in
 fails) exit 1 ;;
 stops) kill -9 $$ ;;
-edits) echo edited >src/main.rt ;;
-deletes) rm src/more.rt ;;
+edits) echo edited >"$TREE/crates/tlbridge/src/main.rt" ;;
+deletes) rm "$TREE/crates/tlbridge/src/more.rt" ;;
 esac
 mkdir -p out || exit 1
 case $DOES in
@@ -45,7 +46,7 @@ class Copy:
         self.path = os.path.join(self.room, b"bin")
         os.makedirs(self.path, exist_ok=True)
         self.write(os.path.join(self.path, b"rt"), RT, mode=0o755)
-        for file in ("tlbridge", ".ci/stamp.sh"):
+        for file in ("tlbridge", ".ci/stamp.sh", ".ci/build.py"):
             to = os.path.join(self.root, file.encode())
             os.makedirs(os.path.dirname(to), exist_ok=True)
             shutil.copy(TOP / file, to)
@@ -72,7 +73,7 @@ class Copy:
         if os.path.exists(self.noted):
             os.remove(self.noted)
         path = self.path + b":" + os.environb[b"PATH"] if path is None else path
-        env = {**os.environb, b"PATH": path, b"NOTED": self.noted, b"DOES": does.encode(), **how.pop("env", {})}
+        env = {**os.environb, b"PATH": path, b"NOTED": self.noted, b"DOES": does.encode(), b"TREE": self.root, **how.pop("env", {})}
         given = [*drop, called or self.file("tlbridge"), *words]
         ran = subprocess.run(given, input=how.pop("given", b"input\n"), capture_output=True, env=env, timeout=60, **how)
         noted = Path(os.fsdecode(self.noted)).read_text().splitlines() if os.path.exists(self.noted) else []
@@ -83,15 +84,16 @@ def made(text="main 1", words="run"):
     return f"made from {text}: ./crates/tlbridge/out/tlbridge {words}\ninput\n".encode()
 
 
-BUILT = ["lib low", "run tlbridge"]
+# What is built: the library and the program, the program alone, or nothing.
+ALL, PROGRAM, NOTHING = ["lib low", "run tlbridge"], ["run tlbridge"], []
 
 
 def runs(answer, text=None, builds=None, status=3):
-    """Tells how an answer isn't that of the program; builds: whether it was built for it, where that matters."""
+    """Tells how an answer isn't that of the program; builds: what was built for it, where that matters."""
     got, output, errors, noted = answer
     if (got, output) != (status, made() if text is None else text):
         return f"status {got}, {output[-200:]!r}, {errors[-2:]!r}"
-    if builds is not None and noted != BUILT * builds:
+    if builds is not None and noted != builds:
         return f"it was built by {noted!r}"
     return None if noted or not errors else f"{errors!r} on standard error"
 
@@ -103,18 +105,45 @@ def cannot(answer, words):
         return f"status {got}, {output[-200:]!r}, {errors[-2:]!r}"
     if not errors or not errors[-1].startswith("tlbridge: ") or words not in errors[-1]:
         return f"{errors[-2:]!r} on standard error"
-    plain = lambda it: it.startswith("tlbridge: ") or " of 2: " in it
-    return None if all(map(plain, errors)) else f"{errors!r} on standard error"
+    return None if all(it.startswith("tlbridge: ") for it in errors) else f"{errors!r} on standard error"
 
 
 def first_use(copy):
     status, output, errors, noted = copy.call()
-    wanted = ["1 of 2: low", "2 of 2: tlbridge"]
+    wanted = ["tlbridge: 0 of 2 built, 1 min to go; now low", "tlbridge: 1 of 2 built, 0 min to go; now tlbridge"]
     if errors[1:-1] != wanted or "out/tlbridge.log" not in errors[0] or not errors[-1].startswith("tlbridge: built in 0 min"):
         return f"{errors!r} on standard error"
     if b"a line of the prover" not in Path(os.fsdecode(copy.file("out/tlbridge.log"))).read_bytes():
         return "the log lacks what rt printed"
-    return runs((status, output, [], noted), builds=True) or runs(copy.call(), builds=False)
+    return runs((status, output, [], noted), builds=ALL) or runs(copy.call(), builds=NOTHING)
+
+
+def goes_on(copy):
+    """A library that was built before a build stopped isn't built again; how long it took then is known."""
+    copy.call(does="stops")
+    return runs(copy.call(), builds=PROGRAM)
+
+
+def time_to_go(copy):
+    """Of a chain all of it, by what each took before."""
+    copy.source(".ci/seconds", "low 600\ntlbridge 9\n")
+    copy.source("out/seconds", "tlbridge 1200\n")
+    _, _, errors, _ = copy.call()
+    if "tlbridge: 0 of 2 built, 30 min to go; now low" not in errors:
+        return f"{errors!r} on standard error"
+    table = Path(os.fsdecode(copy.file("out/seconds"))).read_text()
+    return None if table == "low 1\ntlbridge 1\n" else f"it noted {table!r}"
+
+
+def times_noted(copy):
+    """While another command proves: of each crate, but not of its tests; the command's status stays."""
+    copy.source("out/seconds", "other 40\n")
+    copy.write(copy.file("prove"), "#!/bin/sh\nsleep 6\n", 0o755)
+    command = "./prove build --crate-name low & ./prove build --test --crate-name far; wait; exit 7"
+    ran = subprocess.run([sys.executable, TOP / ".ci/watch.py", "sh", "-c", command], cwd=copy.root, timeout=60)
+    table = dict(line.split() for line in Path(os.fsdecode(copy.file("out/seconds"))).read_text().splitlines())
+    is_right = table.keys() == {"other", "low"} and table["other"] == "40" and 3 <= int(table["low"]) <= 9
+    return None if ran.returncode == 7 and is_right else f"status {ran.returncode}, {table}"
 
 
 def words_pass(copy):
@@ -129,44 +158,44 @@ def words_pass(copy):
 def edited(copy):
     copy.call()
     copy.source("crates/tlbridge/src/main.rt", "main 2")
-    return runs(copy.call(), made("main 2"), True) or runs(copy.call(), made("main 2"), False)
+    return runs(copy.call(), made("main 2"), PROGRAM) or runs(copy.call(), made("main 2"), NOTHING)
 
 
 def edited_below(copy):
     copy.call()
     copy.source("crates/low/src/lib.rt", "lib 2")
-    return runs(copy.call(), builds=True)
+    return runs(copy.call(), builds=ALL)
 
 
 def edited_and_dated_back(copy):
     copy.call()
     copy.source("crates/tlbridge/src/main.rt", "main 2")
     os.utime(copy.file("crates/tlbridge/src/main.rt"), (0, 0))
-    return runs(copy.call(), made("main 2"), True)
+    return runs(copy.call(), made("main 2"), PROGRAM)
 
 
 def dated_in_the_future(copy):
     os.utime(copy.file("crates/tlbridge/src/main.rt"), (time.time() + 10_000,) * 2)
     copy.call()
-    return runs(copy.call(), builds=False)
+    return runs(copy.call(), builds=NOTHING)
 
 
 def deleted(copy):
     copy.call()
     os.remove(copy.file("crates/tlbridge/src/more.rt"))
-    return runs(copy.call(), builds=True) or runs(copy.call(), builds=False)
+    return runs(copy.call(), builds=PROGRAM) or runs(copy.call(), builds=NOTHING)
 
 
 def added(copy):
     copy.call()
     copy.source("crates/tlbridge/specs/New.antt", "")
-    return runs(copy.call(), builds=True)
+    return runs(copy.call(), builds=PROGRAM)
 
 
 def list_edited(copy):
     copy.call()
     copy.source("crates.txt", "low:\ntlbridge: low\n")
-    return runs(copy.call(), builds=True)
+    return runs(copy.call(), builds=PROGRAM)
 
 
 def changed_during_the_build(does):
@@ -175,7 +204,7 @@ def changed_during_the_build(does):
         copy.source("crates/tlbridge/src/main.rt", "main 2")
         why = cannot(copy.call(does=does), "changed during the build")
         text = "edited" if does == "edits" else "main 2"
-        return why or runs(copy.call(), made(text), True) or runs(copy.call(), made(text), False)
+        return why or runs(copy.call(), made(text), PROGRAM) or runs(copy.call(), made(text), NOTHING)
 
     return case
 
@@ -190,13 +219,13 @@ def fails(does, words):
             why = cannot(copy.call(does=does), words)
             if why:
                 return why
-        return runs(copy.call(), made("main 2"), True)
+        return runs(copy.call(), made("main 2"), PROGRAM)
 
     return case
 
 
 def makes_nothing(copy):
-    return cannot(copy.call(does="makes_nothing"), "rt made no program")
+    return cannot(copy.call(does="makes_nothing"), "tlbridge wasn't proved and built")
 
 
 def without_rt(copy):
@@ -207,20 +236,20 @@ def without_rt(copy):
         os.symlink(shutil.which(tool), os.path.join(tools, tool.encode()))
     why = cannot(copy.call(path=tools), "rt, which proves and builds it, isn't on PATH")
     copy.call()
-    return why or runs(copy.call(path=tools), builds=False)
+    return why or runs(copy.call(path=tools), builds=NOTHING)
 
 
 def program_changed(copy):
     """A program that this launcher didn't build, as one that rt made of other sources."""
     copy.call()
     copy.write(copy.file("crates/tlbridge/out/tlbridge"), "#!/bin/sh\necho other\n", 0o755)
-    return runs(copy.call(), builds=True)
+    return runs(copy.call(), builds=PROGRAM)
 
 
 def program_gone(copy):
     copy.call()
     os.remove(copy.file("crates/tlbridge/out/tlbridge"))
-    return runs(copy.call(), builds=True)
+    return runs(copy.call(), builds=PROGRAM)
 
 
 def allow(folder, writing):
@@ -238,7 +267,7 @@ def read_only(copy):
     allow(copy.root, True)
     copy.call()
     allow(copy.root, False)
-    why = why or runs(copy.call(drop=drop), builds=False)
+    why = why or runs(copy.call(drop=drop), builds=NOTHING)
     allow(copy.root, True)
     copy.source("crates/tlbridge/src/main.rt", "main 2")
     allow(copy.root, False)
@@ -256,10 +285,10 @@ def linked(copy):
     os.symlink(copy.root, os.path.join(links, b"folder"))
     copy.call()
     for name in (b"far", b"near", b"twice", b"folder/tlbridge"):
-        why = runs(copy.call(called=os.path.join(links, name)), builds=False)
+        why = runs(copy.call(called=os.path.join(links, name)), builds=NOTHING)
         if why:
             return f"{name.decode()}: {why}"
-    return runs(copy.call(called=b"links/near", cwd=copy.room), builds=False)
+    return runs(copy.call(called=b"links/near", cwd=copy.room), builds=NOTHING)
 
 
 def called_from(copy):
@@ -276,7 +305,7 @@ def called_from(copy):
         dict(drop=sh, called=b"tlbridge", cwd=copy.root),
     ]
     for call in calls:
-        why = runs(copy.call(**call), builds=False)
+        why = runs(copy.call(**call), builds=NOTHING)
         if why:
             return f"{call!r}: {why}"
     return None
@@ -295,7 +324,7 @@ def descriptors(copy):
 
 def input_is_kept(copy):
     """What builds the program doesn't read the script."""
-    return runs(copy.call(given=b"input\n"), builds=True)
+    return runs(copy.call(given=b"input\n"), builds=ALL)
 
 
 def in_folder(name, program=None):
@@ -304,11 +333,11 @@ def in_folder(name, program=None):
     def case(copy):
         copy = Copy(copy.room, name)
         if program is None:
-            return runs(copy.call(), builds=True) or runs(copy.call(), builds=False)
+            return runs(copy.call(), builds=ALL) or runs(copy.call(), builds=NOTHING)
         given, wanted = ((TOP / f"examples/first.{it}").read_bytes() for it in ("script", "trace"))
         env = {b"COPIED": os.fsencode(program)}
-        why = runs(copy.call(does="copies", env=env, given=given), wanted, True, status=0)
-        return why or runs(copy.call(given=given), wanted, False, status=0)
+        why = runs(copy.call(does="copies", env=env, given=given), wanted, ALL, status=0)
+        return why or runs(copy.call(given=given), wanted, NOTHING, status=0)
 
     return case
 
@@ -323,6 +352,9 @@ def cases(program):
     }
     table = {
         "first use": first_use,
+        "a build that goes on": goes_on,
+        "how long a build will take": time_to_go,
+        "how long each crate took": times_noted,
         "the words": words_pass,
         "an edited source": edited,
         "an edited source of a library": edited_below,

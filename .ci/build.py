@@ -1,0 +1,117 @@
+"""Proves and builds a program and the crates that it stands on, side by side where none stands on another.
+
+    python3 .ci/build.py PROGRAM
+
+It is called at the top of the repository, and prints what rt does. rt locks a crate and all below it, so each is built in a copy
+of the tree in out/build, and what it gives is taken from there. A crate that was built of the sources as they are isn't built
+again, so that a build which was stopped goes on there. On standard error it says how far it is and how long the rest will take,
+by what each crate took before: the table .ci/seconds, and out/seconds, which it writes.
+"""
+
+import hashlib
+import os
+import shutil
+import subprocess
+import sys
+import time
+from concurrent.futures import FIRST_COMPLETED, ThreadPoolExecutor, wait
+from pathlib import Path
+
+ROOM, LANES, TABLES = Path("out/build"), os.cpu_count() or 1, (Path(".ci/seconds"), Path("out/seconds"))
+
+
+class Crate:
+    """A crate of this repository, with those that it stands on, the lowest first."""
+
+    def __init__(self, line, below, is_program, seconds):
+        self.line, self.name, self.below, self.seconds, self.began = line, line.split(":")[0].split()[0], below, seconds, None
+        self.folder, self.copy, self.stamp = Path("crates", self.name), ROOM / self.name, ROOM / f"{self.name}.sum"
+        self.words, self.result = ["rt", "run" if is_program else "lib"], self.folder / "out" / (self.name if is_program else "rlib")
+        self.made = self.result if is_program else ROOM / f"{self.name}.rlib"
+        self.is_built = not is_program and self.made.exists() and self.stamp.exists() and self.stamp.read_text() == self.sum()
+
+    def sum(self):
+        """The checksum of the sources that it is built from."""
+        found = (it for crate in (*self.below, self) for it in crate.folder.rglob("*"))
+        files = sorted(it for it in found if it.suffix in (".rt", ".antt") and "out" not in it.parts)
+        lines = "".join(f"{it.line}\n" for it in (*self.below, self)).encode()
+        return hashlib.sha256(lines + b"".join(b"%b\0%b\0" % (bytes(it), it.read_bytes()) for it in files)).hexdigest()
+
+    def build(self):
+        """Builds it in a copy of its own, with the libraries that stand there; gives what rt prints."""
+        self.began, sum = time.monotonic(), self.sum()
+        shutil.rmtree(self.copy, ignore_errors=True)
+        for crate in (*self.below, self):
+            shutil.copytree(crate.folder, self.copy / crate.folder, ignore=shutil.ignore_patterns("out"))
+        for crate in self.below:
+            shutil.copytree(crate.made, self.copy / crate.result, copy_function=os.link)
+        (self.copy / "crates.txt").write_text("".join(f"{it.line}\n" for it in (*self.below, self)))
+        if Path("HANDLES").exists():
+            shutil.copy("HANDLES", self.copy)
+        given = self.copy / self.folder / "stdin"
+        with open(given if given.exists() else os.devnull, "rb") as stdin:
+            ran = subprocess.run(self.words, cwd=given.parent, stdin=stdin, stdout=subprocess.PIPE, stderr=subprocess.STDOUT)
+        if ran.returncode == 0 and (self.copy / self.result).exists():
+            self.made.parent.mkdir(exist_ok=True)
+            shutil.rmtree(self.made, ignore_errors=True)
+            (self.copy / self.result).replace(self.made)
+            self.stamp.write_text(sum)
+            self.is_built, self.seconds = True, time.monotonic() - self.began
+            shutil.rmtree(self.copy)
+        return ran.stdout
+
+
+def crates_of(program):
+    """A program and each crate that it stands on, the lowest first."""
+    lines = [line for line in Path("crates.txt").read_text().splitlines() if line and not line.startswith("#")]
+    listed, crates = {line.split(":")[0].split()[0]: line for line in lines}, {}
+    known = dict(line.split() for table in TABLES if table.exists() for line in table.read_text().splitlines())
+    for name in (*listed[program].split(":")[1].split(), program):
+        if name in listed:
+            below = [crates[it] for it in listed[name].split(":")[1].split() if it in listed]
+            crates[name] = Crate(listed[name], below, name == program, float(known.get(name, 30)))
+    return [*crates.values()]
+
+
+def chains(crates, scale):
+    """How many seconds are left of each crate and the longest chain of those that wait for it, and of all one after another."""
+    chain, total = {}, 0
+    for crate in reversed(crates):
+        spent = time.monotonic() - crate.began if crate.began else 0
+        left = 0 if crate.is_built else max(crate.seconds * scale - spent, 1)
+        chain[crate], total = left + max((chain[it] for it in chain if crate in it.below), default=0), total + left
+    return chain, total
+
+
+def build(program, crates):
+    """Builds all, first the crate that the longest chain waits for; gives the one that couldn't be built, if there is one."""
+    before, running = {it: it.seconds for it in crates}, {}
+    with ThreadPoolExecutor(LANES) as pool:
+        while not all(it.is_built for it in crates):
+            done = [it for it in crates if it.is_built and it.began]
+            chain, total = chains(crates, sum(it.seconds for it in done) / sum(before[it] for it in done) if done else 1)
+            waits = [it for it in crates if not it.began and not it.is_built and all(below.is_built for below in it.below)]
+            for crate in sorted(waits, key=chain.get, reverse=True)[: LANES - len(running)]:
+                running[pool.submit(crate.build)] = crate
+            number, minutes = sum(it.is_built for it in crates), max(*chain.values(), total / LANES) / 60
+            names = ", ".join(it.name for it in running.values())
+            print(f"{program}: {number} of {len(crates)} built, {minutes:.0f} min to go; now {names}", file=sys.stderr, flush=True)
+            for ended in wait(running, return_when=FIRST_COMPLETED).done:
+                crate = running.pop(ended)
+                sys.stdout.buffer.write(ended.result())
+                if not crate.is_built:
+                    return crate
+    return None
+
+
+def main(program):
+    ROOM.mkdir(parents=True, exist_ok=True)
+    crates = crates_of(program)
+    failed = build(program, crates)
+    TABLES[1].write_text("".join(f"{it.name} {max(it.seconds, 1):.0f}\n" for it in crates))
+    print(f"{failed.name} wasn't proved and built" if failed else f"{program} is built")
+    return 1 if failed else 0
+
+
+if __name__ == "__main__":
+    sys.exit(main(sys.argv[1]))
