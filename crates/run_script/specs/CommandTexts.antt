@@ -5,7 +5,7 @@ use Rattle.world.specs.declared.Answer.{Answer}
 use Rattle.world.specs.declared.Answer.TheVariants as answer
 use Rattle.line_text.specs.Traces.{mem_text}
 use Rattle.line_text.proofs.TraceTexts.{some_after, some_before}
-use Rattle.script_text.specs.Answers.{answer_text}
+use Rattle.run_script.specs.Answers.{answer_text}
 use Rattle.script_text.specs.Stages.{GivesSome}
 use Rattle.run_script.specs.Run.{after_answer, before_answer, commanded, run_kind}
 use Rattle.run_script.specs.declared.lines.Command.{Command}

@@ -9,7 +9,7 @@ use Rattle.line_text.specs.Fields.{read_as, byte_field, short_field, address_fie
 use Rattle.script_text.specs.Forms.{form_of, told_as}
 use Rattle.line_text.specs.OfferLines.{offer_line}
 use Rattle.line_text.specs.Traces.{held_text, reply_text, drained_text, mem_text, work_text}
-use Rattle.script_text.specs.Answers.{answer_text}
+use Rattle.run_script.specs.Answers.{answer_text}
 use Rattle.script_text.specs.Scripts.{Reading}
 use Rattle.script_text.specs.Stages.{Kind, Stage, command_by_form, reading_of, unless_refused}
 use Rattle.line_text.specs.Words.{is_dec_to, dec_at, hex_at, word_at}

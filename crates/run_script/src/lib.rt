@@ -1,7 +1,9 @@
 //! `tlbridge run`: a script of set-up lines and commands, carried out in one world.
 #![tactic(auto)]
 
+mod answer_writer;
 mod lines;
 mod script;
 
+pub use answer_writer::answer_line;
 pub use script::run_text;

@@ -6,11 +6,12 @@ ghost use Rattle.script_text.specs.Scripts.{EndsAs, text_of, text_before_failure
 ghost use Rattle.script_text.specs.Stages.{Opening};
 ghost use Rattle.run_script.specs.Run.{before_answer, commanded, event_text, run_reading};
 
+use crate::answer_writer::answer_line;
 use crate::lines::{Command, command_of};
 use line_text::{
     Words, WriteFault, a_line, burst_lines, drained_line, mem_line, reply_lines, work_line,
 };
-use script_text::{Form, Kind, ScriptFault, StagedScript, answer_line, read_script};
+use script_text::{Form, Kind, ScriptFault, StagedScript, read_script};
 use std::alloc::Global;
 use std::io::{Read, Write};
 use tl_messages::ReplyBox;

@@ -1,4 +1,3 @@
-pub mod Answers
 pub mod Forms
 pub mod Reads
 pub mod Scripts

@@ -27,7 +27,7 @@ const LINE_BYTES: usize = 129;
 
 /// What ended a line.
 #[derive(Clone, Copy, Debug, PartialEq, Eq)]
-pub enum Ending {
+pub(crate) enum Ending {
     /// A line feed.
     LineFeed,
     /// The input's end.
@@ -70,7 +70,7 @@ fn pad(bytes: &mut Vec<u8>, count: usize)
 /// The block of the input that was read last, at most 4,096 bytes until one has so many and at most 65,536 from then on, and the
 /// line that was read last, which stands in the block or, where it doesn't lie whole in one, apart.
 #[derive(Drop)]
-pub struct Block {
+pub(crate) struct Block {
     bytes: Vec<u8>,
     filled: usize,
     taken: usize,
@@ -98,7 +98,7 @@ impl Model for Block {
 
 impl Block {
     /// No block and no line yet. The one error is that memory was refused.
-    pub fn new(alloc: Global) -> Result<Block, AllocError>
+    pub(crate) fn new(alloc: Global) -> Result<Block, AllocError>
         ensures { IfOk result (λ block. block ≡ record { ahead = []; taken = 0; has_text = false; line = [] }) }
     {
         let mut bytes = Vec::with_capacity(alloc, BLOCK_BYTES)?;
@@ -116,21 +116,21 @@ impl Block {
     }
 
     /// Notes that text was written since it was read.
-    pub fn note_text(&mut self)
+    pub(crate) fn note_text(&mut self)
         ensures { self.new ≡ record self.old { has_text = true } }
     {
         self.has_text = true;
     }
 
     /// Whether the line that was read last is known to be one that may stand.
-    pub fn has_plain_line(&self) -> bool
+    pub(crate) fn has_plain_line(&self) -> bool
         ensures { result ≡ true → is_plain_line self.now.line ≡ true }
     {
         !self.is_apart
     }
 
     /// The line that was read last.
-    pub fn line(&self) -> &[u8]
+    pub(crate) fn line(&self) -> &[u8]
         ensures { result.now ≡ self.now.line }
     {
         if self.is_apart {
@@ -188,7 +188,7 @@ impl Block {
     }
 
     /// Takes the next byte; none at the input's end.
-    pub fn next_byte<R: Read, W: Write>(
+    pub(crate) fn next_byte<R: Read, W: Write>(
         &mut self,
         reader: &mut R,
         writer: &mut W,
@@ -284,7 +284,7 @@ impl Block {
 
     /// Takes the bytes up to the next line feed, and it too. They are the line that was read last.
     #[inline(always)]
-    pub fn read_line<R: Read, W: Write>(
+    pub(crate) fn read_line<R: Read, W: Write>(
         &mut self,
         reader: &mut R,
         writer: &mut W,

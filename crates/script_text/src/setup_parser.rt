@@ -78,7 +78,7 @@ fn bus_bytes(words: &Words<'_>) -> Result<u8, u32>
 }
 
 /// `config CLIENTS QUOTA IDS DEPTH MAXLEN MAXSIZE LEVELS`, and the bytes of the bus where they aren't 8.
-pub fn config_line(words: &Words<'_>) -> Result<Config, u32>
+pub(crate) fn config_line(words: &Words<'_>) -> Result<Config, u32>
     ensures { result ≡ config_line words.now }
 {
     let clients = words.byte(2)?;
@@ -129,7 +129,7 @@ fn permission(letter: u8, name: u8) -> Result<bool, u32>
 }
 
 /// `region TLPAGE PAGES AXIPAGE PERMS`.
-pub fn region_line(words: &Words<'_>) -> Result<SetupLine, u32>
+pub(crate) fn region_line(words: &Words<'_>) -> Result<SetupLine, u32>
     ensures { result ≡ region_line words.now }
 {
     let tl_page = words.address(2)?;
@@ -149,7 +149,7 @@ pub fn region_line(words: &Words<'_>) -> Result<SetupLine, u32>
 }
 
 /// How many pages a `page` line has: 1 to 64.
-pub fn page_count(words: &Words<'_>) -> Result<u8, u32>
+pub(crate) fn page_count(words: &Words<'_>) -> Result<u8, u32>
     ensures { Reads (count_field (word_at words.now 3)) (dec_at words.now 3) 3 result }
 {
     match words.dec(3, 64)? {
@@ -169,7 +169,7 @@ fn page_kind(words: &Words<'_>) -> Result<PageKind, u32>
 }
 
 /// `page AXIPAGE COUNT KIND`.
-pub fn page_line(words: &Words<'_>) -> Result<SetupLine, u32>
+pub(crate) fn page_line(words: &Words<'_>) -> Result<SetupLine, u32>
     ensures { result ≡ page_line words.now }
 {
     let first = words.address(2)?;
@@ -180,7 +180,7 @@ pub fn page_line(words: &Words<'_>) -> Result<SetupLine, u32>
 }
 
 /// `bad ADDRESS`.
-pub fn bad_line(words: &Words<'_>) -> Result<SetupLine, u32>
+pub(crate) fn bad_line(words: &Words<'_>) -> Result<SetupLine, u32>
     ensures { result ≡ bad_line words.now }
 {
     let address = words.address(2)?;

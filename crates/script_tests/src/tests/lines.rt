@@ -3,7 +3,8 @@ use line_text::{
     Words, WriteFault, client_line, drained_line, mem_line, offer_line, ok_line, refused_line,
     reply_line, work_line,
 };
-use script_text::{ScriptFault, answer_line};
+use run_script::answer_line;
+use script_text::ScriptFault;
 use std::io;
 use std::io::{ErrorKind, Write};
 use std::test::Fail;

@@ -2,7 +2,7 @@
 ghost use Rattle.std.specs.Prelude.{◌≡◌, OnErr, OnOk};
 ghost use Rattle.std.specs.Io.KnownBytes.{Appends};
 ghost use Rattle.line_text.specs.Writing.{StopsShort};
-ghost use Rattle.script_text.specs.Answers.{answer_text};
+ghost use Rattle.run_script.specs.Answers.{answer_text};
 
 use line_text::{
     WriteFault, accepted_line, b_line, r_line, refused_line, reply_line, sent_line, write_text,
