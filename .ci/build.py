@@ -26,7 +26,8 @@ class Crate:
     def __init__(self, line, below, is_program, seconds):
         self.line, self.name, self.below, self.seconds, self.began = line, line.split(":")[0].split()[0], below, seconds, None
         self.folder, self.copy, self.stamp = Path("crates", self.name), ROOM / self.name, ROOM / f"{self.name}.sum"
-        self.words, self.result = ["rt", "run" if is_program else "lib"], self.folder / "out" / (self.name if is_program else "rlib")
+        self.words = ["rt", "run" if is_program else "lib"]
+        self.result = self.folder / "out" / (self.name if is_program else "rlib")
         self.made = self.result if is_program else ROOM / f"{self.name}.rlib"
         self.is_built = not is_program and self.made.exists() and self.stamp.exists() and self.stamp.read_text() == self.sum()
 
@@ -107,8 +108,13 @@ def build(program, crates):
 def main(program):
     ROOM.mkdir(parents=True, exist_ok=True)
     crates = crates_of(program)
-    failed = build(program, crates)
-    TABLES[1].write_text("".join(f"{it.name} {max(it.seconds, 1):.0f}\n" for it in crates))
+    try:
+        failed = build(program, crates)
+    except KeyboardInterrupt:
+        print(f"{program}: the build was stopped; the next call goes on there", file=sys.stderr)
+        return 130
+    finally:
+        TABLES[1].write_text("".join(f"{it.name} {max(it.seconds, 1):.0f}\n" for it in crates))
     print(f"{failed.name} wasn't proved and built" if failed else f"{program} is built")
     return 1 if failed else 0
 

@@ -3,6 +3,7 @@ each takes a moment: the `program` that it makes prints what its source had, its
 
 import os
 import shutil
+import signal
 import subprocess
 import sys
 import tempfile
@@ -21,6 +22,7 @@ text=$(cat src/main.rt) && [ -r ../low/out/rlib/low.rlib ] || exit 1
 case $DOES in
 fails) exit 1 ;;
 stops) kill -9 $$ ;;
+waits) exec sleep 60 ;;
 edits) echo edited >"$TREE/crates/tlbridge/src/main.rt" ;;
 deletes) rm "$TREE/crates/tlbridge/src/more.rt" ;;
 esac
@@ -121,6 +123,25 @@ def first_use(copy):
 def goes_on(copy):
     """A library that was built before a build stopped isn't built again; how long it took then is known."""
     copy.call(does="stops")
+    return runs(copy.call(), builds=PROGRAM)
+
+
+def interrupted(copy):
+    """By the keyboard, once the library is built: nothing but a line is said, and the next call goes on there."""
+    path = copy.path + b":" + os.environb[b"PATH"]
+    env = {**os.environb, b"PATH": path, b"NOTED": copy.noted, b"DOES": b"waits", b"TREE": copy.root}
+    # (who starts the tests may have them ignore the keyboard)
+    heeds = lambda: signal.signal(signal.SIGINT, signal.default_int_handler)
+    how = dict(stdin=subprocess.DEVNULL, stderr=subprocess.PIPE, start_new_session=True, preexec_fn=heeds)
+    with subprocess.Popen([copy.file("tlbridge")], env=env, **how) as ran:
+        for _ in range(300):
+            if os.path.exists(copy.noted) and Path(os.fsdecode(copy.noted)).read_text().splitlines() == ALL:
+                break
+            time.sleep(0.1)
+        os.killpg(ran.pid, signal.SIGINT)
+        lines = ran.communicate(timeout=30)[1].decode(errors="replace").splitlines()
+    if "tlbridge: the build was stopped; the next call goes on there" not in lines or any("Traceback" in it for it in lines):
+        return f"{lines!r} on standard error"
     return runs(copy.call(), builds=PROGRAM)
 
 
@@ -353,6 +374,7 @@ def cases(program):
     table = {
         "first use": first_use,
         "a build that goes on": goes_on,
+        "a build that the keyboard stops": interrupted,
         "how long a build will take": time_to_go,
         "how long each crate took": times_noted,
         "the words": words_pass,
