@@ -91,6 +91,11 @@ TABLE = {
     "three transfers a burst to check": (["check"], b"config 1 1 1 1 3 12 h\n", 2, b"", b"set-up fault: BadConfig 0\n"),
     "a mask that is no number": (["run"], SETUP + b"a 0 0 0 3 5 8 zz 0 0\n", 2, b"", b"script fault: line 4, word 8\n"),
     "a command of run to check": (["check"], CONFIG + b"pump\n", 2, b"", b"script fault: line 2, word 1\n"),
+    "a byte that is on no page": (["run"], CONFIG + b"mem 0\n", 0, b"= mem --\n", b""),
+    "an answer before a fault": (["run"], CONFIG + b"work\nfree 0 0\n", 2, b"= work 0\n", b"script fault: line 3, word 1\n"),
+    "an answer before a fault, to check": (
+        ["check"], CONFIG + b"free 0 0\nmem 0\n", 2, b"= notbusy\n", b"script fault: line 3, word 1\n",
+    ),
     "a client that isn't there, to check": (["check"], CONFIG + b"free 1 0\n", 1, b"= noclient\n", b""),
     "a source that isn't busy, to check": (["check"], CONFIG + b"free 0 0\n", 0, b"= notbusy\n", b""),
     "as many lines as may be": (["run"], CONFIG + b"\n" * 65_535, 0, b"", b""),
