@@ -16,3 +16,6 @@ returns-clause-lanes c =
   where
     whole : c.loop-lane.mask ≡ mask_of (λ lane. slice_index_or c.args.lanes lane false)
     whole = search rules
+
+pub loop-lane-preserved : goal.loop-lane-preserved
+loop-lane-preserved c = search rules

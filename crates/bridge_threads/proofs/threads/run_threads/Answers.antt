@@ -1,5 +1,5 @@
 -- The report is that of the replay.
-use Rattle.std.proofs.Common.{◌≡◌, ◌≤◌, ◌∙◌, Some, ap, arith, length, sym}
+use Rattle.std.proofs.Common.{◌≡◌, ◌≤◌, ◌∙◌, Some, ap, arith, length, sym, rules}
 use Rattle.std.proofs.lemmas.List.{length-map}
 use Rattle.config.specs.Configs.{port_of}
 use Rattle.setups.specs.Setups.{lists_of}
@@ -49,3 +49,12 @@ returns-in-Some-clause-beat g c client index rule is =
     let same : c.in-Some.fault ≡ BeatRefused client index rule = cc in
     let refused = c.told.ensures.beat setup (length c.args.scripts.now) client index rule (c.in-Ok.ensures.ports few) few (c.in-Some.is ∙ ap (λ fault. Some fault) same) in
     (refused, never_busy (port_of setup.config client) refused.breaks.front refused.breaks.beat rule refused.breaks.broken)
+
+pub returns-then-refused-clause-refused : goal.returns-then-refused-clause-refused
+returns-then-refused-clause-refused g c = search rules
+
+pub returns-clause-full : goal.returns-clause-full
+returns-clause-full g c = search rules
+
+pub returns-clause-beat : goal.returns-clause-beat
+returns-clause-beat g c = search rules

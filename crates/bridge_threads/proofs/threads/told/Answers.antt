@@ -1,5 +1,6 @@
 -- A refused beat was confirmed, by a port that has kept its limits.
-use Rattle.std.proofs.Common.{◌∙◌}
+use Rattle.std.proofs.Common.{◌∙◌, arith}
+use Rattle.std.proofs.lemmas.Grind.{common_steps}
 use Rattle.std.specs.Prelude.{Ok}
 use Rattle.std.proofs.lemmas.Option.{same_Some}
 use Rattle.std.proofs.Common.{ap}
@@ -8,3 +9,12 @@ use Rattle.bridge_threads.proofs.threads.told.Goals as goal
 pub returns-in-Ok-clause-beat : goal.returns-in-Ok-clause-beat
 returns-in-Ok-clause-beat c setup clients client index rule same few is =
     c.confirmed.ensures.beat setup clients client index rule (c.loop-worker.invariant.1 ∙ same) few (c.in-Ok.is ∙ ap (λ fault. Ok fault) (same_Some _ _ is))
+
+pub loop-worker-preserved-in_default : goal.loop-worker-preserved-in_default
+loop-worker-preserved-in_default c = grind (arith, common_steps)
+
+pub returns-in-Ok-clause-first : goal.returns-in-Ok-clause-first
+returns-in-Ok-clause-first c = grind (arith, common_steps)
+
+pub loop-worker-preserved : goal.loop-worker-preserved
+loop-worker-preserved c = grind (arith, common_steps)

@@ -1,5 +1,5 @@
 -- What was seen is what all steps show, and it is right.
-use Rattle.std.proofs.Common.{List, subst, sym, take}
+use Rattle.std.proofs.Common.{List, subst, sym, take, rules}
 use Rattle.std.proofs.lemmas.List.{take_more}
 use Rattle.setups.specs.Setups.{lists_of, setup_fault}
 use Rattle.world.specs.declared.Step.{Step}
@@ -31,3 +31,12 @@ returns-clause-refused c = refused_later (setup_fault (lists_of c.args.setup.now
 
 pub returns-in_default-see_step-clause-refused : goal.returns-in_default-see_step-clause-refused
 returns-in_default-see_step-clause-refused c = refused_later (setup_fault (lists_of c.args.setup.now)) _ _ c.in-Ok.ensures.refused
+
+pub returns-in-Err-clause-refused : goal.returns-in-Err-clause-refused
+returns-in-Err-clause-refused c = search rules
+
+pub returns-in-Err-clause-shows : goal.returns-in-Err-clause-shows
+returns-in-Err-clause-shows c = search rules
+
+pub returns-in-Err-clause-right : goal.returns-in-Err-clause-right
+returns-in-Err-clause-right c = search rules

@@ -1,4 +1,4 @@
-use Rattle.std.proofs.Common.{[], inl, refl, arith}
+use Rattle.std.proofs.Common.{[], inl, refl, arith, rules}
 use Rattle.std.proofs.KnownBytes.{Consumes-nil, Keeps-refl}
 use Rattle.run_script.proofs.script.run_text.Goals as goal
 
@@ -13,3 +13,6 @@ returns-in_default g c =
       block = omega arith;
       ends = (Keeps-refl (g.W.Write.contents c.args.writer.now), inl refl);
     }
+
+pub returns : goal.returns
+returns g c = search rules

@@ -1,5 +1,5 @@
 -- The record of all steps is that of the run, and the laws hold along it.
-use Rattle.std.proofs.Common.{List, subst, sym, take}
+use Rattle.std.proofs.Common.{List, subst, sym, take, rules}
 use Rattle.std.proofs.lemmas.List.{take_all, take_more}
 use Rattle.world.specs.Laws.{AreSoundAlong}
 use Rattle.world_run.specs.Runs.{IsRunOf}
@@ -45,3 +45,6 @@ returns-clause-in_order c =
     run_ordered (lists_of c.args.setup.now) c.args.steps.now c.loop-step.ran.answers.items c.loop-step.ran.replies.items c.loop-step.ran.d_beats.items c.loop-step.ran.sent.items c.loop-step.ran.world
     (subst (λ (steps : List Step). AreSoundAlong (opening_world (lists_of c.args.setup.now)) steps) (take_all c.loop-step.step-index c.args.steps.now c.loop-step-test.false) c.loop-step.invariant.1)
     (ran_whole c.args.steps.now c.loop-step.step-index c.loop-step-test.false c.loop-step.invariant.0)
+
+pub returns-in-Err-clause-refused : goal.returns-in-Err-clause-refused
+returns-in-Err-clause-refused c = search rules

@@ -9,3 +9,9 @@ pub last_byte-requires : goal.last_byte-requires
 last_byte-requires c =
     let fits : fits_bus c.args.self.bus_bytes c.args.address.size ≡ true = search rules in
     omega (arith, size_within c.args.self.bus_bytes c.args.address.size c.requires fits, ap (λ (address : BurstAddress). address.size) c.address.view_is)
+
+pub returns-clause-rule : goal.returns-clause-rule
+returns-clause-rule c = search rules
+
+pub returns-clause-room : goal.returns-clause-room
+returns-clause-room c = search rules

@@ -14,3 +14,6 @@ invariant_of-self c =
       grind (arith, common_steps, c.push_reserved.ensures.len, c.if-len-self.false, c.len.ensures),
       omega (arith, c.push_reserved.ensures.capacity, c.self.invariant.2),
     )
+
+pub returns-else-not-leaves_all-clause-state : goal.returns-else-not-leaves_all-clause-state
+returns-else-not-leaves_all-clause-state c = grind (arith, common_steps)

@@ -23,3 +23,6 @@ loop-i-preserved c =
 pub returns-clause-footprint : goal.returns-clause-footprint
 returns-clause-footprint c =
     given_way c.args.self.now c.loop-i.self (footprint_of c.args.other.now) (search (rules)) c.loop-i.invariant.0 (λ k below. c.loop-i.invariant.1 k (omega arith))
+
+pub returns-then-not-other-clause-footprint : goal.returns-then-not-other-clause-footprint
+returns-then-not-other-clause-footprint c = search rules

@@ -1,5 +1,5 @@
 -- No write of the ID is open.
-use Rattle.std.proofs.Common.{arith, ◌*◌, ap, sym, subst, ◌∙◌}
+use Rattle.std.proofs.Common.{arith, ◌*◌, ap, sym, subst, ◌∙◌, rules}
 use Rattle.subordinate.specs.Device.{DeviceState}
 use Rattle.subordinate.specs.Order.{AnswersOldestWrite}
 use Rattle.subordinate.proofs.OrderLaws.{answers_oldest_write}
@@ -39,3 +39,6 @@ returns-clause-takes c =
     let place = sym c.oldest_write.ensures.place ∙ c.in_ok-place.was in
     takes_b c.args.self.now.memory c.args.id c.write_response-resp.result c.open_at.result.now c.oldest_write.ensures.laws (c.open_at.ensures.found (is_write_of c.args.id) place)
     (ap is_exokay c.write_response-resp.ensures.value ∙ write_plain (standing_at c.self.inside.pages.faults c.start.result))
+
+pub returns-clause-answer : goal.returns-clause-answer
+returns-clause-answer c = search rules

@@ -1,5 +1,5 @@
 -- The burst of the serial, if it is open, and the effect of its beat by addresses.
-use Rattle.std.proofs.Common.{◌≡◌, sym, ap, subst, ◌∙◌, refl}
+use Rattle.std.proofs.Common.{◌≡◌, sym, ap, subst, ◌∙◌, refl, rules}
 use Rattle.std.specs.Prelude.{Some, IfSome, find}
 use Rattle.axi_beats.specs.Bursts.{IsLegal}
 use Rattle.subordinate.specs.Device.{DeviceState}
@@ -45,3 +45,6 @@ returns-in-Some-Waiting-clause-order c =
 pub returns-in-Some-Waiting-clause-monitor : goal.returns-in-Some-Waiting-clause-monitor
 returns-in-Some-Waiting-clause-monitor c =
     ap (λ (device : DeviceState). open_bursts_of device.memory) (returns-in-Some-Waiting-clause-state c) ∙ known_performed c.args.self.now.memory c.args.serial c.args.beat
+
+pub returns-in-Some-beat_at : goal.returns-in-Some-beat_at
+returns-in-Some-beat_at c = search rules

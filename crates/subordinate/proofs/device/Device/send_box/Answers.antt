@@ -1,5 +1,5 @@
 -- There is room for a burst that breaks no rule.
-use Rattle.std.proofs.Common.{◌≡◌, ◌<◌, ◌+◌, List, [], ◌∷◌, length, arith, refl, sym, ap, subst}
+use Rattle.std.proofs.Common.{◌≡◌, ◌<◌, ◌+◌, List, [], ◌∷◌, length, arith, refl, sym, ap, subst, rules}
 use Rattle.std.specs.Prelude.{Option, IfSome, IsSome}
 use Rattle.std.specs.Vec.{vec_len}
 use Rattle.std.proofs.lemmas.List.{length-append, length-map}
@@ -81,3 +81,6 @@ pub returns-clause-laws : goal.returns-clause-laws
 returns-clause-laws c =
     let joined = joining _ _ c.args.burst c.self.view_is c.self.invariant.0 c.requires.full (c.send_fault.ensures.legal c.in_default.is) (c.send_fault.ensures.room c.in_default.is) in
     rw (c.push.ensures, c.new.ensures) joined.sound
+
+pub returns-in-Some-clause-answer : goal.returns-in-Some-clause-answer
+returns-in-Some-clause-answer c = search rules

@@ -1,5 +1,5 @@
 -- What is handed out was spelled, so it is sound.
-use Rattle.std.proofs.Common.{IsSome, sym, subst}
+use Rattle.std.proofs.Common.{IsSome, sym, subst, rules}
 use Rattle.tl_messages.specs.Requests.{HeldMessage}
 use Rattle.tl_checker.specs.Inside.{port_state, whole_at}
 use Rattle.tl_checker.specs.Ports.{PortState}
@@ -15,3 +15,9 @@ returns-clause-sound c =
     let sound = standing_sound port.limits inside.stage inside.request stands c.self.invariant.1.whole in
     subst (λ (message : HeldMessage). IsSound c.args.self.now.limits message) (sym c.swap.ensures.y_after)
     (subst (λ (p : PortState). IsSound p.limits inside.request) c.self.view_is sound)
+
+pub invariant_of-self : goal.invariant_of-self
+invariant_of-self c = search rules
+
+pub returns-clause-port : goal.returns-clause-port
+returns-clause-port c = search rules

@@ -1,0 +1,5 @@
+use Rattle.std.proofs.Common.{rules}
+use Rattle.axi_beats.proofs.burst_box.BurstBox.set_read.Goals as goal
+
+pub returns : goal.returns
+returns c = search rules

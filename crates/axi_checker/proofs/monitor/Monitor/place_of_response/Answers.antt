@@ -1,0 +1,8 @@
+use Rattle.std.proofs.Common.{rules}
+use Rattle.axi_checker.proofs.monitor.Monitor.place_of_response.Goals as goal
+
+pub returns-then-is_exokay : goal.returns-then-is_exokay
+returns-then-is_exokay c = search rules
+
+pub returns : goal.returns
+returns c = search rules

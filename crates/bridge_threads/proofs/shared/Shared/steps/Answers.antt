@@ -1,0 +1,5 @@
+use Rattle.std.proofs.Common.{rules}
+use Rattle.bridge_threads.proofs.shared.Shared.steps.Goals as goal
+
+pub returns : goal.returns
+returns c = search rules

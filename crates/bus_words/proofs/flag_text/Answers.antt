@@ -1,0 +1,8 @@
+use Rattle.std.proofs.Common.{rules}
+use Rattle.bus_words.proofs.flag_text.Goals as goal
+
+pub returns-then-flag : goal.returns-then-flag
+returns-then-flag c = search rules
+
+pub returns-else-flag : goal.returns-else-flag
+returns-else-flag c = search rules

@@ -1,0 +1,5 @@
+use Rattle.std.proofs.Common.{rules}
+use Rattle.line_text.proofs.words.Words.end.Goals as goal
+
+pub returns : goal.returns
+returns c = search rules

@@ -1,0 +1,5 @@
+use Rattle.std.proofs.Common.{rules}
+use Rattle.line_text.proofs.words.is_comment.Goals as goal
+
+pub returns : goal.returns
+returns c = search rules

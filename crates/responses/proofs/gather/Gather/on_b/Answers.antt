@@ -1,0 +1,5 @@
+use Rattle.std.proofs.Common.{rules}
+use Rattle.responses.proofs.gather.Gather.on_b.Goals as goal
+
+pub returns : goal.returns
+returns c = search rules

@@ -1,0 +1,5 @@
+use Rattle.std.proofs.Common.{rules}
+use Rattle.script_text.proofs.setup_lines.setup_line.Goals as goal
+
+pub returns-in-Region : goal.returns-in-Region
+returns-in-Region c = search rules

@@ -1,0 +1,5 @@
+use Rattle.std.proofs.Common.{rules}
+use Rattle.threads_script.proofs.asked.Asked.addresses.Goals as goal
+
+pub returns : goal.returns
+returns c = search rules

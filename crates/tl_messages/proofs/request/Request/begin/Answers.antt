@@ -1,0 +1,5 @@
+use Rattle.std.proofs.Common.{rules}
+use Rattle.tl_messages.proofs.request.Request.begin.Goals as goal
+
+pub returns : goal.returns
+returns c = search rules
