@@ -1,10 +1,10 @@
-"""The tests of bridge_threads, and the example of `tlbridge threads`, on a machine that is busy: each test 50 times and the
-example 10 times while as many loops run as there are processors, then each test once and the example 10 times on one
-processor alone. By hand, since it keeps the whole machine for minutes.
+"""The tests of tlbridge, among them those of bridge_threads, and the example of `tlbridge threads`, on a machine that is busy: each
+test 50 times and the example 10 times while as many loops run as there are processors, then each test once and the example 10
+times on one processor alone. By hand, since it keeps the whole machine for minutes.
 
     python3 tests/busy_threads.py TESTS PROGRAM
 
-TESTS is crates/bridge_threads/out/bridge_threads_tests, as rt ci leaves it.
+TESTS is crates/tlbridge/out/tlbridge_tests, as rt ci leaves it.
 """
 
 import os

@@ -38,15 +38,15 @@ TWELVE = Script(
     0,
     "= ok\n" + "".join(f"client {client}\n" for client in range(8)),
 )
-# The tests of the calls that take memory: its crate, its name, and the errors that it may end with, in this order.
+# The tests of the calls that take memory: where each stands, its name, and the errors that it may end with, in this order.
 CALLS = (
     *(("world_tests", f"constructors::{name}", ("AllocError",)) for name in (
         "request", "reply_box", "burst_box", "port", "monitor", "flight", "gather")),
     *(("world_tests", f"constructors::{name}", ("NoMemory",)) for name in (
         "page_map", "bridge", "device", "world", "opened_world", "a_run")),
-    ("bridge_threads", "growths::shared", ("NoMemory",)),
+    ("tlbridge", "growths::shared", ("NoMemory",)),
     # The lists that it is given come first.
-    ("bridge_threads", "growths::threads", ("AllocError", "NoMemory", "Spawn")),
+    ("tlbridge", "growths::threads", ("AllocError", "NoMemory", "Spawn")),
 )
 # How many bytes a read moves at most, so that a script takes many; how many the program has room for until a read fills all of
 # it, and from then on.

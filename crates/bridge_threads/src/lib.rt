@@ -5,8 +5,6 @@ mod clients;
 mod limits;
 mod ports;
 mod shared;
-#[cfg(test)]
-mod tests;
 mod threads;
 mod turns;
 

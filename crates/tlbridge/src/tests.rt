@@ -1,29 +1,21 @@
-use crate::faults::{TextFault, status_of};
-use bridge_threads::Fault;
-use std::test::Fail;
+use std::fmt::Debug;
+use std::process::Abort;
 
-/// The faults of threads that no run of the program ends with, and the text of each.
-const UNSEEN: [(Fault, &str); 4] = [
-    (Fault::Spawn, "thread fault: 3 Spawn"),
-    (Fault::GateShut, "thread fault: 4 GateShut"),
-    (Fault::IdleLimit, "thread fault: 5 IdleLimit"),
-    (
-        Fault::ReceiptMismatch {
-            client: 1,
-            index: 2,
-        },
-        "thread fault: 8 ReceiptMismatch client 1 index 2",
-    ),
-];
+mod gates;
+mod given;
+mod growths;
+mod refusals;
+mod runs;
+mod shared;
+mod statuses;
+mod texts;
 
-#[test]
-fn statuses_and_texts(rt: HostRuntime) -> Result<(), Fail> {
-    let unwell: Result<bool, TextFault> = Err(TextFault::Thread(Fault::NoMemory));
-    assert_eq!(rt; status_of(&unwell), 4);
-    for (fault, text) in UNSEEN {
-        let fault = TextFault::Thread(fault);
-        assert_eq!(rt; status_of(&Err(fault)), 5, "{text}");
-        assert_eq!(rt; fault.to_string(rt.alloc())?.as_str(), text);
-    }
-    Ok(())
+/// Has the test fail where two values differ; `case` says of what they are.
+pub(crate) fn same<C: Debug + Drop, T: Debug + Drop + PartialEq>(
+    rt: &impl Abort,
+    case: C,
+    got: T,
+    wanted: T,
+) {
+    assert_eq!(rt; got, wanted, "{case:?}");
 }

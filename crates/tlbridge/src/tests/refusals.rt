@@ -2,8 +2,8 @@
 use super::gates::Shut;
 use super::given::*;
 use super::same;
-use crate::{Fault, Limits, Who, run_threads};
 use bridge_core::Config;
+use bridge_threads::{Fault, Limits, Who, run_threads};
 use std::test::Fail;
 
 /// What is asked for: the longest burst, how many scripts, how many beats of each, how many lists of words, and the limits.

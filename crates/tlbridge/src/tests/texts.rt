@@ -1,6 +1,6 @@
 //! What the faults are called.
 use super::same;
-use crate::Fault;
+use bridge_threads::Fault;
 use std::test::Fail;
 use tl_checker::TlRule;
 

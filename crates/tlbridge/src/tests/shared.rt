@@ -1,9 +1,8 @@
 //! What lies under the lock, without threads.
 use super::given::*;
 use super::same;
-use crate::turns::{Turn, WorkerFault, hold};
-use crate::{HistoryFull, Shared};
 use bridge_core::Config;
+use bridge_threads::{HistoryFull, Shared};
 use burst_plan::MapFault;
 use std::test::Fail;
 use subordinate::{DeviceFault, PageKind};
@@ -90,25 +89,6 @@ fn turns(rt: HostRuntime) -> Result<(), Fail> {
 }
 
 /// Room for three steps, and more to do: the burst of two beats is sent, and the second beat is performed.
-#[test]
-fn full_in_a_hold(rt: HostRuntime) -> Result<(), Fail> {
-    let alloc = rt.alloc();
-    let mut reply = ReplyBox::new(alloc)?;
-    let mut shared = Shared::new(alloc, &set_up(TWO_CLIENTS), 3).expect(&rt, "a set-up");
-    let offer = Step::Offer(0, TWO_BEATS);
-    let answer = shared.turn(&offer, &mut reply);
-    same(&rt, "offer", answer, Ok(Answer::Accepted(0)));
-    let mut place = 0usize;
-    let turn = hold(&mut shared, &[4, 5, 6], &mut place, &mut reply);
-    same(&rt, "hold", turn, Turn::Failed(WorkerFault::HistoryFull));
-    let steps = [offer, Step::Pump, Step::Perform(0, 1)];
-    same(&rt, "steps", shared.steps(), steps.as_slice());
-    same(&rt, "place", place, 2);
-    same(&rt, "work left", shared.world().work_left(), 3);
-    Ok(())
-}
-
-/// A million steps may be stored, and no more.
 #[test]
 fn a_million_steps(rt: HostRuntime) -> Result<(), Fail> {
     let alloc = rt.alloc();

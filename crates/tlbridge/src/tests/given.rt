@@ -1,6 +1,6 @@
 //! Set-ups, scripts and lists of words.
-use crate::{Fault, Gate, Limits, run_threads};
 use bridge_core::Config;
+use bridge_threads::{Fault, Gate, Limits, run_threads};
 use burst_plan::Region;
 use std::alloc::{AllocError, Global};
 use std::sync::Wait;

@@ -2,8 +2,8 @@
 use super::gates::{Holding, Meeting, Open, SecondFirst, Shut};
 use super::given::*;
 use super::same;
-use crate::{Fault, Limits, Who};
 use bridge_core::Config;
+use bridge_threads::{Fault, Limits, Who};
 use std::alloc::Global;
 use std::test::Fail;
 use thread_reports::{Receipts, Report};

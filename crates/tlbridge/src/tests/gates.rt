@@ -1,5 +1,5 @@
 //! Gates.
-use crate::{Gate, Who};
+use bridge_threads::{Gate, Who};
 use std::sync::atomic::{AtomicBool, AtomicU64, Ordering};
 
 /// Lets everyone pass.

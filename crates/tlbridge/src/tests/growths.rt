@@ -2,7 +2,7 @@
 //! is the test's error. `tests/refusals.py` refuses each growth of these tests in turn.
 use super::gates::Open;
 use super::given::*;
-use crate::{Shared, run_threads};
+use bridge_threads::{Shared, run_threads};
 use std::test::Fail;
 use tl_messages::ABeat;
 
