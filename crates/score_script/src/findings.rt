@@ -10,7 +10,7 @@ use tl_messages::d_line;
 
 /// What a line finds.
 #[derive(Clone, Copy, Debug, PartialEq, Eq)]
-pub enum Finding {
+pub(crate) enum Finding {
     /// A wrong beat: the number of its line, its client, and what is wrong with it.
     Beat(u32, u8, Wrong),
     /// The byte at an address; none outside good pages.
@@ -71,7 +71,7 @@ fn wrong_line<W: Write>(
 }
 
 /// Writes the line of a finding.
-pub fn finding_line<W: Write>(finding: &Finding, writer: &mut W) -> Result<(), WriteFault>
+pub(crate) fn finding_line<W: Write>(finding: &Finding, writer: &mut W) -> Result<(), WriteFault>
     ensures { OnOk result (Appends (W.contents writer.old) (W.contents writer.new) (finding_text finding.now)) }
 {
     match finding {
@@ -110,7 +110,7 @@ pub(crate) fn findings_lines<W: Write>(
 
 /// Writes the last line: how many beats were judged, how many of them are wrong, how many accepted requests have a reply
 /// that wasn't seen whole, and how many AXI bursts are open.
-pub fn last_line<W: Write>(
+pub(crate) fn last_line<W: Write>(
     judged: u64,
     wrong: u64,
     outstanding: u16,

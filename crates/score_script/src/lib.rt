@@ -7,6 +7,4 @@ mod profiles;
 mod score;
 mod script;
 
-pub use findings::{Finding, finding_line, last_line};
-pub use lines::{Channel, is_withdrawal, seen_line};
 pub use script::score_text;

@@ -13,7 +13,7 @@ use tl_messages::DBeat;
 
 /// A channel on which beats are observed.
 #[derive(Clone, Copy, Debug, PartialEq, Eq)]
-pub enum Channel {
+pub(crate) enum Channel {
     /// TileLink requests.
     A,
     /// TileLink replies.
@@ -32,7 +32,7 @@ pub enum Channel {
 
 impl Channel {
     /// The channel whose lines begin with this word.
-    pub fn named(word: &[u8]) -> Option<Channel>
+    pub(crate) fn named(word: &[u8]) -> Option<Channel>
         ensures { result ≡ channel_of word.now }
     {
         match word {
@@ -162,7 +162,7 @@ fn r_line(words: &Words<'_>) -> Result<ObservedBeat, u32>
 }
 
 /// The beat that a channel's line says, or its first wrong word.
-pub fn seen_line(channel: Channel, words: &Words<'_>) -> Result<ObservedBeat, u32>
+pub(crate) fn seen_line(channel: Channel, words: &Words<'_>) -> Result<ObservedBeat, u32>
     ensures { result ≡ seen_line channel words.now }
 {
     match channel {
@@ -189,7 +189,7 @@ fn address_line(words: &Words<'_>) -> Result<u32, u32>
 }
 
 /// Whether an answer, by the word after `=`, says that the beat straight before it wasn't taken.
-pub fn is_withdrawal(word: &[u8]) -> bool
+pub(crate) fn is_withdrawal(word: &[u8]) -> bool
     ensures { result ≡ is_withdrawal word.now }
 {
     word == b"noclient".as_slice()
