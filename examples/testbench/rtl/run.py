@@ -1,10 +1,13 @@
-"""Simulates the bridge of this folder, as it is and with each of six faults planted, and has tlscore judge what the monitor saw.
+"""Simulates the bridge of this folder in front of each memory, as it is, and with each of six faults planted, and has tlscore judge
+what the monitor saw.
 
-    python3 examples/testbench/rtl/run.py [--runs N] [--first SEED] [--profile NAME] [--simulator NAME] [--score PROGRAM]
+    python3 examples/testbench/rtl/run.py [--runs N] [--first SEED] [--profile NAME] [--bridge NAME] [--simulator NAME]
+                                          [--score PROGRAM]
 
 For each of them it prints how many runs were told wrong, and after how many beats the first wrong line came. It ends with status 0
 exactly where the right bridge is never blamed and each fault is told in some run, with 1 where not, with 2 for words that it doesn't
-know, with 3 where a simulator or tlscore can't do its work, and with 4 where there is no simulator.
+know, with 3 where a simulator or tlscore can't do its work, and with 4 where there is no simulator. --bridge streaming_bridge has
+another one judged, which is right and yet blamed: README.md says why.
 """
 
 import argparse
@@ -17,11 +20,14 @@ import sys
 import tempfile
 from collections import Counter
 from pathlib import Path
+from typing import NamedTuple
 
 HERE = Path(__file__).resolve().parent
 SETUP = (HERE / "setup.lines").read_text()
-FILES = ("testbench.sv", "client.sv", "bridge.sv", "memory.sv", "monitor.sv")
+FILES = ("testbench.sv", "client.sv", "bridge.sv", "streaming_bridge.sv", "fifo.sv", "memory.sv", "monitor.sv")
 SIMULATORS = ("iverilog", "verilator")
+BRIDGES = ("bridge", "streaming_bridge")
+MEMORIES = ("ANY_ORDER", "IN_ORDER", "AS_BEATS_COME", "SLOW")
 RIGHT = "NONE"
 BUGS = ("LANE_SWAPPED", "STROBE_LOST", "OTHER_SOURCE", "REPLY_TWICE", "WLAST_EARLY", "PAGE_CROSSED")
 WRONG = re.compile(r"^= wrong (\d+) (.*?)(?: expected .*)?$", re.MULTILINE)
@@ -32,15 +38,31 @@ class Cannot(Exception):
     """A program can't do its work."""
 
 
-def compiled(simulator, bug, folder):
-    """Makes the testbench with a fault planted, and returns the words that run it."""
+class Bench(NamedTuple):
+    """A bridge, in front of a memory, with a fault planted or with none."""
+
+    bridge: str
+    memory: str = MEMORIES[0]
+    bug: str = RIGHT
+
+    @property
+    def name(self):
+        return self.memory if self.bug == RIGHT else self.bug
+
+    @property
+    def defines(self):
+        chosen = [f"-DBRIDGE={self.bridge}"] if self.bridge != BRIDGES[0] else []
+        return [*chosen, f"-DMEMORY={self.memory}", f"-DBUG={self.bug}"]
+
+
+def compiled(simulator, bench, folder):
+    """Makes a testbench, and returns the words that run it."""
+    parts = folder / bench.name
     if simulator == "iverilog":
-        made = folder / f"{bug}.vvp"
-        words = ["iverilog", "-g2012", f"-DBUG={bug}", "-s", "testbench", "-o", made]
-        runs = ["vvp", "-n", made]
+        words = ["iverilog", "-g2012", *bench.defines, "-s", "testbench", "-o", parts]
+        runs = ["vvp", "-n", parts]
     else:
-        parts = folder / bug
-        words = ["verilator", "--binary", "--timing", "-Wno-fatal", f"-DBUG={bug}", "--top-module", "testbench", "-Mdir", parts]
+        words = ["verilator", "--binary", "--timing", "-Wno-fatal", *bench.defines, "--top-module", "testbench", "-Mdir", parts]
         words += ["-o", "testbench"]
         runs = [parts / "testbench"]
     simulated([*words, *FILES])
@@ -66,10 +88,10 @@ def judged(score, setup, text):
 
 
 class Variant:
-    """The runs of the bridge with one fault, or with none."""
+    """The runs of a testbench."""
 
-    def __init__(self, bug):
-        self.bug = bug
+    def __init__(self, bench):
+        self.bench = bench
         self.runs = self.beats = self.unfinished = 0
         self.first = []  # of each run that was told wrong: how many beats came up to the first wrong one
         self.names = Counter()  # what that one was told for
@@ -92,25 +114,29 @@ class Variant:
 
     def is_well(self):
         """The right bridge is never blamed and answers all; a fault is told."""
-        return not self.first and not self.unfinished if self.bug == RIGHT else bool(self.first)
+        return not self.first and not self.unfinished if self.bench.bug == RIGHT else bool(self.first)
 
     def __str__(self):
-        name = "right" if self.bug == RIGHT else self.bug
-        counts = f"{name:13} {len(self.first):5} of {self.runs} runs wrong"
+        counts = f"{self.bench.name:13} {len(self.first):5} of {self.runs} runs wrong"
         if not self.first:
             return f"{counts}, {self.unfinished} unfinished; {self.beats} beats"
         times = f"first at beat {min(self.first)} to {max(self.first)}, half of them by {statistics.median_low(self.first)}"
         return f"{counts}; {times}; {self.names.most_common(1)[0][0]}; as in seed {self.seed}"
 
 
-def tried(bug, given, folder):
-    """Runs a variant with each seed."""
-    runs, variant, seen = compiled(given.simulator, bug, folder), Variant(bug), folder / "seen.lines"
+def tried(bench, given, folder):
+    """Runs a testbench with each seed."""
+    runs, variant, seen = compiled(given.simulator, bench, folder), Variant(bench), folder / "seen.lines"
     setup = f"{SETUP}profile {given.profile}\n"
     for seed in range(given.first, given.first + given.runs):
         simulated([*runs, f"+seed={seed}", f"+observed={seen}"])
         variant.take(seed, setup, judged(given.score, setup, seen.read_text()))
     return variant
+
+
+def benches(bridge):
+    """The bridge in front of each memory, and with each fault that is planted in it."""
+    return [Bench(bridge, memory) for memory in MEMORIES] + [Bench(bridge, bug=bug) for bug in BUGS if bridge == BRIDGES[0]]
 
 
 def words():
@@ -119,6 +145,7 @@ def words():
     asked.add_argument("--runs", type=int, default=20, help="how many runs of each (20)")
     asked.add_argument("--first", type=int, default=1, help="the seed of the first run, from 1; the others follow (1)")
     asked.add_argument("--profile", choices=("bridge", "tilelink"), default="bridge", help="what is asked of the bridge (bridge)")
+    asked.add_argument("--bridge", choices=BRIDGES, default=BRIDGES[0], help="which bridge (the one that the faults are of)")
     asked.add_argument("--simulator", choices=SIMULATORS, help="the first of these that is there")
     score = os.environ.get("TLSCORE", HERE.parents[2] / "tlscore")
     asked.add_argument("--score", default=score, help="the scoreboard (what TLSCORE names, else tlscore at the top)")
@@ -140,13 +167,13 @@ def main():
     variants = []
     try:
         with tempfile.TemporaryDirectory() as folder:
-            for bug in (RIGHT, *BUGS):
-                variants.append(tried(bug, given, Path(folder)))
+            for bench in benches(given.bridge):
+                variants.append(tried(bench, given, Path(folder)))
                 print(variants[-1], flush=True)
     except Cannot as why:
         print(why, file=sys.stderr)
         return 3
-    failed = [it.bug for it in variants if not it.is_well()]
+    failed = [it.bench.name for it in variants if not it.is_well()]
     print(f"not as it should be: {', '.join(failed)}" if failed else "the right bridge was never blamed, and each fault was told")
     return int(bool(failed))
 
