@@ -16,13 +16,6 @@ const OUTSIDE: ABeat = ABeat {
     ..GET
 };
 
-/// A Get of sixteen bytes.
-const TWO_BEATS: ABeat = ABeat {
-    size: 4,
-    address: 0x20,
-    ..GET
-};
-
 /// A Get that is not at a multiple of its size.
 const UNALIGNED: ABeat = ABeat { address: 4, ..GET };
 
@@ -88,7 +81,7 @@ fn turns(rt: HostRuntime) -> Result<(), Fail> {
     Ok(())
 }
 
-/// Room for three steps, and more to do: the burst of two beats is sent, and the second beat is performed.
+/// A million steps may be stored, and no more.
 #[test]
 fn a_million_steps(rt: HostRuntime) -> Result<(), Fail> {
     let alloc = rt.alloc();

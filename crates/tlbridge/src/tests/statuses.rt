@@ -1,3 +1,4 @@
+//! The exit status and the text of faults that no run of the program ends with.
 use crate::faults::{TextFault, status_of};
 use bridge_threads::Fault;
 use std::test::Fail;
