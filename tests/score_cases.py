@@ -374,6 +374,52 @@ INPUTS = {
         """
         for profile in ("bridge", "tilelink")
     },
+    **{
+        f"bursts outside the pages to which regions lead, by profile {profile}": f"""{SETUP}
+        axi strict
+        profile {profile}
+        AW 0 14000 0 3 1 -> axi 15 PLACE
+        W 0 ff 1
+        B 0 OKAY
+        AR 3 fff8 0 3 1 -> axi 15 PLACE
+        R 3 0 DECERR 1
+        AW 0 10000 0 3 1
+        AR 3 13ff8 0 3 1
+        AW 16 14000 0 3 1 -> axi 4 ID_RANGE
+        -> outstanding 0 open 2
+        """
+        for profile in ("bridge", "tilelink")
+    },
+    "bursts anywhere, where no line asks for their places": f"""{SETUP}
+        AW 0 14000 0 3 1
+        AR 3 fff8 0 3 1
+        -> outstanding 0 open 2
+        """,
+    "two regions, and the pages between those to which they lead": f"""{CONFIG}
+        region 0 1 20 g
+        region 4 2 10 g
+        axi strict
+        AR 0 20ff8 0 3 1
+        AR 1 21000 0 3 1 -> axi 15 PLACE
+        AR 2 11ff8 0 3 1
+        AR 3 12000 0 3 1 -> axi 15 PLACE
+        AR 4 4000 0 3 1 -> axi 15 PLACE
+        -> outstanding 0 open 5
+        """,
+    "a burst outside the pages, whose data came before it and are wrong": f"""{SETUP}
+        profile tilelink
+        axi strict
+        W 0 ff 0
+        AW 0 14000 0 3 1 -> axi 8 WLAST
+        AW 0 14000 0 3 1 -> axi 15 PLACE
+        -> outstanding 0 open 2
+        """,
+    "places before the config line": f"axi strict -> fault at word 1\n{CONFIG}",
+    "places a second time": f"{SETUP}\naxi strict\naxi strict -> fault at word 1",
+    "places behind a beat": f"{SETUP}\n{PUT}\naxi strict -> fault at word 1",
+    "places without a word": f"{CONFIG}\naxi -> fault at word 2",
+    "places that aren't strict": f"{CONFIG}\naxi any -> fault at word 2",
+    "places, and a word too many": f"{CONFIG}\naxi strict tilelink -> fault at word 3",
     "a profile before the config line": f"profile tilelink -> fault at word 1\n{CONFIG}",
     "a profile that isn't there, before the config line": "profile axi -> fault at word 1",
     "a second profile": f"{SETUP}\nprofile bridge\nprofile bridge -> fault at word 1",

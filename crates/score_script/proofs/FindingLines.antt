@@ -1,7 +1,7 @@
 -- Each finding has a line.
 use Rattle.std.proofs.Common.{◌≡◌, ◌≢◌, ℕ, [], ◌++◌, Option, Some, None, refl, rules}
 use Rattle.scoreboard.specs.declared.Wrong.{Wrong}
-use Rattle.scoreboard.specs.declared.Wrong.TheVariants.{NoClient, Request, Reply, Axi}
+use Rattle.scoreboard.specs.declared.Wrong.TheVariants.{NoClient, Request, Reply, Axi, Place}
 use Rattle.score_script.specs.FindingTexts.{finding_text, optional_text, wrong_text}
 use Rattle.score_script.specs.declared.findings.Finding.{Finding}
 use Rattle.score_script.specs.declared.findings.Finding.TheVariants.{Beat, Byte}
@@ -13,6 +13,7 @@ wrong_some number client (Request rule) none = search rules
 wrong_some number client (Reply rule None) none = search rules
 wrong_some number client (Reply rule (Some due)) none = search rules
 wrong_some number client (Axi rule) none = search rules
+wrong_some number client Place none = search rules
 
 some : (finding : Finding) → finding_text finding ≢ []
 some (Beat number client wrong) none = wrong_some number client wrong none

@@ -7,7 +7,7 @@ use Rattle.score_script.specs.declared.findings.Finding.TheVariants.{Beat, Byte}
 use Rattle.scoreboard.specs.Names.{reply_rule_name, reply_rule_number}
 use Rattle.scoreboard.specs.declared.ReplyRule.{ReplyRule}
 use Rattle.scoreboard.specs.declared.Wrong.{Wrong}
-use Rattle.scoreboard.specs.declared.Wrong.TheVariants.{NoClient, Request, Reply, Axi}
+use Rattle.scoreboard.specs.declared.Wrong.TheVariants.{NoClient, Request, Reply, Axi, Place}
 use Rattle.line_text.specs.Traces.{answer_line, mem_text}
 use Rattle.tl_checker.specs.Names.{name_of, number_of}
 use Rattle.tl_messages.specs.Lines.{d_text}
@@ -30,6 +30,7 @@ wrong_text number client (Request rule) = wrong_line number (codes "request") (n
 wrong_text number client (Reply rule None) = wrong_line number (codes "reply") (reply_rule_number rule) (reply_rule_name rule)
 wrong_text number client (Reply rule (Some due)) = expected_text number rule ++ d_text client due
 wrong_text number client (Axi rule) = wrong_line number (codes "axi") (rule_number rule) (rule_name rule)
+wrong_text number client Place = wrong_line number (codes "axi") 15 (codes "PLACE")
 
 -- the line of a finding: a wrong beat, or the byte that was asked for
 abbrev pub finding_text : Finding → List ℕ

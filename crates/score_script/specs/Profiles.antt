@@ -1,9 +1,10 @@
--- What is asked of a bridge, and the board that judges beats by it (this project's profile).
-use Rattle.std.specs.Prelude.{ℕ, ◌||◌, List, [], ◌∷◌, Option, Some, None, Result, Err, if◌then◌else◌, unwrap_or, codes}
+-- What the lines of a set-up ask of a bridge, and the board that judges beats by it (this project's profile).
+use Rattle.std.specs.Prelude.{ℕ, Bool, true, false, ◌||◌, List, [], ◌∷◌, Option, Some, None, Result, Err, if◌then◌else◌, is_some, unwrap_or, codes}
 use Rattle.std.specs.Str.{bytes_eq}
 use Rattle.line_text.specs.Fields.{Field, read_as}
 use Rattle.line_text.specs.Words.{word_at}
 use Rattle.axi_checker.specs.OpenBursts.{open_count}
+use Rattle.score_script.specs.declared.profiles.Asked.{Asked}
 use Rattle.scoreboard.specs.Boards as boards
 use Rattle.scoreboard.specs.Boards.{Board, wrong_at}
 use Rattle.scoreboard.specs.SerialMemory.{byte_at}
@@ -28,14 +29,37 @@ policy_in word = if bytes_eq word (codes "tilelink") then RealTime else Acceptan
 abbrev pub profile_line : List (List ℕ) → Result Policy ℕ
 profile_line words = read_as (profile_field ∷ []) words (policy_in (word_at words 2))
 
--- what a `profile` line says beside those before it: a set-up has at most one
-abbrev pub named_once : Option Policy → List (List ℕ) → Result (Option Policy) ℕ
-named_once None words = told_as (λ policy. Some policy) (profile_line words)
-named_once (Some policy) words = Err 1
+-- ---- axi strict
 
--- the policy that the lines so far ask for, if the words are of a `profile` line
-abbrev pub own_line : Option Policy → List (List ℕ) → Option (Result (Option Policy) ℕ)
-own_line named words = if bytes_eq (word_at words 1) (codes "profile") then Some (named_once named words) else None
+-- how strict AXI4 bursts are judged
+abbrev pub strict_field : Field
+strict_field word = bytes_eq word (codes "strict")
+
+-- that bursts go to the pages of regions alone, or the first wrong word
+abbrev pub axi_line : List (List ℕ) → Result Bool ℕ
+axi_line words = read_as (strict_field ∷ []) words true
+
+-- ---- both
+
+-- no line has asked for anything
+abbrev pub nothing_asked : Asked
+nothing_asked = record { policy = None; strict = false }
+
+-- what a `profile` line says beside those before it: a set-up has at most one
+abbrev pub with_profile : Asked → List (List ℕ) → Result Asked ℕ
+with_profile asked words =
+    if is_some asked.policy then Err 1 else told_as (λ policy. record asked { policy = Some policy }) (profile_line words)
+
+-- the same of an `axi` line
+abbrev pub with_axi : Asked → List (List ℕ) → Result Asked ℕ
+with_axi asked words = if asked.strict then Err 1 else told_as (λ strict. record asked { strict = strict }) (axi_line words)
+
+-- what the lines so far ask for, if the words are of such a line
+abbrev pub own_line : Asked → List (List ℕ) → Option (Result Asked ℕ)
+own_line asked words =
+    if bytes_eq (word_at words 1) (codes "profile")
+    then Some (with_profile asked words)
+    else (if bytes_eq (word_at words 1) (codes "axi") then Some (with_axi asked words) else None)
 
 -- the policy of a set-up, by the one that a line of it asks for, if any does
 abbrev pub policy_of : Option Policy → Policy

@@ -12,4 +12,4 @@ board_of board = record { policy = board.policy; board = held.board_of board }
 -- a score, with its board said so
 abbrev pub score_of : HeldScore → Score
 score_of score =
-    record { board = board_of score.board; held = score.held; judged = score.judged; wrong = score.wrong }
+    record { board = board_of score.board; places = score.places; held = score.held; judged = score.judged; wrong = score.wrong }

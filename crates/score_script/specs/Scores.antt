@@ -1,14 +1,17 @@
 -- What each line of an observation does (this project's profile).
 use Rattle.std.specs.Prelude.{ℕ, ◌+◌, ◌^◌, ◌-◌, Bool, true, List, ◌++◌, min, Option, Some, None, if◌then◌else◌, is_some, nat_lt}
+use Rattle.std.specs.Option.{option_or}
 use Rattle.score_script.specs.FindingTexts.{last_text, optional_text}
 use Rattle.score_script.specs.ObservedLines.{command_of, only_settles}
-use Rattle.score_script.specs.Profiles.{PolicyBoard, after_seen, bursts_open, byte_in, opening_board, own_line, policy_of, replies_open, wrong_in}
+use Rattle.score_script.specs.Profiles.{PolicyBoard, after_seen, bursts_open, byte_in, nothing_asked, opening_board, own_line, policy_of, replies_open, wrong_in}
 use Rattle.score_script.specs.declared.findings.Finding.{Finding}
 use Rattle.score_script.specs.declared.findings.Finding.TheVariants as finding
 use Rattle.score_script.specs.declared.score.Command.{Command}
 use Rattle.score_script.specs.declared.score.Command.TheVariants as command
+use Rattle.score_script.specs.declared.profiles.Asked.{Asked}
 use Rattle.score_script.specs.declared.score.HeldBeat.{HeldBeat}
-use Rattle.scoreboard.specs.declared.Policy.{Policy}
+use Rattle.burst_plan.specs.declared.Region.{Region}
+use Rattle.scoreboard.specs.Places.{wrong_place}
 use Rattle.scoreboard.specs.declared.ObservedBeat.{ObservedBeat}
 use Rattle.scoreboard.specs.declared.ObservedBeat.TheVariants.{A, D, Axi, Drained}
 use Rattle.scoreboard.specs.declared.Wrong.{Wrong}
@@ -16,17 +19,25 @@ use Rattle.script_text.specs.Scripts.{Reading}
 use Rattle.script_text.specs.Stages.{Kind, Opening, Stage, reading_of, unless_refused}
 use Rattle.setups.specs.Setups.{SetupLists, setup_fault}
 
--- the board; the beat that is held, which is that of the last line, where that is an A line; and how many beats were judged, and how many of them
--- are wrong
+-- the board; the regions to which bursts have to go, where that is asked for; the beat that is held, which is that of the last line, where that is an
+-- A line; and how many beats were judged, and how many of them are wrong
 pub record Score : Type 0 where
   pub board : PolicyBoard
+  pub places : Option (List Region)
   pub held : Option HeldBeat
   pub judged : ℕ
   pub wrong : ℕ
 
 -- a score of which nothing was observed
-abbrev pub opening_score : Policy → SetupLists → Score
-opening_score policy setup = record { board = opening_board policy setup; held = None; judged = 0; wrong = 0 }
+abbrev pub opening_score : Asked → SetupLists → Score
+opening_score asked setup =
+    record {
+      board = opening_board (policy_of asked.policy) setup;
+      places = if asked.strict then Some setup.regions else None;
+      held = None;
+      judged = 0;
+      wrong = 0;
+    }
 
 -- ---- judging
 
@@ -62,9 +73,18 @@ score_after score seen verdict =
       wrong = if is_some verdict then counted score.wrong else score.wrong;
     }
 
+-- what is wrong with the place of a beat, where places are judged
+abbrev pub misplaced_in : Option (List Region) → ObservedBeat → Option Wrong
+misplaced_in None seen = None
+misplaced_in (Some regions) seen = wrong_place regions seen
+
+-- what is wrong with a beat, if anything is: by the board, and else by its place
+abbrev pub verdict_on : Score → ObservedBeat → Option Wrong
+verdict_on score seen = option_or (wrong_in score.board seen) (misplaced_in score.places seen)
+
 -- what was observed is judged: what is found, and the score after it
 abbrev pub judging : Score → ℕ → ObservedBeat → Option Finding × Score
-judging score number seen = (found number seen (wrong_in score.board seen), score_after score seen (wrong_in score.board seen))
+judging score number seen = (found number seen (verdict_on score seen), score_after score seen (verdict_on score seen))
 
 -- the held beat is judged, if there is one
 abbrev pub settling_held : Score → Option HeldBeat → Option Finding × Score
@@ -111,26 +131,26 @@ closing settled = (
   nat_lt 0 settled.1.wrong,
 )
 
--- it has every set-up line, and `profile` lines of its own; without one the profile is `bridge`. An answer that only settles a beat is passed over
--- before the first command
-abbrev pub score_kind : Kind (Option Policy) Score Command
+-- it has every set-up line, and a `profile` and an `axi` line of its own; without the first the profile is `bridge`, without the second no place is
+-- judged. An answer that only settles a beat is passed over before the first command
+abbrev pub score_kind : Kind Asked Score Command
 score_kind =
     record {
       most_lines = 4294967294;
       takes = λ form. true;
-      own_opening = None;
+      own_opening = nothing_asked;
       own_line = own_line;
       passes = only_settles;
       command_of = command_of;
-      opened = λ named setup. unless_refused (opening_score (policy_of named) setup) (setup_fault setup);
+      opened = λ asked setup. unless_refused (opening_score asked setup) (setup_fault setup);
       commanded = λ score number said. (finds_text (finds score number said), (finds score number said).after);
       ending = λ score. closing (settling score);
     }
 
 -- an observation as it is read: a board is made at the end where none was
-abbrev pub score_reading : Reading (Stage (Option Policy) Score) Bool
+abbrev pub score_reading : Reading (Stage Asked Score) Bool
 score_reading = reading_of score_kind
 
 -- no line was read
-abbrev pub opening_state : Stage (Option Policy) Score
+abbrev pub opening_state : Stage Asked Score
 opening_state = Opening

@@ -67,6 +67,11 @@ fn wrong_line<W: Write>(
             let name = rule.name();
             Ok(writeln!(writer, "= wrong {line} axi {number} {name}")?)
         }
+        Wrong::Place => {
+            let number = 15u8;
+            let name = "PLACE";
+            Ok(writeln!(writer, "= wrong {line} axi {number} {name}")?)
+        }
     }
 }
 

@@ -1,11 +1,20 @@
-//! What is asked of a bridge.
-ghost use Rattle.std.specs.Prelude.{◌≡◌, ◌<◌};
+//! What the lines of a set-up ask of a bridge.
+ghost use Rattle.std.specs.Prelude.{◌≡◌, ◌<◌, true};
 ghost use Rattle.line_text.specs.Fields.{Reads};
 ghost use Rattle.line_text.specs.Words.{word_at};
-ghost use Rattle.score_script.specs.Profiles.{own_line, policy_in, profile_field, profile_line};
+ghost use Rattle.score_script.specs.Profiles.{axi_line, nothing_asked, own_line, policy_in, profile_field, profile_line, strict_field, with_axi, with_profile};
 
 use line_text::Words;
 use scoreboard::Policy;
+
+/// What the lines of a set-up ask for beside the set-up itself.
+#[derive(Clone, Copy, Debug, PartialEq, Eq)]
+pub(crate) struct Asked {
+    /// The policy of the profile that is named, if one is.
+    pub(crate) policy: Option<Policy>,
+    /// Whether bursts have to go to the pages of regions.
+    pub(crate) strict: bool,
+}
 
 /// The policy of the profile that a word names.
 fn profile_at(words: &Words<'_>, n: u32) -> Result<Policy, u32>
@@ -28,21 +37,69 @@ fn profile_line(words: &Words<'_>) -> Result<Policy, u32>
     Ok(policy)
 }
 
-/// The policy of the profile that the lines of a set-up name, with one line more, if that is a `profile` line; it may stand once.
-pub(crate) fn own_line(
-    named: Option<Policy>,
-    words: &Words<'_>,
-) -> Option<Result<Option<Policy>, u32>>
-    ensures { result ≡ own_line named words.now }
+/// That bursts go to the pages of regions, by a word.
+fn strict_at(words: &Words<'_>, n: u32) -> Result<bool, u32>
+    requires { 0 < n }
+    ensures { Reads (strict_field (word_at words.now n)) true n result }
 {
-    if words.at(1) != b"profile".as_slice() {
-        return None;
+    if words.at(n) != b"strict".as_slice() {
+        return Err(n);
     }
-    if named.is_some() {
-        return Some(Err(1));
+    Ok(true)
+}
+
+/// `axi strict`.
+fn axi_line(words: &Words<'_>) -> Result<bool, u32>
+    ensures { result ≡ axi_line words.now }
+{
+    let strict = strict_at(words, 2)?;
+    words.end(2)?;
+    Ok(strict)
+}
+
+impl Asked {
+    /// No line has asked for anything.
+    pub(crate) fn nothing() -> Asked
+        ensures { result ≡ nothing_asked }
+    {
+        Asked {
+            policy: None,
+            strict: false,
+        }
     }
-    match profile_line(words) {
-        Ok(policy) => Some(Ok(Some(policy))),
-        Err(word) => Some(Err(word)),
+
+    /// What a `profile` line says beside those before it; it may stand once.
+    fn with_profile(self, words: &Words<'_>) -> Result<Asked, u32>
+        ensures { result ≡ with_profile self words.now }
+    {
+        if self.policy.is_some() {
+            return Err(1);
+        }
+        let policy = Some(profile_line(words)?);
+        Ok(Asked { policy, ..self })
+    }
+
+    /// The same of an `axi` line.
+    fn with_axi(self, words: &Words<'_>) -> Result<Asked, u32>
+        ensures { result ≡ with_axi self words.now }
+    {
+        if self.strict {
+            return Err(1);
+        }
+        let strict = axi_line(words)?;
+        Ok(Asked { strict, ..self })
+    }
+
+    /// What the lines of a set-up ask for with one line more, if that is such a line.
+    pub(crate) fn own_line(self, words: &Words<'_>) -> Option<Result<Asked, u32>>
+        ensures { result ≡ own_line self words.now }
+    {
+        if words.at(1) == b"profile".as_slice() {
+            return Some(self.with_profile(words));
+        }
+        if words.at(1) == b"axi".as_slice() {
+            return Some(self.with_axi(words));
+        }
+        None
     }
 }

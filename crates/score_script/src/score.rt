@@ -1,12 +1,18 @@
 //! What was found of the beats that were read so far, and what each line finds.
-ghost use Rattle.std.specs.Prelude.{◌≡◌, None, if◌then◌else◌, is_some};
+ghost use Rattle.std.specs.Prelude.{◌≡◌, ◌⊎◌, Err, IfErr, IfOk, IfSome, None, Some, if◌then◌else◌, is_some};
 ghost use Rattle.script_text.specs.Stages.{WritesEnd};
-ghost use Rattle.score_script.specs.Scores.{beats_judged, client_of, closing, counted, finds, found, judging, observing, settling};
+ghost use Rattle.setups.specs.Setups.{lists_of, setup_fault};
+ghost use Rattle.setups.specs.declared.SetupFault.TheVariants.{NoMemory};
+ghost use Rattle.score_script.specs.Scores.{beats_judged, client_of, closing, counted, finds, found, judging, misplaced_in, observing, opening_score, settling};
 ghost use Rattle.score_script.specs.ScoreStates.{score_of};
 
 use crate::findings::{Finding, Findings, last_line, optional_line};
+use crate::profiles::Asked;
+use burst_plan::Region;
 use line_text::WriteFault;
-use scoreboard::{ObservedBeat, Scoreboard, Wrong};
+use scoreboard::{AxiPlaces, ObservedBeat, Policy, Scoreboard, Wrong};
+use setups::{Setup, SetupFault};
+use std::alloc::{AllocError, Global};
 use std::io::Write;
 use tl_messages::ABeat;
 
@@ -34,9 +40,10 @@ pub(crate) struct HeldBeat {
     pub(crate) beat: ABeat,
 }
 
-/// The board, the beat that is held, and how many beats were judged and are wrong.
+/// The board, the places of bursts where they are judged, the beat that is held, and how many beats were judged and are wrong.
 pub(crate) struct Score {
     board: Scoreboard,
+    places: Option<AxiPlaces>,
     held: Option<HeldBeat>,
     judged: u64,
     wrong: u64,
@@ -47,6 +54,7 @@ impl Drop for Score {
     fn drop(self) {
         let Score {
             board: _,
+            places: _,
             held: _,
             judged: _,
             wrong: _,
@@ -101,16 +109,51 @@ fn counted_wrong(count: u64, verdict: Option<Wrong>) -> u64
     }
 }
 
+/// The places of bursts, where they are to be judged. The one error is that memory was refused.
+fn places_for(
+    alloc: Global,
+    strict: bool,
+    regions: &[Region],
+) -> Result<Option<AxiPlaces>, AllocError>
+    ensures { IfOk result (λ places. places ≡ (if strict then Some regions.now else None)) }
+{
+    if !strict {
+        return Ok(None);
+    }
+    let places = AxiPlaces::new(alloc, regions)?;
+    Ok(Some(places))
+}
+
 impl Score {
-    /// Nothing was observed.
-    pub(crate) fn opening(board: Scoreboard) -> Score
-        ensures { result ≡ record { board = board; held = None; judged = 0; wrong = 0 } }
+    /// A score of a set-up and of what its lines ask for beside it, of which nothing was observed.
+    ///
+    /// It refuses what `setup_fault` does, with that fault; its one other error is NoMemory.
+    pub(crate) fn new(alloc: Global, asked: Asked, setup: &Setup) -> Result<Score, SetupFault>
+        ensures refused { IfSome (setup_fault (lists_of setup.now)) (λ fault. result ≡ Err fault) }
+        ensures want { IfErr result (λ fault. (setup_fault (lists_of setup.now) ≡ Some fault) ⊎ (fault ≡ NoMemory)) }
+        ensures opens { IfOk result (λ score. score_of score ≡ opening_score asked (lists_of setup.now)) }
     {
-        Score {
-            board,
-            held: None,
-            judged: 0,
-            wrong: 0,
+        let policy = asked.policy.unwrap_or(Policy::AcceptanceOrder);
+        let board = Scoreboard::new(alloc, policy, setup)?;
+        match places_for(alloc, asked.strict, setup.regions.as_slice()) {
+            Ok(places) => Ok(Score {
+                board,
+                places,
+                held: None,
+                judged: 0,
+                wrong: 0,
+            }),
+            Err(_) => Err(SetupFault::NoMemory),
+        }
+    }
+
+    /// What is wrong with the place of a beat, where places are judged.
+    fn misplaced(&self, seen: &ObservedBeat) -> Option<Wrong>
+        ensures { result ≡ misplaced_in self.now.places seen.now }
+    {
+        match &self.places {
+            None => None,
+            Some(places) => places.judge(seen),
         }
     }
 
@@ -119,7 +162,7 @@ impl Score {
         ensures found { result ≡ (judging (score_of self.old) number seen.now).0 }
         ensures state { score_of self.new ≡ (judging (score_of self.old) number seen.now).1 }
     {
-        let verdict = self.board.judge(seen);
+        let verdict = self.board.judge(seen).or(self.misplaced(seen));
         self.judged = beats_judged(self.judged, seen);
         self.wrong = counted_wrong(self.wrong, verdict);
         found(number, seen, verdict)

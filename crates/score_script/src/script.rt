@@ -4,10 +4,9 @@ ghost use Rattle.score_script.specs.Scores.{opening_state, score_reading};
 
 use crate::findings::findings_lines;
 use crate::lines::{command_of, only_settles};
-use crate::profiles::own_line;
+use crate::profiles::Asked;
 use crate::score::{Command, Score};
 use line_text::{Words, WriteFault};
-use scoreboard::{Policy, Scoreboard};
 use script_text::{Form, Kind, ScriptFault, StagedScript, read_script};
 use setups::{Setup, SetupFault};
 use std::alloc::Global;
@@ -22,8 +21,7 @@ impl Kind for ScoreScript {
     ghost use Rattle.score_script.specs.ScoreStates.{score_of};
     ghost use Rattle.score_script.specs.Scores.{Score, score_kind};
 
-    /// The policy that a line asks for, if one does.
-    type Own = Option<Policy>;
+    type Own = Asked;
 
     type World = Score;
 
@@ -44,12 +42,12 @@ impl Kind for ScoreScript {
         true
     }
 
-    fn own_opening() -> Option<Policy> {
-        None
+    fn own_opening() -> Asked {
+        Asked::nothing()
     }
 
-    fn own_line(named: &Option<Policy>, words: &Words<'_>) -> Option<Result<Option<Policy>, u32>> {
-        own_line(*named, words)
+    fn own_line(asked: &Asked, words: &Words<'_>) -> Option<Result<Asked, u32>> {
+        asked.own_line(words)
     }
 
     fn passes(words: &Words<'_>) -> bool {
@@ -60,17 +58,8 @@ impl Kind for ScoreScript {
         command_of(words)
     }
 
-    fn open(
-        &mut self,
-        alloc: Global,
-        named: &Option<Policy>,
-        setup: &Setup,
-    ) -> Result<Score, SetupFault> {
-        let policy = named.unwrap_or(Policy::AcceptanceOrder);
-        match Scoreboard::new(alloc, policy, setup) {
-            Ok(board) => Ok(Score::opening(board)),
-            Err(fault) => Err(fault),
-        }
+    fn open(&mut self, alloc: Global, asked: &Asked, setup: &Setup) -> Result<Score, SetupFault> {
+        Score::new(alloc, *asked, setup)
     }
 
     fn carry_out<W: Write>(

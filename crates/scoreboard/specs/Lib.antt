@@ -6,6 +6,7 @@ pub mod InsideSerial
 pub mod Names
 pub mod Observed
 pub mod Orders
+pub mod Places
 pub mod Races
 pub mod RealTime
 pub mod Right

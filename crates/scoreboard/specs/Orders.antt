@@ -11,7 +11,7 @@ use Rattle.scoreboard.specs.Boards.{Board, after_all, opening_board, wrong_beat}
 use Rattle.scoreboard.specs.declared.Policy.TheVariants.{RealTime}
 use Rattle.scoreboard.specs.declared.ObservedBeat.{ObservedBeat}
 use Rattle.scoreboard.specs.declared.Wrong.{Wrong}
-use Rattle.scoreboard.specs.declared.Wrong.TheVariants.{NoClient, Request, Reply, Axi}
+use Rattle.scoreboard.specs.declared.Wrong.TheVariants.{NoClient, Request, Reply, Axi, Place}
 
 -- ---- accepted requests
 
@@ -91,6 +91,7 @@ IsWrongAs setup order client beat (Request broken) = ⊥
 IsWrongAs setup order client beat (Reply broken due) =
     (other : Option DBeat) × (wrong_beat (due_beats setup order client beat.source) beat ≡ Some (Reply broken other))
 IsWrongAs setup order client beat (Axi broken) = ⊥
+IsWrongAs setup order client beat Place = ⊥
 
 -- the byte at an address, where all requests of an order took effect
 abbrev pub byte_left : SetupLists → Order → ℕ → ℕ

@@ -10,10 +10,12 @@ mod footprint;
 mod in_flight;
 mod marks;
 mod names;
+mod places;
 mod serial;
 
 use axi_checker::{AxiBeat, AxiRule};
 pub use board::Scoreboard;
+pub use places::AxiPlaces;
 pub use serial::SerialMemory;
 use tl_checker::TlRule;
 use tl_messages::{ABeat, DBeat};
@@ -71,4 +73,6 @@ pub enum Wrong {
     Reply(ReplyRule, Option<DBeat>),
     /// A beat of the AXI4 port breaks this rule.
     Axi(AxiRule),
+    /// A burst goes to an AXI page to which no region leads (this project's profile).
+    Place,
 }

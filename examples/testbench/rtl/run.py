@@ -1,4 +1,4 @@
-"""Simulates the bridge of this folder in front of each memory, as it is, and with each of six faults planted, and has tlscore judge
+"""Simulates the bridge of this folder in front of each memory, as it is, and with each of seven faults planted, and has tlscore judge
 what the monitor saw.
 
     python3 examples/testbench/rtl/run.py [--runs N] [--first SEED] [--profile NAME] [--bridge NAME] [--simulator NAME]
@@ -29,7 +29,7 @@ SIMULATORS = ("iverilog", "verilator")
 BRIDGES = ("bridge", "streaming_bridge")
 MEMORIES = ("ANY_ORDER", "IN_ORDER", "AS_BEATS_COME", "SLOW")
 RIGHT = "NONE"
-BUGS = ("LANE_SWAPPED", "STROBE_LOST", "OTHER_SOURCE", "REPLY_TWICE", "WLAST_EARLY", "PAGE_CROSSED")
+BUGS = ("LANE_SWAPPED", "STROBE_LOST", "OTHER_SOURCE", "REPLY_TWICE", "WLAST_EARLY", "PAGE_CROSSED", "REGION_UNASKED")
 WRONG = re.compile(r"^= wrong (\d+) (.*?)(?: expected .*)?$", re.MULTILINE)
 ENDED = re.compile(r"^= judged (\d+) wrong (\d+) outstanding (\d+) open (\d+)$", re.MULTILINE)
 
@@ -117,7 +117,7 @@ class Variant:
         return not self.first and not self.unfinished if self.bench.bug == RIGHT else bool(self.first)
 
     def __str__(self):
-        counts = f"{self.bench.name:13} {len(self.first):5} of {self.runs} runs wrong"
+        counts = f"{self.bench.name:14} {len(self.first):5} of {self.runs} runs wrong"
         if not self.first:
             return f"{counts}, {self.unfinished} unfinished; {self.beats} beats"
         times = f"first at beat {min(self.first)} to {max(self.first)}, half of them by {statistics.median_low(self.first)}"

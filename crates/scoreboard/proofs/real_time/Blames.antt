@@ -18,7 +18,7 @@ use Rattle.scoreboard.specs.declared.ReplyRule.TheVariants.{Unasked}
 use Rattle.scoreboard.specs.declared.ObservedBeat.{ObservedBeat}
 use Rattle.scoreboard.specs.declared.ObservedBeat.TheVariants.{A, D, Axi as OnAxi, Drained}
 use Rattle.scoreboard.specs.declared.Wrong.{Wrong}
-use Rattle.scoreboard.specs.declared.Wrong.TheVariants.{Axi, NoClient, Reply, Request}
+use Rattle.scoreboard.specs.declared.Wrong.TheVariants.{Axi, NoClient, Place as WrongPlace, Reply, Request}
 use Rattle.scoreboard.proofs.real_time.AlikeBeats.{left_alike}
 use Rattle.scoreboard.proofs.real_time.Entries.{Each, IsLive, Stands, carry, run}
 use Rattle.scoreboard.proofs.real_time.Explained.{Explains, explains_as, explains_opening}
@@ -213,6 +213,7 @@ wrong_as_in setup order client beat NoClient is none = absurd (cc (sym (ap (λ (
 wrong_as_in setup order client beat (Request broken) is none = absurd is
 wrong_as_in setup order client beat (Reply broken due) is none = absurd (cc (sym is.1 ∙ none))
 wrong_as_in setup order client beat (Axi broken) is none = absurd is
+wrong_as_in setup order client beat WrongPlace is none = absurd is
 
 run_all : (setup : SetupLists) (order : Order) (m : Bytes)
     → bytes_after_all (faults_of setup) setup.regions (map (λ entry. entry.request) order) m ≡ run (faults_of setup) setup.regions m order
