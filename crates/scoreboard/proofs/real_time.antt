@@ -9,6 +9,7 @@ mod Examples
 pub mod Explained
 pub mod FlightLists
 pub mod FlightsAlone
+pub mod Fronts
 pub mod Insertion
 pub mod JudgedRightly
 pub mod Lengths

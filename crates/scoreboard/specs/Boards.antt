@@ -7,7 +7,7 @@ use Rattle.std.specs.List.{flat_map, list_any, range_with_len}
 use Rattle.bus_words.specs.Lanes.{lane_byte, word_address}
 use Rattle.bus_words.specs.Tables.{first_broken}
 use Rattle.tl_messages.specs.Operations.{beats_of}
-use Rattle.tl_messages.specs.Requests.{HeldMessage, request_of}
+use Rattle.tl_messages.specs.Requests.{HeldMessage, WholeRequest, request_of}
 use Rattle.tl_messages.specs.declared.ABeat.{ABeat}
 use Rattle.tl_messages.specs.declared.DBeat.{DBeat}
 use Rattle.tl_checker.specs.Ports.{joined, judged}
@@ -140,35 +140,42 @@ abbrev pub client_beside : Footprint → ClientBoard → ClientBoard
 client_beside footprint client = record client { flights = each_flight (flight_beside footprint) client.flights }
 
 -- a request that is accepted
-abbrev pub flight_for : Memory → Footprint → HeldMessage → InFlight
-flight_for memory footprint message =
-    record { source = message.source; beats = shown (request_of message) (meaning_in memory (request_of message)).reply; footprint = footprint }
+abbrev pub flight_for : Memory → Footprint → WholeRequest → InFlight
+flight_for memory footprint q = record { source = q.source; beats = shown q (meaning_in memory q).reply; footprint = footprint }
 
 -- its client
 abbrev pub with_accepted : InFlight → ClientBoard → ClientBoard
 with_accepted flight client = record client { front = None; flights = with_flight flight client.flights }
 
--- its footprint beside those in flight
-abbrev pub joining_on : Board → HeldMessage → Footprint
-joining_on board message = joining board.indeterminate (footprints_of board.clients) (place_in board.memory (request_of message)) (request_of message)
-
--- the board where it has this footprint beside those in flight
-abbrev pub joined_on : Board → ℕ → ClientBoard → HeldMessage → Footprint → Board
-joined_on board number client message footprint =
+-- the board where a client's request is carried out, and in flight with a footprint
+abbrev pub with_taken : Board → ℕ → ClientBoard → WholeRequest → Footprint → Board
+with_taken board number client q footprint =
     record board {
-      clients = slice_set (map (client_beside footprint) board.clients) number (with_accepted (flight_for board.memory footprint message) (client_beside footprint client));
-      memory = carried_out board.memory (request_of message);
-      indeterminate = after_joining board.indeterminate (footprints_of board.clients) footprint (request_of message).bytes;
+      clients = slice_set board.clients number (with_accepted (flight_for board.memory footprint q) client);
+      memory = carried_out board.memory q;
     }
+
+-- its footprint beside those in flight
+abbrev pub joining_on : Board → WholeRequest → Footprint
+joining_on board q = joining board.indeterminate (footprints_of board.clients) (place_in board.memory q) q
+
+-- the board where those in flight are beside a request of this footprint, which gives these bytes
+abbrev pub beside_on : Board → Footprint → List (Option ℕ) → Board
+beside_on board footprint bytes =
+    record board {
+      clients = map (client_beside footprint) board.clients;
+      indeterminate = after_joining board.indeterminate (footprints_of board.clients) footprint bytes;
+    }
+
+-- the board where a request has joined them, and is carried out
+abbrev pub joined_on : Board → ℕ → ClientBoard → WholeRequest → Footprint → Board
+joined_on board number client q footprint = with_taken (beside_on board footprint q.bytes) number (client_beside footprint client) q footprint
 
 -- the board where a client's message is accepted. Where requests take effect in order of acceptance no footprint is kept
 abbrev pub accepted_on : Policy → Board → ℕ → ClientBoard → HeldMessage → Board
-accepted_on AcceptanceOrder board number client message =
-    record board {
-      clients = slice_set board.clients number (with_accepted (flight_for board.memory no_footprint message) client);
-      memory = carried_out board.memory (request_of message);
-    }
-accepted_on RealTime board number client message = joined_on board number client message (joining_on board message)
+accepted_on AcceptanceOrder board number client message = with_taken board number client (request_of message) no_footprint
+accepted_on RealTime board number client message =
+    joined_on board number client (request_of message) (joining_on board (request_of message))
 
 -- ---- the board after a beat; one that is wrong changes nothing, but a reply's beat counts as come whatever it shows
 

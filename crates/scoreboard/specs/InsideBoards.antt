@@ -1,10 +1,10 @@
 -- A board as it is held: of each request in flight a list of flags, of which those of its bytes count; and the memory's pages again, whose bytes aren't
 -- zero where they are indeterminate.
-use Rattle.std.specs.Prelude.{ℕ, ◌≡◌, ◌+◌, ◌-◌, ◌^◌, ◌<◌, ◌==◌, ⊤, Bool, true, false, ◌&&◌, not, List, length, map, Option, Some, None, Result, Ok, Err, nat_le, nat_lt, slice_index_or, slice_set}
+use Rattle.std.specs.Prelude.{ℕ, ◌≡◌, ◌+◌, ◌-◌, ◌^◌, ◌<◌, ◌==◌, ⊤, Bool, true, false, ◌&&◌, not, List, length, map, Option, Some, None, Result, Ok, Err, nat_le, nat_lt, slice_index_or}
 use Rattle.std.specs.List.{AllByRecursion, list_any}
 use Rattle.std.specs.Option.{option_map}
 use Rattle.bus_words.specs.Places.{AreDistinct}
-use Rattle.tl_messages.specs.Requests.{HeldMessage, request_of}
+use Rattle.tl_messages.specs.Requests.{HeldMessage}
 use Rattle.tl_messages.specs.declared.DBeat.{DBeat}
 use Rattle.tl_checker.specs.RequestRules.{TlPortLimits}
 use Rattle.tl_checker.specs.declared.Progress.{Progress}
@@ -13,10 +13,10 @@ use Rattle.tl_checker.specs.declared.TlRule.{TlRule}
 use Rattle.subordinate.specs.Faults.{Faults, is_good, standing_at}
 use Rattle.subordinate.specs.InsidePages.{PagesState}
 use Rattle.scoreboard.specs.AxiPorts.{PortBoard}
-use Rattle.scoreboard.specs.Boards.{Board, ClientBoard, flight_for, with_accepted}
+use Rattle.scoreboard.specs.Boards.{Board, ClientBoard}
 use Rattle.scoreboard.specs.Flights.{Flights, Footprint, InFlight, is_of_source}
 use Rattle.scoreboard.specs.InsideSerial.{bytes_in}
-use Rattle.scoreboard.specs.SerialMemory.{MemoryState, carried_out, memory_of}
+use Rattle.scoreboard.specs.SerialMemory.{MemoryState, memory_of}
 use Rattle.scoreboard.specs.declared.Policy.{Policy}
 use Rattle.scoreboard.specs.declared.Policy.TheVariants.{AcceptanceOrder, RealTime}
 
@@ -99,14 +99,6 @@ IsFrontFree (Some message) flights = list_any (is_of_source message.source) flig
 pub record IsFreeOf (source : ℕ) (client : ClientBoard) : Type 0 where
   pub front : client.front ≡ None
   pub free : list_any (is_of_source source) client.flights.due ≡ false
-
--- a board where a client's message is carried out, and in flight with a footprint
-abbrev pub with_taken : Board → ℕ → ClientBoard → HeldMessage → Footprint → Board
-with_taken board number client message footprint =
-    record board {
-      clients = slice_set board.clients number (with_accepted (flight_for board.memory footprint message) client);
-      memory = carried_out board.memory (request_of message);
-    }
 
 -- ---- what stays so
 

@@ -3,7 +3,7 @@
 -- numbered as they are accepted, and an order is a list of all numbers.
 use Rattle.std.specs.Prelude.{ℕ, ◌≡◌, ◌<◌, ◌≤◌, ◌==◌, ⊤, true, false, List, [], ◌∷◌, ◌++◌, map, filter, length, Option, Some, None, Result, Ok, Err, if◌then◌else◌, nat_lt, slice_get, slice_index_or}
 use Rattle.std.specs.List.{AllByRecursion, range_with_len}
-use Rattle.tl_messages.specs.Requests.{HeldMessage, no_message, request_of}
+use Rattle.tl_messages.specs.Requests.{HeldMessage, WholeRequest, no_message, request_of}
 use Rattle.tl_messages.specs.declared.ABeat.{ABeat}
 use Rattle.tl_messages.specs.declared.DBeat.{DBeat}
 use Rattle.tl_checker.specs.Ports.{joined}
@@ -21,14 +21,14 @@ use Rattle.scoreboard.specs.declared.Wrong.{Wrong}
 -- ---- what was accepted, in order of acceptance
 
 -- a request that has just been accepted
-abbrev pub entry_for : ℕ → HeldMessage → Entry
-entry_for client message = record { client = client; request = request_of message; came = 0 }
+abbrev pub entry_of : ℕ → WholeRequest → Entry
+entry_of client q = record { client = client; request = q; came = 0 }
 
 -- with a port's answer to a beat on channel A, by the message with this beat: a request that is whole is the last
 abbrev pub with_answered : ℕ → HeldMessage → Result Progress TlRule → Order → Order
 with_answered client message (Err broken) old = old
 with_answered client message (Ok More) old = old
-with_answered client message (Ok Whole) old = old ++ entry_for client message ∷ []
+with_answered client message (Ok Whole) old = old ++ entry_of client (request_of message) ∷ []
 
 -- with a beat on channel A
 abbrev pub with_request : ℕ → Option ClientBoard → ABeat → Order → Order
@@ -53,7 +53,7 @@ accepted_in setup beats = accepted_from (opening_board setup) [] beats
 
 -- a request by its number, from 0
 abbrev pub numbered : Order → ℕ → Entry
-numbered accepted number = slice_index_or accepted number (entry_for 0 no_message)
+numbered accepted number = slice_index_or accepted number (entry_of 0 (request_of no_message))
 
 -- ---- orders as lists of numbers
 

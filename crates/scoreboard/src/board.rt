@@ -2,7 +2,7 @@
 ghost use Rattle.std.specs.Prelude.{◌≡◌, ◌<◌, ◌≤◌, ◌%◌, ◌⊎◌, ◌↔◌, ℕ, List, [], ◌∷◌, ◌++◌, true, false, length, map, None, Some, Err, Ok, IfErr, IfOk, IfSome, IsTrue, slice_get};
 ghost use Rattle.std.specs.List.{range_with_len};
 ghost use Rattle.tl_messages.specs.Operations.{has_data};
-ghost use Rattle.tl_messages.specs.Requests.{bytes_given};
+ghost use Rattle.tl_messages.specs.Requests.{bytes_given, request_of};
 ghost use Rattle.config.specs.Configs.{is_valid};
 ghost use Rattle.meaning.specs.InTurn.{bytes_of_all};
 ghost use Rattle.setups.specs.Setups.{SetupLists, lists_of, setup_fault};
@@ -160,8 +160,8 @@ fn give_way(clients: &mut [Client], other: &Footprint)
 }
 
 impl Scoreboard {
-    ghost use Rattle.scoreboard.specs.Boards.{ClientBoard, IsReached, a_wrong, accepted_on, after_a, after_d, after_seen, answer_to, d_wrong, joining_on, opening_board, with_client, wrong_at};
-    ghost use Rattle.scoreboard.specs.InsideBoards.{IsFreeOf, board_of, front_after, with_taken};
+    ghost use Rattle.scoreboard.specs.Boards.{ClientBoard, IsReached, a_wrong, accepted_on, after_a, after_d, after_seen, answer_to, d_wrong, joining_on, opening_board, with_client, with_taken, wrong_at};
+    ghost use Rattle.scoreboard.specs.InsideBoards.{IsFreeOf, board_of, front_after};
     ghost use Rattle.tl_checker.specs.Ports.{joined};
     ghost use Rattle.tl_checker.specs.declared.Progress.TheVariants.{Whole};
     ghost use Rattle.axi_checker.specs.OpenBursts.{open_count};
@@ -345,7 +345,7 @@ impl Scoreboard {
         requires good { IsOnGoodPage self.old.memory.pages.faults (footprint_of self.old.joining.footprint) }
         requires free { (found : ClientBoard) → slice_get (board_of self.old).clients client ≡ Some found → IsFreeOf self.old.request.source found }
         ensures state { (found : ClientBoard) → slice_get (board_of self.old).clients client ≡ Some found
-            → board_of self.new ≡ with_taken (board_of self.old) client found self.old.request (footprint_of self.old.joining.footprint) }
+            → board_of self.new ≡ with_taken (board_of self.old) client found (request_of self.old.request) (footprint_of self.old.joining.footprint) }
         ensures policy { self.new.policy ≡ self.old.policy }
     {
         let Scoreboard {
@@ -363,7 +363,7 @@ impl Scoreboard {
     fn join(&mut self)
         requires policy { self.old.policy ≡ RealTime }
         requires checked { IsCheckedRequest self.old.request }
-        ensures footprint { footprint_of self.new.joining.footprint ≡ joining_on (board_of self.old) self.old.request }
+        ensures footprint { footprint_of self.new.joining.footprint ≡ joining_on (board_of self.old) (request_of self.old.request) }
         ensures good { IsOnGoodPage self.old.memory.pages.faults (footprint_of self.new.joining.footprint) }
         ensures clients { map client_of self.new.clients ≡ map (client_beside (footprint_of self.new.joining.footprint)) (map client_of self.old.clients) }
         ensures bytes { is_marked self.new.indeterminate

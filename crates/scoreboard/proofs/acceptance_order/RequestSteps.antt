@@ -184,10 +184,10 @@ right_whole setup observed number beats message reply done right =
 
 client_whole : (setup : SetupLists) (observed : Observed) (number : ℕ) (beats : List ABeat) (message : HeldMessage) (memory : Memory) (client : ClientBoard)
     → IsCompleted setup observed number beats message (meaning_in memory (request_of message)).reply → IsClientOf setup observed number client
-    → IsClientOf setup (with_whole number beats observed) number (with_accepted (flight_for memory no_footprint message) client)
+    → IsClientOf setup (with_whole number beats observed) number (with_accepted (flight_for memory no_footprint (request_of message)) client)
 client_whole setup observed number beats message memory client done of =
     let reply = (meaning_in memory (request_of message)).reply in
-    let flight = flight_for memory no_footprint message in
+    let flight = flight_for memory no_footprint (request_of message) in
     let due : IsDue flight = record { some = shown_some (request_of message) reply; own = shown_source (request_of message) reply } in
     let none = none_flying (replies_to setup observed number message.source) (observed.told number message.source) client.flights message.source of.dues (of.owed message.source) done.free in
     record {

@@ -9,9 +9,9 @@ use Rattle.bus_words.proofs.PlaceChanges.{all-got, all-set}
 use Rattle.subordinate.specs.Faults.{Faults}
 use Rattle.tl_messages.specs.Requests.{HeldMessage, bytes_given, request_of}
 use Rattle.tl_messages.specs.declared.DBeat.{DBeat}
-use Rattle.scoreboard.specs.Boards.{Board, ClientBoard, accepted_on, after_d, client_beside, flight_for, footprints_of, joined_on, joining_on, with_accepted}
+use Rattle.scoreboard.specs.Boards.{Board, ClientBoard, accepted_on, after_d, client_beside, flight_for, footprints_of, joined_on, joining_on, with_accepted, with_taken}
 use Rattle.scoreboard.specs.Flights.{Footprint, InFlight, flights_after, is_of_source, with_flight}
-use Rattle.scoreboard.specs.InsideBoards.{AreOnGoodPages, BoardState, ClientState, ClientsHaveRoom, FlightState, IsFreeOf, board_of, client_of, flight_of, flights_of, footprint_of, is_marked, with_taken}
+use Rattle.scoreboard.specs.InsideBoards.{AreOnGoodPages, BoardState, ClientState, ClientsHaveRoom, FlightState, IsFreeOf, board_of, client_of, flight_of, flights_of, footprint_of, is_marked}
 use Rattle.scoreboard.specs.Races.{after_joining, flight_beside}
 use Rattle.scoreboard.specs.SerialMemory.{Memory, MemoryState, carried_out, memory_of}
 use Rattle.scoreboard.specs.declared.Policy.TheVariants.{RealTime}
@@ -63,14 +63,14 @@ client_with found flight =
 
 pub taken : (state : BoardState) (number : ℕ) (found new : ClientState) (serial : MemoryState) (flight joining : FlightState) (footprint : Footprint)
     → new ≡ record found { flights = record found.flights { due = found.flights.due ++ flight ∷ [] } } → found.front ≡ None
-    → flight_of flight ≡ flight_for (memory_of state.memory) footprint state.request → memory_of serial ≡ carried_out (memory_of state.memory) (request_of state.request)
-    → board_of (record state { clients = set state.clients number new; memory = serial; joining = joining }) ≡ with_taken (board_of state) number (client_of found) state.request footprint
+    → flight_of flight ≡ flight_for (memory_of state.memory) footprint (request_of state.request) → memory_of serial ≡ carried_out (memory_of state.memory) (request_of state.request)
+    → board_of (record state { clients = set state.clients number new; memory = serial; joining = joining }) ≡ with_taken (board_of state) number (client_of found) (request_of state.request) footprint
 taken state number found new serial flight joining footprint is free made out =
     ap₂ {C = Board} (λ (clients : List ClientBoard) (memory : Memory). record (board_of state) { clients = clients; memory = memory })
     (map-set client_of state.clients number new ∙ ap (set (map client_of state.clients) number) (ap client_of is ∙ client_with found flight ∙ accepted)) out
   where
     accepted : record (client_of found) { flights = with_flight (flight_of flight) (client_of found).flights }
-        ≡ with_accepted (flight_for (memory_of state.memory) footprint state.request) (client_of found)
+        ≡ with_accepted (flight_for (memory_of state.memory) footprint (request_of state.request)) (client_of found)
     accepted =
         ap₂ {C = ClientBoard} (λ (front : Option HeldMessage) (one : InFlight). record (client_of found) { front = front; flights = with_flight one (client_of found).flights }) free made
 
@@ -91,15 +91,15 @@ free_beside source footprint client free =
 
 -- taken in behind those that have given way, a request has joined them
 pub joined_taken : (old now : BoardState) (number : ℕ) (found : ClientBoard) → now ≡ record old { clients = now.clients; indeterminate = now.indeterminate; joining = now.joining }
-    → footprint_of now.joining.footprint ≡ joining_on (board_of old) old.request
+    → footprint_of now.joining.footprint ≡ joining_on (board_of old) (request_of old.request)
     → map client_of now.clients ≡ map (client_beside (footprint_of now.joining.footprint)) (map client_of old.clients)
     → is_marked now.indeterminate ≡ after_joining (is_marked old.indeterminate) (footprints_of (map client_of old.clients)) (footprint_of now.joining.footprint) (bytes_given old.request)
-    → with_taken (board_of now) number (client_beside (footprint_of now.joining.footprint) found) now.request (footprint_of now.joining.footprint)
+    → with_taken (board_of now) number (client_beside (footprint_of now.joining.footprint) found) (request_of now.request) (footprint_of now.joining.footprint)
     ≡ accepted_on RealTime (board_of old) number found old.request
 joined_taken old now number found rest footprint given marked =
-    ap {B = Board} (λ (b : BoardState). with_taken (record (board_of b) { clients = map client_of now.clients; indeterminate = is_marked now.indeterminate }) number (client_beside own_footprint found) b.request own_footprint) rest
-    ∙ ap₂ {C = Board} (λ (clients : List ClientBoard) (indeterminate : ℕ → Bool). with_taken (record (board_of old) { clients = clients; indeterminate = indeterminate }) number (client_beside own_footprint found) old.request own_footprint) given marked
-    ∙ ap (joined_on (board_of old) number found old.request) footprint
+    ap {B = Board} (λ (b : BoardState). with_taken (record (board_of b) { clients = map client_of now.clients; indeterminate = is_marked now.indeterminate }) number (client_beside own_footprint found) (request_of b.request) own_footprint) rest
+    ∙ ap₂ {C = Board} (λ (clients : List ClientBoard) (indeterminate : ℕ → Bool). with_taken (record (board_of old) { clients = clients; indeterminate = indeterminate }) number (client_beside own_footprint found) (request_of old.request) own_footprint) given marked
+    ∙ ap (joined_on (board_of old) number found (request_of old.request)) footprint
   where
     own_footprint : Footprint
     own_footprint = footprint_of now.joining.footprint

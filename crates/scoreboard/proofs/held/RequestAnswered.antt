@@ -32,7 +32,7 @@ accepted_same : (policy : Policy) (board : Board) (number : ℕ) (client : Clien
     → accepted_on policy (with_client number (record client { front = None }) board) number (record client { front = None }) message ≡ accepted_on policy board number client message
 accepted_same AcceptanceOrder board number client message there =
     ap {B = Board} (λ (clients : List ClientBoard). record board { clients = clients; memory = carried_out board.memory (request_of message) })
-    (set-set board.clients number (record client { front = None }) (with_accepted (flight_for board.memory no_footprint message) client))
+    (set-set board.clients number (record client { front = None }) (with_accepted (flight_for board.memory no_footprint (request_of message)) client))
 accepted_same RealTime board number client message there =
     ap (λ (footprints : List Footprint). joined_beside (set board.clients number changed) changed footprints) (same_footprints board.clients number client there)
     ∙ ap {B = Board} (λ (clients : List ClientBoard). record board {
@@ -47,17 +47,17 @@ accepted_same RealTime board number client message there =
     changed = record client { front = None }
 
     footprint : Footprint
-    footprint = joining_on board message
+    footprint = joining_on board (request_of message)
 
     flight : InFlight
-    flight = flight_for board.memory footprint message
+    flight = flight_for board.memory footprint (request_of message)
 
     -- the board where it has joined clients, of which these are the footprints
     joined_beside : List ClientBoard → ClientBoard → List Footprint → Board
     joined_beside clients own_client footprints =
         let joined_footprint = joining board.indeterminate footprints (place_in board.memory (request_of message)) (request_of message) in
         record board {
-          clients = set (map (client_beside joined_footprint) clients) number (with_accepted (flight_for board.memory joined_footprint message) (client_beside joined_footprint own_client));
+          clients = set (map (client_beside joined_footprint) clients) number (with_accepted (flight_for board.memory joined_footprint (request_of message)) (client_beside joined_footprint own_client));
           memory = carried_out board.memory (request_of message);
           indeterminate = after_joining board.indeterminate footprints joined_footprint (request_of message).bytes;
         }

@@ -6,27 +6,25 @@ use Rattle.std.proofs.lemmas.Bool.{cases_eq}
 use Rattle.std.proofs.lemmas.Bool.Decides.{nat_tests}
 use Rattle.std.proofs.lemmas.List.{map-append}
 use Rattle.std.proofs.lemmas.List.Folds.{find-append, list_any-append}
-use Rattle.std.proofs.lemmas.Option.{IfSome_then, slice_get-map}
+use Rattle.std.proofs.lemmas.Option.{slice_get-map}
 use Rattle.bus_words.specs.Places.{AreDistinct}
 use Rattle.bus_words.proofs.DistinctPlaces.{distinct-append}
-use Rattle.tl_messages.specs.Requests.{HeldMessage, WholeRequest, request_of}
+use Rattle.tl_messages.specs.Requests.{WholeRequest}
 use Rattle.burst_plan.specs.declared.Region.{Region}
 use Rattle.burst_plan.specs.PageMap.{address_of}
 use Rattle.subordinate.specs.Faults.{Faults}
 use Rattle.meaning.specs.Meaning.{Bytes, zeros}
-use Rattle.scoreboard.specs.Boards.{Board, ClientBoard, accepted_on, client_beside, flight_for, footprints_of, joining_on, with_accepted}
+use Rattle.scoreboard.specs.Boards.{Board, ClientBoard, client_beside, flight_for, footprints_of, joined_on, joining_on, with_accepted}
 use Rattle.scoreboard.specs.SerialMemory.{on_good_page}
 use Rattle.scoreboard.specs.Orders.{Entry, Order, begun_to, has_ended}
-use Rattle.scoreboard.specs.RealTime.{entry_for}
+use Rattle.scoreboard.specs.RealTime.{entry_of}
 use Rattle.scoreboard.specs.Flights.{Flights, Footprint, InFlight, due_to, each_flight, is_of_source, with_flight}
 use Rattle.scoreboard.specs.Races.{alone, beside_all, flight_beside, may_write}
-use Rattle.scoreboard.specs.declared.Policy.TheVariants.{RealTime}
 use Rattle.scoreboard.proofs.MappedLists.{any_map}
 use Rattle.scoreboard.proofs.real_time.Apart.{AreAll, IsJoining}
-use Rattle.scoreboard.proofs.real_time.CheckedRequests.{IsFrontRight, front_none}
 use Rattle.scoreboard.proofs.real_time.Entries.{Each, IsElsewhere, Stands, carry, distinct_with}
-use Rattle.scoreboard.proofs.real_time.Explained.{AreClients, Explains, clients_with}
-use Rattle.scoreboard.proofs.real_time.FlightLists.{are_all, client_was, flight_in_beside, flights_beside, none_found, others_of_none, sources_kept}
+use Rattle.scoreboard.proofs.real_time.Explained.{Explains, sources_with}
+use Rattle.scoreboard.proofs.real_time.FlightLists.{HaveAllSources, are_all, client_was, flight_in_beside, flights_beside, none_found, others_of_none, sources_kept}
 use Rattle.scoreboard.proofs.real_time.Insertion.{inserted}
 use Rattle.scoreboard.proofs.real_time.Places.{HaveSources, Place, begun_at, cases_place, due_at, flight_at, flight_in, flights_at, flights_in, flights_other, flights_same, footprint_at}
 use Rattle.scoreboard.proofs.real_time.ReplyMoves.{waits_for}
@@ -66,20 +64,10 @@ module _ (test : Entry → Bool) (before after : Order) (entry : Entry) where
 
 -- ---- clients beside one that joins
 
-clients_beside : (footprint : Footprint) (clients : List ClientBoard) → AreClients clients → AreClients (map (client_beside footprint) clients)
-clients_beside footprint clients are =
-    record {
-      sources = λ number client is.
-          let was = client_was footprint clients number client is in
-          subst (λ (c : ClientBoard). HaveSources c.flights) was.2 (sources_kept footprint was.0.flights (are.sources number was.0 was.1));
-      fronts = λ number client is.
-          let was = client_was footprint clients number client is in
-          let right = are.fronts number was.0 was.1 in
-          subst IsFrontRight was.2 (record {
-            heard = right.heard;
-            free = IfSome_then was.0.front right.free (λ held free. any_map (is_of_source held.source) (flight_beside footprint) was.0.flights.due ∙ free);
-          });
-    }
+sources_beside : (footprint : Footprint) (clients : List ClientBoard) → HaveAllSources clients → HaveAllSources (map (client_beside footprint) clients)
+sources_beside footprint clients are number client is =
+    let was = client_was footprint clients number client is in
+    subst (λ (c : ClientBoard). HaveSources c.flights) was.2 (sources_kept footprint was.0.flights (are number was.0 was.1))
 
 -- ---- a client with one more
 
@@ -93,23 +81,20 @@ module _ (flight : InFlight) (flights : Flights) where
       let other : flight.source ≡ source → ⊥ = λ same. differ (ap Some (sym same)) in
       grind (arith, nat_tests, find-append (is_of_source source) flights.due (flight ∷ []), other)
 
-  sources_with : list_any (is_of_source flight.source) flights.due ≡ false → HaveSources flights → HaveSources (with_flight flight flights)
-  sources_with free distinct =
+  sources_more : list_any (is_of_source flight.source) flights.due ≡ false → HaveSources flights → HaveSources (with_flight flight flights)
+  sources_more free distinct =
       subst AreDistinct (sym (map-append (λ (f : InFlight). f.source) flights.due (flight ∷ [])))
       (distinct-append flight.source (map (λ (f : InFlight). f.source) flights.due) distinct (others_of_none flight.source flights.due free))
 
 -- ---- the board with the request
 
-module _ (board : Board) (number : ℕ) (client : ClientBoard) (message : HeldMessage) (there : slice_get board.clients number ≡ Some client)
-    (free : list_any (is_of_source message.source) client.flights.due ≡ false) where
-  abbrev q : WholeRequest
-  q = request_of message
-
+module _ (board : Board) (number : ℕ) (client : ClientBoard) (q : WholeRequest) (there : slice_get board.clients number ≡ Some client)
+    (free : list_any (is_of_source q.source) client.flights.due ≡ false) where
   abbrev footprint : Footprint
-  footprint = joining_on board message
+  footprint = joining_on board q
 
   abbrev flight : InFlight
-  flight = flight_for board.memory footprint message
+  flight = flight_for board.memory footprint q
 
   abbrev beside : List ClientBoard
   beside = map (client_beside footprint) board.clients
@@ -121,17 +106,17 @@ module _ (board : Board) (number : ℕ) (client : ClientBoard) (message : HeldMe
   new_clients = set beside number changed
 
   abbrev own_place : Place
-  own_place = due_at number message.source
+  own_place = due_at number q.source
 
   there_beside : slice_get beside number ≡ Some (client_beside footprint client)
   there_beside = slice_get-map (client_beside footprint) board.clients number ∙ ap (option_map (client_beside footprint)) there
 
-  free_beside : list_any (is_of_source message.source) (client_beside footprint client).flights.due ≡ false
-  free_beside = any_map (is_of_source message.source) (flight_beside footprint) client.flights.due ∙ free
+  free_beside : list_any (is_of_source q.source) (client_beside footprint client).flights.due ≡ false
+  free_beside = any_map (is_of_source q.source) (flight_beside footprint) client.flights.due ∙ free
 
   own_flight : flight_at new_clients own_place ≡ Some flight
   own_flight =
-      ap (λ (f : Flights). due_to f message.source) (flights_same beside number (client_beside footprint client) changed there_beside)
+      ap (λ (f : Flights). due_to f q.source) (flights_same beside number (client_beside footprint client) changed there_beside)
       ∙ found_own flight (client_beside footprint client).flights free_beside
 
   other_flight : (i : Place) → (i ≡ own_place → ⊥) → flight_at new_clients i ≡ option_map (flight_beside footprint) (flight_at board.clients i)
@@ -149,44 +134,43 @@ module _ (board : Board) (number : ℕ) (client : ClientBoard) (message : HeldMe
           ∙ ap (λ (f : Flights). flight_in (each_flight (flight_beside footprint) f) i.source)
           (sym (ap flights_in there) ∙ ap (flights_at board.clients) (sym same))
         where
-          place_is : i.source ≡ Some message.source → i ≡ own_place
+          place_is : i.source ≡ Some q.source → i ≡ own_place
           place_is source = ap (λ c. record { client = c; source = i.source }) same ∙ ap (λ s. record { client = number; source = s }) source
 
   still_some : (i : Place) → (i ≡ own_place → ⊥) → is_some (flight_at new_clients i) ≡ is_some (flight_at board.clients i)
   still_some i differ = grind (arith, other_flight i differ)
 
-  pub explains_accepted : (before after : Order) → IsWell q → list_any has_ended after ≡ false → Explains board (before ++ after)
-      → Explains (accepted_on RealTime board number client message) (before ++ entry_for number message ∷ after)
-  explains_accepted before after well none explains =
+  pub explains_joined : (before after : Order) → IsWell q → list_any has_ended after ≡ false → Explains board (before ++ after)
+      → Explains (joined_on board number client q (joining_on board q)) (before ++ entry_of number q ∷ after)
+  explains_joined before after well none explains =
       let with_it =
       inserted board.memory.faults board.memory.regions (flight_at board.clients) (flight_at new_clients) (footprints_of board.clients)
-      board.indeterminate board.memory.bytes (entry_for number message) flight well refl
+      board.indeterminate board.memory.bytes (entry_of number q) flight well refl
       (joins_right board.memory.faults board.memory.regions board.indeterminate (footprint_at board.clients) (footprints_of board.clients) q are well)
       are explains.apart explains.either own_flight other_flight before after zeros explains.entries none elsewhere explains.distinct explains.known refl
       explains.small refl in
       record {
-        clients =
-            clients_with beside number (client_beside footprint client) changed there_beside
-            (clients_beside footprint board.clients explains.clients)
-            (sources_with flight (client_beside footprint client).flights free_beside
-            (sources_kept footprint client.flights (explains.clients.sources number client there)))
-            (front_none changed refl);
+        sources =
+            sources_with beside number (client_beside footprint client) changed there_beside
+            (sources_beside footprint board.clients explains.sources)
+            (sources_more flight (client_beside footprint client).flights free_beside
+            (sources_kept footprint client.flights (explains.sources number client there)));
         small = (acts board.memory.faults board.memory.regions q well).small board.memory.bytes explains.small;
         apart = with_it.apart_now;
         either = with_it.either_now;
-        distinct = distinct_with before after (entry_for number message) explains.distinct elsewhere;
+        distinct = distinct_with before after (entry_of number q) explains.distinct elsewhere;
         entries = with_it.entries;
         known = with_it.known;
         waiting = λ c source some. waiting c source some (cases_place (due_at c source) own_place);
         begun = λ c some.
-            any_with (begun_to c) before after (entry_for number message) (explains.begun c (sym (still_some (begun_at c) (not_due c)) ∙ some));
+            any_with (begun_to c) before after (entry_of number q) (explains.begun c (sym (still_some (begun_at c) (not_due c)) ∙ some));
       }
     where
       are : AreAll (footprint_at board.clients) (footprints_of board.clients)
-      are = are_all board.clients explains.clients.sources
+      are = are_all board.clients explains.sources
 
       nothing : flight_at board.clients own_place ≡ None
-      nothing = ap (λ (f : Flights). due_to f message.source) (ap flights_in there) ∙ none_found message.source client.flights.due free
+      nothing = ap (λ (f : Flights). due_to f q.source) (ap flights_in there) ∙ none_found q.source client.flights.due free
 
       elsewhere : AllByRecursion (IsElsewhere own_place) (before ++ after)
       elsewhere = all_elsewhere board.memory.faults board.memory.regions (flight_at board.clients) own_place nothing (before ++ after) zeros explains.entries
@@ -196,11 +180,11 @@ module _ (board : Board) (number : ℕ) (client : ClientBoard) (message : HeldMe
 
       waiting : (c source : ℕ) → is_some (flight_at new_clients (due_at c source)) ≡ true
           → (due_at c source ≡ own_place) ⊎ (due_at c source ≡ own_place → ⊥)
-          → list_any (waits_for c source) (before ++ entry_for number message ∷ after) ≡ true
+          → list_any (waits_for c source) (before ++ entry_of number q ∷ after) ≡ true
       waiting c source some (inr differ) =
-          any_with (waits_for c source) before after (entry_for number message) (explains.waiting c source (sym (still_some (due_at c source) differ) ∙ some))
+          any_with (waits_for c source) before after (entry_of number q) (explains.waiting c source (sym (still_some (due_at c source) differ) ∙ some))
       waiting c source some (inl same) =
-          let there : Some source ≡ Some message.source = ap (λ (p : Place). p.source) same in
-          let is : source ≡ message.source = cc (there) in
-          any_here (waits_for c source) before after (entry_for number message)
+          let there : Some source ≡ Some q.source = ap (λ (p : Place). p.source) same in
+          let is : source ≡ q.source = cc (there) in
+          any_here (waits_for c source) before after (entry_of number q)
           (grind (arith, nat_tests, is, ap (λ (p : Place). p.client) same))

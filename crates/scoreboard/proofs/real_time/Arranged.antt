@@ -11,7 +11,7 @@ use Rattle.std.proofs.lemmas.List.Folds.{list_any-append, list_any_at}
 use Rattle.std.proofs.Math.Bool.{or-true}
 use Rattle.std.proofs.lemmas.Simd.{map-map}
 use Rattle.bus_words.proofs.PlaceChanges.{all-map}
-use Rattle.tl_messages.specs.Requests.{no_message}
+use Rattle.tl_messages.specs.Requests.{no_message, request_of}
 use Rattle.tl_messages.specs.declared.ABeat.{ABeat}
 use Rattle.tl_checker.specs.Ports.{joined}
 use Rattle.tl_checker.specs.declared.Progress.{Progress}
@@ -23,7 +23,7 @@ use Rattle.scoreboard.specs.declared.Policy.TheVariants as policy
 use Rattle.scoreboard.specs.declared.ObservedBeat.{ObservedBeat}
 use Rattle.scoreboard.specs.declared.ObservedBeat.TheVariants.{A, D, Axi as OnAxi, Drained}
 use Rattle.scoreboard.specs.Orders.{Entry, Order, after_beat, begun_to, board_after, has_ended, with_beat}
-use Rattle.scoreboard.specs.RealTime.{EndedBefore, IsOrderOf, KeepsRealTime, accepted_from, accepted_in, accepted_next, arranged, entry_for, numbered, with_answered, with_request}
+use Rattle.scoreboard.specs.RealTime.{EndedBefore, IsOrderOf, KeepsRealTime, accepted_from, accepted_in, accepted_next, arranged, entry_of, numbered, with_answered, with_request}
 use Rattle.scoreboard.proofs.real_time.StepOrders as steps
 use Rattle.scoreboard.proofs.real_time.StepOrders.{GoesOn, IsOrderFrom, IsPutIn}
 
@@ -108,7 +108,7 @@ any_at test (entry ∷ order) some =
 
 none_at : (test : Entry → Bool) (order : Order) → list_any test order ≡ false → (i : ℕ) → i < length order → test (numbered order i) ≡ false
 none_at test order none i small =
-    false_from_ne_true (test (numbered order i)) (λ passes. both_ways (list_any test order) none (list_any_at test order i (entry_for 0 no_message) small passes))
+    false_from_ne_true (test (numbered order i)) (λ passes. both_ways (list_any test order) none (list_any_at test order i (entry_of 0 (request_of no_message)) small passes))
 
 -- ---- what a beat does to those accepted
 
@@ -122,7 +122,7 @@ added number (Some client) beat = by_answer (answer_to policy.RealTime client be
         → (entry : Option Entry) × ((now : Order) → with_answered number (joined client.limits client.front beat) answer now ≡ now ++ option_to_list entry)
     by_answer (Err broken) = (None, λ now. sym (append-nil now))
     by_answer (Ok More) = (None, λ now. sym (append-nil now))
-    by_answer (Ok Whole) = (Some (entry_for number (joined client.limits client.front beat)), λ now. refl)
+    by_answer (Ok Whole) = (Some (entry_of number (request_of (joined client.limits client.front beat))), λ now. refl)
 
 -- fewer are never accepted
 no_fewer : (board : Board) (seen : ObservedBeat) (now : Order) → length now ≤ length (accepted_next board seen now)
@@ -226,7 +226,7 @@ module _ (setup : SetupLists) (beats : List ObservedBeat) (numbers : List ℕ) (
             ap (λ (begun : Bool). map (with_beat begun client source) (so_far done)) (any_so_far done (seen ∷ rest) (begun_to client) parts)
             ∙ map-map change (numbered (accepted done)) (below (length (accepted done)) numbers)
             ∙ same_below (λ k. change (numbered (accepted done) k)) (numbered (map change (accepted done))) (length (accepted done)) numbers
-            (λ k small. sym (get_or-map change (accepted done) k (entry_for 0 no_message) (entry_for 0 no_message) small))
+            (λ k small. sym (get_or-map change (accepted done) k (entry_of 0 (request_of no_message)) (entry_of 0 (request_of no_message)) small))
             ∙ ap (λ n. map (numbered (map change (accepted done))) (below n numbers)) (sym (length-map (accepted done) change))
             ∙ ap entries_of (sym same)
 
@@ -273,7 +273,7 @@ module _ (setup : SetupLists) (beats : List ObservedBeat) (numbers : List ℕ) (
         still : (ks : List ℕ) → map (numbered (accepted done)) (below count ks) ≡ map (numbered (accepted done ++ entry ∷ [])) (below count ks)
         still ks =
             same_below (numbered (accepted done)) (numbered (accepted done ++ entry ∷ [])) count ks
-            (λ k small. sym (get_or_append_left (accepted done) (entry ∷ []) (entry_for 0 no_message) k small))
+            (λ k small. sym (get_or_append_left (accepted done) (entry ∷ []) (entry_of 0 (request_of no_message)) k small))
 
         new : Order
         new = map (numbered (accepted done)) left ++ entry ∷ map (numbered (accepted done)) right
@@ -288,7 +288,7 @@ module _ (setup : SetupLists) (beats : List ObservedBeat) (numbers : List ℕ) (
         entries =
             let first = still here.left in
             let last = still here.right in
-            let own : numbered (accepted done ++ entry ∷ []) count ≡ entry = get_or_at (accepted done) entry [] (entry_for 0 no_message) count refl in
+            let own : numbered (accepted done ++ entry ∷ []) count ≡ entry = get_or_at (accepted done) entry [] (entry_of 0 (request_of no_message)) count refl in
             let all : new ≡ map (numbered (accepted done ++ entry ∷ [])) left ++ numbered (accepted done ++ entry ∷ []) count ∷ map
             (numbered (accepted done ++ entry ∷ [])) right = cc (first, last, own) in
             all

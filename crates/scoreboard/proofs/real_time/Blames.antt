@@ -22,6 +22,7 @@ use Rattle.scoreboard.specs.declared.Wrong.TheVariants.{Axi, NoClient, Place as 
 use Rattle.scoreboard.proofs.real_time.AlikeBeats.{left_alike}
 use Rattle.scoreboard.proofs.real_time.Entries.{Each, IsLive, Stands, carry, run}
 use Rattle.scoreboard.proofs.real_time.Explained.{Explains, explains_as, explains_opening}
+use Rattle.scoreboard.proofs.real_time.Fronts.{AreFronts, fronts_next, fronts_opening}
 use Rattle.scoreboard.proofs.real_time.Places.{Place, flight_at}
 use Rattle.scoreboard.proofs.real_time.ReplyBeats.{explains_reply}
 use Rattle.scoreboard.proofs.real_time.ReplySeen.{next_is}
@@ -159,23 +160,24 @@ module _ (setup : SetupLists) (board : Board) (order : Order) (number : ℕ) (be
 
 -- ---- along lists of beats
 
-explains_next : (board : Board) (seen : ObservedBeat) (old new : Order) → GoesOn board seen old new → Explains board old
+explains_next : (board : Board) (seen : ObservedBeat) (old new : Order) → GoesOn board seen old new → AreFronts board.clients → Explains board old
     → Explains (after_seen RealTime board seen) new
-explains_next board (A client beat) old new goes explains = explains_request board client beat old new explains goes
-explains_next board (D client beat) old new goes explains =
+explains_next board (A client beat) old new goes fronts explains = explains_request board client beat old new explains fronts goes
+explains_next board (D client beat) old new goes fronts explains =
     subst (Explains (after_seen RealTime board (D client beat))) (sym goes) (explains_reply board old client beat explains)
-explains_next board (OnAxi beat) old new goes explains =
+explains_next board (OnAxi beat) old new goes fronts explains =
     subst (Explains (after_seen RealTime board (OnAxi beat))) (sym goes)
-    (explains_as board old board.clients (after_seen RealTime board (OnAxi beat)).axi refl explains.clients explains)
-explains_next board Drained old new goes explains =
+    (explains_as board old board.clients (after_seen RealTime board (OnAxi beat)).axi refl explains.sources explains)
+explains_next board Drained old new goes fronts explains =
     subst (Explains (after_seen RealTime board Drained)) (sym goes)
-    (explains_as board old board.clients (after_seen RealTime board Drained).axi refl explains.clients explains)
+    (explains_as board old board.clients (after_seen RealTime board Drained).axi refl explains.sources explains)
 
 pub explains_all : (beats : List ObservedBeat) (board : Board) (now order : Order) → IsOrderFrom board now beats order
-    → Explains board now → Explains (after_all RealTime board beats) order
-explains_all [] board now order goes explains = subst (Explains board) (sym goes) explains
-explains_all (seen ∷ beats) board now order goes explains =
-    explains_all beats (after_seen RealTime board seen) goes.0 order goes.2 (explains_next board seen now goes.0 goes.1 explains)
+    → AreFronts board.clients → Explains board now → Explains (after_all RealTime board beats) order
+explains_all [] board now order goes fronts explains = subst (Explains board) (sym goes) explains
+explains_all (seen ∷ beats) board now order goes fronts explains =
+    explains_all beats (after_seen RealTime board seen) goes.0 order goes.2 (fronts_next board seen fronts)
+    (explains_next board seen now goes.0 goes.1 fronts explains)
 
 -- where addresses lead stays
 record SameSetup (old new : Board) : Type 0 where
@@ -199,7 +201,7 @@ all_setup (seen ∷ beats) board =
 
 explained : (setup : SetupLists) (before : List ObservedBeat) (order : Order) → IsOrderOf setup before order
     → Explains (board_after setup before) order
-explained setup before order orders = explains_all before (opening_board setup) [] order orders (explains_opening setup)
+explained setup before order orders = explains_all before (opening_board setup) [] order orders (fronts_opening setup) (explains_opening setup)
 
 pub blames_by_rule : BlamesByRule
 blames_by_rule setup before order client beat wrong orders blamed =

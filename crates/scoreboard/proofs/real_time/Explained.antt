@@ -15,19 +15,14 @@ use Rattle.scoreboard.specs.Boards.{Board, ClientBoard, opening_board, opening_c
 use Rattle.scoreboard.specs.Flights.{Flights, InFlight, no_flights}
 use Rattle.scoreboard.specs.Orders.{Order, begun_to}
 use Rattle.scoreboard.proofs.real_time.Apart.{AreApart, AreEither}
-use Rattle.scoreboard.proofs.real_time.CheckedRequests.{IsFrontRight, front_none}
+use Rattle.scoreboard.proofs.real_time.FlightLists.{HaveAllSources}
 use Rattle.scoreboard.proofs.real_time.Entries.{AreDistinct, Each, Stands, run}
 use Rattle.scoreboard.proofs.real_time.Places.{HaveSources, Place, begun_at, due_at, flight_at, flight_in, flights_at, flights_kept, footprint_at, footprint_in, none_in}
 use Rattle.scoreboard.proofs.real_time.ReplyMoves.{waits_for}
 use Rattle.scoreboard.proofs.real_time.RequestActs.{AreBytes}
 
--- no two requests of a client that wait for their replies are of one source, and what each has begun goes with it
-pub record AreClients (clients : List ClientBoard) : Type 0 where
-  pub sources : (number : ℕ) (client : ClientBoard) → slice_get clients number ≡ Some client → HaveSources client.flights
-  pub fronts : (number : ℕ) (client : ClientBoard) → slice_get clients number ≡ Some client → IsFrontRight client
-
 pub record Explains (board : Board) (order : Order) : Type 0 where
-  pub clients : AreClients board.clients
+  pub sources : HaveAllSources board.clients
   pub small : AreBytes board.memory.bytes
   pub apart : AreApart (footprint_at board.clients)
   pub either : AreEither board.indeterminate (footprint_at board.clients)
@@ -49,20 +44,16 @@ each_client P clients number old changed is all own other client there =
       | inr differ ↦ all other client (sym (get_set-other clients number other changed differ) ∙ there)
     ]
 
-pub clients_with : (clients : List ClientBoard) (number : ℕ) (old changed : ClientBoard) → slice_get clients number ≡ Some old → AreClients clients
-    → HaveSources changed.flights → IsFrontRight changed → AreClients (set clients number changed)
-clients_with clients number old changed is are sources front =
-    record {
-      sources = each_client (λ client. HaveSources client.flights) clients number old changed is are.sources sources;
-      fronts = each_client IsFrontRight clients number old changed is are.fronts front;
-    }
+pub sources_with : (clients : List ClientBoard) (number : ℕ) (old changed : ClientBoard) → slice_get clients number ≡ Some old → HaveAllSources clients
+    → HaveSources changed.flights → HaveAllSources (set clients number changed)
+sources_with clients number old changed is are own = each_client (λ client. HaveSources client.flights) clients number old changed is are own
 
 -- where the same is in flight
-pub explains_as : (board : Board) (order : Order) (clients : List ClientBoard) (port : PortBoard) → flight_at board.clients ≡ flight_at clients → AreClients clients
+pub explains_as : (board : Board) (order : Order) (clients : List ClientBoard) (port : PortBoard) → flight_at board.clients ≡ flight_at clients → HaveAllSources clients
     → Explains board order → Explains (record board { clients = clients; axi = port }) order
 explains_as board order clients port same are explains =
     record {
-      clients = are;
+      sources = are;
       small = explains.small;
       apart = subst (λ (f : Place → Option InFlight). AreApart (λ place. footprint_in (f place))) same explains.apart;
       either = subst (λ (f : Place → Option InFlight). AreEither board.indeterminate (λ place. footprint_in (f place))) same explains.either;
@@ -76,16 +67,16 @@ explains_as board order clients port same are explains =
 
 -- a client that keeps its requests in flight
 pub explains_with : (board : Board) (order : Order) (number : ℕ) (old changed : ClientBoard) → slice_get board.clients number ≡ Some old
-    → changed.flights ≡ old.flights → IsFrontRight changed
+    → changed.flights ≡ old.flights
     → Explains board order → Explains (record board { clients = set board.clients number changed }) order
-explains_with board order number old changed is same front explains =
+explains_with board order number old changed is same explains =
     explains_as board order (set board.clients number changed) board.axi
     (fun_ext (λ place. ap (λ (f : Flights). flight_in f place.source) (sym (flights_kept board.clients number old changed is same place.client))))
-    (clients_with board.clients number old changed is explains.clients (subst HaveSources (sym same) (explains.clients.sources number old is)) front) explains
+    (sources_with board.clients number old changed is explains.sources (subst HaveSources (sym same) (explains.sources number old is))) explains
 
 -- ---- at the start
 
-opening_at : (config : Config) (from count number : ℕ) (client : ClientBoard)
+pub opening_at : (config : Config) (from count number : ℕ) (client : ClientBoard)
     → slice_get (map (opening_client config) (range_with_len from count)) number ≡ Some client
     → (k : ℕ) × (client ≡ opening_client config k)
 opening_at config from zero number client is = absurd (cc (is))
@@ -98,13 +89,9 @@ opening_flights config from count number = rw (slice_get-map (opening_client con
 pub explains_opening : (setup : SetupLists) → Explains (opening_board setup) []
 explains_opening setup =
     record {
-      clients =
-          record {
-            sources = λ number client is. let found = opening_at setup.config 0 setup.config.clients number client is in
-                subst HaveSources (sym (ap (λ (c : ClientBoard). c.flights) found.1)) tt;
-            fronts = λ number client is. let found = opening_at setup.config 0 setup.config.clients number client is in
-                front_none client (ap (λ (c : ClientBoard). c.front) found.1);
-          };
+      sources = λ number client is.
+          let found = opening_at setup.config 0 setup.config.clients number client is in
+          subst HaveSources (sym (ap (λ (c : ClientBoard). c.flights) found.1)) tt;
       small = record { at = λ x. omega arith };
       apart = record
           { apart = λ i j x differ determined. absurd (cc (sym (ap (λ (o : Option InFlight). (footprint_in o).determined x) (nothing i)) ∙ determined)) };

@@ -6,10 +6,10 @@ use Rattle.std.specs.Option.{option_map}
 use Rattle.std.proofs.lemmas.List.{map-append, map-set}
 use Rattle.std.proofs.lemmas.Simd.{map-map}
 use Rattle.bus_words.proofs.MappedPlaces.{map_same}
-use Rattle.tl_messages.specs.Requests.{HeldMessage}
+use Rattle.tl_messages.specs.Requests.{WholeRequest}
 use Rattle.setups.specs.Setups.{SetupLists}
-use Rattle.scoreboard.specs.Boards.{Board, ClientBoard, accepted_on, client_beside, flight_for, joined_on, opening_board, opening_client, with_accepted, with_client}
-use Rattle.scoreboard.specs.Flights.{Flights, Footprint, InFlight, each_flight, flights_after, is_busy, is_of_source, next_reply}
+use Rattle.scoreboard.specs.Boards.{Board, ClientBoard, client_beside, flight_for, joined_on, opening_board, opening_client, with_accepted, with_client, with_taken}
+use Rattle.scoreboard.specs.Flights.{Flights, Footprint, InFlight, each_flight, flights_after, is_busy, is_of_source, next_reply, no_footprint}
 use Rattle.scoreboard.specs.Races.{flight_beside}
 use Rattle.scoreboard.specs.Wider.{board_alone, client_alone, flight_alone}
 use Rattle.scoreboard.specs.declared.Policy.{Policy}
@@ -53,11 +53,11 @@ pub client_changed_alone : (board : Board) (number : ℕ) (client : ClientBoard)
 client_changed_alone board number client = ap (with_clients board) (map-set client_alone board.clients number client)
 
 -- with one request more
-pub joined_alone : (board : Board) (number : ℕ) (client : ClientBoard) (message : HeldMessage) (footprint : Footprint)
-    → board_alone (joined_on board number client message footprint) ≡ accepted_on AcceptanceOrder (board_alone board) number (client_alone client) message
-joined_alone board number client message footprint =
-    let flight : InFlight = flight_for board.memory footprint message in
-    ap (with_clients (joined_on board number client message footprint))
+pub joined_alone : (board : Board) (number : ℕ) (client : ClientBoard) (q : WholeRequest) (footprint : Footprint)
+    → board_alone (joined_on board number client q footprint) ≡ with_taken (board_alone board) number (client_alone client) q no_footprint
+joined_alone board number client q footprint =
+    let flight : InFlight = flight_for board.memory footprint q in
+    ap (with_clients (joined_on board number client q footprint))
     (map-set client_alone (map (client_beside footprint) board.clients) number (with_accepted flight (client_beside footprint client))
     ∙ ap₂ (λ (clients : List ClientBoard) (changed : ClientBoard). slice_set clients number changed)
     (map-map client_alone (client_beside footprint) board.clients

@@ -1,21 +1,19 @@
 -- A beat on channel D: the board still knows what it knew of an order.
-use Rattle.std.proofs.Common.{◌≡◌, ℕ, ◌==◌, Bool, true, false, set, Option, Some, None, IfSome, refl, sym, ◌∙◌, ap, subst, arith}
+use Rattle.std.proofs.Common.{◌≡◌, ℕ, ◌==◌, Bool, true, false, set, Option, Some, None, refl, sym, ◌∙◌, ap, subst, arith}
 use Rattle.std.specs.Prelude.{slice_get}
 use Rattle.std.specs.List.{list_any}
 use Rattle.std.proofs.lemmas.Bool.Decides.{nat_tests}
 use Rattle.bus_words.proofs.PlaceChanges.{find-passes}
-use Rattle.tl_messages.specs.Requests.{HeldMessage}
 use Rattle.tl_messages.specs.declared.DBeat.{DBeat}
 use Rattle.meaning.specs.Meaning.{Bytes, zeros}
 use Rattle.scoreboard.specs.Boards.{Board, ClientBoard, after_d}
 use Rattle.scoreboard.specs.Flights.{InFlight, flights_after, is_of_source, next_reply}
 use Rattle.scoreboard.specs.Orders.{Entry, Order, after_beat, begun_to}
-use Rattle.scoreboard.proofs.real_time.CheckedRequests.{IsFrontRight}
 use Rattle.scoreboard.proofs.real_time.Entries.{Stands}
-use Rattle.scoreboard.proofs.real_time.Explained.{Explains, clients_with, explains_with}
+use Rattle.scoreboard.proofs.real_time.Explained.{Explains, explains_with, sources_with}
 use Rattle.scoreboard.proofs.real_time.Places.{HaveSources, Place, flight_at}
 use Rattle.scoreboard.proofs.real_time.ReplyMoves.{AreMoved, Moves, begun_next, distinct_next, each_next, run_moved, waiting_next}
-use Rattle.scoreboard.proofs.real_time.ReplySeen.{are_moved, flights_still, free_after, next_is, sources_after, still_apart, still_either}
+use Rattle.scoreboard.proofs.real_time.ReplySeen.{are_moved, flights_still, next_is, sources_after, still_apart, still_either}
 use Rattle.scoreboard.proofs.real_time.ReplySteps.{begun_as, counts_none, due_counted, moves_all, next_at, none_due}
 
 module _ (board : Board) (order : Order) (number source : ℕ) (explains : Explains board order) where
@@ -40,26 +38,16 @@ module _ (board : Board) (order : Order) (number source : ℕ) (explains : Expla
     Kept = Explains (record board { clients = set board.clients number changed }) (after_beat order number source)
 
     sources : HaveSources client.flights
-    sources = explains.clients.sources number client there
+    sources = explains.sources number client there
 
     due : flight_at board.clients from ≡ next_reply client.flights source
     due = next_is board.clients number source client there begun (begun_as board order explains number source)
-
-    front : IsFrontRight changed
-    front =
-        let right = explains.clients.fronts number client there in
-        record { heard = right.heard; free = still client.front right.free }
-      where
-        still : (o : Option HeldMessage) → IfSome o (λ held. list_any (is_of_source held.source) client.flights.due ≡ false)
-            → IfSome o (λ held. list_any (is_of_source held.source) changed.flights.due ≡ false)
-        still None free = tt
-        still (Some held) free = free_after source client.flights held.source free
 
     -- a beat of the source of the request to which it is due
     moved : ((flight : InFlight) → next_reply client.flights source ≡ Some flight → flight.source ≡ source) → Kept
     moved own =
         record {
-          clients = clients_with board.clients number client changed there explains.clients (sources_after source client.flights sources) front;
+          sources = sources_with board.clients number client changed there explains.sources (sources_after source client.flights sources);
           small = explains.small;
           apart = still_apart number source from (flight_at board.clients) now are explains.apart;
           either = still_either number source from (flight_at board.clients) now are board.indeterminate explains.either;
@@ -93,7 +81,7 @@ module _ (board : Board) (order : Order) (number source : ℕ) (explains : Expla
         let kept = flights_still source client.flights flight is differ in
         subst (Explains (record board { clients = set board.clients number changed }))
         (sym (counts_none board order explains number source (λ next at own. grind (arith, nat_tests, is, differ, due, at, own))))
-        (explains_with board order number client changed there kept front explains)
+        (explains_with board order number client changed there kept explains)
 
     pub explains_own : Kept
     explains_own = by_begun client.flights.begun refl

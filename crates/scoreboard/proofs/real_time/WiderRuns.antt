@@ -4,7 +4,7 @@ use Rattle.std.proofs.Common.{◌≡◌, ℕ, false, List, [], ◌∷◌, Option
 use Rattle.std.specs.Prelude.{slice_get}
 use Rattle.std.specs.Option.{option_map}
 use Rattle.std.proofs.lemmas.Option.{slice_get-map}
-use Rattle.tl_messages.specs.Requests.{HeldMessage}
+use Rattle.tl_messages.specs.Requests.{HeldMessage, request_of}
 use Rattle.tl_messages.specs.declared.ABeat.{ABeat}
 use Rattle.tl_messages.specs.declared.DBeat.{DBeat}
 use Rattle.tl_checker.specs.Ports.{joined}
@@ -44,7 +44,7 @@ request_on old number (Some client) beat none free = rw (same_answer client beat
         → IsOn (answered_on AcceptanceOrder (board_alone old) number (client_alone client) message answer) (answered_on RealTime old number client message answer)
     by_answer (Err broken) = record { holds = refl; early = none }
     by_answer (Ok More) = record { holds = client_changed_alone old number (record client { front = Some message }); early = none }
-    by_answer (Ok Whole) = record { holds = joined_alone old number client message (joining_on old message); early = none }
+    by_answer (Ok Whole) = record { holds = joined_alone old number client (request_of message) (joining_on old (request_of message)); early = none }
 
 reply_on : (old : Board) (number : ℕ) (found : Option ClientBoard) (beat : DBeat) → old.axi.early ≡ []
     → IsOn (after_d (board_alone old) number (option_map client_alone found) beat) (after_d old number found beat)

@@ -63,7 +63,7 @@ joined c =
     c.deref.ensures.value
 
 pub returns-clause-footprint : goal.returns-clause-footprint
-returns-clause-footprint c = joined c ∙ ap (λ (b : BoardState). joining_on (board_of b) b.request) c.self.view_is
+returns-clause-footprint c = joined c ∙ ap (λ (b : BoardState). joining_on (board_of b) (request_of b.request)) c.self.view_is
 
 pub returns-clause-bytes : goal.returns-clause-bytes
 returns-clause-bytes c =

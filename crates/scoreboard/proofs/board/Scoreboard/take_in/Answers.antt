@@ -3,9 +3,10 @@ use Rattle.std.proofs.Common.{◌≡◌, Some, ap, false, map, rules, subst, sym
 use Rattle.std.specs.Prelude.{slice_get}
 use Rattle.std.specs.List.{list_any}
 use Rattle.bus_words.proofs.PlaceChanges.{all-got}
-use Rattle.scoreboard.specs.Boards.{ClientBoard}
+use Rattle.tl_messages.specs.Requests.{request_of}
+use Rattle.scoreboard.specs.Boards.{ClientBoard, with_taken}
 use Rattle.scoreboard.specs.Flights.{is_of_source}
-use Rattle.scoreboard.specs.InsideBoards.{AreOnGoodPages, BoardState, ClientState, IsFreeOf, IsOnGoodPage, FlightState, board_of, client_of, flight_of, footprint_of, room_by, with_taken}
+use Rattle.scoreboard.specs.InsideBoards.{AreOnGoodPages, BoardState, ClientState, IsFreeOf, IsOnGoodPage, FlightState, board_of, client_of, flight_of, footprint_of, room_by}
 use Rattle.scoreboard.specs.SerialMemory.{Memory}
 use Rattle.scoreboard.specs.contracts.board.Scoreboard.{the_view}
 use Rattle.scoreboard.proofs.held.BoardSteps.{client_kept, client_there, taken, there_at}
@@ -55,8 +56,8 @@ returns-clause-state c found is =
     let same : client_of one ≡ found = one_only (sym (client_there c.self.inside.clients.items c.args.client one (still c)) ∙ there) in
     taken (the_view c.self.inside) c.args.client one c.join.new.self c.carry_out.new.serial c.carry_out.new.self c.join.new.flight (footprint_of c.self.inside.joining.footprint) c.join.ensures.client
     (ap (λ (client : ClientBoard). client.front) same ∙ (c.requires.free found is).front) (ap flight_of c.carry_out.ensures.flight) c.carry_out.ensures.memory
-    ∙ ap (λ (client : ClientBoard). with_taken (board_of (the_view c.self.inside)) c.args.client client c.self.inside.request (footprint_of c.self.inside.joining.footprint)) same
-    ∙ ap (λ (b : BoardState). with_taken (board_of b) c.args.client found b.request (footprint_of b.joining.footprint)) c.self.view_is
+    ∙ ap (λ (client : ClientBoard). with_taken (board_of (the_view c.self.inside)) c.args.client client (request_of c.self.inside.request) (footprint_of c.self.inside.joining.footprint)) same
+    ∙ ap (λ (b : BoardState). with_taken (board_of b) c.args.client found (request_of b.request) (footprint_of b.joining.footprint)) c.self.view_is
   where
     one_only : {one other : ClientBoard} → Some one ≡ Some other → one ≡ other
     one_only is = cc
