@@ -396,8 +396,8 @@ INPUTS = {
         -> outstanding 0 open 2
         """,
     "two regions, and the pages between those to which they lead": f"""{CONFIG}
-        region 0 1 20 g
-        region 4 2 10 g
+        region 0 1 20 g---
+        region 4 2 10 g---
         axi strict
         AR 0 20ff8 0 3 1
         AR 1 21000 0 3 1 -> axi 15 PLACE
