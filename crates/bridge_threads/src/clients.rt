@@ -80,6 +80,13 @@ impl ClientWork {
     }
 }
 
+/// The beat at a place of a script, if there is one.
+fn beat_at(script: &[ABeat], place: usize) -> Option<ABeat>
+    ensures { result ≡ slice_get script.now place }
+{
+    script.get(place).copied()
+}
+
 /// One turn of a client, whose script this is.
 pub(crate) fn client_turn(
     work: &mut ClientWork,
@@ -90,7 +97,7 @@ pub(crate) fn client_turn(
     ensures shared { OnMove work.old.number shared.old shared.new result (client_move shared.old work.old.number (slice_get script.now work.old.offered) (work.old.accepted == vec_len work.old.receipts.heads)) }
     ensures number { work.new.number ≡ work.old.number }
 {
-    let beat = script.get(work.offered).copied();
+    let beat = beat_at(script, work.offered);
     let received = work.accepted == work.receipts.heads.len();
     match client_move(shared, work.number, beat, received) {
         Move::Ends => Turn::Ended,

@@ -17,3 +17,6 @@ invariant_of-self c =
 
 pub returns-else-not-leaves_all-clause-state : goal.returns-else-not-leaves_all-clause-state
 returns-else-not-leaves_all-clause-state c = grind (arith, common_steps)
+
+pub returns-else-not-leaves_all-clause-answer : goal.returns-else-not-leaves_all-clause-answer
+returns-else-not-leaves_all-clause-answer c = grind (arith, common_steps)

@@ -1,5 +1,7 @@
 -- No write of the ID is open.
-use Rattle.std.proofs.Common.{arith, ◌*◌, ap, sym, subst, ◌∙◌, rules}
+use Rattle.std.proofs.Common.{arith, ℕ, ◌*◌, ap, sym, subst, ◌∙◌, rules}
+use Rattle.std.specs.Prelude.{position}
+use Rattle.subordinate.specs.Bursts.{is_in}
 use Rattle.subordinate.specs.Device.{DeviceState}
 use Rattle.subordinate.specs.Order.{AnswersOldestWrite}
 use Rattle.subordinate.proofs.OrderLaws.{answers_oldest_write}
@@ -17,6 +19,12 @@ close-requires-clause-queue c =
     let place = sym c.oldest_write.ensures.place ∙ c.in_ok-place.was in
     let bursts = c.args.self.now.memory.pending in
     omega (arith, c.from.ensures, queue_known bursts (2 * c.args.id) c.in_ok-place.place c.oldest_write.ensures.laws.few.known (write_place c.args.id bursts ∙ place))
+
+pub close-requires-clause-oldest : goal.close-requires-clause-oldest
+close-requires-clause-oldest c =
+    let place = sym c.oldest_write.ensures.place ∙ c.in_ok-place.was in
+    let bursts = c.args.self.now.memory.pending in
+    ap (λ (id : ℕ). position (is_in (2 * id)) bursts) c.from.ensures ∙ write_place c.args.id bursts ∙ place
 
 pub returns-in_err-place-clause-answer : goal.returns-in_err-place-clause-answer
 returns-in_err-place-clause-answer c =
