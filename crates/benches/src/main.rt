@@ -40,31 +40,78 @@ fn load_of(words: &[String]) -> Option<Load> {
     Some(Load { size, times })
 }
 
-/// Does a workload, and answers what it counted on the way; none where there is no such workload.
-fn counted(alloc: std::alloc::Global, name: &str, load: Load) -> Option<u64> {
-    match name.as_bytes() {
-        b"pump" => pump_idle(alloc, load),
-        b"offer" => offer_again(alloc, load),
-        b"take" => take_nothing(alloc, load),
-        b"in_flight" => ask_in_flight(alloc, load),
-        b"work" => ask_work(alloc, load),
-        b"choices" => ask_choices(alloc, load),
-        b"choose" => ask_choice(alloc, load),
-        b"byte" => ask_byte(alloc, load),
-        b"requests" => requests(alloc, load),
-        b"reads" => reads(alloc, load),
-        b"drains" => drains(alloc, load),
-        b"monitor" => monitor(alloc, load),
-        b"writes" => writes(alloc, load),
-        b"port" => port(alloc, load),
-        _ => None,
+/// What is done again and again.
+#[derive(Clone, Copy)]
+enum Workload {
+    Pump,
+    Offer,
+    Take,
+    InFlight,
+    Work,
+    Choices,
+    Choose,
+    Byte,
+    Requests,
+    Reads,
+    Drains,
+    Monitor,
+    Writes,
+    Port,
+}
+
+/// The workloads by their words.
+const WORKLOADS: &[(&str, Workload)] = &[
+    ("pump", Workload::Pump),
+    ("offer", Workload::Offer),
+    ("take", Workload::Take),
+    ("in_flight", Workload::InFlight),
+    ("work", Workload::Work),
+    ("choices", Workload::Choices),
+    ("choose", Workload::Choose),
+    ("byte", Workload::Byte),
+    ("requests", Workload::Requests),
+    ("reads", Workload::Reads),
+    ("drains", Workload::Drains),
+    ("monitor", Workload::Monitor),
+    ("writes", Workload::Writes),
+    ("port", Workload::Port),
+];
+
+/// The workload of a word; none where there is no such workload.
+fn workload_of(word: &str) -> Option<Workload> {
+    for (name, workload) in WORKLOADS {
+        if *name == word {
+            return Some(*workload);
+        }
+    }
+    None
+}
+
+/// Does a workload, and answers what it counted on the way; none where memory is refused.
+fn counted(alloc: std::alloc::Global, workload: Workload, load: Load) -> Option<u64> {
+    match workload {
+        Workload::Pump => pump_idle(alloc, load),
+        Workload::Offer => offer_again(alloc, load),
+        Workload::Take => take_nothing(alloc, load),
+        Workload::InFlight => ask_in_flight(alloc, load),
+        Workload::Work => ask_work(alloc, load),
+        Workload::Choices => ask_choices(alloc, load),
+        Workload::Choose => ask_choice(alloc, load),
+        Workload::Byte => ask_byte(alloc, load),
+        Workload::Requests => requests(alloc, load),
+        Workload::Reads => reads(alloc, load),
+        Workload::Drains => drains(alloc, load),
+        Workload::Monitor => monitor(alloc, load),
+        Workload::Writes => writes(alloc, load),
+        Workload::Port => port(alloc, load),
     }
 }
 
 /// Does the workload that the words name.
 fn answered(alloc: std::alloc::Global, words: &[String]) -> Option<u64> {
     let load = load_of(words)?;
-    counted(alloc, words.get(1)?.as_str(), load)
+    let workload = workload_of(words.get(1)?.as_str())?;
+    counted(alloc, workload, load)
 }
 
 fn main(rt: HostRuntime) -> ExitCode {
