@@ -22,7 +22,7 @@ use Progress::{More, Whole};
 type FirstBeat = (Level, u8, u8, u8, u32, u8, bool, bool, Answer<Progress>);
 
 /// Each rule on a first beat, in order; beats that break several, of which the first is told; and beats that break none.
-const FIRST_BEATS: [FirstBeat; 24] = [
+const FIRST_BEATS: &[FirstBeat] = &[
     (Uh, 6, 0, 3, 0x00, 0xff, false, false, Err((1, "OPCODE"))),
     (Ul, 2, 0, 3, 0x00, 0xff, false, false, Err((2, "LEVEL"))),
     (Ul, 4, 0, 4, 0x00, 0xff, false, false, Err((2, "LEVEL"))),
@@ -71,7 +71,7 @@ const FIRST_BEATS: [FirstBeat; 24] = [
 
 #[test]
 fn first_beats(rt: HostRuntime) -> Result<(), Fail> {
-    for (level, opcode, param, size, address, mask, corrupt, busy, wanted) in FIRST_BEATS {
+    for &(level, opcode, param, size, address, mask, corrupt, busy, wanted) in FIRST_BEATS {
         let beat = ABeat {
             opcode,
             param,
@@ -122,7 +122,7 @@ const OTHER_ADDRESS: ABeat = ABeat { address: 8, ..PUT };
 const SHORT_MASK: ABeat = ABeat { mask: 0x7f, ..PUT };
 
 /// Beats of one message after another, on a TL-UH port of size 12.
-const MESSAGES: [(ABeat, Answer<Progress>); 8] = [
+const MESSAGES: &[(ABeat, Answer<Progress>)] = &[
     // Any lanes of a partial Put, or none.
     (ABeat { mask: 0, ..PARTIAL }, Ok(More)),
     (
@@ -163,7 +163,7 @@ fn last_word(request: &Request) -> Option<u64> {
 #[test]
 fn messages(rt: HostRuntime) -> Result<(), Fail> {
     let mut port = Port::new(rt.alloc(), 3, Uh, 12)?;
-    for (beat, wanted) in MESSAGES {
+    for &(beat, wanted) in MESSAGES {
         same(&rt, beat, answer(&mut port, beat), wanted);
     }
     let stands = port.whole().is_some_and(|request| request.corrupt());
@@ -208,7 +208,7 @@ const DENIED: DBeat = DBeat {
 };
 
 /// Replies to that Get.
-const REPLIES: [(&[DBeat], Answer<()>); 11] = [
+const REPLIES: &[(&[DBeat], Answer<()>)] = &[
     (&[REPLY, REPLY], Ok(())),
     (&[DENIED, DENIED], Ok(())),
     (&[OTHER_OPCODE], Err((11, "D_OPCODE"))),
@@ -232,7 +232,7 @@ fn replies(rt: HostRuntime) -> Result<(), Fail> {
     };
     same(&rt, "a Get", answer(&mut port, get), Ok(Whole));
     let request = port.whole().expect(&rt, "a request stands");
-    for (beats, wanted) in REPLIES {
+    for &(beats, wanted) in REPLIES {
         same(&rt, beats, told(check_reply(request, beats)), wanted);
     }
     Ok(())
