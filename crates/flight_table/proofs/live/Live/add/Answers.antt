@@ -1,3 +1,4 @@
+use Rattle.std.proofs.lemmas.Grind.{common_steps}
 use Rattle.std.proofs.Common.{Some, ap₂, length-append, sym, ◌≡◌, ◌≤◌, [], ◌∷◌, ◌++◌, ◌+◌, ◌^◌, if◌then◌else◌, ap, arith, ◌∙◌}
 use Rattle.std.proofs.lemmas.List.{map_push}
 use Rattle.std.specs.Vec.{vec_capacity}
@@ -73,3 +74,21 @@ invariant_of-self c =
       rw (after, c.push_reserved-2.ensures.items, c.span-span.ensures, c.self.invariant.6) (sym (map_push span_of live r)),
       more,
     )
+
+pub count_in-holders-requires-clause-few : goal.count_in-holders-requires-clause-few
+count_in-holders-requires-clause-few c = grind (arith, common_steps)
+
+pub push-requires : goal.push-requires
+push-requires c = grind (arith, common_steps)
+
+pub push-requires-2 : goal.push-requires-2
+push-requires-2 c = grind (arith, common_steps)
+
+pub push_reserved-requires : goal.push_reserved-requires
+push_reserved-requires c = grind (arith, common_steps)
+
+pub push-requires-3 : goal.push-requires-3
+push-requires-3 c = grind (arith, common_steps)
+
+pub push_reserved-requires-2 : goal.push_reserved-requires-2
+push_reserved-requires-2 c = grind (arith, common_steps)

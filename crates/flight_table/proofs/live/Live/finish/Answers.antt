@@ -1,3 +1,4 @@
+use Rattle.std.proofs.lemmas.Grind.{common_steps}
 use Rattle.std.proofs.Common.{length-set, ◌≡◌, ◌<◌, ◌≤◌, ap, arith, ◌∙◌, refl, sym}
 use Rattle.std.proofs.lemmas.List.{map-set}
 use Rattle.std.specs.Prelude.{IfSome}
@@ -92,3 +93,15 @@ invariant_of-self c =
 
 pub returns-clause-table : goal.returns-clause-table
 returns-clause-table c = rw (← c.self.view_is, entries c) refl
+
+pub put-requires : goal.put-requires
+put-requires c = grind (arith, common_steps)
+
+pub put-requires-2 : goal.put-requires-2
+put-requires-2 c = grind (arith, common_steps)
+
+pub lower-requires-clause-holders : goal.lower-requires-clause-holders
+lower-requires-clause-holders c = grind (arith, common_steps)
+
+pub index_mut-requires : goal.index_mut-requires
+index_mut-requires c = grind (arith, common_steps)

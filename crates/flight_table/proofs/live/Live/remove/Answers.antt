@@ -1,3 +1,4 @@
+use Rattle.std.proofs.lemmas.Grind.{common_steps}
 use Rattle.std.proofs.Common.{◌≡◌, ◌<◌, ◌≤◌, None, sym, true, ap, arith, ◌∙◌}
 use Rattle.std.specs.Vec.{vec_capacity}
 use Rattle.flight_table.specs.Tables.{requests_of}
@@ -64,3 +65,18 @@ invariant_of-self c =
       rw (after, c.remove-6.ensures.items, c.self.invariant.6) (sym (map-remove span_of (requests_of i.slots) place)),
       more,
     )
+
+pub remove-requires : goal.remove-requires
+remove-requires c = grind (arith, common_steps)
+
+pub remove-requires-2 : goal.remove-requires-2
+remove-requires-2 c = grind (arith, common_steps)
+
+pub remove-requires-3 : goal.remove-requires-3
+remove-requires-3 c = grind (arith, common_steps)
+
+pub remove-requires-4 : goal.remove-requires-4
+remove-requires-4 c = grind (arith, common_steps)
+
+pub remove-requires-6 : goal.remove-requires-6
+remove-requires-6 c = grind (arith, common_steps)

@@ -1,3 +1,4 @@
+use Rattle.std.proofs.lemmas.Grind.{common_steps}
 use Rattle.std.proofs.Common.{arith, length-set, ◌<◌, ap, ◌∙◌, refl, sym}
 use Rattle.flight_table.specs.Inside.{IsProgress, MayName}
 use Rattle.flight_table.specs.LiveRequests.{LiveRequest}
@@ -56,3 +57,9 @@ invariant_of-self c =
       rw after (c.self.invariant.6 ∙ sym (unchanged span_of (requests_of i.slots) place r c.args.request (at.there r) (same_span r c.args.request progress))),
       c.self.invariant.7,
     )
+
+pub put-requires : goal.put-requires
+put-requires c = grind (arith, common_steps)
+
+pub put-requires-2 : goal.put-requires-2
+put-requires-2 c = grind (arith, common_steps)
