@@ -1,4 +1,6 @@
 -- What the client's port says of the beat decides.
+use Rattle.std.proofs.Common.{arith}
+use Rattle.std.proofs.lemmas.Grind.{common_steps}
 use Rattle.std.proofs.Common.{◌≡◌, ◌∙◌, ℕ, Bool, List, Option, None, Some, Ok, Err, ap, sym, subst}
 use Rattle.std.proofs.lemmas.Option.{IfSome_then}
 use Rattle.std.specs.Prelude.{IfSome, Result, slice_get, slice_set}
@@ -142,3 +144,9 @@ returns-in-Whole-clause-state c = (whole c).state
 
 pub returns-in-Whole-clause-laws : goal.returns-in-Whole-clause-laws
 returns-in-Whole-clause-laws c = (whole c).sound
+
+pub returns-then-client-config-clause-answer : goal.returns-then-client-config-clause-answer
+returns-then-client-config-clause-answer c = grind (arith, common_steps)
+
+pub returns-then-client-config-clause-state : goal.returns-then-client-config-clause-state
+returns-then-client-config-clause-state c = grind (arith, common_steps)

@@ -1,4 +1,6 @@
 -- An answer that breaks no rule belongs to the request that holds its ID.
+use Rattle.std.proofs.Common.{arith}
+use Rattle.std.proofs.lemmas.Grind.{common_steps}
 use Rattle.std.proofs.Common.{◌≡◌, None, refl, subst}
 use Rattle.axi_checker.specs.declared.AxiBeat.TheVariants.{B as OnB}
 use Rattle.bridge_core.specs.Bridge.{BridgeState, after_b_beat, b_fault}
@@ -26,3 +28,6 @@ invariant_of-self-2 c =
 
 pub returns-clause-laws : goal.returns-clause-laws
 returns-clause-laws c = rw (c.on_b.ensures.table, c.in_ok-b.ensures.taken refl) (sound c)
+
+pub returns-in_err-b-clause-answer : goal.returns-in_err-b-clause-answer
+returns-in_err-b-clause-answer c = grind (arith, common_steps)

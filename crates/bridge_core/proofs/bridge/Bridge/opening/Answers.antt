@@ -1,3 +1,4 @@
+use Rattle.std.proofs.lemmas.Grind.{common_steps}
 use Rattle.std.proofs.Common.{◌≡◌, ◌∙◌, arith, ap, sym, subst, refl}
 use Rattle.std.specs.Vec.{vec_len}
 use Rattle.axi_checker.specs.Monitors.{MonitorState}
@@ -29,3 +30,6 @@ returns-clause-state c = kept c
 
 pub returns-clause-laws : goal.returns-clause-laws
 returns-clause-laws c = subst (λ (b : StockedBridge). IsSoundBridge b.state) (sym (kept c)) (sound_opening c.args.config c.args.map c.requires)
+
+pub new-requires-clause-bus : goal.new-requires-clause-bus
+new-requires-clause-bus c = grind (arith, common_steps)

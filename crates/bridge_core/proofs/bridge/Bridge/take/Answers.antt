@@ -1,4 +1,6 @@
 -- The request of the smallest number that is done leaves, and nothing else changes.
+use Rattle.std.proofs.Common.{arith}
+use Rattle.std.proofs.lemmas.Grind.{common_steps}
 use Rattle.std.proofs.Common.{◌∙◌, refl, sym}
 use Rattle.bridge_core.specs.Laws.{IsSoundBridge}
 use Rattle.bridge_core.proofs.BridgeSteps.{sound_taken, state_in}
@@ -23,3 +25,30 @@ returns-clause-smallest c =
 
 pub returns-clause-laws : goal.returns-clause-laws
 returns-clause-laws c = sound c
+
+pub returns-in_default-clause-answer : goal.returns-in_default-clause-answer
+returns-in_default-clause-answer c = grind (arith, common_steps)
+
+pub returns-in_default-clause-smallest : goal.returns-in_default-clause-smallest
+returns-in_default-clause-smallest c = grind (arith, common_steps)
+
+pub returns-in_default-clause-shown : goal.returns-in_default-clause-shown
+returns-in_default-clause-shown c = grind (arith, common_steps)
+
+pub returns-in_default-clause-right : goal.returns-in_default-clause-right
+returns-in_default-clause-right c = grind (arith, common_steps)
+
+pub returns-in_default-clause-left : goal.returns-in_default-clause-left
+returns-in_default-clause-left c = grind (arith, common_steps)
+
+pub returns-clause-answer : goal.returns-clause-answer
+returns-clause-answer c = grind (arith, common_steps)
+
+pub returns-clause-shown : goal.returns-clause-shown
+returns-clause-shown c = grind (arith, common_steps)
+
+pub returns-clause-right : goal.returns-clause-right
+returns-clause-right c = grind (arith, common_steps)
+
+pub returns-clause-kept : goal.returns-clause-kept
+returns-clause-kept c = grind (arith, common_steps)

@@ -1,4 +1,6 @@
 -- The mark of its queue changes where it is the oldest.
+use Rattle.std.proofs.Common.{arith}
+use Rattle.std.proofs.lemmas.Grind.{common_steps}
 use Rattle.std.proofs.Common.{List, ap, subst, ◌∙◌}
 use Rattle.std.specs.Prelude.{IfSome, IsSome, Option, slice_set}
 use Rattle.subordinate.specs.FreeMemory.{Pending, beat_at}
@@ -36,3 +38,6 @@ pub returns : goal.returns
 returns c = λ p is.
     let was = read_at c.self.inside.items.items c.args.self.now c.args.place c.index_mut.result.now p c.self.view_is c.requires.here c.index_mut.ensures.value is in
     ap (λ (new : Pending). slice_set c.self.inside.items.items c.args.place new) (c.count_answer.ensures ∙ ap (with_answer) was) ∙ ap (λ (bursts : List Pending). slice_set bursts c.args.place (with_answer p)) c.self.view_is
+
+pub overflow_sub-self : goal.overflow_sub-self
+overflow_sub-self c = grind (arith, common_steps)
