@@ -1,5 +1,6 @@
-"""The bridge in RTL under a simulator: the right one, in front of each memory, isn't found wrong, and each fault that is planted in it
-is told, by both profiles. Where there is no simulator nothing is tried, and that is said.
+"""The bridges in RTL under a simulator: the first one, in front of each memory, isn't found wrong, and each fault that is planted in
+it is told, by both profiles; the other one, whose Puts are seen as their beats come, isn't found wrong by what TileLink asks where
+no access fails. Where there is no simulator nothing is tried, and that is said.
 
     python3 tests/rtl_runs.py TLSCORE
 """
@@ -16,18 +17,25 @@ sys.path.append(str(Path(__file__).resolve().parent.parent / "examples/testbench
 import run
 
 
+RUNS = (
+    ("bridge", False, "bridge", 1),
+    ("bridge", False, "tilelink", 1),
+    ("streaming_bridge", True, "tilelink", 4),
+)
+
+
 def cases(score):
-    """Each testbench, one run of it, by each profile."""
+    """Each testbench, with as many runs, by the profiles that are its own."""
     simulator = next(filter(shutil.which, run.SIMULATORS), None)
     if not simulator:
-        print(f"skipped: the bridge in RTL, as neither {' nor '.join(run.SIMULATORS)} is installed")
+        print(f"skipped: the bridges in RTL, as neither {' nor '.join(run.SIMULATORS)} is installed")
         return
     with tempfile.TemporaryDirectory() as folder:
-        for profile in ("bridge", "tilelink"):
-            given = argparse.Namespace(runs=1, first=1, profile=profile, simulator=simulator, score=Path(score).resolve())
-            for bench in run.benches(run.BRIDGES[0]):
+        for bridge, is_calm, profile, runs in RUNS:
+            given = argparse.Namespace(runs=runs, first=1, profile=profile, simulator=simulator, score=Path(score).resolve())
+            for bench in run.benches(bridge, is_calm):
                 variant = run.tried(bench, given, Path(folder))
-                yield f"the bridge in RTL, by profile {profile}", None if variant.is_well() else str(variant)
+                yield f"{bridge} in RTL, by profile {profile}", None if variant.is_well() else str(variant)
 
 
 if __name__ == "__main__":

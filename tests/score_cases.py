@@ -212,6 +212,124 @@ BY_TILELINK = {
         D 1 1 0 3 7 0 1 0 -> reply 7 PAYLOAD expected D 1 1 0 3 7 0 0000000000000100 0
         -> outstanding 0 open 0
         """,
+    # Puts of several beats: they race from their first beat on, give their bytes with their last, and their replies are due then.
+    "Gets of a Put that has begun read what was there, or what is put, and Gets behind its acknowledgement what was put": """
+        A 1 4 0 3 6 8 ff 0 0
+        A 0 0 0 4 5 0 ff 1 0
+        A 1 4 0 3 7 8 ff 0 0
+        A 1 4 0 3 8 8 ff 0 0
+        A 1 4 0 3 9 0 ff 0 0
+        A 1 4 0 3 10 10 ff 0 0
+        mem 10000 -> = mem 00
+        D 1 1 0 3 6 0 2 0
+        D 1 1 0 3 7 0 2 0
+        D 1 1 0 3 9 0 1 0
+        D 1 1 0 3 10 0 1 0 -> reply 7 PAYLOAD expected D 1 1 0 3 10 0 0000000000000000 0
+        A 0 0 0 4 5 0 ff 2 0
+        mem 10000 -> = mem 01
+        D 1 1 0 3 8 0 0 0
+        A 1 4 0 3 7 8 ff 0 0
+        D 0 0 0 4 5 0 0 0
+        D 1 1 0 3 7 0 0 0
+        A 1 4 0 3 7 8 ff 0 0
+        D 1 1 0 3 7 0 0 0 -> reply 7 PAYLOAD expected D 1 1 0 3 7 0 0000000000000002 0
+        A 1 4 0 3 7 0 ff 0 0
+        D 1 1 0 3 7 0 0 0 -> reply 7 PAYLOAD expected D 1 1 0 3 7 0 0000000000000001 0
+        -> outstanding 0 open 0
+        """,
+    "a Put of a byte between the first beat of another and its last leaves this byte indeterminate, and no other": """
+        A 0 0 0 5 5 20 ff 1 0
+        A 1 0 0 0 6 28 01 ff 0
+        D 1 0 0 0 6 0 0 0
+        A 0 0 0 5 5 20 ff 2 0
+        A 0 0 0 5 5 20 ff 3 0
+        A 0 0 0 5 5 20 ff 4 0
+        D 0 0 0 5 5 0 0 0
+        A 1 4 0 3 7 28 ff 0 0
+        D 1 1 0 3 7 0 ff 0
+        A 1 4 0 3 7 28 ff 0 0
+        D 1 1 0 3 7 0 2 0
+        A 1 4 0 3 7 28 ff 0 0
+        D 1 1 0 3 7 0 102 0 -> reply 7 PAYLOAD expected D 1 1 0 3 7 0 0000000000000002 0
+        A 0 0 0 0 5 28 01 7 0
+        D 0 0 0 0 5 0 0 0
+        A 1 4 0 3 7 28 ff 0 0
+        D 1 1 0 3 7 0 ff 0 -> reply 7 PAYLOAD expected D 1 1 0 3 7 0 0000000000000007 0
+        -> outstanding 0 open 0
+        """,
+    "a Put of a byte in flight at the first beat of another, and seen to end before its last, leaves this byte indeterminate": """
+        A 1 0 0 0 6 8 01 ff 0
+        A 0 0 0 4 5 0 ff 1 0
+        D 1 0 0 0 6 0 0 0
+        A 0 0 0 4 5 0 ff 2 0
+        D 0 0 0 4 5 0 0 0
+        A 1 4 0 3 7 8 ff 0 0
+        D 1 1 0 3 7 0 ff 0
+        A 1 4 0 3 7 0 ff 0 0
+        D 1 1 0 3 7 0 0 0 -> reply 7 PAYLOAD expected D 1 1 0 3 7 0 0000000000000001 0
+        -> outstanding 0 open 0
+        """,
+    "a Put of a byte that ended before the first beat of another is overwritten": """
+        A 1 0 0 0 6 8 01 ff 0
+        D 1 0 0 0 6 0 0 0
+        A 0 0 0 4 5 0 ff 1 0
+        A 0 0 0 4 5 0 ff 2 0
+        D 0 0 0 4 5 0 0 0
+        A 1 4 0 3 7 8 ff 0 0
+        D 1 1 0 3 7 0 ff 0 -> reply 7 PAYLOAD expected D 1 1 0 3 7 0 0000000000000002 0
+        -> outstanding 0 open 0
+        """,
+    "two Puts that begin together, one of which ends before the last beat of the other": """
+        A 0 0 0 4 5 0 ff 1 0
+        A 1 0 0 4 6 0 ff 3 0
+        A 1 0 0 4 6 0 ff 4 0
+        D 1 0 0 4 6 0 0 0
+        A 0 0 0 4 5 0 ff 2 0
+        D 0 0 0 4 5 0 0 0
+        A 1 4 0 4 7 0 ff 0 0
+        D 1 1 0 4 7 0 1 0
+        D 1 1 0 4 7 0 4 0
+        -> outstanding 0 open 0
+        """,
+    "an atomic in flight at the first beat of a Put: what it reads and leaves may be before it or after it": """
+        A 0 0 0 0 5 8 01 5 0
+        D 0 0 0 0 5 0 0 0
+        A 1 2 4 3 6 8 ff 1 0
+        A 0 0 0 4 5 0 ff 1 0
+        D 1 1 0 3 6 0 2 0
+        A 0 0 0 4 5 0 ff 2 0
+        D 0 0 0 4 5 0 0 0
+        A 1 4 0 3 7 8 ff 0 0
+        D 1 1 0 3 7 0 3 0
+        A 1 4 0 3 7 0 ff 0 0
+        D 1 1 0 3 7 0 0 0 -> reply 7 PAYLOAD expected D 1 1 0 3 7 0 0000000000000001 0
+        -> outstanding 0 open 0
+        """,
+    "a Put whose last beat is corrupt races until it is whole, and writes nothing": """
+        A 0 0 0 0 5 8 01 5 0
+        D 0 0 0 0 5 0 0 0
+        A 0 0 0 4 5 0 ff 1 0
+        A 1 4 0 3 6 8 ff 0 0
+        A 0 0 0 4 5 0 ff 2 1
+        A 1 4 0 3 7 8 ff 0 0
+        D 1 1 0 3 6 0 2 0
+        D 1 1 0 3 7 0 2 0 -> reply 7 PAYLOAD expected D 1 1 0 3 7 0 0000000000000005 0
+        D 0 0 0 4 5 1 0 0
+        A 1 4 0 3 7 0 ff 0 0
+        D 1 1 0 3 7 0 1 0 -> reply 7 PAYLOAD expected D 1 1 0 3 7 0 0000000000000000 0
+        -> outstanding 0 open 0
+        """,
+    "a first beat that breaks a rule begins nothing, and a Put that stays without its last beat is no reply that is due": """
+        A 0 4 0 3 5 40 ff 0 0
+        A 0 0 0 4 5 0 ff 1 0 -> request 9 SOURCE_BUSY
+        A 1 4 0 3 7 8 ff 0 0
+        D 1 1 0 3 7 0 2 0 -> reply 7 PAYLOAD expected D 1 1 0 3 7 0 0000000000000000 0
+        A 0 0 0 4 6 0 ff 1 0
+        D 0 0 0 4 6 0 0 0 -> reply 1 UNASKED
+        A 1 4 0 3 7 8 ff 0 0
+        D 1 1 0 3 7 0 2 0
+        -> outstanding 1 open 0
+        """,
     # A source's next request comes while its reply goes on.
     "a source that asks again before the last beat of its reply": """
         A 0 4 0 4 1 0 ff 0 0

@@ -1,7 +1,8 @@
 -- What a scoreboard holds, what it says of a beat, and what it holds after it, by its policy: whether the accepted requests take effect in order of
 -- acceptance, or those in flight together in any order. By the second a source is free from its reply's first beat on, a payload is compared where it
--- tells a determined byte, so that the board keeps which bytes are determined, and W beats may come before their AW.
-use Rattle.std.specs.Prelude.{ℕ, ◌≡◌, ◌+◌, ◌-◌, ◌*◌, ◌==◌, Bool, true, false, ◌&&◌, not, List, [], ◌∷◌, map, length, sum_by, Option, Some, None, Result, Ok, Err, if◌then◌else◌, slice_get, slice_set}
+-- tells a determined byte, so that the board keeps which bytes are determined, a request that writes races from its first beat on, and W beats may
+-- come before their AW.
+use Rattle.std.specs.Prelude.{ℕ, ◌≡◌, ◌+◌, ◌-◌, ◌*◌, ◌==◌, Bool, true, false, ◌&&◌, not, List, [], ◌∷◌, ◌++◌, map, length, sum_by, Option, Some, None, is_some, Result, Ok, Err, if◌then◌else◌, slice_get, slice_set}
 use Rattle.std.specs.Bool.{beq}
 use Rattle.std.specs.List.{flat_map, list_any, range_with_len}
 use Rattle.bus_words.specs.Lanes.{lane_byte, word_address}
@@ -23,7 +24,7 @@ use Rattle.setups.specs.Setups.{SetupLists, faults_of}
 use Rattle.meaning.specs.Meaning.{zeros}
 use Rattle.scoreboard.specs.AxiPorts.{PortBoard, drained, none_early, port_after, port_wrong}
 use Rattle.scoreboard.specs.Flights.{Flights, Footprint, InFlight, each_flight, flights_after, in_flight, is_busy, next_reply, no_flights, no_footprint, replies_left, with_flight}
-use Rattle.scoreboard.specs.Races.{after_joining, flight_beside, joining}
+use Rattle.scoreboard.specs.Races.{after_given, after_joining, alone, beside, flight_beside, joining}
 use Rattle.scoreboard.specs.SerialMemory.{Memory, carried_out, meaning_in, place_in}
 use Rattle.scoreboard.specs.declared.Policy.{Policy}
 use Rattle.scoreboard.specs.declared.Policy.TheVariants.{AcceptanceOrder, RealTime}
@@ -35,14 +36,16 @@ use Rattle.scoreboard.specs.declared.ObservedBeat.TheVariants.{A, D, Axi as OnAx
 use Rattle.scoreboard.specs.declared.Wrong.{Wrong}
 use Rattle.scoreboard.specs.declared.Wrong.TheVariants.{NoClient, Request, Reply}
 
--- a client: its port's limits, the message that has begun on channel A, and its requests in flight
+-- a client: its port's limits, the message that has begun on channel A, its requests in flight, and the footprint of the message that has begun, which
+-- is kept where requests take effect in real time
 pub record ClientBoard : Type 0 where
   pub limits : TlPortLimits
   pub front : Option HeldMessage
   pub flights : Flights
+  pub coming : Footprint
 
--- each client by its number; the memory as the accepted requests leave it in order of acceptance; which of its bytes aren't the same in every order; and
--- what is outstanding on the AXI4 port, and early
+-- each client by its number; the memory as the accepted requests leave it in order of acceptance; which of its bytes they may not leave the same in every
+-- order; and what is outstanding on the AXI4 port, and early
 pub record Board : Type 0 where
   pub clients : List ClientBoard
   pub memory : Memory
@@ -129,15 +132,23 @@ wrong_at policy board (D client beat) = d_wrong policy (slice_get board.clients 
 wrong_at policy board (OnAxi beat) = port_wrong policy board.axi beat
 wrong_at policy board Drained = None
 
--- ---- a request is accepted: it is carried out, its reply is due, and it is in flight
+-- ---- a request begins; and it is accepted: it is carried out, its reply is due, and it is in flight
 
--- the footprints of all requests in flight
+-- a board of which one client changes
+abbrev pub with_client : ℕ → ClientBoard → Board → Board
+with_client number changed board = record board { clients = slice_set board.clients number changed }
+
+-- the footprints of a client's requests in flight, and of the message that has begun
+abbrev pub client_footprints : ClientBoard → List Footprint
+client_footprints client = map (λ flight. flight.footprint) (in_flight client.flights) ++ client.coming ∷ []
+
+-- those of all clients
 abbrev pub footprints_of : List ClientBoard → List Footprint
-footprints_of clients = flat_map (λ client. map (λ flight. flight.footprint) (in_flight client.flights)) clients
+footprints_of clients = flat_map client_footprints clients
 
--- a client when a request of this footprint has joined those in flight
+-- a client when a request of this footprint has joined the others
 abbrev pub client_beside : Footprint → ClientBoard → ClientBoard
-client_beside footprint client = record client { flights = each_flight (flight_beside footprint) client.flights }
+client_beside footprint client = record client { flights = each_flight (flight_beside footprint) client.flights; coming = beside client.coming footprint }
 
 -- a request that is accepted
 abbrev pub flight_for : Memory → Footprint → WholeRequest → InFlight
@@ -145,7 +156,7 @@ flight_for memory footprint q = record { source = q.source; beats = shown q (mea
 
 -- its client
 abbrev pub with_accepted : InFlight → ClientBoard → ClientBoard
-with_accepted flight client = record client { front = None; flights = with_flight flight client.flights }
+with_accepted flight client = record client { front = None; flights = with_flight flight client.flights; coming = no_footprint }
 
 -- the board where a client's request is carried out, and in flight with a footprint
 abbrev pub with_taken : Board → ℕ → ClientBoard → WholeRequest → Footprint → Board
@@ -155,11 +166,11 @@ with_taken board number client q footprint =
       memory = carried_out board.memory q;
     }
 
--- its footprint beside those in flight
+-- the footprint of a request beside those in flight, and those that have begun
 abbrev pub joining_on : Board → WholeRequest → Footprint
 joining_on board q = joining board.indeterminate (footprints_of board.clients) (place_in board.memory q) q
 
--- the board where those in flight are beside a request of this footprint, which gives these bytes
+-- the board where all these are beside a request of this footprint, which gives these bytes
 abbrev pub beside_on : Board → Footprint → List (Option ℕ) → Board
 beside_on board footprint bytes =
     record board {
@@ -171,22 +182,53 @@ beside_on board footprint bytes =
 abbrev pub joined_on : Board → ℕ → ClientBoard → WholeRequest → Footprint → Board
 joined_on board number client q footprint = with_taken (beside_on board footprint q.bytes) number (client_beside footprint client) q footprint
 
--- the board where a client's message is accepted. Where requests take effect in order of acceptance no footprint is kept
-abbrev pub accepted_on : Policy → Board → ℕ → ClientBoard → HeldMessage → Board
-accepted_on AcceptanceOrder board number client message = with_taken board number client (request_of message) no_footprint
-accepted_on RealTime board number client message =
-    joined_on board number client (request_of message) (joining_on board (request_of message))
+-- the board where a request has begun with its first beat, and more are to come: it races from then on, and has given nothing yet
+abbrev pub begun_on : Board → ℕ → ClientBoard → Footprint → Board
+begun_on board number client footprint =
+    with_client number (record (client_beside footprint client) { coming = footprint }) (beside_on board footprint [])
+
+-- the footprint of a request that had begun, when it is whole: what was determined of it all the while. One of which a later beat was corrupt acts nowhere
+abbrev pub kept_from : Footprint → Footprint → Footprint
+kept_from coming footprint = record footprint { determined = λ x. footprint.determined x && coming.determined x }
+
+-- the same on a board
+abbrev pub coming_on : Board → WholeRequest → Footprint → Footprint
+coming_on board q coming = kept_from coming (alone board.indeterminate (place_in board.memory q) q)
+
+-- the board where a request that had begun is whole: it is carried out, and what it gives is determined only where no other raced with it
+abbrev pub given_on : Board → ℕ → ClientBoard → WholeRequest → Footprint → Board
+given_on board number client q footprint =
+    record (with_taken board number client q footprint) { indeterminate = after_given board.indeterminate footprint q.bytes }
+
+-- in real time, by whether it had begun: a request of one beat joins the others and is carried out at once, and one of more beats has joined them before
+abbrev pub whole_on : Board → ℕ → ClientBoard → WholeRequest → Bool → Board
+whole_on board number client q false = joined_on board number client q (joining_on board q)
+whole_on board number client q true = given_on board number client q (coming_on board q client.coming)
+
+-- the board where a client's message is accepted, by whether it had begun before. Where requests take effect in order of acceptance no footprint is kept
+abbrev pub accepted_on : Policy → Board → ℕ → ClientBoard → HeldMessage → Bool → Board
+accepted_on AcceptanceOrder board number client message begun = with_taken board number client (request_of message) no_footprint
+accepted_on RealTime board number client message begun = whole_on board number client (request_of message) begun
+
+-- in real time, by whether it had begun: with its first beat a request joins the others, a later one changes nothing
+abbrev pub more_on : Board → ℕ → ClientBoard → WholeRequest → Bool → Board
+more_on board number client q false = begun_on board number client (joining_on board q)
+more_on board number client q true = board
+
+-- the board where beats of a client's message are still to come, by whether it had begun before
+abbrev pub continued_on : Policy → Board → ℕ → ClientBoard → HeldMessage → Bool → Board
+continued_on AcceptanceOrder board number client message begun = board
+continued_on RealTime board number client message begun = more_on board number client (request_of message) begun
 
 -- ---- the board after a beat; one that is wrong changes nothing, but a reply's beat counts as come whatever it shows
-
-abbrev pub with_client : ℕ → ClientBoard → Board → Board
-with_client number changed board = record board { clients = slice_set board.clients number changed }
 
 -- after a client's port has answered, by the message with this beat
 abbrev pub answered_on : Policy → Board → ℕ → ClientBoard → HeldMessage → Result Progress TlRule → Board
 answered_on policy board number client message (Err broken) = board
-answered_on policy board number client message (Ok More) = with_client number (record client { front = Some message }) board
-answered_on policy board number client message (Ok Whole) = accepted_on policy board number client message
+answered_on policy board number client message (Ok More) =
+    continued_on policy (with_client number (record client { front = Some message }) board) number (record client { front = Some message }) message
+    (is_some client.front)
+answered_on policy board number client message (Ok Whole) = accepted_on policy board number client message (is_some client.front)
 
 -- after a beat on channel A; of no client, nothing changes
 abbrev pub after_a : Policy → Board → ℕ → Option ClientBoard → ABeat → Board
@@ -214,7 +256,7 @@ replies_open clients = sum_by (λ client. replies_left client.flights) clients
 -- ---- at the start
 
 abbrev pub opening_client : Config → ℕ → ClientBoard
-opening_client config client = record { limits = port_of config client; front = None; flights = no_flights }
+opening_client config client = record { limits = port_of config client; front = None; flights = no_flights; coming = no_footprint }
 
 -- nothing was observed, all bytes are zero, and none is indeterminate
 abbrev pub opening_board : SetupLists → Board

@@ -1,10 +1,12 @@
 -- A board as it is held: of each request in flight a list of flags, of which those of its bytes count; and the memory's pages again, whose bytes aren't
 -- zero where they are indeterminate.
-use Rattle.std.specs.Prelude.{ℕ, ◌≡◌, ◌+◌, ◌-◌, ◌^◌, ◌<◌, ◌==◌, ⊤, Bool, true, false, ◌&&◌, not, List, length, map, Option, Some, None, Result, Ok, Err, nat_le, nat_lt, slice_index_or}
+use Rattle.std.specs.Prelude.{ℕ, ◌≡◌, ◌+◌, ◌-◌, ◌^◌, ◌<◌, ◌==◌, ⊤, Bool, true, false, ◌&&◌, not, List, length, map, Option, Some, None, Result, Ok, Err, IsSome, nat_le, nat_lt, slice_index_or}
 use Rattle.std.specs.List.{AllByRecursion, list_any}
 use Rattle.std.specs.Option.{option_map}
 use Rattle.bus_words.specs.Places.{AreDistinct}
+use Rattle.tl_messages.specs.Operations.{named_operation}
 use Rattle.tl_messages.specs.Requests.{HeldMessage}
+use Rattle.tl_messages.specs.declared.ABeat.{ABeat}
 use Rattle.tl_messages.specs.declared.DBeat.{DBeat}
 use Rattle.tl_checker.specs.RequestRules.{TlPortLimits}
 use Rattle.tl_checker.specs.declared.Progress.{Progress}
@@ -15,7 +17,7 @@ use Rattle.subordinate.specs.InsidePages.{PagesState}
 use Rattle.scoreboard.specs.AxiPorts.{PortBoard}
 use Rattle.scoreboard.specs.Boards.{Board, ClientBoard}
 use Rattle.scoreboard.specs.Flights.{Flights, Footprint, InFlight, is_of_source}
-use Rattle.scoreboard.specs.InsideSerial.{bytes_in}
+use Rattle.scoreboard.specs.InsideSerial.{IsMemoryRange, bytes_in}
 use Rattle.scoreboard.specs.SerialMemory.{MemoryState, memory_of}
 use Rattle.scoreboard.specs.declared.Policy.{Policy}
 use Rattle.scoreboard.specs.declared.Policy.TheVariants.{AcceptanceOrder, RealTime}
@@ -45,6 +47,7 @@ pub record ClientState : Type 0 where
   pub limits : TlPortLimits
   pub front : Option HeldMessage
   pub flights : FlightsState
+  pub coming : FootprintState
 
 -- a board, which has one policy throughout; with room for a request that came whole, and for its flight
 pub record BoardState : Type 0 where
@@ -72,7 +75,7 @@ abbrev pub flights_of : FlightsState → Flights
 flights_of flights = record { due = map flight_of flights.due; begun = option_map flight_of flights.begun }
 
 abbrev pub client_of : ClientState → ClientBoard
-client_of client = record { limits = client.limits; front = client.front; flights = flights_of client.flights }
+client_of client = record { limits = client.limits; front = client.front; flights = flights_of client.flights; coming = footprint_of client.coming }
 
 -- whether a byte is indeterminate
 abbrev pub is_marked : PagesState → ℕ → Bool
@@ -120,6 +123,11 @@ pub record AreDue (room : ℕ) (due : List FlightState) : Type 0 where
 -- all clients' have this room
 abbrev pub ClientsHaveRoom : ℕ → List ClientState → Type 0
 ClientsHaveRoom room clients = AllByRecursion (λ client. client.flights.room ≡ room) clients
+
+-- a first beat that a port took, of several: it names an operation, and has an aligned range of bytes
+pub record IsFirstBeat (beat : ABeat) : Type 0 where
+  pub named : IsSome (named_operation beat.opcode beat.param)
+  pub range : IsMemoryRange beat.address beat.size
 
 -- a request that may write acts on a good page
 abbrev pub IsOnGoodPage : Faults → Footprint → Type 0

@@ -1,4 +1,4 @@
--- What is due and what is left where accepted requests take effect in an order, whichever it is; RealTime says which orders there are.
+-- What is due and what is left where requests take effect in an order, whichever it is; RealTime says which orders there are.
 use Rattle.std.specs.Prelude.{ℕ, ◌≡◌, ◌+◌, ◌==◌, Bool, ◌&&◌, not, List, [], ◌∷◌, map, drop, Option, Some, None, if◌then◌else◌, nat_le, nat_lt}
 use Rattle.std.specs.List.{list_any}
 use Rattle.tl_messages.specs.Operations.{beats_of, reply_has_data}
@@ -13,15 +13,16 @@ use Rattle.scoreboard.specs.declared.ObservedBeat.{ObservedBeat}
 use Rattle.scoreboard.specs.declared.Wrong.{Wrong}
 use Rattle.scoreboard.specs.declared.Wrong.TheVariants.{NoClient, Request, Reply, Axi, Place}
 
--- ---- accepted requests
+-- ---- requests that have begun
 
--- an accepted request of a client, and how many beats of its reply came up to now
+-- a request of a client, of which at least one beat came, whether it is whole, and how many beats of its reply came up to now
 pub record Entry : Type 0 where
   pub client : ℕ
   pub request : WholeRequest
+  pub whole : Bool
   pub came : ℕ
 
--- all that were accepted, in an order in which they may take effect
+-- all that have begun, in an order in which they may take effect
 abbrev pub Order : Type 0
 Order = List Entry
 
@@ -43,10 +44,11 @@ has_begun entry = nat_lt 0 entry.came && not (has_ended entry)
 abbrev pub begun_to : ℕ → Entry → Bool
 begun_to client entry = entry.client == client && has_begun entry
 
--- whether a client's next beat of a source is due to a request: to that whose reply has begun, if one has, else to one of that source of whose
+-- whether a client's next beat of a source is due to a request: to that whose reply has begun, if one has, else to a whole one of that source of whose
 -- reply no beat came
 abbrev pub is_due : Bool → ℕ → ℕ → Entry → Bool
-is_due begun client source entry = entry.client == client && (if begun then has_begun entry else (entry.request.source == source && entry.came == 0))
+is_due begun client source entry =
+    entry.client == client && (if begun then has_begun entry else (entry.request.source == source && entry.came == 0 && entry.whole))
 
 -- the same, where an order says whether one has begun
 abbrev pub is_due_in : Order → ℕ → ℕ → Entry → Bool

@@ -9,7 +9,7 @@ ghost use Rattle.setups.specs.Setups.{SetupLists, lists_of, setup_fault};
 ghost use Rattle.setups.specs.declared.SetupFault.TheVariants.{NoMemory};
 ghost use Rattle.scoreboard.specs.Boards.{client_beside, footprints_of, opening_client, replies_open};
 ghost use Rattle.scoreboard.specs.InsideBoards.{AreOnGoodPages, ClientsHaveRoom, IsOnGoodPage, client_of, footprint_of, is_marked, room_by};
-ghost use Rattle.scoreboard.specs.Races.{after_joining, beside_all, beside_dependent};
+ghost use Rattle.scoreboard.specs.Races.{after_given, after_joining, beside_all, beside_dependent};
 ghost use Rattle.scoreboard.specs.SerialMemory.{IsCheckedRequest, byte_at, memory_of};
 
 use crate::clients::Client;
@@ -30,8 +30,8 @@ use tl_messages::{ABeat, DBeat, Request};
 
 /// Tells of each beat that was observed at the ports of a bridge whether it can be right: that the requests and the AXI4
 /// beats keep their rules, and that the replies are those of the accepted requests, carried out whole, one at a time, in an order
-/// that its policy allows: in order of acceptance, or in any in which a request whose whole reply was seen before another was accepted
-/// comes before it.
+/// that its policy allows: in order of acceptance, or in any in which a request whose whole reply was seen before another began comes
+/// before it.
 ///
 /// A beat that breaks a rule changes nothing, but a beat of a due reply counts as come whatever it shows, and an AW that is wrong
 /// for the data before it alone opens its burst. All room is taken by `new`; no other call takes memory.
@@ -110,7 +110,7 @@ fn outstanding_of(clients: &[Client]) -> u16
     count
 }
 
-/// What the requests in flight of some clients may write isn't determined of another request.
+/// What the requests of some clients may write, in flight or begun, isn't determined of another request.
 fn limit(joined: &mut InFlight, clients: &[Client])
     ensures footprint { footprint_of joined.new.footprint ≡ beside_all (footprint_of joined.old.footprint) (footprints_of (map client_of clients.now)) }
     ensures room { length joined.new.footprint.determined ≡ length joined.old.footprint.determined }
@@ -149,7 +149,22 @@ fn mark_written(marks: &mut Pages, clients: &[Client], footprint: &Footprint, re
     mark_beside(marks, clients, footprint);
 }
 
-/// What a request may write isn't determined of the requests in flight of some clients.
+/// What is indeterminate after a request that had begun with this footprint.
+fn mark_own(marks: &mut Pages, footprint: &Footprint, request: &Request)
+    requires checked { IsCheckedRequest request.now }
+    requires same_byte { footprint.now.writes ≡ true → footprint.now.address % 4096 ≡ request.now.address % 4096 }
+    requires size { footprint.now.size ≡ request.now.size }
+    requires data { footprint.now.writes ≡ true → IsTrue (has_data request.now.operation) }
+    requires own { IsOnGoodPage marks.old.faults (footprint_of footprint.now) }
+    ensures faults { marks.new.faults ≡ marks.old.faults }
+    ensures bytes { is_marked marks.new ≡ after_given (is_marked marks.old) (footprint_of footprint.now) (bytes_given request.now) }
+{
+    if footprint.writes() {
+        mark_given(marks, footprint, request);
+    }
+}
+
+/// What a request may write isn't determined of the requests of some clients, in flight or begun.
 fn give_way(clients: &mut [Client], other: &Footprint)
     ensures clients { map client_of clients.new ≡ map (client_beside (footprint_of other.now)) (map client_of clients.old) }
     ensures room { (room : ℕ) → ClientsHaveRoom room clients.old → ClientsHaveRoom room clients.new }
@@ -160,10 +175,12 @@ fn give_way(clients: &mut [Client], other: &Footprint)
 }
 
 impl Scoreboard {
-    ghost use Rattle.scoreboard.specs.Boards.{ClientBoard, IsReached, a_wrong, accepted_on, after_a, after_d, after_seen, answer_to, d_wrong, joining_on, opening_board, with_client, with_taken, wrong_at};
-    ghost use Rattle.scoreboard.specs.InsideBoards.{IsFreeOf, board_of, front_after};
+    ghost use Rattle.scoreboard.specs.Boards.{ClientBoard, IsReached, a_wrong, accepted_on, after_a, after_d, after_seen, answer_to, begun_on, coming_on, continued_on, d_wrong, given_on, joined_on, joining_on, opening_board, with_client, with_taken, wrong_at};
+    ghost use Rattle.scoreboard.specs.Flights.{no_footprint};
+    ghost use Rattle.scoreboard.specs.InsideBoards.{IsFirstBeat, IsFreeOf, board_of, front_after};
+    ghost use Rattle.tl_messages.specs.Requests.{HeldMessage};
     ghost use Rattle.tl_checker.specs.Ports.{joined};
-    ghost use Rattle.tl_checker.specs.declared.Progress.TheVariants.{Whole};
+    ghost use Rattle.tl_checker.specs.declared.Progress.TheVariants.{More, Whole};
     ghost use Rattle.axi_checker.specs.OpenBursts.{open_count};
     ghost use Rattle.scoreboard.specs.Observed.{observed_in, requests_in};
     ghost use Rattle.scoreboard.specs.RealTime.{JudgesRightly};
@@ -222,7 +239,8 @@ impl Scoreboard {
     /// right together. Where they take effect in real time, nothing is wrong with beats that are right in order of acceptance; what
     /// is said of any beat is what is said of it in order of acceptance, or nothing where that is SOURCE_BUSY, W_WITHOUT_AW or PAYLOAD, up
     /// to the first SOURCE_BUSY or W_WITHOUT_AW; and a beat of a reply that is found wrong is wrong, by that rule, in each
-    /// order of the accepted requests in which none stands behind one that was accepted after its whole reply had come.
+    /// order of the requests that have begun in which none stands behind one that began after its whole reply had come, whatever
+    /// those become of which beats are still to come.
     pub fn judge(&mut self, seen: &ObservedBeat) -> Option<Wrong>
         ensures answer { result ≡ wrong_at self.old.policy (board_of self.old) seen.now }
         ensures state { board_of self.new ≡ after_seen self.old.policy (board_of self.old) seen.now }
@@ -261,16 +279,16 @@ impl Scoreboard {
         ensures state { board_of self.new ≡ after_a self.old.policy (board_of self.old) client (slice_get (board_of self.old).clients client) beat.now }
         ensures policy { self.new.policy ≡ self.old.policy }
     {
-        let client = usize::from(client);
-        if client >= self.clients.len() {
+        let number = usize::from(client);
+        let Some(found) = self.clients.get(number) else {
             return Some(Wrong::NoClient);
-        }
-        match self.take_beat(client, beat) {
+        };
+        let begun = found.has_begun();
+        match self.take_beat(number, beat) {
             Err(rule) => return Some(Wrong::Request(rule)),
-            Ok(Progress::More) => return None,
-            Ok(Progress::Whole) => {}
+            Ok(Progress::More) => self.go_on(client, beat, begun),
+            Ok(Progress::Whole) => self.accept(number, begun),
         }
-        self.accept(client);
         None
     }
 
@@ -284,6 +302,7 @@ impl Scoreboard {
             → self.new.request ≡ joined found.limits found.front beat.now }
         ensures checked { result ≡ Ok Whole → IsCheckedRequest self.new.request }
         ensures free { (found : ClientBoard) → slice_get (board_of self.new).clients client ≡ Some found → result ≡ Ok Whole → IsFreeOf self.new.request.source found }
+        ensures first { (found : ClientBoard) → slice_get (board_of self.old).clients client ≡ Some found → found.front ≡ None → result ≡ Ok More → IsFirstBeat beat.now }
         ensures clients { length self.new.clients ≡ length self.old.clients }
         ensures policy { self.new.policy ≡ self.old.policy }
     {
@@ -296,18 +315,59 @@ impl Scoreboard {
         clients[client].take_beat(*policy, beat, request)
     }
 
+    /// A beat of a message came that isn't its last: where requests take effect in real time, its first beat has it begin.
+    fn go_on(&mut self, client: u8, beat: &ABeat, begun: bool)
+        requires client { client < length self.old.clients }
+        requires first { begun ≡ false → IsFirstBeat beat.now }
+        ensures state { (found : ClientBoard) (message : HeldMessage) → slice_get (board_of self.old).clients client ≡ Some found
+            → (begun ≡ false → message ≡ joined found.limits None beat.now)
+            → board_of self.new ≡ continued_on self.old.policy (board_of self.old) client found message begun }
+        ensures policy { self.new.policy ≡ self.old.policy }
+    {
+        if self.policy == Policy::RealTime && !begun {
+            self.begin(client, beat);
+        }
+    }
+
+    /// A request begins with its first beat, and races from then on with those in flight and those that have begun.
+    fn begin(&mut self, client: u8, beat: &ABeat)
+        requires policy { self.old.policy ≡ RealTime }
+        requires client { client < length self.old.clients }
+        requires first { IsFirstBeat beat.now }
+        ensures state { (found : ClientBoard) → slice_get (board_of self.old).clients client ≡ Some found
+            → board_of self.new ≡ begun_on (board_of self.old) client found (joining_on (board_of self.old) (request_of (joined found.limits None beat.now))) }
+        ensures policy { self.new.policy ≡ self.old.policy }
+    {
+        let Scoreboard {
+            clients,
+            serial,
+            indeterminate,
+            request,
+            joining,
+            ..
+        } = self;
+        request.begin(client, beat);
+        joining.start_footprint(indeterminate, serial.place(request), request);
+        limit(joining, clients);
+        let footprint = joining.footprint();
+        mark_beside(indeterminate, clients, footprint);
+        give_way(clients, footprint);
+        clients[usize::from(client)].begin(joining);
+    }
+
     /// The request that came whole is accepted: it is carried out, its reply is due to its client, and it is in flight beside the others.
-    fn accept(&mut self, client: usize)
+    fn accept(&mut self, client: usize, begun: bool)
         requires client { client < length self.old.clients }
         requires checked { IsCheckedRequest self.old.request }
         requires free { (found : ClientBoard) → slice_get (board_of self.old).clients client ≡ Some found → IsFreeOf self.old.request.source found }
         ensures state { (found : ClientBoard) → slice_get (board_of self.old).clients client ≡ Some found
-            → board_of self.new ≡ accepted_on self.old.policy (board_of self.old) client found self.old.request }
+            → board_of self.new ≡ accepted_on self.old.policy (board_of self.old) client found self.old.request begun }
         ensures policy { self.new.policy ≡ self.old.policy }
     {
         match self.policy {
             Policy::AcceptanceOrder => self.accept_in_order(client),
-            Policy::RealTime => self.accept_in_real_time(client),
+            Policy::RealTime if begun => self.accept_begun(client),
+            Policy::RealTime => self.accept_at_once(client),
         }
     }
 
@@ -317,21 +377,37 @@ impl Scoreboard {
         requires checked { IsCheckedRequest self.old.request }
         requires free { (found : ClientBoard) → slice_get (board_of self.old).clients client ≡ Some found → IsFreeOf self.old.request.source found }
         ensures state { (found : ClientBoard) → slice_get (board_of self.old).clients client ≡ Some found
-            → board_of self.new ≡ accepted_on AcceptanceOrder (board_of self.old) client found self.old.request }
+            → board_of self.new ≡ with_taken (board_of self.old) client found (request_of self.old.request) no_footprint }
         ensures policy { self.new.policy ≡ self.old.policy }
     {
         self.joining.clear_footprint();
         self.take_in(client);
     }
 
-    /// The same where they take effect in real time.
-    fn accept_in_real_time(&mut self, client: usize)
+    /// The same where they take effect in real time, of a request that had begun before.
+    fn accept_begun(&mut self, client: usize)
         requires policy { self.old.policy ≡ RealTime }
         requires client { client < length self.old.clients }
         requires checked { IsCheckedRequest self.old.request }
         requires free { (found : ClientBoard) → slice_get (board_of self.old).clients client ≡ Some found → IsFreeOf self.old.request.source found }
         ensures state { (found : ClientBoard) → slice_get (board_of self.old).clients client ≡ Some found
-            → board_of self.new ≡ accepted_on RealTime (board_of self.old) client found self.old.request }
+            → board_of self.new
+            ≡ given_on (board_of self.old) client found (request_of self.old.request) (coming_on (board_of self.old) (request_of self.old.request) found.coming) }
+        ensures policy { self.new.policy ≡ self.old.policy }
+    {
+        self.give(client);
+        self.take_in(client);
+    }
+
+    /// The same where they take effect in real time, of a request of one beat.
+    fn accept_at_once(&mut self, client: usize)
+        requires policy { self.old.policy ≡ RealTime }
+        requires client { client < length self.old.clients }
+        requires checked { IsCheckedRequest self.old.request }
+        requires free { (found : ClientBoard) → slice_get (board_of self.old).clients client ≡ Some found → IsFreeOf self.old.request.source found }
+        ensures state { (found : ClientBoard) → slice_get (board_of self.old).clients client ≡ Some found
+            → board_of self.new
+            ≡ joined_on (board_of self.old) client found (request_of self.old.request) (joining_on (board_of self.old) (request_of self.old.request)) }
         ensures policy { self.new.policy ≡ self.old.policy }
     {
         self.join();
@@ -359,7 +435,32 @@ impl Scoreboard {
         clients[client].join(joining);
     }
 
-    /// The request that came whole gets its footprint beside those in flight.
+    /// The request that came whole, and had begun before, gives its bytes. Determined of it is what stayed so all the while.
+    fn give(&mut self, client: usize)
+        requires policy { self.old.policy ≡ RealTime }
+        requires client { client < length self.old.clients }
+        requires checked { IsCheckedRequest self.old.request }
+        ensures footprint { (found : ClientBoard) → slice_get (board_of self.old).clients client ≡ Some found
+            → footprint_of self.new.joining.footprint ≡ coming_on (board_of self.old) (request_of self.old.request) found.coming }
+        ensures good { IsOnGoodPage self.old.memory.pages.faults (footprint_of self.new.joining.footprint) }
+        ensures bytes { is_marked self.new.indeterminate
+            ≡ after_given (is_marked self.old.indeterminate) (footprint_of self.new.joining.footprint) (bytes_given self.old.request) }
+        ensures rest { self.new ≡ record self.old { indeterminate = self.new.indeterminate; joining = self.new.joining } }
+    {
+        let Scoreboard {
+            clients,
+            serial,
+            indeterminate,
+            request,
+            joining,
+            ..
+        } = self;
+        joining.start_footprint(indeterminate, serial.place(request), request);
+        clients[client].keep(joining);
+        mark_own(indeterminate, joining.footprint(), request);
+    }
+
+    /// The request that came whole in one beat gets its footprint beside those in flight and those that have begun.
     fn join(&mut self)
         requires policy { self.old.policy ≡ RealTime }
         requires checked { IsCheckedRequest self.old.request }

@@ -1,19 +1,20 @@
 //! A client as a scoreboard sees it: what it has begun to ask, and its requests in flight.
-ghost use Rattle.std.specs.Prelude.{◌≡◌, ◌≤◌, ◌++◌, [], ◌∷◌, None, Ok, IfOk, false, length, map, true};
+ghost use Rattle.std.specs.Prelude.{◌≡◌, ◌≤◌, ◌++◌, [], ◌∷◌, None, Ok, IfOk, false, is_some, length, true};
 ghost use Rattle.std.specs.List.{list_any};
 ghost use Rattle.tl_messages.specs.Requests.{request_of};
 ghost use Rattle.tl_checker.specs.Ports.{joined};
-ghost use Rattle.tl_checker.specs.declared.Progress.TheVariants.{Whole};
+ghost use Rattle.tl_checker.specs.declared.Progress.TheVariants.{More, Whole};
 ghost use Rattle.config.specs.Configs.{is_valid};
-ghost use Rattle.scoreboard.specs.Boards.{answer_to, client_beside, opening_client, wrong_reply};
-ghost use Rattle.scoreboard.specs.Flights.{flights_after, in_flight, is_of_source, next_reply, replies_left};
-ghost use Rattle.scoreboard.specs.InsideBoards.{AreOnGoodPages, client_of, flights_of, footprint_of, front_after, is_marked};
+ghost use Rattle.scoreboard.specs.Boards.{answer_to, client_beside, client_footprints, kept_from, opening_client, with_accepted, wrong_reply};
+ghost use Rattle.scoreboard.specs.Flights.{flights_after, is_of_source, next_reply, replies_left};
+ghost use Rattle.scoreboard.specs.InsideBoards.{AreOnGoodPages, IsFirstBeat, client_of, flight_of, flights_of, footprint_of, front_after, is_marked};
 ghost use Rattle.scoreboard.specs.Races.{beside_all, beside_dependent};
 ghost use Rattle.scoreboard.specs.SerialMemory.{IsCheckedRequest};
 
 use crate::flights::Flights;
 use crate::footprint::Footprint;
 use crate::in_flight::InFlight;
+use crate::marks::mark_dependent;
 use crate::{Policy, Wrong};
 use config::Config;
 use std::alloc::{AllocError, Global};
@@ -22,22 +23,26 @@ use subordinate::Pages;
 use tl_checker::{Port, Progress, TlRule};
 use tl_messages::{ABeat, DBeat, Request};
 
-/// A client: its port, and its requests in flight.
+/// A client: its port, its requests in flight, whether a message has begun, and the footprint of that message, which is kept where
+/// requests take effect in real time.
 pub(crate) struct Client {
     port: Port,
     flights: Flights,
+    has_begun: bool,
+    coming: Footprint,
 }
 
 impl Model for Client {
-    ghost use Rattle.std.specs.Prelude.{◌≡◌, ◌≤◌, None};
+    ghost use Rattle.std.specs.Prelude.{◌≡◌, ◌≤◌, None, is_some, length};
     ghost use Rattle.scoreboard.specs.InsideBoards.{ClientState, IsFrontFree, flights_of};
 
     ghost Value = { ClientState };
 
-    ghost view = { λ c. record { limits = c.port.limits; front = c.port.front; flights = c.flights } };
+    ghost view = { λ c. record { limits = c.port.limits; front = c.port.front; flights = c.flights; coming = c.coming } };
 
     // No whole request stands, so that the next beat may come, and a message that has begun is of a free source.
-    ghost invariant = { λ c. (c.port.whole ≡ None) × (c.port.limits.max_size ≤ 12) × IsFrontFree c.port.front (flights_of c.flights) };
+    ghost invariant = { λ c. (c.port.whole ≡ None) × (c.port.limits.max_size ≤ 12) × IsFrontFree c.port.front (flights_of c.flights)
+        × (c.has_begun ≡ is_some c.port.front) × (length c.coming.determined ≡ c.flights.room) };
 }
 
 // Written out, so that what lets go of one calls this, and proves nothing of its parts.
@@ -46,6 +51,8 @@ impl Drop for Client {
         let Client {
             port: _,
             flights: _,
+            has_begun: _,
+            coming: _,
         } = self;
     }
 }
@@ -66,7 +73,13 @@ impl Client {
         let level = config.level_of(client);
         let port = Port::new(alloc, client, level, config.max_size)?;
         let flights = Flights::new(alloc, room)?;
-        Ok(Client { port, flights })
+        let coming = Footprint::new(alloc, room)?;
+        Ok(Client {
+            port,
+            flights,
+            has_begun: false,
+            coming,
+        })
     }
 
     /// How many of its accepted requests have a reply that isn't whole.
@@ -75,6 +88,13 @@ impl Client {
         ensures most { result ≤ 257 }
     {
         self.flights.outstanding()
+    }
+
+    /// Whether a message has begun.
+    pub(crate) fn has_begun(&self) -> bool
+        ensures { result ≡ is_some self.now.front }
+    {
+        self.has_begun
     }
 
     /// Takes a beat on channel A. Where it makes a request whole, this is put into `request`.
@@ -89,25 +109,49 @@ impl Client {
         ensures request { result ≡ Ok Whole → request.new ≡ joined self.old.limits self.old.front beat.now }
         ensures checked { result ≡ Ok Whole → IsCheckedRequest request.new }
         ensures free { result ≡ Ok Whole → list_any (is_of_source request.new.source) (flights_of self.old.flights).due ≡ false }
+        ensures first { self.old.front ≡ None → result ≡ Ok More → IsFirstBeat beat.now }
     {
         let busy = self.flights.is_busy(policy, beat.source);
         let answer = self.port.take_beat(beat, busy);
-        if self.port.whole().is_none() {
-            return answer;
+        match answer {
+            Err(_) => {}
+            Ok(Progress::More) => self.has_begun = true,
+            Ok(Progress::Whole) => {
+                self.has_begun = false;
+                self.port.take_whole(request);
+            }
         }
-        self.port.take_whole(request);
         answer
     }
 
-    /// A request of a source to which no reply is due is in flight; a box takes its place.
+    /// A request of a source to which no reply is due is in flight, and none has begun any more; a box takes its place.
     pub(crate) fn join(&mut self, flight: &mut InFlight)
         requires free { list_any (is_of_source flight.old.source) (flights_of self.old.flights).due ≡ false }
         requires room { length flight.old.footprint.determined ≡ self.old.flights.room }
         requires front { self.old.front ≡ None }
-        ensures client { self.new ≡ record self.old { flights = record self.old.flights { due = self.old.flights.due ++ flight.old ∷ [] } } }
+        ensures client { client_of self.new ≡ with_accepted (flight_of flight.old) (client_of self.old) }
+        ensures state { self.new ≡ record self.old { flights = record self.old.flights { due = self.old.flights.due ++ flight.old ∷ [] }; coming = self.new.coming } }
         ensures room { length flight.new.footprint.determined ≡ self.old.flights.room }
     {
         self.flights.join(flight);
+        self.coming.clear();
+    }
+
+    /// A request begins with this footprint; that of another one takes its place.
+    pub(crate) fn begin(&mut self, flight: &mut InFlight)
+        requires room { length flight.old.footprint.determined ≡ self.old.flights.room }
+        ensures client { self.new ≡ record self.old { coming = flight.old.footprint } }
+        ensures room { length flight.new.footprint.determined ≡ self.old.flights.room }
+    {
+        flight.swap_footprint(&mut self.coming);
+    }
+
+    /// Of the request that had begun and is whole now, only those bytes stay determined that were so all the while.
+    pub(crate) fn keep(&self, flight: &mut InFlight)
+        ensures footprint { footprint_of flight.new.footprint ≡ kept_from (footprint_of self.now.coming) (footprint_of flight.old.footprint) }
+        ensures room { length flight.new.footprint.determined ≡ length flight.old.footprint.determined }
+    {
+        flight.keep(&self.coming);
     }
 
     /// Judges a beat on channel D.
@@ -119,28 +163,31 @@ impl Client {
         self.flights.judge(policy, beat)
     }
 
-    /// What any of its requests in flight may write isn't determined of another request.
+    /// What any of its requests may write, in flight or begun, isn't determined of another request.
     pub(crate) fn limit(&self, joined: &mut InFlight)
-        ensures footprint { footprint_of joined.new.footprint ≡ beside_all (footprint_of joined.old.footprint) (map (λ flight. flight.footprint) (in_flight (flights_of self.now.flights))) }
+        ensures footprint { footprint_of joined.new.footprint ≡ beside_all (footprint_of joined.old.footprint) (client_footprints (client_of self.now)) }
         ensures room { length joined.new.footprint.determined ≡ length joined.old.footprint.determined }
     {
         self.flights.limit(joined);
+        joined.give_way(&self.coming);
     }
 
-    /// All bytes are indeterminate of those of its requests in flight of which what they write may depend on another.
+    /// All bytes are indeterminate of those of its requests, in flight or begun, of which what they write may depend on another.
     pub(crate) fn mark(&self, marks: &mut Pages, other: &Footprint)
-        requires good { AreOnGoodPages marks.old.faults (map (λ flight. flight.footprint) (in_flight (flights_of self.now.flights))) }
+        requires good { AreOnGoodPages marks.old.faults (client_footprints (client_of self.now)) }
         ensures faults { marks.new.faults ≡ marks.old.faults }
-        ensures bytes { is_marked marks.new ≡ beside_dependent (is_marked marks.old) (footprint_of other.now) (map (λ flight. flight.footprint) (in_flight (flights_of self.now.flights))) }
+        ensures bytes { is_marked marks.new ≡ beside_dependent (is_marked marks.old) (footprint_of other.now) (client_footprints (client_of self.now)) }
     {
         self.flights.mark(marks, other);
+        mark_dependent(marks, &self.coming, other);
     }
 
-    /// What a request may write isn't determined of its requests in flight.
+    /// What a request may write isn't determined of its requests, in flight or begun.
     pub(crate) fn give_way(&mut self, other: &Footprint)
         ensures client { client_of self.new ≡ client_beside (footprint_of other.now) (client_of self.old) }
         ensures room { self.new.flights.room ≡ self.old.flights.room }
     {
         self.flights.give_way(other);
+        self.coming.give_way(other);
     }
 }

@@ -1,9 +1,10 @@
-//! The bytes of the memory that a request in flight may read and write.
+//! The bytes of the memory that a request may read and write which is in flight, or has begun.
 ghost use Rattle.std.specs.Prelude.{◌≡◌, ◌≢◌, ◌≤◌, ◌<◌, ◌+◌, ◌^◌, ◌&&◌, ℕ, IfOk, IfSome, false, length, not, slice_index_or};
 ghost use Rattle.tl_messages.specs.Requests.{request_of};
 ghost use Rattle.subordinate.specs.Faults.{is_good, standing_at};
 ghost use Rattle.scoreboard.specs.InsideSerial.{IsMemoryRange};
 ghost use Rattle.scoreboard.specs.InsideBoards.{is_marked, footprint_of, determined_in};
+ghost use Rattle.scoreboard.specs.Boards.{kept_from};
 ghost use Rattle.scoreboard.specs.Flights.{no_footprint};
 ghost use Rattle.scoreboard.specs.Races.{alone, beside, covers, is_fixed, meets};
 
@@ -58,7 +59,7 @@ impl Footprint {
     /// That of a request of which nobody asks, with room for so many flags. The one error is that memory was refused.
     pub(crate) fn new(alloc: Global, room: usize) -> Result<Self, AllocError>
         requires { 1 ≤ room }
-        ensures { IfOk result (λ footprint. length footprint.determined ≡ room) }
+        ensures { IfOk result (λ footprint. (footprint_of footprint ≡ no_footprint) × (length footprint.determined ≡ room)) }
     {
         Ok(Footprint {
             reads: false,
@@ -208,6 +209,32 @@ impl Footprint {
         for i in 0..self.bytes() {
             let determined = self.is_determined_beside(other, i);
             self.put(i, determined);
+        }
+    }
+
+    /// Whether the byte at an address is one of its own, and determined.
+    fn is_determined_at(&self, address: u32) -> bool
+        ensures { result ≡ determined_in self.now address }
+    {
+        self.covers(address) && self.is_determined(address - self.address)
+    }
+
+    /// Whether its byte `i`, from 0, is determined, and also determined of another.
+    fn is_determined_with(&self, other: &Footprint, i: u32) -> bool
+        requires { i < 2 ^ self.now.size }
+        ensures { result ≡ (determined_in self.now (self.now.address + i) && determined_in other.now (self.now.address + i)) }
+    {
+        self.is_determined(i) && other.is_determined_at(self.address_of(i))
+    }
+
+    /// Of its bytes only those stay determined that are determined of another.
+    pub(crate) fn keep(&mut self, coming: &Footprint)
+        ensures footprint { footprint_of self.new ≡ kept_from (footprint_of coming.now) (footprint_of self.old) }
+        ensures room { length self.new.determined ≡ length self.old.determined }
+    {
+        for i in 0..self.bytes() {
+            let kept = self.is_determined_with(coming, i);
+            self.put(i, kept);
         }
     }
 

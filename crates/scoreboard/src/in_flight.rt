@@ -4,7 +4,7 @@ ghost use Rattle.bus_words.specs.Tables.{first_broken};
 ghost use Rattle.tl_messages.specs.Operations.{beats_of};
 ghost use Rattle.tl_messages.specs.Requests.{request_of};
 ghost use Rattle.responses.specs.Shown.{shown};
-ghost use Rattle.scoreboard.specs.Boards.{differs_in, is_payload, reply_rules, tells_otherwise, wrong_reply};
+ghost use Rattle.scoreboard.specs.Boards.{differs_in, is_payload, kept_from, reply_rules, tells_otherwise, wrong_reply};
 ghost use Rattle.scoreboard.specs.Flights.{no_footprint};
 ghost use Rattle.scoreboard.specs.InsideBoards.{flight_of, footprint_of, is_marked};
 ghost use Rattle.scoreboard.specs.InsideSerial.{IsMemoryRange};
@@ -17,6 +17,7 @@ use crate::{Policy, ReplyRule, Wrong};
 use bus_words::lane_byte;
 use std::alloc::{AllocError, Global};
 use std::marker::Model;
+use std::mem;
 use subordinate::Pages;
 use tl_messages::{DBeat, ReplyBox, Request, beats_of};
 
@@ -165,6 +166,22 @@ impl InFlight {
         ensures room { length self.new.footprint.determined ≡ length self.old.footprint.determined }
     {
         self.footprint.start(marks, place, request);
+    }
+
+    /// Of its bytes only those stay determined that are determined of another footprint.
+    pub(crate) fn keep(&mut self, coming: &Footprint)
+        ensures footprint { footprint_of self.new.footprint ≡ kept_from (footprint_of coming.now) (footprint_of self.old.footprint) }
+        ensures room { length self.new.footprint.determined ≡ length self.old.footprint.determined }
+    {
+        self.footprint.keep(coming);
+    }
+
+    /// Its footprint and another change places.
+    pub(crate) fn swap_footprint(&mut self, other: &mut Footprint)
+        ensures flight { self.new ≡ record self.old { footprint = other.old } }
+        ensures other { other.new ≡ self.old.footprint }
+    {
+        mem::swap(&mut self.footprint, other);
     }
 
     /// How many beats of its reply are left.

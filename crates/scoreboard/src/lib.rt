@@ -20,13 +20,15 @@ pub use serial::SerialMemory;
 use tl_checker::TlRule;
 use tl_messages::{ABeat, DBeat};
 
-/// In which orders accepted requests may take effect.
+/// In which orders requests may take effect.
 #[derive(Clone, Copy, Debug, PartialEq, Eq)]
 pub enum Policy {
-    /// In that of their acceptance alone. A source is busy until its reply's last beat, and an AW beat comes before its W beats.
+    /// In that of their acceptance alone, which comes with their last beats. A source is busy until its reply's last beat, and an AW
+    /// beat comes before its W beats.
     AcceptanceOrder,
-    /// In each in which a request whose whole reply was seen before another was accepted comes before it. A source is free
-    /// from its reply's first beat on, and W beats may come before their AW.
+    /// In each in which a request whose whole reply was seen before another began comes before it. A request begins with its
+    /// first beat, and its reply is due from its last on. A source is free from its reply's first beat on, and W beats may come
+    /// before their AW.
     RealTime,
 }
 

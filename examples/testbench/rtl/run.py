@@ -1,13 +1,13 @@
 """Simulates the bridge of this folder in front of each memory, as it is, and with each of seven faults planted, and has tlscore judge
 what the monitor saw.
 
-    python3 examples/testbench/rtl/run.py [--runs N] [--first SEED] [--profile NAME] [--bridge NAME] [--simulator NAME]
-                                          [--score PROGRAM]
+    python3 examples/testbench/rtl/run.py [--runs N] [--first SEED] [--profile NAME] [--bridge NAME] [--calm]
+                                          [--simulator NAME] [--score PROGRAM]
 
 For each of them it prints how many runs were told wrong, and after how many beats the first wrong line came. It ends with status 0
 exactly where the right bridge is never blamed and each fault is told in some run, with 1 where not, with 2 for words that it doesn't
 know, with 3 where a simulator or tlscore can't do its work, and with 4 where there is no simulator. --bridge streaming_bridge has
-another one judged, which is right and yet blamed: README.md says why.
+another one judged, which is right and yet blamed for how it tells errors: README.md says why. With --calm there are none.
 """
 
 import argparse
@@ -44,6 +44,7 @@ class Bench(NamedTuple):
     bridge: str
     memory: str = MEMORIES[0]
     bug: str = RIGHT
+    is_calm: bool = False  # no access fails, and no beat is corrupt
 
     @property
     def name(self):
@@ -52,7 +53,7 @@ class Bench(NamedTuple):
     @property
     def defines(self):
         chosen = [f"-DBRIDGE={self.bridge}"] if self.bridge != BRIDGES[0] else []
-        return [*chosen, f"-DMEMORY={self.memory}", f"-DBUG={self.bug}"]
+        return [*chosen, f"-DMEMORY={self.memory}", f"-DBUG={self.bug}", f"-DCALM={int(self.is_calm)}"]
 
 
 def compiled(simulator, bench, folder):
@@ -134,9 +135,10 @@ def tried(bench, given, folder):
     return variant
 
 
-def benches(bridge):
-    """The bridge in front of each memory, and with each fault that is planted in it."""
-    return [Bench(bridge, memory) for memory in MEMORIES] + [Bench(bridge, bug=bug) for bug in BUGS if bridge == BRIDGES[0]]
+def benches(bridge, is_calm=False):
+    """The bridge in front of each memory, and with each fault that is planted in it; of a calm run none is looked for."""
+    bugs = BUGS if bridge == BRIDGES[0] and not is_calm else ()
+    return [Bench(bridge, memory, is_calm=is_calm) for memory in MEMORIES] + [Bench(bridge, bug=bug) for bug in bugs]
 
 
 def words():
@@ -146,6 +148,7 @@ def words():
     asked.add_argument("--first", type=int, default=1, help="the seed of the first run, from 1; the others follow (1)")
     asked.add_argument("--profile", choices=("bridge", "tilelink"), default="bridge", help="what is asked of the bridge (bridge)")
     asked.add_argument("--bridge", choices=BRIDGES, default=BRIDGES[0], help="which bridge (the one that the faults are of)")
+    asked.add_argument("--calm", action="store_true", help="no access fails, and no beat is corrupt")
     asked.add_argument("--simulator", choices=SIMULATORS, help="the first of these that is there")
     score = os.environ.get("TLSCORE", HERE.parents[2] / "tlscore")
     asked.add_argument("--score", default=score, help="the scoreboard (what TLSCORE names, else tlscore at the top)")
@@ -167,7 +170,7 @@ def main():
     variants = []
     try:
         with tempfile.TemporaryDirectory() as folder:
-            for bench in benches(given.bridge):
+            for bench in benches(given.bridge, given.calm):
                 variants.append(tried(bench, given, Path(folder)))
                 print(variants[-1], flush=True)
     except Cannot as why:

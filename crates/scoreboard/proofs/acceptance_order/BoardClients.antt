@@ -40,10 +40,10 @@ board_opens setup state clients memory indeterminate axi =
     let none : is_marked (opening_memory_state setup.regions setup.pages setup.bad_words).pages ≡ (opening_board setup).indeterminate = fun_ext (λ x. rw (zero_byte setup.pages x) refl) in
     rw (clients, memory, indeterminate, axi, zero, none) refl
 
--- of clients to which nothing is in flight no footprint may write
+-- of clients that have asked nothing no footprint may write
 none_good : (faults : Faults) (config : Config) (from count : ℕ) → AreOnGoodPages faults (footprints_of (map (opening_client config) (range_with_len from count)))
 none_good faults config from zero = tt
-none_good faults config from (suc count) = none_good faults config (from + 1) count
+none_good faults config from (suc count) = (λ writes. absurd (cc (writes)), none_good faults config (from + 1) count)
 
 pub nothing_written : (faults : Faults) (setup : SetupLists) (clients : List ClientState) → map client_of clients ≡ (opening_board setup).clients
     → AreOnGoodPages faults (footprints_of (map client_of clients))

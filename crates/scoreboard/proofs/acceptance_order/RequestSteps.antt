@@ -1,7 +1,7 @@
 -- A beat on channel A that isn't wrong: what is held then is what was observed then, and it is right.
 use Rattle.std.proofs.Common.{◌≡◌, ℕ, ◌==◌, Bool, true, false, List, [], ◌∷◌, ◌++◌, length, zip, Some, None, Result, Ok, Err, if◌then◌else◌, ◌⊎◌, inl, inr, refl, sym, ◌∙◌, ap, subst, arith}
 use Rattle.std.proofs.lemmas.Bool.{ne_eqb}
-use Rattle.std.specs.Prelude.{◌≢◌, option_map, slice_get, slice_set}
+use Rattle.std.specs.Prelude.{◌≢◌, is_some, option_map, slice_get, slice_set}
 use Rattle.std.proofs.lemmas.Bool.Decides.{eqb_tells}
 use Rattle.std.proofs.lemmas.List.{length-append, length-set}
 use Rattle.std.proofs.lemmas.Option.{slice_get_within}
@@ -204,10 +204,10 @@ client_whole setup observed number beats message memory client done of =
       ];
     }
 
-board_whole : (setup : SetupLists) (observed : Observed) (old : Board) (number : ℕ) (client : ClientBoard) (beat : ABeat) → IsBoardOf setup observed old → slice_get old.clients number ≡ Some client
-    → EndsHere (port_of setup.config number) (observed.begun number) beat (is_busy AcceptanceOrder client.flights beat.source)
-    → IsBoardOf setup (with_whole number (observed.begun number ++ beat ∷ []) observed) (accepted_on AcceptanceOrder old number client (joined client.limits client.front beat))
-board_whole setup observed old number client beat of there ends =
+board_whole : (setup : SetupLists) (observed : Observed) (old : Board) (number : ℕ) (client : ClientBoard) (beat : ABeat) (begun : Bool) → IsBoardOf setup observed old
+    → slice_get old.clients number ≡ Some client → EndsHere (port_of setup.config number) (observed.begun number) beat (is_busy AcceptanceOrder client.flights beat.source)
+    → IsBoardOf setup (with_whole number (observed.begun number ++ beat ∷ []) observed) (accepted_on AcceptanceOrder old number client (joined client.limits client.front beat) begun)
+board_whole setup observed old number client beat begun of there ends =
     let own = of.clients number client there in
     let beats = observed.begun number ++ beat ∷ [] in
     let message = joined client.limits client.front beat in
@@ -241,7 +241,7 @@ step_request setup observed old number client beat (Ok More) of there is none =
     rw (goes.incomplete) (board_more setup observed old number client beat of there goes)
 step_request setup observed old number client beat (Ok Whole) of there is none =
     let ends = ends_here (port_of setup.config number) (observed.begun number) beat (is_busy AcceptanceOrder client.flights beat.source) (of.right.begun number) (sym (judged_here beat (of.clients number client there)) ∙ is) in
-    rw (ends.complete) (board_whole setup observed old number client beat of there ends)
+    rw (ends.complete) (board_whole setup observed old number client beat (is_some client.front) of there ends)
 
 -- ---- the other way round
 

@@ -1,26 +1,24 @@
 -- The footprints of clients, one client after another; and that those that may write are on good pages.
 use Rattle.std.proofs.Common.{◌≡◌, ◌<◌, ◌+◌, ◌==◌, ℕ, Bool, true, false, List, [], ◌∷◌, ◌++◌, Option, None, Some, if◌then◌else◌, flat_map, map, drop, take, length, get_or, set, refl, sym, ◌∙◌, ap}
+use Rattle.std.specs.Prelude.{IfSome}
 use Rattle.std.specs.List.{AllByRecursion, find}
 use Rattle.std.specs.Option.{option_map, option_to_list}
 use Rattle.std.proofs.lemmas.List.{flat_map_more, map-append, take_more}
 use Rattle.bus_words.proofs.MappedPlaces.{all-mapped}
 use Rattle.bus_words.proofs.PlaceChanges.{all-append, all-find, all-map, all-set, all-without_first}
-use Rattle.subordinate.specs.Faults.{Faults}
+use Rattle.subordinate.specs.Faults.{Faults, is_good, standing_at}
+use Rattle.tl_messages.specs.Requests.{WholeRequest}
 use Rattle.tl_messages.specs.declared.DBeat.{DBeat}
-use Rattle.scoreboard.specs.Boards.{ClientBoard, client_beside, footprints_of}
-use Rattle.scoreboard.specs.Flights.{Flights, Footprint, InFlight, begun_after, each_flight, flights_after, in_flight, is_of_source, with_left}
-use Rattle.scoreboard.specs.InsideBoards.{AreOnGoodPages, ClientState, FlightState, IsOnGoodPage, client_of, flight_of, flights_of, footprint_of}
-use Rattle.scoreboard.specs.Races.{flight_beside}
-
--- those of one client
-abbrev pub own : ClientBoard → List Footprint
-own client = map (λ (flight : InFlight). flight.footprint) (in_flight client.flights)
+use Rattle.scoreboard.specs.Boards.{ClientBoard, client_beside, client_footprints, footprints_of, with_accepted}
+use Rattle.scoreboard.specs.Flights.{Footprint, InFlight, begun_after, flights_after, in_flight, is_of_source, with_left}
+use Rattle.scoreboard.specs.InsideBoards.{AreOnGoodPages, ClientState, IsOnGoodPage, client_of}
+use Rattle.scoreboard.specs.Races.{flight_beside, joining}
 
 -- one client more
 pub footprints_more : (clients : List ClientState) (i : ℕ) (client : ClientState) → i < length clients → client ≡ get_or clients i client
-    → footprints_of (map client_of (take i clients)) ++ own (client_of client) ≡ footprints_of (map client_of (take (i + 1) clients))
+    → footprints_of (map client_of (take i clients)) ++ client_footprints (client_of client) ≡ footprints_of (map client_of (take (i + 1) clients))
 footprints_more clients i client below is =
-    flat_map_more own [] (map client_of (take i clients)) (client_of client)
+    flat_map_more client_footprints [] (map client_of (take i clients)) (client_of client)
     ∙ sym (ap footprints_of (map-append client_of (take i clients) (client ∷ [])))
     ∙ sym (ap (λ cs. footprints_of (map client_of cs)) (take_more clients i client below ∙ ap (λ c. take i clients ++ c ∷ []) (sym is)))
 
@@ -52,28 +50,34 @@ module _ (faults : Faults) where
   abbrev Good : InFlight → Type 0
   Good flight = IsOnGoodPage faults flight.footprint
 
-  abbrev pub AreGood : Flights → Type 0
-  AreGood flights = AllByRecursion Good flights.due × AllByRecursion Good (option_to_list flights.begun)
+  -- a client's requests, one by one
+  abbrev AreGood : ClientBoard → Type 0
+  AreGood client = AllByRecursion Good client.flights.due × AllByRecursion Good (option_to_list client.flights.begun) × IsOnGoodPage faults client.coming
 
-  good_parts : (flights : Flights) → AreOnGoodPages faults (map (λ (flight : InFlight). flight.footprint) (in_flight flights)) → AreGood flights
-  good_parts flights good =
-      all_parts Good flights.due (option_to_list flights.begun) (all-mapped (IsOnGoodPage faults) (λ (flight : InFlight). flight.footprint) (in_flight flights) good)
+  good_parts : (client : ClientBoard) → AreOnGoodPages faults (client_footprints client) → AreGood client
+  good_parts client good =
+      let footprint = λ (flight : InFlight). flight.footprint in
+      let all = all_parts (IsOnGoodPage faults) (map footprint (in_flight client.flights)) (client.coming ∷ []) good in
+      let flights = all_parts Good client.flights.due (option_to_list client.flights.begun) (all-mapped (IsOnGoodPage faults) footprint (in_flight client.flights) all.0) in
+      (flights.0, flights.1, all.1.0)
 
-  good_whole : (flights : Flights) → AreGood flights → AreOnGoodPages faults (map (λ (flight : InFlight). flight.footprint) (in_flight flights))
-  good_whole flights good =
-      mapped_all (IsOnGoodPage faults) (λ (flight : InFlight). flight.footprint) (in_flight flights) (all_join Good flights.due (option_to_list flights.begun) good.0 good.1)
+  good_whole : (client : ClientBoard) → AreGood client → AreOnGoodPages faults (client_footprints client)
+  good_whole client good =
+      let footprint = λ (flight : InFlight). flight.footprint in
+      all_join (IsOnGoodPage faults) (map footprint (in_flight client.flights)) (client.coming ∷ [])
+      (mapped_all (IsOnGoodPage faults) footprint (in_flight client.flights) (all_join Good client.flights.due (option_to_list client.flights.begun) good.0 good.1)) (good.2, tt)
 
   -- of each client as it is held
-  pub good_each : (clients : List ClientState) → AreOnGoodPages faults (footprints_of (map client_of clients)) → AllByRecursion (λ client. AreOnGoodPages faults (own (client_of client))) clients
-  good_each clients good = all-mapped (λ client. AreOnGoodPages faults (own client)) client_of clients (all_flat (IsOnGoodPage faults) own (map client_of clients) good)
+  pub good_each : (clients : List ClientState) → AreOnGoodPages faults (footprints_of (map client_of clients)) → AllByRecursion (λ client. AreOnGoodPages faults (client_footprints (client_of client))) clients
+  good_each clients good = all-mapped (λ client. AreOnGoodPages faults (client_footprints client)) client_of clients (all_flat (IsOnGoodPage faults) client_footprints (map client_of clients) good)
 
   -- where one client of a list changes
   pub good_client : (clients : List ClientState) (number : ℕ) (new : ClientState) → AreOnGoodPages faults (footprints_of (map client_of clients))
-      → AreOnGoodPages faults (own (client_of new)) → AreOnGoodPages faults (footprints_of (map client_of (set clients number new)))
+      → AreOnGoodPages faults (client_footprints (client_of new)) → AreOnGoodPages faults (footprints_of (map client_of (set clients number new)))
   good_client clients number new all good =
-      let has = λ (client : ClientState). AreOnGoodPages faults (own (client_of client)) in
-      flat_all (IsOnGoodPage faults) own (map client_of (set clients number new))
-      (mapped_all (λ client. AreOnGoodPages faults (own client)) client_of (set clients number new) (all-set has clients number new (good_each clients all) good))
+      let has = λ (client : ClientState). AreOnGoodPages faults (client_footprints (client_of client)) in
+      flat_all (IsOnGoodPage faults) client_footprints (map client_of (set clients number new))
+      (mapped_all (λ client. AreOnGoodPages faults (client_footprints client)) client_of (set clients number new) (all-set has clients number new (good_each clients all) good))
 
   -- after a beat on channel D
   begun_good : (begun : Option InFlight) (source : ℕ) → AllByRecursion Good (option_to_list begun) → AllByRecursion Good (option_to_list (begun_after begun source))
@@ -88,44 +92,60 @@ module _ (faults : Faults) where
       by_source true = left (drop 1 flight.beats)
       by_source false = good
 
-  pub own_after : (client : ClientBoard) (source : ℕ) → AreOnGoodPages faults (own client) → AreOnGoodPages faults (own (record client { flights = flights_after client.flights source }))
-  own_after client source good = good_whole (flights_after client.flights source) (by_begun client.flights.begun (good_parts client.flights good).1)
+  pub good_after : (client : ClientBoard) (source : ℕ) → AreOnGoodPages faults (client_footprints client)
+      → AreOnGoodPages faults (client_footprints (record client { flights = flights_after client.flights source }))
+  good_after client source good =
+      let parts = good_parts client good in
+      good_whole (record client { flights = flights_after client.flights source }) (by_begun client.flights.begun parts.1)
     where
       due : List InFlight
       due = client.flights.due
 
       all : AllByRecursion Good due
-      all = (good_parts client.flights good).0
+      all = (good_parts client good).0
 
       found : (o : Option InFlight) → find (is_of_source source) due ≡ o → AllByRecursion Good (option_to_list o)
       found None is = tt
       found (Some flight) is = (all-find Good (is_of_source source) due flight all is, tt)
 
-      by_begun : (begun : Option InFlight) → AllByRecursion Good (option_to_list begun) → AreGood (flights_after (record { due = due; begun = begun }) source)
-      by_begun None none = (all-without_first Good (is_of_source source) due all, begun_good (find (is_of_source source) due) source (found (find (is_of_source source) due) refl))
-      by_begun (Some flight) some = (all, begun_good (Some flight) source some)
+      by_begun : (begun : Option InFlight) → AllByRecursion Good (option_to_list begun)
+          → AreGood (record client { flights = flights_after (record { due = due; begun = begun }) source })
+      by_begun None none =
+          (all-without_first Good (is_of_source source) due all, begun_good (find (is_of_source source) due) source (found (find (is_of_source source) due) refl), (good_parts client good).2)
+      by_begun (Some flight) some = (all, begun_good (Some flight) source some, (good_parts client good).2)
 
   -- beside a request that joins
-  pub all_beside : (footprint : Footprint) (clients : List ClientBoard) → AreOnGoodPages faults (footprints_of clients)
-      → AreOnGoodPages faults (footprints_of (map (client_beside footprint) clients))
-  all_beside footprint clients good =
-      flat_all (IsOnGoodPage faults) own (map (client_beside footprint) clients)
-      (mapped_all (λ client. AreOnGoodPages faults (own client)) (client_beside footprint) clients
-      (all-map (λ client. AreOnGoodPages faults (own client)) (λ client. AreOnGoodPages faults (own (client_beside footprint client))) clients each (all_flat (IsOnGoodPage faults) own clients good)))
+  good_beside : (footprint : Footprint) (client : ClientBoard) → AreOnGoodPages faults (client_footprints client) → AreOnGoodPages faults (client_footprints (client_beside footprint client))
+  good_beside footprint client good =
+      let parts = good_parts client good in
+      good_whole (client_beside footprint client) (mapped_all Good (flight_beside footprint) client.flights.due parts.0, one client.flights.begun parts.1, parts.2)
     where
       one : (begun : Option InFlight) → AllByRecursion Good (option_to_list begun) → AllByRecursion Good (option_to_list (option_map (flight_beside footprint) begun))
       one None here = tt
       one (Some flight) here = here
 
-      each : (client : ClientBoard) → AreOnGoodPages faults (own client) → AreOnGoodPages faults (own (client_beside footprint client))
-      each client here =
-          let parts = good_parts client.flights here in
-          good_whole (each_flight (flight_beside footprint) client.flights) (mapped_all Good (flight_beside footprint) client.flights.due parts.0, one client.flights.begun parts.1)
+  pub all_beside : (footprint : Footprint) (clients : List ClientBoard) → AreOnGoodPages faults (footprints_of clients)
+      → AreOnGoodPages faults (footprints_of (map (client_beside footprint) clients))
+  all_beside footprint clients good =
+      let has = λ (client : ClientBoard). AreOnGoodPages faults (client_footprints client) in
+      flat_all (IsOnGoodPage faults) client_footprints (map (client_beside footprint) clients)
+      (mapped_all has (client_beside footprint) clients
+      (all-map has (λ client. has (client_beside footprint client)) clients (good_beside footprint) (all_flat (IsOnGoodPage faults) client_footprints clients good)))
 
-  -- with a flight more
-  pub own_with : (found : ClientState) (flight : FlightState) → AreOnGoodPages faults (own (client_of found)) → IsOnGoodPage faults (footprint_of flight.footprint)
-      → AreOnGoodPages faults (own (client_of (record found { flights = record found.flights { due = found.flights.due ++ flight ∷ [] } })))
-  own_with found flight good here =
-      let parts = good_parts (flights_of found.flights) good in
-      good_whole (flights_of (record found.flights { due = found.flights.due ++ flight ∷ [] }))
-      (rw (map-append flight_of found.flights.due (flight ∷ [])) (all-append Good (map flight_of found.flights.due) (flight_of flight) parts.0 here), parts.1)
+  -- with a request more in flight, and none coming
+  pub good_accepted : (flight : InFlight) (client : ClientBoard) → AreOnGoodPages faults (client_footprints client) → IsOnGoodPage faults flight.footprint
+      → AreOnGoodPages faults (client_footprints (with_accepted flight client))
+  good_accepted flight client good here =
+      let parts = good_parts client good in
+      good_whole (with_accepted flight client) (all-append Good client.flights.due flight parts.0 here, parts.1, λ writes. absurd (cc (writes)))
+
+  -- with another coming
+  pub good_coming : (footprint : Footprint) (client : ClientBoard) → AreOnGoodPages faults (client_footprints client) → IsOnGoodPage faults footprint
+      → AreOnGoodPages faults (client_footprints (record client { coming = footprint }))
+  good_coming footprint client good here = let parts = good_parts client good in good_whole (record client { coming = footprint }) (parts.0, parts.1, here)
+
+-- one that has joined others acts on a good page, if on any
+pub good_joining : (faults : Faults) (indeterminate : ℕ → Bool) (others : List Footprint) (place : Option ℕ) (q : WholeRequest) → IfSome place (λ address. is_good (standing_at faults address) ≡ true)
+    → IsOnGoodPage faults (joining indeterminate others place q)
+good_joining faults indeterminate others None q good = λ writes. absurd (cc (writes))
+good_joining faults indeterminate others (Some address) q good = λ writes. good

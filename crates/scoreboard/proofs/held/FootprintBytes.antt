@@ -9,6 +9,7 @@ use Rattle.subordinate.specs.Faults.{Faults, is_good, standing_at}
 use Rattle.meaning.proofs.SerialReplies.{in_page, standing_of}
 use Rattle.scoreboard.specs.InsideSerial.{IsMemoryRange}
 use Rattle.scoreboard.specs.InsideBoards.{FootprintState, footprint_of, determined_in}
+use Rattle.scoreboard.specs.Boards.{kept_from}
 use Rattle.scoreboard.specs.Flights.{Footprint}
 use Rattle.scoreboard.specs.Races.{beside, covers, may_write}
 
@@ -63,3 +64,14 @@ given_way old now other writes rest each =
         by_place old.address (2 ^ old.size) now.determined (λ y. get_or old.determined (y - old.address) false && not (covers other y))
         (λ i below. let place : old.address + i - old.address ≡ i = omega arith in rw place (each i below)) x
         ∙ rw writes (grind arith)
+
+-- those that are kept of a request that had begun
+pub kept : (old now : FootprintState) (coming : Footprint) → now ≡ record old { determined = now.determined }
+    → ((k : ℕ) → k < 2 ^ old.size → get_or now.determined k false ≡ (get_or old.determined k false && coming.determined (old.address + k))) → footprint_of now ≡ kept_from coming (footprint_of old)
+kept old now coming rest each = ap footprint_of rest ∙ ap (λ (f : ℕ → Bool). record (footprint_of old) { determined = f }) (fun_ext (λ x. at x))
+  where
+    at : (x : ℕ) → determined_in (record old { determined = now.determined }) x ≡ (determined_in old x && coming.determined x)
+    at x =
+        by_place old.address (2 ^ old.size) now.determined (λ y. get_or old.determined (y - old.address) false && coming.determined y)
+        (λ i below. let place : old.address + i - old.address ≡ i = omega arith in rw place (each i below)) x
+        ∙ grind arith

@@ -1,8 +1,7 @@
 -- A message that has begun is of a source to which no reply is due, and stays so.
-use Rattle.std.proofs.Common.{◌≡◌, ℕ, ◌≤◌, Bor, Bool, true, false, not, List, [], ◌∷◌, Option, Some, None, Result, Ok, Err, refl, sym, ◌∙◌, ap, arith}
+use Rattle.std.proofs.Common.{◌≡◌, ℕ, ◌≤◌, Bool, true, false, List, [], ◌∷◌, Option, Some, None, Result, Ok, refl, sym, ◌∙◌, ap, arith}
 use Rattle.std.specs.Prelude.{is_some}
 use Rattle.std.specs.List.{list_any}
-use Rattle.std.specs.Option.{option_copied}
 use Rattle.std.proofs.lemmas.Bool.{or_parts}
 use Rattle.bus_words.specs.Places.{without_first}
 use Rattle.tl_messages.specs.Requests.{HeldMessage}
@@ -12,10 +11,10 @@ use Rattle.tl_checker.specs.RequestRules.{TlPortLimits}
 use Rattle.tl_checker.specs.declared.Progress.{Progress}
 use Rattle.tl_checker.specs.declared.Progress.TheVariants.{More, Whole}
 use Rattle.tl_checker.specs.declared.TlRule.{TlRule}
-use Rattle.tl_checker.proofs.BeatRules.{first_none}
+use Rattle.tl_checker.proofs.BeatRules.{first_none, right_named}
 use Rattle.tl_checker.proofs.Taking.{answered_parts}
 use Rattle.scoreboard.specs.Flights.{Flights, Footprint, InFlight, begun_is_of, due_after, each_flight, flights_after, is_busy, is_of_source}
-use Rattle.scoreboard.specs.InsideBoards.{IsFrontFree}
+use Rattle.scoreboard.specs.InsideBoards.{IsFirstBeat, IsFrontFree}
 use Rattle.scoreboard.specs.Races.{flight_beside}
 use Rattle.scoreboard.specs.declared.Policy.{Policy}
 use Rattle.scoreboard.specs.declared.Policy.TheVariants.{AcceptanceOrder, RealTime}
@@ -40,15 +39,21 @@ joined_free policy limits None beat flights told free is =
     not_busy policy flights beat.source (first_none limits beat (is_busy policy flights beat.source) (answered_parts _ _ told is).0).1
 joined_free policy limits (Some held) beat flights told free is = free
 
--- a port that has taken a beat, and holds no whole request
-pub taken_right : (policy : Policy) (port taken : PortState) (beat : ABeat) (flights : Flights) (answer : Result Progress TlRule) → port.limits.max_size ≤ 12
+-- a port that has taken a beat, of a message of which more are to come
+pub more_right : (policy : Policy) (port taken : PortState) (beat : ABeat) (flights : Flights) (answer : Result Progress TlRule) → port.whole ≡ None → port.limits.max_size ≤ 12
     → IsFrontFree port.front flights → answer ≡ judged port.limits port.front beat (is_busy policy flights beat.source) → taken ≡ port_after port beat answer
-    → taken.whole ≡ None → (taken.whole ≡ None) × (taken.limits.max_size ≤ 12) × IsFrontFree taken.front flights
-taken_right policy port taken beat flights (Err broken) small free is becomes none = (none, rw becomes small, rw becomes free)
-taken_right policy port taken beat flights (Ok More) small free is becomes none = (none, rw becomes small, rw becomes (joined_free policy port.limits port.front beat flights More free (sym is)))
-taken_right policy port taken beat flights (Ok Whole) small free is becomes none =
-    let stands : Some (joined port.limits port.front beat) ≡ None = sym (ap (λ (p : PortState). p.whole) becomes) ∙ none in
-    absurd (cc (stands))
+    → answer ≡ Ok More → (taken.whole ≡ None) × (taken.limits.max_size ≤ 12) × IsFrontFree taken.front flights × (true ≡ is_some taken.front)
+more_right policy port taken beat flights answer none small free is becomes more =
+    let after = becomes ∙ ap (port_after port beat) more in
+    rw after (none, small, joined_free policy port.limits port.front beat flights More free (sym is ∙ more), refl)
+
+-- a first beat that is taken names an operation, and has an aligned range
+pub first_taken : (limits : TlPortLimits) (front : Option HeldMessage) (beat : ABeat) (busy : Bool) (told : Progress) → limits.max_size ≤ 12 → front ≡ None
+    → judged limits front beat busy ≡ Ok told → IsFirstBeat beat
+first_taken limits None beat busy told small none is =
+    let right = (first_none limits beat busy (answered_parts _ _ told is).0).0 in
+    record { named = (right_named limits beat right).some; range = record { small = omega (arith, right.size, small); aligned = right.aligned } }
+first_taken limits (Some held) beat busy told small begun is = absurd (cc (begun))
 
 -- the request that stands whole is the message with the beat
 pub whole_joined : (port taken : PortState) (beat : ABeat) (answer : Result Progress TlRule) (request : HeldMessage) → taken ≡ port_after port beat answer
@@ -56,10 +61,6 @@ pub whole_joined : (port taken : PortState) (beat : ABeat) (answer : Result Prog
 whole_joined port taken beat answer request becomes stands whole =
     let stood : Some request ≡ Some (joined port.limits port.front beat) = sym stands ∙ ap (λ (p : PortState). p.whole) (becomes ∙ ap (port_after port beat) whole) in
     cc (stood)
-
-pub none_copied : {X : Type 0} (o : Option (Bor X)) (b : Bool) → is_some o ≡ not b → b ≡ true → option_copied o ≡ None
-none_copied None b is empty = refl
-none_copied (Some x) b is empty = let same : true ≡ false = is ∙ ap not empty in absurd (cc (same))
 
 -- ---- what is due gets less, or as it was
 

@@ -86,3 +86,7 @@ writes_nothing d footprint bytes footprints nothing = fun_ext (λ x. each x foot
     each : (x : ℕ) (others : List Footprint) → d x ≡ beside_dependent (after_given d footprint bytes) footprint others x
     each x [] = grind (arith, nothing)
     each x (other ∷ others) = grind (arith, nothing, each x others)
+
+-- one that gives no bytes leaves all as it is
+pub nothing_given : (d : ℕ → Bool) (footprint : Footprint) → after_given d footprint [] ≡ d
+nothing_given d footprint = fun_ext (λ x. grind (arith, nat_tests))

@@ -1,6 +1,6 @@
 -- A board whose client has answered a beat on channel A.
 use Rattle.std.proofs.Common.{◌≡◌, ℕ, zero, suc, false, List, [], ◌∷◌, ◌++◌, map, set, Some, None, Result, Ok, Err, refl, sym, ◌∙◌, ap, subst}
-use Rattle.std.specs.Prelude.{slice_get}
+use Rattle.std.specs.Prelude.{Bool, is_some, slice_get, true}
 use Rattle.std.specs.List.{list_any}
 use Rattle.std.proofs.lemmas.List.{map-set, set-set}
 use Rattle.bus_words.proofs.StoredPlaces.{set_back}
@@ -10,30 +10,38 @@ use Rattle.tl_checker.specs.Ports.{joined}
 use Rattle.tl_checker.specs.declared.Progress.{Progress}
 use Rattle.tl_checker.specs.declared.Progress.TheVariants.{More, Whole}
 use Rattle.tl_checker.specs.declared.TlRule.{TlRule}
-use Rattle.scoreboard.specs.Boards.{Board, ClientBoard, a_wrong, accepted_on, after_a, answer_to, answered_on, client_beside, flight_for, footprints_of, joining_on, with_accepted, with_client, wrong_request}
+use Rattle.scoreboard.specs.Boards.{Board, ClientBoard, a_wrong, accepted_on, after_a, answer_to, answered_on, client_beside, client_footprints, coming_on, continued_on, flight_for, footprints_of, joining_on, with_accepted, with_client, wrong_request}
 use Rattle.scoreboard.specs.Flights.{Footprint, InFlight, is_of_source, no_footprint}
 use Rattle.scoreboard.specs.InsideBoards.{ClientState, IsFreeOf, client_of, flights_of, front_after}
-use Rattle.scoreboard.specs.Races.{after_joining, joining}
+use Rattle.scoreboard.specs.Races.{after_given, after_joining, joining}
 use Rattle.scoreboard.specs.SerialMemory.{carried_out, place_in}
 use Rattle.scoreboard.specs.declared.Policy.{Policy}
 use Rattle.scoreboard.specs.declared.Policy.TheVariants.{AcceptanceOrder, RealTime}
-use Rattle.scoreboard.proofs.held.ClientFootprints.{own}
 
 -- ---- a client of a list that has let go of what it had begun
 
 same_footprints : (clients : List ClientBoard) (number : ℕ) (client : ClientBoard) → slice_get clients number ≡ Some client
     → footprints_of (set clients number (record client { front = None })) ≡ footprints_of clients
 same_footprints [] number client there = refl
-same_footprints (first ∷ clients) zero client there = let same : first ≡ client = cc (there) in ap (λ (c : ClientBoard). own c ++ footprints_of clients) (sym same)
-same_footprints (first ∷ clients) (suc number) client there = ap (λ rest. own first ++ rest) (same_footprints clients number client there)
+same_footprints (first ∷ clients) zero client there = let same : first ≡ client = cc (there) in ap (λ (c : ClientBoard). client_footprints c ++ footprints_of clients) (sym same)
+same_footprints (first ∷ clients) (suc number) client there = ap (λ rest. client_footprints first ++ rest) (same_footprints clients number client there)
 
--- that it had begun something is nothing to the request that it is of
-accepted_same : (policy : Policy) (board : Board) (number : ℕ) (client : ClientBoard) (message : HeldMessage) → slice_get board.clients number ≡ Some client
-    → accepted_on policy (with_client number (record client { front = None }) board) number (record client { front = None }) message ≡ accepted_on policy board number client message
-accepted_same AcceptanceOrder board number client message there =
+-- that its client has let go of it before is nothing to the request
+accepted_same : (policy : Policy) (board : Board) (number : ℕ) (client : ClientBoard) (message : HeldMessage) (begun : Bool) → slice_get board.clients number ≡ Some client
+    → accepted_on policy (with_client number (record client { front = None }) board) number (record client { front = None }) message begun
+    ≡ accepted_on policy board number client message begun
+accepted_same AcceptanceOrder board number client message begun there =
     ap {B = Board} (λ (clients : List ClientBoard). record board { clients = clients; memory = carried_out board.memory (request_of message) })
     (set-set board.clients number (record client { front = None }) (with_accepted (flight_for board.memory no_footprint (request_of message)) client))
-accepted_same RealTime board number client message there =
+accepted_same RealTime board number client message true there =
+    let footprint = coming_on board (request_of message) client.coming in
+    ap {B = Board} (λ (clients : List ClientBoard). record board {
+      clients = clients;
+      memory = carried_out board.memory (request_of message);
+      indeterminate = after_given board.indeterminate footprint (request_of message).bytes;
+    })
+    (set-set board.clients number (record client { front = None }) (with_accepted (flight_for board.memory footprint (request_of message)) client))
+accepted_same RealTime board number client message false there =
     ap (λ (footprints : List Footprint). joined_beside (set board.clients number changed) changed footprints) (same_footprints board.clients number client there)
     ∙ ap {B = Board} (λ (clients : List ClientBoard). record board {
       clients = clients;
@@ -75,11 +83,11 @@ module _ (policy : Policy) (board : Board) (number : ℕ) (found : ClientBoard) 
   abbrev pub with_front : Result Progress TlRule → Board
   with_front answer = with_client number (record found { front = front_after found.front message answer }) board
 
-  -- and after the request, where it is whole
+  -- and after the request, where it has begun or is whole
   abbrev pub After : Board → Result Progress TlRule → Type 0
   After final (Err broken) = final ≡ with_front (Err broken)
-  After final (Ok More) = final ≡ with_front (Ok More)
-  After final (Ok Whole) = final ≡ accepted_on policy (with_front (Ok Whole)) number (record found { front = None }) message
+  After final (Ok More) = final ≡ continued_on policy (with_front (Ok More)) number (record found { front = Some message }) message (is_some found.front)
+  After final (Ok Whole) = final ≡ accepted_on policy (with_front (Ok Whole)) number (record found { front = None }) message (is_some found.front)
 
   pub state_as : (final : Board) (answer told : Result Progress TlRule) → answer ≡ told → answer ≡ answer_to policy found beat → After final told
       → final ≡ after_a policy board number (slice_get board.clients number) beat
@@ -89,7 +97,7 @@ module _ (policy : Policy) (board : Board) (number : ℕ) (found : ClientBoard) 
       by_answer : (told : Result Progress TlRule) → After final told → final ≡ answered_on policy board number found message told
       by_answer (Err broken) after = after ∙ ap {B = Board} (λ (clients : List ClientBoard). record board { clients = clients }) (set_back board.clients number found there)
       by_answer (Ok More) after = after
-      by_answer (Ok Whole) after = after ∙ accepted_same policy board number found message there
+      by_answer (Ok Whole) after = after ∙ accepted_same policy board number found message (is_some found.front) there
 
 -- one whose request is whole has begun nothing, and its request is of a free source
 pub free_whole : (found new : ClientState) (message request : HeldMessage) (answer : Result Progress TlRule) → answer ≡ Ok Whole

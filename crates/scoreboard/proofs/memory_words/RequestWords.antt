@@ -1,5 +1,5 @@
 -- The words of a request that a checker let pass.
-use Rattle.std.proofs.Common.{◌≡◌, ℕ, ◌+◌, ◌-◌, ◌*◌, ◌%◌, ◌^◌, ◌<◌, ◌≤◌, true, length, Some, min, sym, ◌∙◌, ap, arith, inl, inr}
+use Rattle.std.proofs.Common.{◌≡◌, ℕ, ◌+◌, ◌-◌, ◌*◌, ◌%◌, ◌^◌, ◌<◌, ◌≤◌, true, length, IfSome, None, Option, Some, min, sym, ◌∙◌, ap, arith, inl, inr}
 use Rattle.std.specs.Prelude.{slice_get}
 use Rattle.std.proofs.lemmas.Bool.{cases_lt}
 use Rattle.std.proofs.lemmas.Nat.{pow-add}
@@ -18,10 +18,23 @@ use Rattle.scoreboard.specs.SerialMemory.{IsCheckedRequest}
 use Rattle.scoreboard.proofs.memory_words.PutWords.{IsWordOf, sizes}
 use Rattle.scoreboard.proofs.memory_words.WordRanges.{word_aligned}
 
+-- ---- its range
+
+-- a range moved to a place with the same byte of its page
+pub moved_range : (own address size : ℕ) → IsMemoryRange own size → address % 4096 ≡ own % 4096 → IsMemoryRange address size
+moved_range own address size range same = record { small = range.small; aligned = same_byte-mod own address size range.small same ∙ range.aligned }
+
+pub placed_range : (own size : ℕ) (place : Option ℕ) → IsMemoryRange own size → IfSome place (λ address. address % 4096 ≡ own % 4096) → IfSome place (λ address. IsMemoryRange address size)
+placed_range own size None range same = tt
+placed_range own size (Some address) range same = moved_range own address size range same
+
+pub own_range : (held : HeldMessage) → IsCheckedRequest held → IsMemoryRange held.address held.size
+own_range held checked = record { small = omega (arith, checked.1, checked.2.size); aligned = checked.2.aligned }
+
 pub range : (held : HeldMessage) (address : ℕ) → IsCheckedRequest held → address % 4096 ≡ held.address % 4096 → IsMemoryRange address held.size
-range held address checked same =
-    let small : held.size ≤ 12 = omega (arith, checked.1, checked.2.size) in
-    record { small = small; aligned = same_byte-mod held.address address held.size small same ∙ checked.2.aligned }
+range held address checked same = moved_range held.address address held.size (own_range held checked) same
+
+-- ---- its words
 
 pub word_at : (held : HeldMessage) (address k : ℕ) → IsCheckedRequest held → has_data held.operation ≡ true → address % 4096 ≡ held.address % 4096 → k < length held.beats → IsWordAt address held.size k
 word_at held address k checked carries same below =

@@ -6,7 +6,7 @@ use Rattle.std.specs.List.{list_all, list_any, range_with_len}
 use Rattle.std.proofs.lemmas.Bool.{and_parts, and_from, not-true}
 use Rattle.std.proofs.lemmas.Bool.Decides.{nat_tests}
 use Rattle.bus_words.specs.Lanes.{given_at}
-use Rattle.bus_words.proofs.Ranges.{passes_at}
+use Rattle.bus_words.proofs.Ranges.{all_pass, passes_at}
 use Rattle.scoreboard.specs.Flights.{Footprint, no_footprint}
 use Rattle.scoreboard.specs.Races.{after_given, after_joining, beside, beside_dependent, covers, depends_on, is_fixed, may_write, meets}
 use Rattle.scoreboard.proofs.real_time.Places.{Place, cases_place}
@@ -101,6 +101,13 @@ fixed_determined footprint x fixed reads covered =
     let back : footprint.address + (0 + (x - footprint.address)) ≡ x = grind (arith, nat_tests, covered) in
     sym (ap footprint.determined back)
     ∙ passes_at (λ i. footprint.determined (footprint.address + i)) 0 (2 ^ footprint.size) (x - footprint.address) all place
+
+-- a request of which all bytes are determined is fixed
+pub determined_fixed : (footprint : Footprint) → ((x : ℕ) → covers footprint x ≡ true → footprint.determined x ≡ true) → is_fixed footprint ≡ true
+determined_fixed footprint each =
+    let all = all_pass (λ i. footprint.determined (footprint.address + i)) 0 (2 ^ footprint.size)
+    (λ i below. each (footprint.address + (0 + i)) (grind (arith, nat_tests, below))) in
+    grind (arith, all)
 
 module _ (indeterminate : ℕ → Bool) (footprints : Place → Footprint) (all : List Footprint) (footprint : Footprint) (bytes : List (Option ℕ))
     (are : AreAll footprints all) (joining : IsJoining indeterminate footprints footprint bytes) where

@@ -1,18 +1,16 @@
--- Orders that keep real time arise as requests are put in, one after another.
-use Rattle.std.proofs.Common.{◌≡◌, ◌≢◌, ℕ, zero, suc, ◌+◌, ◌<◌, ◌≤◌, ◌==◌, Bool, true, false, List, [], ◌∷◌, ◌++◌, map, filter, length, Option, Some, None, Result, Ok, Err, inl, inr, if◌then◌else◌, nat_lt, refl, sym, ◌∙◌, ap, subst, arith}
+-- Orders that keep real time arise as requests are put in with their first beats, one after another, each as what it becomes.
+use Rattle.std.proofs.Common.{◌≡◌, ◌≢◌, ℕ, zero, suc, ◌+◌, ◌<◌, ◌≤◌, ◌==◌, Bool, true, false, ◌&&◌, List, [], ◌∷◌, ◌++◌, map, filter, length, Option, Some, None, Result, Ok, Err, inl, inr, if◌then◌else◌, nat_lt, refl, sym, ◌∙◌, ap, subst, arith}
 use Rattle.std.specs.Prelude.{slice_get}
 use Rattle.std.specs.List.{AllByRecursion, list_any, range_with_len}
-use Rattle.std.specs.Option.{option_to_list}
-use Rattle.std.proofs.lemmas.Bool.{both_ways, cases_eq, cases_Bool, false_from_ne_true, lt-ltb}
+use Rattle.std.proofs.lemmas.Bool.{both_ways, cases_eq, cases_Bool, false_from_ne_true, lt-ltb, ltb-true}
 use Rattle.std.proofs.lemmas.Bool.Decides.{nat_tests}
-use Rattle.std.proofs.lemmas.List.{append-nil, append_assoc, get_or-map, get_or_append_left, get_or_at, length-append, length-map, map-append}
+use Rattle.std.proofs.lemmas.List.{append-nil, append_assoc, length-append, length-map, map-append}
 use Rattle.std.proofs.lemmas.List.Elements.{filter-append}
 use Rattle.std.proofs.lemmas.List.Folds.{list_any-append, list_any_at}
 use Rattle.std.proofs.Math.Bool.{or-true}
 use Rattle.std.proofs.lemmas.Simd.{map-map}
 use Rattle.bus_words.proofs.PlaceChanges.{all-map}
-use Rattle.tl_messages.specs.Requests.{no_message, request_of}
-use Rattle.tl_messages.specs.declared.ABeat.{ABeat}
+use Rattle.tl_messages.specs.Requests.{HeldMessage, WholeRequest, request_of}
 use Rattle.tl_checker.specs.Ports.{joined}
 use Rattle.tl_checker.specs.declared.Progress.{Progress}
 use Rattle.tl_checker.specs.declared.Progress.TheVariants.{More, Whole}
@@ -22,10 +20,12 @@ use Rattle.scoreboard.specs.Boards.{Board, ClientBoard, after_all, after_seen, a
 use Rattle.scoreboard.specs.declared.Policy.TheVariants as policy
 use Rattle.scoreboard.specs.declared.ObservedBeat.{ObservedBeat}
 use Rattle.scoreboard.specs.declared.ObservedBeat.TheVariants.{A, D, Axi as OnAxi, Drained}
-use Rattle.scoreboard.specs.Orders.{Entry, Order, after_beat, begun_to, board_after, has_ended, with_beat}
-use Rattle.scoreboard.specs.RealTime.{EndedBefore, IsOrderOf, KeepsRealTime, accepted_from, accepted_in, accepted_next, arranged, entry_of, numbered, with_answered, with_request}
+use Rattle.scoreboard.specs.Orders.{Entry, Order, after_beat, begun_to, board_after, has_ended, is_due, with_beat}
+use Rattle.scoreboard.specs.RealTime.{EndedBefore, IsOrderOf, KeepsRealTime, MayBecome, MayBecomeAll, arranged, as_begun, becoming, begun_from, begun_in, begun_next, completed, entry_of, numbered, with_answered, with_progress, with_request}
+use Rattle.scoreboard.proofs.real_time.RequestActs.{well_bytes}
 use Rattle.scoreboard.proofs.real_time.StepOrders as steps
-use Rattle.scoreboard.proofs.real_time.StepOrders.{GoesOn, IsOrderFrom, IsPutIn}
+use Rattle.scoreboard.proofs.real_time.StepOrders.{GoesOn, GoesOnAnswered, GoesOnRequest, GoesOnTaken, IsOrderFrom, IsPutIn, finished, is_coming}
+use Rattle.scoreboard.proofs.real_time.Becoming.{followed, may_from, no_entry, numbered_first, numbered_last, numbered_map}
 
 -- ---- one beat more, behind others
 
@@ -57,7 +57,13 @@ split_at : (number : ℕ) (numbers : List ℕ) → times number numbers ≡ 1 �
 split_at number [] once = absurd (omega (arith, once))
 split_at number (first ∷ numbers) once =
     elim (cases_eq first number) [
-      | inl same ↦ record { left = []; right = numbers; is = ap (λ k. k ∷ numbers) same; before = tt; behind = absent number numbers (grind (arith, nat_tests, same, once)) }
+      | inl same ↦ record {
+        left = [];
+        right = numbers;
+        is = ap (λ k. k ∷ numbers) same;
+        before = tt;
+        behind = absent number numbers (grind (arith, nat_tests, same, once));
+      }
       | inr differ ↦ behind_first differ (split_at number numbers (grind (arith, nat_tests, differ, once)))
     ]
   where
@@ -92,10 +98,20 @@ same_below : (one other : ℕ → Entry) (bound : ℕ) (numbers : List ℕ) → 
 same_below one other bound [] same = refl
 same_below one other bound (first ∷ numbers) same = grind (arith, nat_tests, same first, same_below one other bound numbers same)
 
-none_below : (test : Entry → Bool) (accepted : Order) (bound : ℕ) (numbers : List ℕ)
-    → AllByRecursion (λ number. number < bound → test (numbered accepted number) ≡ false) numbers → list_any test (map (numbered accepted) (below bound numbers)) ≡ false
-none_below test accepted bound [] none = refl
-none_below test accepted bound (first ∷ numbers) none = grind (arith, nat_tests, none.0, none_below test accepted bound numbers none.1)
+none_below : (test : Entry → Bool) (one : ℕ → Entry) (bound : ℕ) (numbers : List ℕ)
+    → AllByRecursion (λ number. number < bound → test (one number) ≡ false) numbers → list_any test (map one (below bound numbers)) ≡ false
+none_below test one bound [] none = refl
+none_below test one bound (first ∷ numbers) none = grind (arith, nat_tests, none.0, none_below test one bound numbers none.1)
+
+-- what holds of each below a bound
+each_below : (P : Entry → Type 0) (one : ℕ → Entry) (bound : ℕ) (numbers : List ℕ) → ((number : ℕ) → number < bound → P (one number))
+    → AllByRecursion P (map one (below bound numbers))
+each_below P one bound [] all = tt
+each_below P one bound (first ∷ numbers) all =
+    elim (cases_Bool (nat_lt first bound)) [
+      | inl is ↦ rw is (all first (ltb-true first bound is), each_below P one bound numbers all)
+      | inr is ↦ rw is (each_below P one bound numbers all)
+    ]
 
 -- one of a list passes at its number, or none at any
 any_at : (test : Entry → Bool) (order : Order) → list_any test order ≡ true → (i : ℕ) × (i < length order) × (test (numbered order i) ≡ true)
@@ -108,42 +124,77 @@ any_at test (entry ∷ order) some =
 
 none_at : (test : Entry → Bool) (order : Order) → list_any test order ≡ false → (i : ℕ) → i < length order → test (numbered order i) ≡ false
 none_at test order none i small =
-    false_from_ne_true (test (numbered order i)) (λ passes. both_ways (list_any test order) none (list_any_at test order i (entry_of 0 (request_of no_message)) small passes))
+    false_from_ne_true (test (numbered order i)) (λ passes. both_ways (list_any test order) none (list_any_at test order i no_entry small passes))
 
--- ---- what a beat does to those accepted
+-- ---- an entry as it becomes
 
--- the one that a beat on channel A adds to those accepted, if it adds one
-added : (number : ℕ) (client : Option ClientBoard) (beat : ABeat)
-    → (entry : Option Entry) × ((now : Order) → with_request number client beat now ≡ now ++ option_to_list entry)
-added number None beat = (None, λ now. sym (append-nil now))
-added number (Some client) beat = by_answer (answer_to policy.RealTime client beat)
+-- a test that asks nothing of a request that it may become otherwise
+abbrev IsKept : (Entry → Bool) → Type 0
+IsKept test = (entry : Entry) (q : WholeRequest) → MayBecome entry q → test (record entry { request = q }) ≡ test entry
+
+ended_kept : IsKept has_ended
+ended_kept entry q may = ap (λ (r : WholeRequest). has_ended (record entry { request = r })) may.fields
+
+begun_kept : (client : ℕ) → IsKept (begun_to client)
+begun_kept client entry q may = ap (λ (r : WholeRequest). begun_to client (record entry { request = r })) may.fields
+
+-- a beat of its reply
+beat_kept : (begun : Bool) (client source : ℕ) (entry : Entry) (q : WholeRequest) → MayBecome entry q
+    → with_beat begun client source (record entry { request = q }) ≡ record (with_beat begun client source entry) { request = q }
+beat_kept begun client source entry q may =
+    elim (cases_Bool (is_due begun client source entry && entry.request.source == source)) [
+      | inl is ↦ let other = same ∙ is in rw (is, other) refl
+      | inr is ↦ let other = same ∙ is in rw (is, other) refl
+    ]
   where
-    by_answer : (answer : Result Progress TlRule)
-        → (entry : Option Entry) × ((now : Order) → with_answered number (joined client.limits client.front beat) answer now ≡ now ++ option_to_list entry)
-    by_answer (Err broken) = (None, λ now. sym (append-nil now))
-    by_answer (Ok More) = (None, λ now. sym (append-nil now))
-    by_answer (Ok Whole) = (Some (entry_of number (request_of (joined client.limits client.front beat))), λ now. refl)
+    same : (is_due begun client source (record entry { request = q }) && q.source == source)
+        ≡ (is_due begun client source entry && entry.request.source == source)
+    same = ap (λ (r : WholeRequest). is_due begun client source (record entry { request = r }) && r.source == source) may.fields
 
--- fewer are never accepted
-no_fewer : (board : Board) (seen : ObservedBeat) (now : Order) → length now ≤ length (accepted_next board seen now)
-no_fewer board (A client beat) now =
-    let more = added client (slice_get board.clients client) beat in
-    omega (arith, ap (λ (o : Order). length o) (more.1 now), length-append now (option_to_list more.0))
+-- its last beat
+finish_kept : (client : ℕ) (q r : WholeRequest) (entry : Entry)
+    → record (completed client q entry) { request = r } ≡ finished client (record entry { request = r })
+finish_kept client q r entry =
+    elim (cases_Bool (is_coming client entry)) [
+      | inl is ↦ rw is refl
+      | inr is ↦ rw is refl
+    ]
+
+-- ---- what a beat does to those that have begun
+
+-- fewer have never begun
+no_fewer_taken : (client : ℕ) (front : Option HeldMessage) (q : WholeRequest) (progress : Progress) (now : Order)
+    → length now ≤ length (with_progress client front q progress now)
+no_fewer_taken client None q More now = omega (arith, length-append now (entry_of client q false ∷ []))
+no_fewer_taken client None q Whole now = omega (arith, length-append now (entry_of client q true ∷ []))
+no_fewer_taken client (Some held) q More now = omega arith
+no_fewer_taken client (Some held) q Whole now = omega (arith, length-map now (completed client q))
+
+no_fewer : (board : Board) (seen : ObservedBeat) (now : Order) → length now ≤ length (begun_next board seen now)
+no_fewer board (A number beat) now = by_client (slice_get board.clients number)
+  where
+    by_answer : (front : Option HeldMessage) (message : HeldMessage) (answer : Result Progress TlRule)
+        → length now ≤ length (with_answered number front message answer now)
+    by_answer front message (Err broken) = omega arith
+    by_answer front message (Ok progress) = no_fewer_taken number front (request_of message) progress now
+
+    by_client : (found : Option ClientBoard) → length now ≤ length (with_request number found beat now)
+    by_client None = omega arith
+    by_client (Some client) = by_answer client.front (joined client.limits client.front beat) (answer_to policy.RealTime client beat)
 no_fewer board (D client beat) now = omega (arith, length-map now (with_beat (list_any (begun_to client) now) client beat.source))
 no_fewer board (OnAxi beat) now = omega arith
 no_fewer board Drained now = omega arith
 
-more_accepted : (rest : List ObservedBeat) (board : Board) (now : Order) → length now ≤ length (accepted_from board now rest)
-more_accepted [] board now = omega arith
-more_accepted (seen ∷ rest) board now =
-    omega (arith, no_fewer board seen now, more_accepted rest (after_seen policy.RealTime board seen) (accepted_next board seen now))
+more_begun : (rest : List ObservedBeat) (board : Board) (now : Order) → length now ≤ length (begun_from board now rest)
+more_begun [] board now = omega arith
+more_begun (seen ∷ rest) board now = omega (arith, no_fewer board seen now, more_begun rest (after_seen policy.RealTime board seen) (begun_next board seen now))
 
 from_parts : (first rest : List ObservedBeat) (board : Board) (now : Order)
-    → accepted_from board now (first ++ rest) ≡ accepted_from (after_all policy.RealTime board first) (accepted_from board now first) rest
+    → begun_from board now (first ++ rest) ≡ begun_from (after_all policy.RealTime board first) (begun_from board now first) rest
 from_parts [] rest board now = refl
-from_parts (seen ∷ first) rest board now = from_parts first rest (after_seen policy.RealTime board seen) (accepted_next board seen now)
+from_parts (seen ∷ first) rest board now = from_parts first rest (after_seen policy.RealTime board seen) (begun_next board seen now)
 
--- ---- an order of all, as far as its requests were accepted
+-- ---- an order of all, as far as its requests have begun
 
 -- behind it
 kept_behind : (setup : SetupLists) (beats : List ObservedBeat) (later : ℕ) (left right : List ℕ) → KeepsRealTime setup beats (left ++ later ∷ right)
@@ -151,101 +202,166 @@ kept_behind : (setup : SetupLists) (beats : List ObservedBeat) (later : ℕ) (le
 kept_behind setup beats later [] right keeps = keeps.0
 kept_behind setup beats later (first ∷ left) right keeps = kept_behind setup beats later left right keeps.1
 
-module _ (setup : SetupLists) (beats : List ObservedBeat) (numbers : List ℕ) (is_order : IsOrderOf setup beats numbers) where
-  abbrev accepted : List ObservedBeat → Order
-  accepted done = accepted_in setup done
+module _ (setup : SetupLists) (beats : List ObservedBeat) (requests : ℕ → WholeRequest) (numbers : List ℕ) (is_order : IsOrderOf setup beats numbers)
+    (may : MayBecomeAll (begun_in setup beats) requests) where
+  abbrev begun : List ObservedBeat → Order
+  begun done = begun_in setup done
 
-  -- some accepted requests as the order has them
+  -- some that have begun as the order has them
   abbrev entries_of : Order → Order
-  entries_of now = map (numbered now) (below (length now) numbers)
+  entries_of now = map (becoming now requests) (below (length now) numbers)
 
-  -- those that were accepted in a first part
+  -- those that began in a first part
   abbrev so_far : List ObservedBeat → Order
-  so_far done = entries_of (accepted done)
+  so_far done = entries_of (begun done)
 
-  within : (done rest : List ObservedBeat) → beats ≡ done ++ rest → length (accepted done) ≤ length (accepted beats)
-  within done rest is = rw (is, from_parts done rest (opening_board setup) []) (more_accepted rest (board_after setup done) (accepted done))
+  within : (done rest : List ObservedBeat) → beats ≡ done ++ rest → length (begun done) ≤ length (begun beats)
+  within done rest is = rw (is, from_parts done rest (opening_board setup) []) (more_begun rest (board_after setup done) (begun done))
 
-  once : (number : ℕ) → number < length (accepted beats) → times number numbers ≡ 1
-  once number small = is_order.all number ∙ rw (lt-ltb number (length (accepted beats)) small) refl
+  -- what they may become after all, they may become there
+  may_there : (done rest : List ObservedBeat) → beats ≡ done ++ rest → MayBecomeAll (begun done) requests
+  may_there done rest is =
+      may_from rest (board_after setup done) (begun done) requests (followed setup done)
+      (subst (λ (now : Order). MayBecomeAll now requests) (ap begun is ∙ from_parts done rest (opening_board setup) []) may)
+
+  once : (number : ℕ) → number < length (begun beats) → times number numbers ≡ 1
+  once number small = is_order.all number ∙ rw (lt-ltb number (length (begun beats)) small) refl
 
   -- a test passes as often
-  any_so_far : (done rest : List ObservedBeat) (test : Entry → Bool) → beats ≡ done ++ rest → list_any test (so_far done) ≡ list_any test (accepted done)
-  any_so_far done rest test is = by_some (list_any test (accepted done)) refl
+  any_so_far : (done rest : List ObservedBeat) (test : Entry → Bool) → beats ≡ done ++ rest → IsKept test
+      → list_any test (so_far done) ≡ list_any test (begun done)
+  any_so_far done rest test is kept = by_some (list_any test (begun done)) refl
     where
       each : (P : ℕ → Type 0) → ((number : ℕ) → P number) → (ks : List ℕ) → AllByRecursion P ks
       each P all [] = tt
       each P all (first ∷ ks) = (all first, each P all ks)
 
-      by_some : (some : Bool) → list_any test (accepted done) ≡ some → list_any test (so_far done) ≡ list_any test (accepted done)
+      own : (number : ℕ) → number < length (begun done) → test (becoming (begun done) requests number) ≡ test (numbered (begun done) number)
+      own number small = kept (numbered (begun done) number) (requests number) (may_there done rest is number small)
+
+      by_some : (some : Bool) → list_any test (begun done) ≡ some → list_any test (so_far done) ≡ list_any test (begun done)
       by_some false none =
-          none_below test (accepted done) (length (accepted done)) numbers
-          (each (λ number. number < length (accepted done) → test (numbered (accepted done) number) ≡ false) (none_at test (accepted done) none) numbers) ∙ sym none
+          none_below test (becoming (begun done) requests) (length (begun done)) numbers
+          (each (λ number. number < length (begun done) → test (becoming (begun done) requests number) ≡ false)
+          (λ number small. own number small ∙ none_at test (begun done) none number small) numbers)
+          ∙ sym none
       by_some true some =
-          let found = any_at test (accepted done) some in
+          let found = any_at test (begun done) some in
           let here = split_at found.0 numbers (once found.0 (omega (arith, found.1, within done rest is))) in
-          let parts : below (length (accepted done)) numbers ≡ below (length (accepted done)) here.left ++ found.0 ∷ below (length (accepted done)) here.right =
-          ap (below (length (accepted done))) here.is ∙ filter-append (λ number. nat_lt number (length (accepted done))) here.left (found.0 ∷ here.right) ∙ rw (lt-ltb found.0 (length (accepted done)) found.1) refl in
-          let left = below (length (accepted done)) here.left in
-          let right = below (length (accepted done)) here.right in
+          let left = below (length (begun done)) here.left in
+          let right = below (length (begun done)) here.right in
+          let parts : below (length (begun done)) numbers ≡ left ++ found.0 ∷ right =
+          ap (below (length (begun done))) here.is
+          ∙ filter-append (λ number. nat_lt number (length (begun done))) here.left (found.0 ∷ here.right)
+          ∙ rw (lt-ltb found.0 (length (begun done)) found.1) refl in
+          let passes : test (becoming (begun done) requests found.0) ≡ true = own found.0 found.1 ∙ found.2 in
           rw (
             parts,
-            map-append (numbered (accepted done)) left (found.0 ∷ right),
-            list_any-append test (map (numbered (accepted done)) left)
-                (map (numbered (accepted done)) (found.0 ∷ right)),
-            found.2,
+            map-append (becoming (begun done) requests) left (found.0 ∷ right),
+            list_any-append test (map (becoming (begun done) requests) left) (map (becoming (begun done) requests) (found.0 ∷ right)),
+            passes,
             some,
-          ) (or-true (list_any test (map (numbered (accepted done)) left)))
+          ) (or-true (list_any test (map (becoming (begun done) requests) left)))
 
   module _ (done : List ObservedBeat) (seen : ObservedBeat) (rest : List ObservedBeat) (parts : beats ≡ done ++ seen ∷ rest) where
-    -- how the order so far goes on with the next beat
-    abbrev Goes : Order → Type 0
-    Goes = GoesOn (board_after setup done) seen (so_far done)
-
     abbrev now : Order
-    now = accepted_next (board_after setup done) seen (accepted done)
+    now = begun_next (board_after setup done) seen (begun done)
 
-    is_next : accepted (done ++ seen ∷ []) ≡ now
+    -- the order so far with the next beat
+    abbrev longer : Order
+    longer = so_far (done ++ seen ∷ [])
+
+    is_next : begun (done ++ seen ∷ []) ≡ now
     is_next = from_parts done (seen ∷ []) (opening_board setup) []
 
-    goes_to : (order : Order) → Goes order → order ≡ entries_of now → Goes (so_far (done ++ seen ∷ []))
-    goes_to order goes same = subst (GoesOn (board_after setup done) seen (so_far done)) (same ∙ ap entries_of (sym is_next)) goes
+    with_next : beats ≡ (done ++ seen ∷ []) ++ rest
+    with_next = parts ∙ sym (append_assoc done (seen ∷ []) rest)
 
-    quiet : now ≡ accepted done → Goes (so_far done) → Goes (so_far (done ++ seen ∷ []))
-    quiet same goes = goes_to (so_far done) goes (ap entries_of (sym same))
+    may_now : MayBecomeAll now requests
+    may_now = subst (λ (order : Order). MayBecomeAll order requests) is_next (may_there (done ++ seen ∷ []) rest with_next)
 
-    beat : (client source : ℕ) → now ≡ after_beat (accepted done) client source
-        → Goes (after_beat (so_far done) client source) → Goes (so_far (done ++ seen ∷ []))
-    beat client source same goes = goes_to (after_beat (so_far done) client source) goes entries
+    goes_to : (Goes : Order → Type 0) (order : Order) → Goes order → order ≡ entries_of now → Goes longer
+    goes_to Goes order goes same = subst Goes (same ∙ ap entries_of (sym is_next)) goes
+
+    -- nothing changes
+    quiet : now ≡ begun done → longer ≡ so_far done
+    quiet same = ap entries_of (is_next ∙ same)
+
+    -- a beat of a reply
+    beat : (client source : ℕ) → now ≡ after_beat (begun done) client source → longer ≡ after_beat (so_far done) client source
+    beat client source same =
+        ap entries_of (is_next ∙ same)
+        ∙ ap (λ n. map (becoming (map change (begun done)) requests) (below n numbers)) (length-map (begun done) change)
+        ∙ same_below (becoming (map change (begun done)) requests) (λ k. change (becoming (begun done) requests k)) (length (begun done)) numbers each
+        ∙ sym (map-map change (becoming (begun done) requests) (below (length (begun done)) numbers))
+        ∙ ap (λ (begun : Bool). map (with_beat begun client source) (so_far done))
+        (sym (any_so_far done (seen ∷ rest) (begun_to client) parts (begun_kept client)))
       where
         change : Entry → Entry
-        change = with_beat (list_any (begun_to client) (accepted done)) client source
+        change = with_beat (list_any (begun_to client) (begun done)) client source
 
-        entries : after_beat (so_far done) client source ≡ entries_of now
-        entries =
-            ap (λ (begun : Bool). map (with_beat begun client source) (so_far done)) (any_so_far done (seen ∷ rest) (begun_to client) parts)
-            ∙ map-map change (numbered (accepted done)) (below (length (accepted done)) numbers)
-            ∙ same_below (λ k. change (numbered (accepted done) k)) (numbered (map change (accepted done))) (length (accepted done)) numbers
-            (λ k small. sym (get_or-map change (accepted done) k (entry_of 0 (request_of no_message)) (entry_of 0 (request_of no_message)) small))
-            ∙ ap (λ n. map (numbered (map change (accepted done))) (below n numbers)) (sym (length-map (accepted done) change))
-            ∙ ap entries_of (sym same)
+        each : (k : ℕ) → k < length (begun done) → becoming (map change (begun done)) requests k ≡ change (becoming (begun done) requests k)
+        each k small =
+            ap (λ (entry : Entry). record entry { request = requests k }) (numbered_map change (begun done) k small)
+            ∙ sym (beat_kept (list_any (begun_to client) (begun done)) client source (numbered (begun done) k) (requests k)
+            (may_there done (seen ∷ rest) parts k small))
 
-    put : (entry : Entry) → now ≡ accepted done ++ entry ∷ []
-        → ((new : Order) → IsPutIn (entry ∷ []) (so_far done) new → Goes new) → Goes (so_far (done ++ seen ∷ []))
-    put entry same goes = goes_to new (goes new (map (numbered (accepted done)) left, map (numbered (accepted done)) right, were, none_ended, refl)) entries
+    -- the last beat of a request
+    finish : (client : ℕ) (q : WholeRequest) → now ≡ map (completed client q) (begun done)
+        → (longer ≡ map (finished client) (so_far done)) × AllByRecursion (λ entry. is_coming client entry ≡ true → entry.request ≡ q) (so_far done)
+    finish client q same = (
+      ap entries_of (is_next ∙ same)
+          ∙ ap (λ n. map (becoming (map change (begun done)) requests) (below n numbers)) (length-map (begun done) change)
+          ∙ same_below (becoming (map change (begun done)) requests) (λ k. finished client (becoming (begun done) requests k))
+          (length (begun done)) numbers each
+          ∙ sym (map-map (finished client) (becoming (begun done) requests) (below (length (begun done)) numbers)),
+      each_below (λ entry. is_coming client entry ≡ true → entry.request ≡ q) (becoming (begun done) requests) (length (begun done)) numbers own,
+    )
+      where
+        change : Entry → Entry
+        change = completed client q
+
+        each : (k : ℕ) → k < length (begun done) → becoming (map change (begun done)) requests k ≡ finished client (becoming (begun done) requests k)
+        each k small =
+            ap (λ (entry : Entry). record entry { request = requests k }) (numbered_map change (begun done) k small)
+            ∙ finish_kept client q (requests k) (numbered (begun done) k)
+
+        own : (k : ℕ) → k < length (begun done) → is_coming client (becoming (begun done) requests k) ≡ true → requests k ≡ q
+        own k small coming =
+            let entry = numbered (begun done) k in
+            let whole : change entry ≡ record entry { request = q; whole = true } = rw coming refl in
+            let is : numbered now k ≡ record entry { request = q; whole = true } =
+            ap (λ (o : Order). numbered o k) same ∙ numbered_map change (begun done) k small ∙ whole in
+            (subst (λ (e : Entry). MayBecome e (requests k)) is
+            (may_now k (omega (arith, small, ap (λ (o : Order). length o) same, length-map (begun done) change)))).same refl
+
+    -- a request begins, as what it becomes
+    put : (Goes : Order → Type 0) (entry : Entry) → now ≡ begun done ++ entry ∷ []
+        → ((new : Order) → MayBecome entry (requests (length (begun done)))
+        → IsPutIn (record entry { request = requests (length (begun done)) }) (so_far done) new → Goes new)
+        → Goes longer
+    put Goes entry same goes =
+        goes_to Goes new
+        (goes new becomes (map (becoming (begun done) requests) left, map (becoming (begun done) requests) right, were, none_ended, refl)) entries
       where
         count : ℕ
-        count = length (accepted done)
+        count = length (begun done)
+
+        own : Entry
+        own = record entry { request = requests count }
+
+        more : count < length now
+        more = omega (arith, ap (λ (o : Order). length o) same, length-append (begun done) (entry ∷ []))
+
+        becomes : MayBecome entry (requests count)
+        becomes =
+            subst (λ (e : Entry). MayBecome e (requests count))
+            (ap (λ (o : Order). numbered o count) same ∙ numbered_last (begun done) entry) (may_now count more)
 
         here : Splits count numbers
         here =
-            split_at count numbers (once count
-            (omega (
-              arith,
-              within (done ++ seen ∷ []) rest (parts ∙ sym (append_assoc done (seen ∷ []) rest)),
-              ap (λ (o : Order). length o) (is_next ∙ same),
-              length-append (accepted done) (entry ∷ []),
-            )))
+            split_at count numbers
+            (once count (omega (arith, more, within (done ++ seen ∷ []) rest with_next, ap (λ (o : Order). length o) is_next)))
 
         left : List ℕ
         left = below count here.left
@@ -258,25 +374,30 @@ module _ (setup : SetupLists) (beats : List ObservedBeat) (numbers : List ℕ) (
             let past : nat_lt count count ≡ false = grind (arith, nat_tests) in
             ap (below count) here.is ∙ filter-append (λ number. nat_lt number count) here.left (count ∷ here.right) ∙ rw past refl
 
-        were : so_far done ≡ map (numbered (accepted done)) left ++ map (numbered (accepted done)) right
-        were = ap (map (numbered (accepted done))) old_parts ∙ map-append (numbered (accepted done)) left right
+        were : so_far done ≡ map (becoming (begun done) requests) left ++ map (becoming (begun done) requests) right
+        were = ap (map (becoming (begun done) requests)) old_parts ∙ map-append (becoming (begun done) requests) left right
 
         -- none behind it had ended
-        none_ended : list_any has_ended (map (numbered (accepted done)) right) ≡ false
+        none_ended : list_any has_ended (map (becoming (begun done) requests) right) ≡ false
         none_ended =
-            none_below has_ended (accepted done) count here.right
-            (all-map (λ number. EndedBefore setup beats number count → ⊥) (λ number. number < count → has_ended (numbered (accepted done) number) ≡ false) here.right
-            (λ number keeps small. false_from_ne_true (has_ended (numbered (accepted done) number)) (λ over.
-            keeps (record { first = done; rest = seen ∷ rest; parts = parts; accepted = small; ended = over; not_yet = omega arith })))
+            none_below has_ended (becoming (begun done) requests) count here.right
+            (all-map (λ number. EndedBefore setup beats number count → ⊥)
+            (λ number. number < count → has_ended (becoming (begun done) requests number) ≡ false) here.right
+            (λ number keeps small. ended_kept (numbered (begun done) number) (requests number) (may_there done (seen ∷ rest) parts number small)
+            ∙ false_from_ne_true (has_ended (numbered (begun done) number)) (λ over.
+            keeps (record { first = done; rest = seen ∷ rest; parts = parts; begun = small; ended = over; not_yet = omega arith })))
             (kept_behind setup beats count here.left here.right (subst (KeepsRealTime setup beats) here.is is_order.keeps)))
 
-        still : (ks : List ℕ) → map (numbered (accepted done)) (below count ks) ≡ map (numbered (accepted done ++ entry ∷ [])) (below count ks)
+        with_it : ℕ → Entry
+        with_it = becoming (begun done ++ entry ∷ []) requests
+
+        still : (ks : List ℕ) → map (becoming (begun done) requests) (below count ks) ≡ map with_it (below count ks)
         still ks =
-            same_below (numbered (accepted done)) (numbered (accepted done ++ entry ∷ [])) count ks
-            (λ k small. sym (get_or_append_left (accepted done) (entry ∷ []) (entry_of 0 (request_of no_message)) k small))
+            same_below (becoming (begun done) requests) with_it count ks
+            (λ k small. ap (λ (e : Entry). record e { request = requests k }) (sym (numbered_first (begun done) entry k small)))
 
         new : Order
-        new = map (numbered (accepted done)) left ++ entry ∷ map (numbered (accepted done)) right
+        new = map (becoming (begun done) requests) left ++ own ∷ map (becoming (begun done) requests) right
 
         new_parts : below (count + 1) numbers ≡ left ++ count ∷ right
         new_parts =
@@ -288,32 +409,44 @@ module _ (setup : SetupLists) (beats : List ObservedBeat) (numbers : List ℕ) (
         entries =
             let first = still here.left in
             let last = still here.right in
-            let own : numbered (accepted done ++ entry ∷ []) count ≡ entry = get_or_at (accepted done) entry [] (entry_of 0 (request_of no_message)) count refl in
-            let all : new ≡ map (numbered (accepted done ++ entry ∷ [])) left ++ numbered (accepted done ++ entry ∷ []) count ∷ map
-            (numbered (accepted done ++ entry ∷ [])) right = cc (first, last, own) in
+            let this : with_it count ≡ own = ap (λ (e : Entry). record e { request = requests count }) (numbered_last (begun done) entry) in
+            let all : new ≡ map with_it left ++ with_it count ∷ map with_it right = cc (first, last, this) in
             all
-            ∙ sym (map-append (numbered (accepted done ++ entry ∷ [])) left (count ∷ right))
-            ∙ ap (map (numbered (accepted done ++ entry ∷ []))) (sym new_parts)
-            ∙ ap (λ n. map (numbered (accepted done ++ entry ∷ [])) (below n numbers)) (sym (length-append (accepted done) (entry ∷ [])))
+            ∙ sym (map-append with_it left (count ∷ right))
+            ∙ ap (map with_it) (sym new_parts)
+            ∙ ap (λ n. map with_it (below n numbers)) (sym (length-append (begun done) (entry ∷ [])))
             ∙ ap entries_of (sym same)
+
+    -- a beat that a port takes
+    taken : (client : ℕ) (front : Option HeldMessage) (q : WholeRequest) (progress : Progress) → now ≡ with_progress client front q progress (begun done)
+        → GoesOnTaken client front q progress (so_far done) longer
+    taken client None q More same =
+        put (GoesOnTaken client None q More (so_far done)) (entry_of client q false) same (λ new becomes is. (requests (length (begun done)), becomes, is))
+    taken client None q Whole same =
+        put (GoesOnTaken client None q Whole (so_far done)) (entry_of client q true) same
+        (λ new becomes is. subst (λ (r : WholeRequest). IsPutIn (entry_of client r true) (so_far done) new) (becomes.same refl) is)
+    taken client (Some held) q More same = quiet same
+    taken client (Some held) q Whole same = finish client q same
+
+    answered : (client : ℕ) (front : Option HeldMessage) (message : HeldMessage) (answer : Result Progress TlRule)
+        → now ≡ with_answered client front message answer (begun done) → GoesOnAnswered client front message answer (so_far done) longer
+    answered client front message (Err broken) same = quiet same
+    answered client front message (Ok progress) same = taken client front (request_of message) progress same
 
   goes_on : (done : List ObservedBeat) (seen : ObservedBeat) (rest : List ObservedBeat) → beats ≡ done ++ seen ∷ rest
       → GoesOn (board_after setup done) seen (so_far done) (so_far (done ++ seen ∷ []))
-  goes_on done (OnAxi message) rest parts = quiet done (OnAxi message) rest parts refl refl
-  goes_on done Drained rest parts = quiet done Drained rest parts refl refl
-  goes_on done (D client message) rest parts = beat done (D client message) rest parts client message.source refl refl
-  goes_on done (A client message) rest parts = by_added (added client (slice_get (board_after setup done).clients client) message)
+  goes_on done (OnAxi message) rest parts = quiet done (OnAxi message) rest parts refl
+  goes_on done Drained rest parts = quiet done Drained rest parts refl
+  goes_on done (D client message) rest parts = beat done (D client message) rest parts client message.source refl
+  goes_on done (A number message) rest parts = by_client (slice_get (board_after setup done).clients number) refl
     where
-      with_it : Order → Order
-      with_it old = with_request client (slice_get (board_after setup done).clients client) message old
-
-      by_added : (entry : Option Entry) × ((old : Order) → with_it old ≡ old ++ option_to_list entry)
-          → GoesOn (board_after setup done) (A client message) (so_far done) (so_far (done ++ A client message ∷ []))
-      by_added (None, is) =
-          quiet done (A client message) rest parts (is (accepted done) ∙ append-nil (accepted done))
-          (so_far done, [], sym (append-nil (so_far done)), refl, sym (append-nil (so_far done)) ∙ ap (λ (o : Order). so_far done ++ (o ++ [])) (sym (is [])))
-      by_added (Some entry, is) =
-          put done (A client message) rest parts entry (is (accepted done)) (λ new. subst (λ (o : Order). IsPutIn o (so_far done) new) (sym (is [])))
+      by_client : (found : Option ClientBoard)
+          → begun_next (board_after setup done) (A number message) (begun done) ≡ with_request number found message (begun done)
+          → GoesOnRequest number found message (so_far done) (so_far (done ++ A number message ∷ []))
+      by_client None same = quiet done (A number message) rest parts same
+      by_client (Some client) same =
+          answered done (A number message) rest parts number client.front (joined client.limits client.front message)
+          (answer_to policy.RealTime client message) same
 
   goes_from : (done rest : List ObservedBeat) → beats ≡ done ++ rest → IsOrderFrom (board_after setup done) (so_far done) rest (so_far beats)
   goes_from done [] is = ap so_far (is ∙ append-nil done)
@@ -329,16 +462,18 @@ module _ (setup : SetupLists) (beats : List ObservedBeat) (numbers : List ℕ) (
   none_yet (first ∷ ks) = grind (arith, nat_tests, none_yet ks)
 
   -- the order arises step by step
-  pub arises : steps.IsOrderOf setup beats (arranged setup beats numbers)
+  pub arises : steps.IsOrderOf setup beats (arranged setup beats requests numbers)
   arises =
-      subst (λ ks. steps.IsOrderOf setup beats (map (numbered (accepted beats)) ks))
-      (all_below (length (accepted beats)) numbers (λ number past.
-      let test : nat_lt number (length (accepted beats)) ≡ false = grind (arith, nat_tests, past) in is_order.all number ∙ rw test refl))
-      (subst (λ (o : Order). IsOrderFrom (opening_board setup) o beats (so_far beats)) (ap (map (numbered [])) (none_yet numbers)) (goes_from [] beats refl))
+      subst (λ ks. steps.IsOrderOf setup beats (map (becoming (begun beats) requests) ks))
+      (all_below (length (begun beats)) numbers (λ number past.
+      let test : nat_lt number (length (begun beats)) ≡ false = grind (arith, nat_tests, past) in is_order.all number ∙ rw test refl))
+      (subst (λ (o : Order). IsOrderFrom (opening_board setup) o beats (so_far beats)) (ap (map (becoming [] requests)) (none_yet numbers))
+      (goes_from [] beats refl))
 
--- ---- the order of acceptance
+-- ---- the order of first beats
 
-range_times : (from count number : ℕ) → times number (range_with_len from count) ≡ (if nat_lt number from then 0 else (if nat_lt number (from + count) then 1 else 0))
+range_times : (from count number : ℕ)
+    → times number (range_with_len from count) ≡ (if nat_lt number from then 0 else (if nat_lt number (from + count) then 1 else 0))
 range_times from zero number = grind (arith, nat_tests)
 range_times from (suc count) number = grind (arith, nat_tests, range_times (from + 1) count number)
 
@@ -346,15 +481,27 @@ none_before : (setup : SetupLists) (beats : List ObservedBeat) (later from count
     → AllByRecursion (λ number. EndedBefore setup beats number later → ⊥) (range_with_len from count)
 none_before setup beats later from zero behind = tt
 none_before setup beats later from (suc count) behind =
-    ((λ ended. omega (arith, ended.accepted, ended.not_yet, behind)), none_before setup beats later (from + 1) count (omega (arith, behind)))
+    ((λ ended. omega (arith, ended.begun, ended.not_yet, behind)), none_before setup beats later (from + 1) count (omega (arith, behind)))
 
 range_keeps : (setup : SetupLists) (beats : List ObservedBeat) (from count : ℕ) → KeepsRealTime setup beats (range_with_len from count)
 range_keeps setup beats from zero = tt
 range_keeps setup beats from (suc count) = (none_before setup beats from (from + 1) count (omega arith), range_keeps setup beats (from + 1) count)
 
-pub acceptance_order : (setup : SetupLists) (beats : List ObservedBeat) → IsOrderOf setup beats (range_with_len 0 (length (accepted_in setup beats)))
-acceptance_order setup beats =
+pub first_beats : (setup : SetupLists) (beats : List ObservedBeat) → IsOrderOf setup beats (range_with_len 0 (length (begun_in setup beats)))
+first_beats setup beats =
     record {
-      all = λ number. grind (arith, nat_tests, range_times 0 (length (accepted_in setup beats)) number);
-      keeps = range_keeps setup beats 0 (length (accepted_in setup beats));
+      all = λ number. grind (arith, nat_tests, range_times 0 (length (begun_in setup beats)) number);
+      keeps = range_keeps setup beats 0 (length (begun_in setup beats));
+    }
+
+-- ---- where nothing more comes
+
+-- each may be what came of it
+pub nothing_more : (setup : SetupLists) (beats : List ObservedBeat) → MayBecomeAll (begun_in setup beats) (as_begun setup beats)
+nothing_more setup beats number small =
+    record {
+      same = λ whole. refl;
+      fields = refl;
+      corrupt = λ is. is;
+      bytes = λ unwhole. well_bytes (as_begun setup beats number) ((followed setup beats).held number small unwhole).well;
     }

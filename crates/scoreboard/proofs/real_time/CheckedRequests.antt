@@ -1,12 +1,12 @@
 -- Requests that a checker lets pass: their bytes are as many as they have, and an atomic gives them all. And what a port holds goes with it.
-use Rattle.std.proofs.Common.{◌≡◌, ℕ, ◌^◌, ◌<◌, true, false, List, [], ◌∷◌, ◌++◌, Option, Some, None, Ok, IfSome, if◌then◌else◌, sym, ◌∙◌, ap, subst, arith}
+use Rattle.std.proofs.Common.{◌≡◌, ℕ, ◌^◌, ◌<◌, Bool, true, false, List, [], ◌∷◌, ◌++◌, Option, Some, None, Ok, IfSome, if◌then◌else◌, sym, ◌∙◌, ap, subst, arith}
 use Rattle.std.specs.Prelude.{is_some, slice_get}
 use Rattle.std.specs.List.{list_any}
 use Rattle.std.specs.Option.{option_flatten}
 use Rattle.std.proofs.lemmas.List.FromFn.{get_or-map-range_with_len}
 use Rattle.std.proofs.lemmas.Option.{slice_get-get_or, slice_get_within}
 use Rattle.tl_messages.specs.Operations.{has_data}
-use Rattle.tl_messages.specs.Requests.{HeldMessage, byte_given, bytes_given, held_of, request_of}
+use Rattle.tl_messages.specs.Requests.{HeldMessage, begun, byte_given, bytes_given, held_of, request_of}
 use Rattle.tl_messages.specs.declared.ABeat.{ABeat}
 use Rattle.tl_messages.specs.declared.AtomicOp.{AtomicOp}
 use Rattle.tl_messages.specs.declared.Operation.TheVariants.{Atomic}
@@ -26,6 +26,7 @@ use Rattle.scoreboard.specs.Flights.{is_busy, is_of_source}
 use Rattle.scoreboard.specs.declared.Policy.TheVariants.{RealTime}
 use Rattle.scoreboard.proofs.memory_words.PutWords.{length-bytes_given}
 use Rattle.scoreboard.proofs.acceptance_order.RequestBeats.{ends_here, goes_on}
+use Rattle.scoreboard.proofs.real_time.FirstBeats.{more_put}
 use Rattle.scoreboard.proofs.real_time.RequestActs.{IsWell, atomic_data}
 
 -- ---- its bytes
@@ -41,19 +42,28 @@ byte_of held i below =
 given_small : (held : HeldMessage) (i b : ℕ) → byte_given held.address held.beats i ≡ Some b → b < 256
 given_small held i b is = grind (arith, is, lane_byte-lt)
 
-pub sound_well : (limits : TlPortLimits) (held : HeldMessage) → IsSound limits held → IsWell (request_of held)
-sound_well limits held sound = record { count = length-bytes_given held; small = small; full = full }
-  where
-    small : (i b : ℕ) → slice_get (bytes_given held) i ≡ Some (Some b) → b < 256
-    small i b is =
-        let below = slice_get_within (bytes_given held) i (Some b) is in
-        let whole = sym (byte_of held i (omega (arith, below, length-bytes_given held))) ∙ is in
-        grind (arith, whole, given_small held i b)
+bytes_small : (held : HeldMessage) (i b : ℕ) → slice_get (bytes_given held) i ≡ Some (Some b) → b < 256
+bytes_small held i b is =
+    let below = slice_get_within (bytes_given held) i (Some b) is in
+    let whole = sym (byte_of held i (omega (arith, below, length-bytes_given held))) ∙ is in
+    grind (arith, whole, given_small held i b)
 
+pub sound_well : (limits : TlPortLimits) (held : HeldMessage) → IsSound limits held → IsWell (request_of held)
+sound_well limits held sound = record { count = length-bytes_given held; small = bytes_small held; full = full }
+  where
     full : (op : AtomicOp) → held.operation ≡ Atomic op → (i : ℕ) → i < 2 ^ held.size → is_some (option_flatten (slice_get (bytes_given held) i)) ≡ true
     full op is i below =
         let carries : has_data held.operation ≡ true = ap has_data is ∙ atomic_data op in
         rw (byte_of held i below, carries) (all_given limits held i sound carries (λ partial. absurd (cc (sym partial ∙ is))) below)
+
+-- the same of a message of several beats, where nothing more comes than its first
+pub first_well : (limits : TlPortLimits) (beat : ABeat) (busy : Bool) → judged limits None beat busy ≡ Ok More → IsWell (request_of (begun limits.client beat))
+first_well limits beat busy more =
+    record {
+      count = length-bytes_given (begun limits.client beat);
+      small = bytes_small (begun limits.client beat);
+      full = λ op is. absurd (more_put limits beat busy more op is);
+    }
 
 -- ---- what a port holds
 

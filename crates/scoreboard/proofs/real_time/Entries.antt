@@ -1,7 +1,8 @@
 -- The entries of an order: the places of those whose replies haven't ended, and what holds of each with the bytes before it.
-use Rattle.std.proofs.Common.{◌≡◌, ℕ, ◌==◌, true, false, List, [], ◌∷◌, ◌++◌, drop, Option, Some, None, if◌then◌else◌, refl, sym}
+use Rattle.std.proofs.Common.{◌≡◌, ℕ, ◌==◌, Bool, true, false, List, [], ◌∷◌, ◌++◌, drop, Option, Some, None, if◌then◌else◌, refl, sym, arith}
 use Rattle.std.specs.List.{AllByRecursion, list_any}
 use Rattle.std.proofs.lemmas.Bool.{or_parts}
+use Rattle.std.proofs.lemmas.List.Folds.{list_any-append}
 use Rattle.bus_words.proofs.PlaceChanges.{all-map}
 use Rattle.tl_messages.specs.Requests.{WholeRequest}
 use Rattle.burst_plan.specs.declared.Region.{Region}
@@ -57,6 +58,7 @@ module _ (faults : Faults) (regions : List Region) where
 
   pub record Stands (flights : Place → Option InFlight) (entry : Entry) (m : Bytes) : Type 0 where
     pub well : IsWell entry.request
+    pub whole : entry.whole ≡ true
     pub live : has_ended entry ≡ false → IsLive flights entry m
 
   pub run-append : (m : Bytes) (before after : Order) → run m (before ++ after) ≡ run (run m before) after
@@ -78,10 +80,17 @@ pub all_parts : (P : Entry → Type 0) (before after : Order) → AllByRecursion
 all_parts P [] after all = (tt, all)
 all_parts P (entry ∷ before) after all = let rest = all_parts P before after all.1 in ((all.0, rest.0), rest.1)
 
-all_with : (P : Entry → Type 0) (before after : Order) (entry : Entry) → AllByRecursion P (before ++ after) → P entry
+-- one more in an order
+pub all_with : (P : Entry → Type 0) (before after : Order) (entry : Entry) → AllByRecursion P (before ++ after) → P entry
     → AllByRecursion P (before ++ entry ∷ after)
 all_with P [] after entry all own = (own, all)
 all_with P (first ∷ before) after entry all own = (all.0, all_with P before after entry all.1 own)
+
+pub any_with : (test : Entry → Bool) (before after : Order) (entry : Entry) → list_any test (before ++ after) ≡ true → list_any test (before ++ entry ∷ after) ≡ true
+any_with test before after entry some = grind (arith, list_any-append test before after, list_any-append test before (entry ∷ after), some)
+
+pub any_here : (test : Entry → Bool) (before after : Order) (entry : Entry) → test entry ≡ true → list_any test (before ++ entry ∷ after) ≡ true
+any_here test before after entry is = grind (arith, list_any-append test before (entry ∷ after), is)
 
 pub distinct_after : (before after : Order) → AreDistinct (before ++ after) → AreDistinct after
 distinct_after [] after distinct = distinct

@@ -1,8 +1,9 @@
--- Worked values of orders: what is accepted, what is due in each order of it, and what a board says; and where the laws on lists of beats end.
+-- Worked values of orders: what has begun, what is due in each order of it, and what a board says; and where the laws on lists of beats end.
 use Rattle.std.proofs.Common.{◌≡◌, ℕ, true, false, List, [], ◌∷◌, ◌++◌, length, Some, None, refl, sym, ◌∙◌, inl, inr, arith}
 use Rattle.std.proofs.lemmas.Bool.{false≢true}
 use Rattle.std.proofs.lemmas.Option.{none-some}
 use Rattle.std.specs.Prelude.{replicate}
+use Rattle.tl_messages.specs.Requests.{WholeRequest}
 use Rattle.tl_messages.specs.declared.ABeat.{ABeat}
 use Rattle.tl_messages.specs.declared.DBeat.{DBeat}
 use Rattle.tl_checker.specs.declared.Level.TheVariants.{Uh}
@@ -16,7 +17,7 @@ use Rattle.scoreboard.specs.declared.ObservedBeat.{ObservedBeat}
 use Rattle.scoreboard.specs.declared.ObservedBeat.TheVariants.{A, D}
 use Rattle.scoreboard.specs.declared.Wrong.TheVariants.{Reply}
 use Rattle.scoreboard.specs.Orders.{board_after, due_beats}
-use Rattle.scoreboard.specs.RealTime.{KeepsRealTime, accepted_in, arranged}
+use Rattle.scoreboard.specs.RealTime.{KeepsRealTime, arranged, as_begun, begun_in}
 use Rattle.scoreboard.specs.Wider.{TellsNoMore}
 use Rattle.scoreboard.specs.declared.Policy.TheVariants.{AcceptanceOrder, RealTime}
 use Rattle.scoreboard.proofs.acceptance_order.Reached.{right_nothing}
@@ -55,9 +56,9 @@ abbrev race : List ObservedBeat
 race = put ∷ get ∷ []
 
 -- what the get is told is what stands there where it takes effect
-both_orders : (length (accepted_in setup race) ≡ 2)
-    × (due_beats setup (arranged setup race (0 ∷ 1 ∷ [])) 1 2 ≡ told 0xaa000000 ∷ [])
-    × (due_beats setup (arranged setup race (1 ∷ 0 ∷ [])) 1 2 ≡ told 0 ∷ [])
+both_orders : (length (begun_in setup race) ≡ 2)
+    × (due_beats setup (arranged setup race (as_begun setup race) (0 ∷ 1 ∷ [])) 1 2 ≡ told 0xaa000000 ∷ [])
+    × (due_beats setup (arranged setup race (as_begun setup race) (1 ∷ 0 ∷ [])) 1 2 ≡ told 0 ∷ [])
 unfolding zero_words
 both_orders = (refl, refl, refl)
 
@@ -81,7 +82,7 @@ apart = put ∷ D 0 acknowledged ∷ get ∷ []
 
 -- the board blames the beat, which is right in an order out of real time
 zero_blamed : (wrong_at RealTime (board_after setup apart) (D 1 (told 0)) ≡ Some (Reply Payload (Some (told 0xaa000000))))
-    × (due_beats setup (arranged setup apart (1 ∷ 0 ∷ [])) 1 2 ≡ told 0 ∷ [])
+    × (due_beats setup (arranged setup apart (as_begun setup apart) (1 ∷ 0 ∷ [])) 1 2 ≡ told 0 ∷ [])
 unfolding zero_words
 zero_blamed = (refl, refl)
 
@@ -90,7 +91,7 @@ not_before : KeepsRealTime setup apart (1 ∷ 0 ∷ []) → ⊥
 unfolding zero_words
 not_before keeps =
     keeps.0.0
-    (record { first = put ∷ D 0 acknowledged ∷ []; rest = get ∷ []; parts = refl; accepted = omega arith; ended = refl; not_yet = omega arith })
+    (record { first = put ∷ D 0 acknowledged ∷ []; rest = get ∷ []; parts = refl; begun = omega arith; ended = refl; not_yet = omega arith })
 
 -- ---- two puts together
 
@@ -103,10 +104,77 @@ two_puts = put ∷ again ∷ D 0 acknowledged ∷ D 1 (record acknowledged { sou
 -- either is the last in an order, so whatever is told of the byte is right
 either_last : (wrong_at RealTime (board_after setup two_puts) (D 1 (told 0xaa000000)) ≡ None)
     × (wrong_at RealTime (board_after setup two_puts) (D 1 (told 0xbb000000)) ≡ None)
-    × (due_beats setup (arranged setup two_puts (1 ∷ 0 ∷ 2 ∷ [])) 1 2 ≡ told 0xaa000000 ∷ [])
-    × (due_beats setup (arranged setup two_puts (0 ∷ 1 ∷ 2 ∷ [])) 1 2 ≡ told 0xbb000000 ∷ [])
+    × (due_beats setup (arranged setup two_puts (as_begun setup two_puts) (1 ∷ 0 ∷ 2 ∷ [])) 1 2 ≡ told 0xaa000000 ∷ [])
+    × (due_beats setup (arranged setup two_puts (as_begun setup two_puts) (0 ∷ 1 ∷ 2 ∷ [])) 1 2 ≡ told 0xbb000000 ∷ [])
 unfolding zero_words
 either_last = (refl, refl, refl, refl)
+
+-- ---- a put of two words that has begun
+
+-- client 0 puts the words at 0 and 8
+abbrev first_word : ObservedBeat
+first_word = A 0 (a 0 0 4 7 0 0xff 1)
+
+abbrev last_word : ObservedBeat
+last_word = A 0 (a 0 0 4 7 0 0xff 0xcc000000)
+
+abbrev acknowledged_words : DBeat
+acknowledged_words = record { opcode = 0; param = 0; size = 4; source = 7; denied = false; payload = 0; corrupt = false }
+
+-- its first beat has come, and a get of its second word
+abbrev begun : List ObservedBeat
+begun = first_word ∷ get ∷ []
+
+-- the put as it becomes with its last beat
+abbrev becomes : ℕ → WholeRequest
+becomes = as_begun setup (begun ++ last_word ∷ [])
+
+-- it counts among those that have begun, and the get may see what is still to come, or what was there
+seen_or_not : (length (begun_in setup begun) ≡ 2)
+    × (due_beats setup (arranged setup begun becomes (0 ∷ 1 ∷ [])) 1 2 ≡ told 0xcc000000 ∷ [])
+    × (due_beats setup (arranged setup begun becomes (1 ∷ 0 ∷ [])) 1 2 ≡ told 0 ∷ [])
+    × (wrong_at RealTime (board_after setup begun) (D 1 (told 0xcc000000)) ≡ None)
+    × (wrong_at RealTime (board_after setup begun) (D 1 (told 0)) ≡ None)
+unfolding zero_words
+seen_or_not = (refl, refl, refl, refl, refl)
+
+-- its own reply isn't due before it is whole
+not_whole : (due_beats setup (arranged setup begun becomes (0 ∷ 1 ∷ [])) 0 7 ≡ [])
+    × (wrong_at RealTime (board_after setup begun) (D 0 acknowledged_words) ≡ Some (Reply Unasked None))
+unfolding zero_words
+not_whole = (refl, refl)
+
+-- a get changes nothing: once the put is whole its bytes are those of the memory
+sure_when_whole : ((board_after setup (begun ++ last_word ∷ [])).indeterminate 0x1000b ≡ false)
+    × ((board_after setup (begun ++ last_word ∷ [])).memory.bytes 0x1000b ≡ 0xcc)
+unfolding zero_words
+sure_when_whole = (refl, refl)
+
+-- another put of one of its bytes, begun and ended between its first beat and its last
+abbrev overlapping : List ObservedBeat
+overlapping = first_word ∷ again ∷ D 1 (record acknowledged { source = 6 }) ∷ last_word ∷ D 0 acknowledged_words ∷ get ∷ []
+
+-- whichever is the last, so whatever is told of that byte is right, and wrong of its neighbour
+either_of_both : ((board_after setup overlapping).indeterminate 0x1000b ≡ true)
+    × (wrong_at RealTime (board_after setup overlapping) (D 1 (told 0xbb000000)) ≡ None)
+    × (wrong_at RealTime (board_after setup overlapping) (D 1 (told 0xcc000000)) ≡ None)
+    × (due_beats setup (arranged setup overlapping (as_begun setup overlapping) (0 ∷ 1 ∷ 2 ∷ [])) 1 2 ≡ told 0xbb000000 ∷ [])
+    × (due_beats setup (arranged setup overlapping (as_begun setup overlapping) (1 ∷ 0 ∷ 2 ∷ [])) 1 2 ≡ told 0xcc000000 ∷ [])
+    × (wrong_at RealTime (board_after setup overlapping) (D 1 (told 0xcc000001)) ≡ Some (Reply Payload (Some (told 0xcc000000))))
+unfolding zero_words
+either_of_both = (refl, refl, refl, refl, refl, refl)
+
+-- an atomic in flight reads a byte of a put that begins: what it leaves isn't known
+abbrev swap : ObservedBeat
+swap = A 1 (a 3 3 0 6 0x0b 0x08 0xdd000000)
+
+abbrev with_atomic : List ObservedBeat
+with_atomic = swap ∷ first_word ∷ []
+
+atomic_in_doubt : ((board_after setup (swap ∷ [])).indeterminate 0x1000b ≡ false)
+    × ((board_after setup with_atomic).indeterminate 0x1000b ≡ true)
+unfolding zero_words
+atomic_in_doubt = (refl, refl)
 
 -- ---- where the laws end
 

@@ -12,17 +12,18 @@ use Rattle.meaning.specs.Meaning.{zeros}
 use Rattle.setups.specs.Setups.{SetupLists}
 use Rattle.scoreboard.specs.AxiPorts.{PortBoard}
 use Rattle.scoreboard.specs.Boards.{Board, ClientBoard, opening_board, opening_client}
-use Rattle.scoreboard.specs.Flights.{Flights, InFlight, no_flights}
+use Rattle.scoreboard.specs.Flights.{Flights, InFlight, no_flights, no_footprint}
 use Rattle.scoreboard.specs.Orders.{Order, begun_to}
 use Rattle.scoreboard.proofs.real_time.Apart.{AreApart, AreEither}
 use Rattle.scoreboard.proofs.real_time.FlightLists.{HaveAllSources}
 use Rattle.scoreboard.proofs.real_time.Entries.{AreDistinct, Each, Stands, run}
-use Rattle.scoreboard.proofs.real_time.Places.{HaveSources, Place, begun_at, due_at, flight_at, flight_in, flights_at, flights_kept, footprint_at, footprint_in, none_in}
+use Rattle.scoreboard.proofs.real_time.Places.{HaveSources, NothingComes, Place, begun_at, due_at, flight_at, flight_in, flights_at, flights_kept, footprint_at, footprint_in, none_in}
 use Rattle.scoreboard.proofs.real_time.ReplyMoves.{waits_for}
 use Rattle.scoreboard.proofs.real_time.RequestActs.{AreBytes}
 
 pub record Explains (board : Board) (order : Order) : Type 0 where
   pub sources : HaveAllSources board.clients
+  pub nothing : NothingComes board.clients
   pub small : AreBytes board.memory.bytes
   pub apart : AreApart (footprint_at board.clients)
   pub either : AreEither board.indeterminate (footprint_at board.clients)
@@ -48,12 +49,17 @@ pub sources_with : (clients : List ClientBoard) (number : ℕ) (old changed : Cl
     → HaveSources changed.flights → HaveAllSources (set clients number changed)
 sources_with clients number old changed is are own = each_client (λ client. HaveSources client.flights) clients number old changed is are own
 
+pub nothing_with : (clients : List ClientBoard) (number : ℕ) (old changed : ClientBoard) → slice_get clients number ≡ Some old → NothingComes clients
+    → changed.coming ≡ no_footprint → NothingComes (set clients number changed)
+nothing_with clients number old changed is nothing own = each_client (λ client. client.coming ≡ no_footprint) clients number old changed is nothing own
+
 -- where the same is in flight
 pub explains_as : (board : Board) (order : Order) (clients : List ClientBoard) (port : PortBoard) → flight_at board.clients ≡ flight_at clients → HaveAllSources clients
-    → Explains board order → Explains (record board { clients = clients; axi = port }) order
-explains_as board order clients port same are explains =
+    → NothingComes clients → Explains board order → Explains (record board { clients = clients; axi = port }) order
+explains_as board order clients port same are nothing explains =
     record {
       sources = are;
+      nothing = nothing;
       small = explains.small;
       apart = subst (λ (f : Place → Option InFlight). AreApart (λ place. footprint_in (f place))) same explains.apart;
       either = subst (λ (f : Place → Option InFlight). AreEither board.indeterminate (λ place. footprint_in (f place))) same explains.either;
@@ -67,12 +73,13 @@ explains_as board order clients port same are explains =
 
 -- a client that keeps its requests in flight
 pub explains_with : (board : Board) (order : Order) (number : ℕ) (old changed : ClientBoard) → slice_get board.clients number ≡ Some old
-    → changed.flights ≡ old.flights
+    → changed.flights ≡ old.flights → changed.coming ≡ old.coming
     → Explains board order → Explains (record board { clients = set board.clients number changed }) order
-explains_with board order number old changed is same explains =
+explains_with board order number old changed is same coming explains =
     explains_as board order (set board.clients number changed) board.axi
     (fun_ext (λ place. ap (λ (f : Flights). flight_in f place.source) (sym (flights_kept board.clients number old changed is same place.client))))
-    (sources_with board.clients number old changed is explains.sources (subst HaveSources (sym same) (explains.sources number old is))) explains
+    (sources_with board.clients number old changed is explains.sources (subst HaveSources (sym same) (explains.sources number old is)))
+    (nothing_with board.clients number old changed is explains.nothing (coming ∙ explains.nothing number old is)) explains
 
 -- ---- at the start
 
@@ -83,7 +90,7 @@ opening_at config from zero number client is = absurd (cc (is))
 opening_at config from (suc count) zero client is = (from, cc (is))
 opening_at config from (suc count) (suc number) client is = opening_at config (from + 1) count number client is
 
-opening_flights : (config : Config) (from count number : ℕ) → flights_at (map (opening_client config) (range_with_len from count)) number ≡ no_flights
+pub opening_flights : (config : Config) (from count number : ℕ) → flights_at (map (opening_client config) (range_with_len from count)) number ≡ no_flights
 opening_flights config from count number = rw (slice_get-map (opening_client config) (range_with_len from count) number) (grind arith)
 
 pub explains_opening : (setup : SetupLists) → Explains (opening_board setup) []
@@ -92,6 +99,7 @@ explains_opening setup =
       sources = λ number client is.
           let found = opening_at setup.config 0 setup.config.clients number client is in
           subst HaveSources (sym (ap (λ (c : ClientBoard). c.flights) found.1)) tt;
+      nothing = λ number client is. ap (λ (c : ClientBoard). c.coming) (opening_at setup.config 0 setup.config.clients number client is).1;
       small = record { at = λ x. omega arith };
       apart = record
           { apart = λ i j x differ determined. absurd (cc (sym (ap (λ (o : Option InFlight). (footprint_in o).determined x) (nothing i)) ∙ determined)) };

@@ -9,12 +9,12 @@ use Rattle.std.proofs.lemmas.List.Folds.{list_any-append}
 use Rattle.std.proofs.lemmas.Option.{slice_get_past}
 use Rattle.std.proofs.lemmas.Simd.{map-map}
 use Rattle.bus_words.specs.Places.{AreDistinct}
-use Rattle.scoreboard.specs.Boards.{ClientBoard, client_beside, footprints_of}
+use Rattle.scoreboard.specs.Boards.{ClientBoard, client_beside, client_footprints, footprints_of}
 use Rattle.scoreboard.specs.Flights.{Flights, Footprint, InFlight, each_flight, in_flight, is_of_source, no_footprint}
 use Rattle.scoreboard.specs.Races.{flight_beside}
 use Rattle.scoreboard.proofs.MappedLists.{find_map}
 use Rattle.scoreboard.proofs.real_time.Apart.{AreAll}
-use Rattle.scoreboard.proofs.real_time.Places.{HaveSources, begun_at, flight_in, flights_at, flights_in, footprint_at, footprint_in}
+use Rattle.scoreboard.proofs.real_time.Places.{HaveSources, NothingComes, begun_at, coming_at, coming_in, flight_in, flights_at, flights_in, footprint_at, footprint_in}
 
 abbrev source_of : InFlight → ℕ
 source_of flight = flight.source
@@ -101,12 +101,14 @@ module _ (test : Footprint → Bool) (nobody : test no_footprint ≡ false) wher
 
   of_clients : (client : ClientBoard) (clients : List ClientBoard)
       → list_any test (footprints_of (client ∷ clients))
-      ≡ (list_any test (map footprint_of client.flights.due) || test (footprint_in client.flights.begun) || list_any test (footprints_of clients))
+      ≡ (list_any test (map footprint_of client.flights.due) || test (footprint_in client.flights.begun) || test client.coming
+      || list_any test (footprints_of clients))
   of_clients client clients =
-      list_any-append test (map footprint_of (in_flight client.flights)) (footprints_of clients)
+      list_any-append test (client_footprints client) (footprints_of clients)
+      ∙ ap (λ (b : Bool). b || list_any test (footprints_of clients)) (list_any-append test (map footprint_of (in_flight client.flights)) (client.coming ∷ []))
       ∙ rw (of_client client.flights.due client.flights.begun) (grind arith)
 
-  each_of : (clients : List ClientBoard) → list_any test (footprints_of clients) ≡ false → (number : ℕ) (source : Option ℕ)
+  pub each_of : (clients : List ClientBoard) → list_any test (footprints_of clients) ≡ false → (number : ℕ) (source : Option ℕ)
       → test (footprint_in (flight_in (flights_at clients number) source)) ≡ false
   each_of [] none number None = nobody
   each_of [] none number (Some source) = nobody
@@ -114,23 +116,39 @@ module _ (test : Footprint → Bool) (nobody : test no_footprint ≡ false) wher
   each_of (client ∷ clients) none zero (Some source) = each_due source client.flights.due (grind (arith, none, of_clients client clients))
   each_of (client ∷ clients) none (suc number) source = each_of clients (grind (arith, none, of_clients client clients)) number source
 
-  none_of : (clients : List ClientBoard) → HaveAllSources clients
-      → ((number : ℕ) (source : Option ℕ) → test (footprint_in (flight_in (flights_at clients number) source)) ≡ false)
-      → list_any test (footprints_of clients) ≡ false
-  none_of [] distinct each = refl
-  none_of (client ∷ clients) distinct each =
-      let due = none_due client.flights.due (distinct 0 client refl) (λ source. each 0 (Some source)) in
-      let rest = none_of clients (λ number. distinct (suc number)) (λ number. each (suc number)) in
-      of_clients client clients ∙ rw (due, each 0 None, rest) refl
+  -- nor what a client has begun
+  pub each_coming : (clients : List ClientBoard) → list_any test (footprints_of clients) ≡ false → (number : ℕ) → test (coming_at clients number) ≡ false
+  each_coming [] none number = nobody
+  each_coming (client ∷ clients) none zero = grind (arith, none, of_clients client clients)
+  each_coming (client ∷ clients) none (suc number) = each_coming clients (grind (arith, none, of_clients client clients)) number
 
--- the footprints of some clients are those at all places
-pub are_all : (clients : List ClientBoard) → HaveAllSources clients → AreAll (footprint_at clients) (footprints_of clients)
-are_all clients distinct =
+  pub none_of : (clients : List ClientBoard) → HaveAllSources clients
+      → ((number : ℕ) (source : Option ℕ) → test (footprint_in (flight_in (flights_at clients number) source)) ≡ false)
+      → ((number : ℕ) → test (coming_at clients number) ≡ false)
+      → list_any test (footprints_of clients) ≡ false
+  none_of [] distinct each coming = refl
+  none_of (client ∷ clients) distinct each coming =
+      let due = none_due client.flights.due (distinct 0 client refl) (λ source. each 0 (Some source)) in
+      let rest = none_of clients (λ number. distinct (suc number)) (λ number. each (suc number)) (λ number. coming (suc number)) in
+      of_clients client clients ∙ rw (due, each 0 None, coming 0, rest) refl
+
+-- what nobody has begun
+pub none_coming : (clients : List ClientBoard) → NothingComes clients → (number : ℕ) → coming_at clients number ≡ no_footprint
+none_coming clients nothing number = by_client (slice_get clients number) refl
+  where
+    by_client : (o : Option ClientBoard) → slice_get clients number ≡ o → coming_at clients number ≡ no_footprint
+    by_client None is = ap coming_in is
+    by_client (Some client) is = ap coming_in is ∙ nothing number client is
+
+-- the footprints of some clients are those at all places, where nothing of several beats has begun
+pub are_all : (clients : List ClientBoard) → HaveAllSources clients → NothingComes clients → AreAll (footprint_at clients) (footprints_of clients)
+are_all clients distinct nothing =
     record {
       each = λ test nobody none i. each_of test nobody clients none i.client i.source;
       none = λ test each.
-          none_of test
-          (ap (λ (o : Option ClientBoard). test (footprint_in (flights_in o).begun)) (sym (slice_get_past clients (length clients) (omega arith)))
-          ∙ each (begun_at (length clients))) clients distinct
-          (λ number source. each (record { client = number; source = source }));
+          let nobody : test no_footprint ≡ false =
+          ap (λ (o : Option ClientBoard). test (footprint_in (flights_in o).begun)) (sym (slice_get_past clients (length clients) (omega arith)))
+          ∙ each (begun_at (length clients)) in
+          none_of test nobody clients distinct
+          (λ number source. each (record { client = number; source = source })) (λ number. ap test (none_coming clients nothing number) ∙ nobody);
     }

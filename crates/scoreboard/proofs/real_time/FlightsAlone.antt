@@ -3,12 +3,12 @@ use Rattle.std.proofs.Common.{◌≡◌, ℕ, List, [], ◌∷◌, map, Option, 
 use Rattle.std.specs.Prelude.{slice_set}
 use Rattle.std.specs.List.{range_with_len}
 use Rattle.std.specs.Option.{option_map}
-use Rattle.std.proofs.lemmas.List.{map-append, map-set}
+use Rattle.std.proofs.lemmas.List.{map-append, map-set, set-set}
 use Rattle.std.proofs.lemmas.Simd.{map-map}
 use Rattle.bus_words.proofs.MappedPlaces.{map_same}
 use Rattle.tl_messages.specs.Requests.{WholeRequest}
 use Rattle.setups.specs.Setups.{SetupLists}
-use Rattle.scoreboard.specs.Boards.{Board, ClientBoard, client_beside, flight_for, joined_on, opening_board, opening_client, with_accepted, with_client, with_taken}
+use Rattle.scoreboard.specs.Boards.{Board, ClientBoard, begun_on, client_beside, flight_for, given_on, joined_on, opening_board, opening_client, with_accepted, with_client, with_taken}
 use Rattle.scoreboard.specs.Flights.{Flights, Footprint, InFlight, each_flight, flights_after, is_busy, is_of_source, next_reply, no_footprint}
 use Rattle.scoreboard.specs.Races.{flight_beside}
 use Rattle.scoreboard.specs.Wider.{board_alone, client_alone, flight_alone}
@@ -35,12 +35,12 @@ flights_alone flights source =
 
 beside_alone : (footprint : Footprint) (client : ClientBoard) → client_alone (client_beside footprint client) ≡ client_alone client
 beside_alone footprint client =
-    ap₂ {C = ClientBoard} (λ (due : List InFlight) (begun : Option InFlight). record client { flights = record { due = due; begun = begun } })
+    ap₂ {C = ClientBoard} (λ (due : List InFlight) (begun : Option InFlight). record client { flights = record { due = due; begun = begun }; coming = no_footprint })
     (map-map flight_alone (flight_beside footprint) client.flights.due) (grind arith)
 
 accepted_alone : (flight : InFlight) (client : ClientBoard) → client_alone (with_accepted flight client) ≡ with_accepted (flight_alone flight) (client_alone client)
 accepted_alone flight client =
-    ap {B = ClientBoard} (λ (due : List InFlight). record client { front = None; flights = record (each_flight flight_alone client.flights) { due = due } })
+    ap {B = ClientBoard} (λ (due : List InFlight). record client { front = None; flights = record (each_flight flight_alone client.flights) { due = due }; coming = no_footprint })
     (map-append flight_alone client.flights.due (flight ∷ []))
 
 -- ---- a board
@@ -52,6 +52,11 @@ with_clients board clients = record (board_alone board) { clients = clients }
 pub client_changed_alone : (board : Board) (number : ℕ) (client : ClientBoard) → board_alone (with_client number client board) ≡ with_client number (client_alone client) (board_alone board)
 client_changed_alone board number client = ap (with_clients board) (map-set client_alone board.clients number client)
 
+-- with all beside a request
+clients_beside : (footprint : Footprint) (clients : List ClientBoard) → map client_alone (map (client_beside footprint) clients) ≡ map client_alone clients
+clients_beside footprint clients =
+    map-map client_alone (client_beside footprint) clients ∙ map_same (λ other. client_alone (client_beside footprint other)) client_alone clients (beside_alone footprint)
+
 -- with one request more
 pub joined_alone : (board : Board) (number : ℕ) (client : ClientBoard) (q : WholeRequest) (footprint : Footprint)
     → board_alone (joined_on board number client q footprint) ≡ with_taken (board_alone board) number (client_alone client) q no_footprint
@@ -59,10 +64,27 @@ joined_alone board number client q footprint =
     let flight : InFlight = flight_for board.memory footprint q in
     ap (with_clients (joined_on board number client q footprint))
     (map-set client_alone (map (client_beside footprint) board.clients) number (with_accepted flight (client_beside footprint client))
-    ∙ ap₂ (λ (clients : List ClientBoard) (changed : ClientBoard). slice_set clients number changed)
-    (map-map client_alone (client_beside footprint) board.clients
-    ∙ map_same (λ other. client_alone (client_beside footprint other)) client_alone board.clients (beside_alone footprint))
+    ∙ ap₂ (λ (clients : List ClientBoard) (changed : ClientBoard). slice_set clients number changed) (clients_beside footprint board.clients)
     (accepted_alone flight (client_beside footprint client) ∙ ap (with_accepted (flight_alone flight)) (beside_alone footprint client)))
+
+-- that had begun before
+pub given_alone : (board : Board) (number : ℕ) (client : ClientBoard) (q : WholeRequest) (footprint : Footprint)
+    → board_alone (given_on board number client q footprint) ≡ with_taken (board_alone board) number (client_alone client) q no_footprint
+given_alone board number client q footprint =
+    let flight : InFlight = flight_for board.memory footprint q in
+    ap (with_clients (given_on board number client q footprint))
+    (map-set client_alone board.clients number (with_accepted flight client) ∙ ap (slice_set (map client_alone board.clients) number) (accepted_alone flight client))
+
+-- with a message of one client that has begun
+pub begun_alone : (board : Board) (number : ℕ) (client : ClientBoard) (footprint : Footprint)
+    → board_alone (begun_on (with_client number client board) number client footprint) ≡ with_client number (client_alone client) (board_alone board)
+begun_alone board number client footprint =
+    ap (with_clients board)
+    (map-set client_alone (map (client_beside footprint) (slice_set board.clients number client)) number (record (client_beside footprint client) { coming = footprint })
+    ∙ ap₂ (λ (clients : List ClientBoard) (changed : ClientBoard). slice_set clients number changed) (clients_beside footprint (slice_set board.clients number client))
+    (beside_alone footprint client)
+    ∙ ap (λ (clients : List ClientBoard). slice_set clients number (client_alone client)) (map-set client_alone board.clients number client)
+    ∙ set-set (map client_alone board.clients) number (client_alone client) (client_alone client))
 
 -- nothing is in flight at the start
 pub opens_alone : (setup : SetupLists) → board_alone (opening_board setup) ≡ opening_board setup

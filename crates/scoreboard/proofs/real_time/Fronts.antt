@@ -1,10 +1,12 @@
 -- What each client has begun, along lists of beats: it came of beats that begin a message, and its source is one to which no reply waits.
-use Rattle.std.proofs.Common.{◌≡◌, ℕ, List, map, Option, Some, None, IfSome, Result, Ok, Err, false, refl, ◌∙◌, ap, subst}
-use Rattle.std.specs.Prelude.{slice_get}
+use Rattle.std.proofs.Common.{◌≡◌, ℕ, zero, suc, ◌==◌, Bool, true, false, List, [], ◌∷◌, map, set, Option, Some, None, IfSome, Result, Ok, Err, inl, inr, if◌then◌else◌, refl, ◌∙◌, ap, subst}
+use Rattle.std.specs.Prelude.{is_some, slice_get}
 use Rattle.std.specs.List.{list_any}
 use Rattle.std.specs.Option.{option_map}
-use Rattle.std.proofs.lemmas.Option.{IfSome_then, slice_get-map}
-use Rattle.tl_messages.specs.Requests.{HeldMessage, request_of}
+use Rattle.std.proofs.lemmas.Bool.{cases_eq, eq-eqb, ne_eqb}
+use Rattle.std.proofs.lemmas.Option.{IfSome_then, slice_get-map, slice_get_within}
+use Rattle.bus_words.proofs.StoredPlaces.{get_set, get_set-other}
+use Rattle.tl_messages.specs.Requests.{HeldMessage, WholeRequest, request_of}
 use Rattle.tl_messages.specs.declared.ABeat.{ABeat}
 use Rattle.tl_messages.specs.declared.DBeat.{DBeat}
 use Rattle.tl_checker.specs.Ports.{joined}
@@ -12,8 +14,9 @@ use Rattle.tl_checker.specs.declared.Progress.{Progress}
 use Rattle.tl_checker.specs.declared.Progress.TheVariants.{More, Whole}
 use Rattle.tl_checker.specs.declared.TlRule.{TlRule}
 use Rattle.setups.specs.Setups.{SetupLists}
-use Rattle.scoreboard.specs.Boards.{Board, ClientBoard, after_a, after_d, after_seen, answer_to, answered_on, client_beside, flight_for, joining_on, opening_board, with_accepted}
+use Rattle.scoreboard.specs.Boards.{Board, ClientBoard, after_a, after_d, after_seen, answer_to, answered_on, client_beside, coming_on, flight_for, joining_on, more_on, opening_board, whole_on, with_accepted, with_client}
 use Rattle.scoreboard.specs.Flights.{Footprint, flights_after, is_of_source}
+use Rattle.scoreboard.specs.InsideBoards.{front_after}
 use Rattle.scoreboard.specs.Races.{flight_beside}
 use Rattle.scoreboard.specs.declared.ObservedBeat.{ObservedBeat}
 use Rattle.scoreboard.specs.declared.ObservedBeat.TheVariants.{A, D, Axi as OnAxi, Drained}
@@ -28,7 +31,13 @@ use Rattle.scoreboard.proofs.real_time.ReplySeen.{free_after}
 abbrev pub AreFronts : List ClientBoard → Type 0
 AreFronts clients = (number : ℕ) (client : ClientBoard) → slice_get clients number ≡ Some client → IsFrontRight client
 
--- beside a request that joins those in flight
+-- beside a request that joins those in flight, each client is where it was
+beside_at : (footprint : Footprint) (clients : List ClientBoard) (number : ℕ) (client : ClientBoard) → slice_get clients number ≡ Some client
+    → slice_get (map (client_beside footprint) clients) number ≡ Some (client_beside footprint client)
+beside_at footprint clients number client there =
+    slice_get-map (client_beside footprint) clients number ∙ ap (option_map (client_beside footprint)) there
+
+-- and its front is right
 fronts_beside : (footprint : Footprint) (clients : List ClientBoard) → AreFronts clients → AreFronts (map (client_beside footprint) clients)
 fronts_beside footprint clients are number client is =
     let was = client_was footprint clients number client is in
@@ -38,36 +47,54 @@ fronts_beside footprint clients are number client is =
       free = IfSome_then was.0.front right.free (λ held free. any_map (is_of_source held.source) (flight_beside footprint) was.0.flights.due ∙ free);
     })
 
+-- where a request begins, or goes on
+fronts_more : (board : Board) (number : ℕ) (client : ClientBoard) (q : WholeRequest) (begun : Bool) → slice_get board.clients number ≡ Some client
+    → AreFronts board.clients → AreFronts (more_on board number client q begun).clients
+fronts_more board number client q true there are = are
+fronts_more board number client q false there are =
+    let footprint = joining_on board q in
+    let right = fronts_beside footprint board.clients are number (client_beside footprint client) (beside_at footprint board.clients number client there) in
+    each_client IsFrontRight (map (client_beside footprint) board.clients) number (client_beside footprint client)
+    (record (client_beside footprint client) { coming = footprint }) (beside_at footprint board.clients number client there)
+    (fronts_beside footprint board.clients are) (record { heard = right.heard; free = right.free })
+
+-- where it is whole
+fronts_whole : (board : Board) (number : ℕ) (client : ClientBoard) (q : WholeRequest) (begun : Bool) → slice_get board.clients number ≡ Some client
+    → AreFronts board.clients → AreFronts (whole_on board number client q begun).clients
+fronts_whole board number client q true there are =
+    let changed = with_accepted (flight_for board.memory (coming_on board q client.coming) q) client in
+    each_client IsFrontRight board.clients number client changed there are (front_none changed refl)
+fronts_whole board number client q false there are =
+    let footprint = joining_on board q in
+    let changed = with_accepted (flight_for board.memory footprint q) (client_beside footprint client) in
+    each_client IsFrontRight (map (client_beside footprint) board.clients) number (client_beside footprint client) changed
+    (beside_at footprint board.clients number client there) (fronts_beside footprint board.clients are) (front_none changed refl)
+
 -- with a beat on channel A
 fronts_request : (board : Board) (number : ℕ) (beat : ABeat) → AreFronts board.clients
     → AreFronts (after_a RealTime board number (slice_get board.clients number) beat).clients
 fronts_request board number beat are = by_client (slice_get board.clients number) refl
   where
-    by_answer : (client : ClientBoard) (answer : Result Progress TlRule) → slice_get board.clients number ≡ Some client → answer_to RealTime client beat ≡ answer
+    by_answer : (client : ClientBoard) (answer : Result Progress TlRule) → slice_get board.clients number ≡ Some client
+        → answer_to RealTime client beat ≡ answer
         → AreFronts (answered_on RealTime board number client (joined client.limits client.front beat) answer).clients
     by_answer client (Err rule) there is = are
     by_answer client (Ok More) there is =
-        each_client IsFrontRight board.clients number client (record client { front = Some (joined client.limits client.front beat) }) there are
-        (front_next client beat (are number client there) is)
+        let message = joined client.limits client.front beat in
+        let continued = record client { front = Some message } in
+        fronts_more (with_client number continued board) number continued (request_of message) (is_some client.front)
+        (get_set board.clients number continued (slice_get_within board.clients number client there))
+        (each_client IsFrontRight board.clients number client continued there are (front_next client beat (are number client there) is))
     by_answer client (Ok Whole) there is =
-        each_client IsFrontRight (map (client_beside footprint) board.clients) number (client_beside footprint client) changed beside
-        (fronts_beside footprint board.clients are) (front_none changed refl)
-      where
-        footprint : Footprint
-        footprint = joining_on board (request_of (joined client.limits client.front beat))
-
-        changed : ClientBoard
-        changed = with_accepted (flight_for board.memory footprint (request_of (joined client.limits client.front beat))) (client_beside footprint client)
-
-        beside : slice_get (map (client_beside footprint) board.clients) number ≡ Some (client_beside footprint client)
-        beside = slice_get-map (client_beside footprint) board.clients number ∙ ap (option_map (client_beside footprint)) there
+        fronts_whole board number client (request_of (joined client.limits client.front beat)) (is_some client.front) there are
 
     by_client : (found : Option ClientBoard) → slice_get board.clients number ≡ found → AreFronts (after_a RealTime board number found beat).clients
     by_client None there = are
     by_client (Some client) there = by_answer client (answer_to RealTime client beat) there refl
 
 -- with a beat on channel D
-fronts_reply : (board : Board) (number : ℕ) (beat : DBeat) → AreFronts board.clients → AreFronts (after_d board number (slice_get board.clients number) beat).clients
+fronts_reply : (board : Board) (number : ℕ) (beat : DBeat) → AreFronts board.clients
+    → AreFronts (after_d board number (slice_get board.clients number) beat).clients
 fronts_reply board number beat are = by_client (slice_get board.clients number) refl
   where
     still : (client : ClientBoard) (o : Option HeldMessage) → IfSome o (λ held. list_any (is_of_source held.source) client.flights.due ≡ false)
@@ -93,3 +120,85 @@ fronts_next board Drained are = are
 pub fronts_opening : (setup : SetupLists) → AreFronts (opening_board setup).clients
 fronts_opening setup number client is =
     let found = opening_at setup.config 0 setup.config.clients number client is in front_none client (ap (λ (c : ClientBoard). c.front) found.1)
+
+-- ---- what a client has begun, by its number
+
+-- it is nothing where there is no such client
+abbrev pub front_of : Option ClientBoard → Option HeldMessage
+front_of None = None
+front_of (Some client) = client.front
+
+abbrev pub front_at : List ClientBoard → ℕ → Option HeldMessage
+front_at clients number = front_of (slice_get clients number)
+
+-- one client changes
+front_set : (clients : List ClientBoard) (number other : ℕ) (old changed : ClientBoard) → slice_get clients number ≡ Some old
+    → front_at (set clients number changed) other ≡ (if other == number then changed.front else front_at clients other)
+front_set clients number other old changed there =
+    elim (cases_eq other number) [
+      | inl same ↦ rw (same, eq-eqb number number refl, get_set clients number changed (slice_get_within clients number old there)) refl
+      | inr differ ↦ rw (get_set-other clients number other changed differ, ne_eqb other number differ) refl
+    ]
+
+-- a client keeps what it has begun
+front_kept : (clients : List ClientBoard) (number other : ℕ) (old changed : ClientBoard) → slice_get clients number ≡ Some old → changed.front ≡ old.front
+    → front_at (set clients number changed) other ≡ front_at clients other
+front_kept clients number other old changed there same =
+    elim (cases_eq other number) [
+      | inl this ↦ rw (this, get_set clients number changed (slice_get_within clients number old there), there, same) refl
+      | inr differ ↦ rw (get_set-other clients number other changed differ) refl
+    ]
+
+-- beside a request all do
+front_beside : (footprint : Footprint) (clients : List ClientBoard) (number : ℕ)
+    → front_at (map (client_beside footprint) clients) number ≡ front_at clients number
+front_beside footprint [] number = refl
+front_beside footprint (client ∷ clients) zero = refl
+front_beside footprint (client ∷ clients) (suc number) = front_beside footprint clients number
+
+front_more : (board : Board) (number other : ℕ) (client : ClientBoard) (q : WholeRequest) (begun : Bool) → slice_get board.clients number ≡ Some client
+    → front_at (more_on board number client q begun).clients other ≡ front_at board.clients other
+front_more board number other client q true there = refl
+front_more board number other client q false there =
+    let footprint = joining_on board q in
+    front_kept (map (client_beside footprint) board.clients) number other (client_beside footprint client)
+    (record (client_beside footprint client) { coming = footprint }) (beside_at footprint board.clients number client there) refl
+    ∙ front_beside footprint board.clients other
+
+front_whole : (board : Board) (number other : ℕ) (client : ClientBoard) (q : WholeRequest) (begun : Bool) → slice_get board.clients number ≡ Some client
+    → front_at (whole_on board number client q begun).clients other ≡ (if other == number then None else front_at board.clients other)
+front_whole board number other client q true there =
+    front_set board.clients number other client (with_accepted (flight_for board.memory (coming_on board q client.coming) q) client) there
+front_whole board number other client q false there =
+    let footprint = joining_on board q in
+    front_set (map (client_beside footprint) board.clients) number other (client_beside footprint client)
+    (with_accepted (flight_for board.memory footprint q) (client_beside footprint client)) (beside_at footprint board.clients number client there)
+    ∙ ap (λ (front : Option HeldMessage). if other == number then None else front) (front_beside footprint board.clients other)
+
+-- with a port's answer
+pub front_answered : (board : Board) (number other : ℕ) (client : ClientBoard) (message : HeldMessage) (answer : Result Progress TlRule)
+    → slice_get board.clients number ≡ Some client
+    → front_at (answered_on RealTime board number client message answer).clients other
+    ≡ (if other == number then front_after client.front message answer else front_at board.clients other)
+front_answered board number other client message (Err rule) there =
+    elim (cases_eq other number) [
+      | inl same ↦ rw (same, eq-eqb number number refl, there) refl
+      | inr differ ↦ rw (ne_eqb other number differ) refl
+    ]
+front_answered board number other client message (Ok More) there =
+    let continued = record client { front = Some message } in
+    front_more (with_client number continued board) number other continued (request_of message) (is_some client.front)
+    (get_set board.clients number continued (slice_get_within board.clients number client there))
+    ∙ front_set board.clients number other client continued there
+front_answered board number other client message (Ok Whole) there = front_whole board number other client (request_of message) (is_some client.front) there
+
+-- with a beat on channel D
+pub front_replied : (board : Board) (number other : ℕ) (beat : DBeat)
+    → front_at (after_d board number (slice_get board.clients number) beat).clients other ≡ front_at board.clients other
+front_replied board number other beat = by_client (slice_get board.clients number) refl
+  where
+    by_client : (found : Option ClientBoard) → slice_get board.clients number ≡ found
+        → front_at (after_d board number found beat).clients other ≡ front_at board.clients other
+    by_client None there = refl
+    by_client (Some client) there =
+        front_kept board.clients number other client (record client { flights = flights_after client.flights beat.source }) there refl

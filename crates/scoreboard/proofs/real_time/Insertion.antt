@@ -34,7 +34,7 @@ module _ (faults : Faults) (regions : List Region) where
 -- a request joins those in flight, and stands before some of them that haven't ended
 module _ (faults : Faults) (regions : List Region) (flights new_flights : Place → Option InFlight) (listed : List Footprint) (indeterminate : ℕ → Bool)
     (bytes : Bytes) (entry : Entry) (flight : InFlight)
-    (well : IsWell entry.request)
+    (well : IsWell entry.request) (whole : entry.whole ≡ true)
     (acting : flight.footprint ≡ record (own faults regions entry.request) { determined = flight.footprint.determined })
     (joining : IsJoining indeterminate (λ i. footprint_in (flights i)) flight.footprint entry.request.bytes)
     (are : AreAll (λ i. footprint_in (flights i)) listed) (apart : AreApart (λ i. footprint_in (flights i))) (either : AreEither indeterminate (λ i. footprint_in (flights i)))
@@ -174,6 +174,7 @@ module _ (faults : Faults) (regions : List Region) (flights new_flights : Place 
   stands_still other m n elsewhere held agree =
       record {
         well = held.well;
+        whole = held.whole;
         live = λ alive.
             let was = held.live alive in
             let away : place_of other ≡ place_of entry → ⊥ = elsewhere alive in
@@ -250,6 +251,7 @@ module _ (faults : Faults) (regions : List Region) (flights new_flights : Place 
             (each_stands before m away.0 held.0) (
               record {
                 well = well;
+                whole = whole;
                 live = λ alive. record {
                   flight = flight;
                   there = there;

@@ -39,6 +39,18 @@ flight_at clients place = flight_in (flights_at clients place.client) place.sour
 pub none_in : (clients : List ClientBoard) (place : Place) → flights_at clients place.client ≡ no_flights → flight_at clients place ≡ None
 none_in clients place none = rw none (grind arith)
 
+-- the footprint of what a client's channel A has begun
+abbrev pub coming_in : Option ClientBoard → Footprint
+coming_in None = no_footprint
+coming_in (Some client) = client.coming
+
+abbrev pub coming_at : List ClientBoard → ℕ → Footprint
+coming_at clients client = coming_in (slice_get clients client)
+
+-- nothing of several beats has begun
+abbrev pub NothingComes : List ClientBoard → Type 0
+NothingComes clients = (number : ℕ) (client : ClientBoard) → slice_get clients number ≡ Some client → client.coming ≡ no_footprint
+
 abbrev pub footprint_in : Option InFlight → Footprint
 footprint_in None = no_footprint
 footprint_in (Some flight) = flight.footprint

@@ -10,7 +10,7 @@ use Rattle.scoreboard.specs.Boards.{Board, ClientBoard, after_d}
 use Rattle.scoreboard.specs.Flights.{InFlight, flights_after, is_of_source, next_reply}
 use Rattle.scoreboard.specs.Orders.{Entry, Order, after_beat, begun_to}
 use Rattle.scoreboard.proofs.real_time.Entries.{Stands}
-use Rattle.scoreboard.proofs.real_time.Explained.{Explains, explains_with, sources_with}
+use Rattle.scoreboard.proofs.real_time.Explained.{Explains, explains_with, nothing_with, sources_with}
 use Rattle.scoreboard.proofs.real_time.Places.{HaveSources, Place, flight_at}
 use Rattle.scoreboard.proofs.real_time.ReplyMoves.{AreMoved, Moves, begun_next, distinct_next, each_next, run_moved, waiting_next}
 use Rattle.scoreboard.proofs.real_time.ReplySeen.{are_moved, flights_still, next_is, sources_after, still_apart, still_either}
@@ -48,6 +48,7 @@ module _ (board : Board) (order : Order) (number source : ℕ) (explains : Expla
     moved own =
         record {
           sources = sources_with board.clients number client changed there explains.sources (sources_after source client.flights sources);
+          nothing = nothing_with board.clients number client changed there explains.nothing (explains.nothing number client there);
           small = explains.small;
           apart = still_apart number source from (flight_at board.clients) now are explains.apart;
           either = still_either number source from (flight_at board.clients) now are board.indeterminate explains.either;
@@ -81,7 +82,7 @@ module _ (board : Board) (order : Order) (number source : ℕ) (explains : Expla
         let kept = flights_still source client.flights flight is differ in
         subst (Explains (record board { clients = set board.clients number changed }))
         (sym (counts_none board order explains number source (λ next at own. grind (arith, nat_tests, is, differ, due, at, own))))
-        (explains_with board order number client changed there kept explains)
+        (explains_with board order number client changed there kept refl explains)
 
     pub explains_own : Kept
     explains_own = by_begun client.flights.begun refl

@@ -129,6 +129,7 @@ module _ (begun : Bool) (number source : ℕ) where
         subst (λ e. HeldNow e m) (sym (stays entry none))
         (record {
           well = held.well;
+          whole = held.whole;
           live = λ live. let was = held.live live in
               live_now entry m was entry.came was.flight.beats (are.others (place_of entry) (away live) (apart live) ∙ was.there) was.left;
         })
@@ -136,6 +137,7 @@ module _ (begun : Bool) (number source : ℕ) where
         subst (λ e. HeldNow e m) (sym (goes_on entry counted))
         (record {
           well = held.well;
+          whole = held.whole;
           live = λ alive.
               let was = held.live live in
               let reply = (meaning faults regions entry.request was.made_of).reply in

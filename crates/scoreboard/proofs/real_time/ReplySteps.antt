@@ -2,8 +2,6 @@
 use Rattle.std.proofs.Common.{◌≡◌, ℕ, ◌==◌, Bool, true, false, List, map, Option, Some, None, if◌then◌else◌, refl, sym, ◌∙◌, ap, arith}
 use Rattle.std.specs.Prelude.{is_some, slice_get}
 use Rattle.std.specs.List.{list_any}
-use Rattle.std.proofs.Math.Bool.{and_assoc}
-use Rattle.std.proofs.Math.Path.{fun_ext}
 use Rattle.std.proofs.lemmas.Bool.{and_parts, both_ways, false_from_ne_true}
 use Rattle.std.proofs.lemmas.Bool.Decides.{nat_tests}
 use Rattle.meaning.specs.Meaning.{Bytes, zeros}
@@ -14,7 +12,7 @@ use Rattle.scoreboard.proofs.real_time.Entries.{IsElsewhere, Stands, place_of}
 use Rattle.scoreboard.proofs.real_time.Explained.{Explains}
 use Rattle.scoreboard.proofs.real_time.Lengths.{some_beats}
 use Rattle.scoreboard.proofs.real_time.Places.{Place, begun_at, due_at, flight_at}
-use Rattle.scoreboard.proofs.real_time.ReplyMoves.{Goes, Moves, Stays, any_each, counts, some_each, stays_all}
+use Rattle.scoreboard.proofs.real_time.ReplyMoves.{Goes, Moves, Stays, any_each, counts, some_each, stays_all, waits_for}
 
 -- the place of the request to which a client's next beat of a source is due: of that whose reply has begun, if one has
 abbrev pub next_at : Bool → ℕ → ℕ → Place
@@ -39,9 +37,10 @@ due_place true number source entry is = record { live = grind (arith, nat_tests,
 due_place false number source entry is =
     record { live = grind (arith, nat_tests, is, some_beats entry.request); there = grind (arith, nat_tests, is) }
 
-pub place_due : (begun : Bool) (number source : ℕ) (entry : Entry) → IsAt (next_at begun number source) entry → is_due begun number source entry ≡ true
-place_due true number source entry is = grind (arith, nat_tests, is.live, is.there)
-place_due false number source entry is = grind (arith, nat_tests, is.live, is.there)
+pub place_due : (begun : Bool) (number source : ℕ) (entry : Entry) → entry.whole ≡ true → IsAt (next_at begun number source) entry
+    → is_due begun number source entry ≡ true
+place_due true number source entry whole is = grind (arith, nat_tests, is.live, is.there)
+place_due false number source entry whole is = grind (arith, nat_tests, whole, is.live, is.there)
 
 module _ (board : Board) (order : Order) (explains : Explains board order) (number source : ℕ) where
   abbrev flights : Place → Option InFlight
@@ -76,7 +75,8 @@ module _ (board : Board) (order : Order) (explains : Explains board order) (numb
       by_begun : (b : Bool) → is_some (flights (next_at b number source)) ≡ true → list_any (is_due b number source) order ≡ true
       by_begun true some = explains.begun number some
       by_begun false some =
-          rw (sym (fun_ext (λ (entry : Entry). and_assoc (entry.client == number) (entry.request.source == source) (entry.came == 0)))) (explains.waiting number source some)
+          any_each board.memory.faults board.memory.regions Held (waits_for number source) (is_due false number source) order zeros
+          (λ entry m held waits. grind (arith, waits, held.whole)) explains.entries (explains.waiting number source some)
 
   -- of which source the request is
   due_source : (entry : Entry) (m : Bytes) → Held entry m → is_due begun number source entry ≡ true
@@ -122,4 +122,4 @@ module _ (board : Board) (order : Order) (explains : Explains board order) (numb
             away : IsElsewhere from entry
             away live same =
                 both_ways (counts begun number source entry) is
-                (due_counts entry m held (place_due begun number source entry (record { live = live; there = same })))
+                (due_counts entry m held (place_due begun number source entry held.whole (record { live = live; there = same })))

@@ -1,8 +1,8 @@
 -- What a request does to bytes: it changes those that it gives, and what it gives there depends on no byte, but for an atomic, where it depends on
 -- the bytes that it reads.
 use Rattle.std.proofs.Common.{◌≡◌, ℕ, zero, suc, ◌+◌, ◌-◌, ◌^◌, ◌<◌, Bool, true, false, ◌&&◌, List, map, length, Option, Some, None, if◌then◌else◌, refl, sym, ◌∙◌, ap, subst, subst₂, arith}
-use Rattle.std.specs.Prelude.{is_some, nat_le, nat_lt, slice_get, unwrap_or, option_map}
 use Rattle.std.specs.Option.{option_flatten}
+use Rattle.std.specs.Prelude.{is_some, nat_le, nat_lt, slice_get, unwrap_or, option_map}
 use Rattle.std.proofs.Math.Path.{fun_ext}
 use Rattle.std.proofs.lemmas.Bool.{and_parts, both_ways}
 use Rattle.std.proofs.lemmas.Bool.Decides.{nat_tests}
@@ -27,6 +27,7 @@ use Rattle.scoreboard.specs.SerialMemory.{on_good_page}
 use Rattle.scoreboard.proofs.acceptance_order.Meanings.{meaning_none, meaning_some}
 use Rattle.scoreboard.specs.Flights.{Footprint}
 use Rattle.scoreboard.specs.Races.{alone, covers}
+use Rattle.scoreboard.specs.RealTime.{GivesBytes}
 
 -- ---- requests as a checker lets them pass
 
@@ -39,6 +40,13 @@ pub record IsWell (q : WholeRequest) : Type 0 where
   pub count : length q.bytes ≡ 2 ^ q.size
   pub small : (i b : ℕ) → slice_get q.bytes i ≡ Some (Some b) → b < 256
   pub full : (op : AtomicOp) → q.operation ≡ Atomic op → (i : ℕ) → i < 2 ^ q.size → is_some (option_flatten (slice_get q.bytes i)) ≡ true
+
+pub well_bytes : (q : WholeRequest) → IsWell q → GivesBytes q
+well_bytes q well = record { count = well.count; small = well.small }
+
+-- one that is no atomic need not give all
+pub well_put : (q : WholeRequest) → GivesBytes q → ((op : AtomicOp) → q.operation ≡ Atomic op → ⊥) → IsWell q
+well_put q gives none = record { count = gives.count; small = gives.small; full = λ op is. absurd (none op is) }
 
 -- where it acts
 abbrev pub own : Faults → List Region → WholeRequest → Footprint

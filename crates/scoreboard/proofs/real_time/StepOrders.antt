@@ -1,13 +1,19 @@
--- Orders of accepted requests, step by step as beats come: a request is put in behind all whose whole reply came. It is the proof's own way to go
--- along a list of beats; Arranged gets to it from the orders that keep real time.
-use Rattle.std.proofs.Common.{◌≡◌, ℕ, false, List, [], ◌∷◌, ◌++◌, Some}
+-- Orders of requests that have begun, step by step as beats come: with its first beat a request is put in behind all whose whole reply came, as what it
+-- becomes; with its last beat it is whole. It is the proof's own way to go along a list of beats; Arranged gets to it from the orders that keep real time.
+use Rattle.std.proofs.Common.{◌≡◌, ℕ, ◌==◌, Bool, true, false, ◌&&◌, not, List, [], ◌∷◌, ◌++◌, map, Option, Some, None, Result, Ok, Err, if◌then◌else◌}
 use Rattle.std.specs.Prelude.{slice_get}
-use Rattle.std.specs.List.{list_any}
+use Rattle.std.specs.List.{AllByRecursion, list_any}
+use Rattle.tl_messages.specs.Requests.{HeldMessage, WholeRequest, request_of}
+use Rattle.tl_messages.specs.declared.ABeat.{ABeat}
 use Rattle.tl_messages.specs.declared.DBeat.{DBeat}
+use Rattle.tl_checker.specs.Ports.{joined}
+use Rattle.tl_checker.specs.declared.Progress.{Progress}
+use Rattle.tl_checker.specs.declared.Progress.TheVariants.{More, Whole}
+use Rattle.tl_checker.specs.declared.TlRule.{TlRule}
 use Rattle.setups.specs.Setups.{SetupLists}
-use Rattle.scoreboard.specs.Boards.{Board, after_seen, opening_board, wrong_at}
-use Rattle.scoreboard.specs.Orders.{IsWrongAs, Order, after_beat, board_after, byte_left, has_ended}
-use Rattle.scoreboard.specs.RealTime.{with_request}
+use Rattle.scoreboard.specs.Boards.{Board, ClientBoard, after_seen, answer_to, opening_board, wrong_at}
+use Rattle.scoreboard.specs.Orders.{Entry, IsWrongAs, Order, after_beat, board_after, byte_left, has_ended}
+use Rattle.scoreboard.specs.RealTime.{MayBecome, entry_of, is_awaited}
 use Rattle.scoreboard.specs.declared.Policy.TheVariants.{RealTime}
 use Rattle.scoreboard.specs.declared.ObservedBeat.{ObservedBeat}
 use Rattle.scoreboard.specs.declared.ObservedBeat.TheVariants.{A, D, Axi as OnAxi, Drained}
@@ -15,24 +21,52 @@ use Rattle.scoreboard.specs.declared.Wrong.{Wrong}
 
 -- ---- how an order goes on
 
--- requests that are accepted come anywhere behind those whose whole reply came
-abbrev pub IsPutIn : Order → Order → Order → Type 0
-IsPutIn added old new =
-    (before : Order) × (after : Order) × (old ≡ before ++ after) × (list_any has_ended after ≡ false) × (new ≡ before ++ (added ++ after))
+-- a request that begins comes anywhere behind those whose whole reply came
+abbrev pub IsPutIn : Entry → Order → Order → Type 0
+IsPutIn entry old new =
+    (before : Order) × (after : Order) × (old ≡ before ++ after) × (list_any has_ended after ≡ false) × (new ≡ before ++ entry ∷ after)
+
+-- whether an entry is a client's, and not whole
+abbrev pub is_coming : ℕ → Entry → Bool
+is_coming client entry = entry.client == client && not entry.whole
+
+-- it is whole with its last beat
+abbrev pub finished : ℕ → Entry → Entry
+finished client entry = if is_coming client entry then record entry { whole = true } else entry
+
+-- with a beat that a port takes, by what had begun there: a request is put in with its first beat; and with the last one of several it is what it became
+abbrev pub GoesOnTaken : ℕ → Option HeldMessage → WholeRequest → Progress → Order → Order → Type 0
+GoesOnTaken client None q More old new =
+    (becomes : WholeRequest) × MayBecome (entry_of client q false) becomes × IsPutIn (entry_of client becomes false) old new
+GoesOnTaken client None q Whole old new = IsPutIn (entry_of client q true) old new
+GoesOnTaken client (Some held) q More old new = new ≡ old
+GoesOnTaken client (Some held) q Whole old new =
+    (new ≡ map (finished client) old) × AllByRecursion (λ entry. is_coming client entry ≡ true → entry.request ≡ q) old
+
+-- with a port's answer
+abbrev pub GoesOnAnswered : ℕ → Option HeldMessage → HeldMessage → Result Progress TlRule → Order → Order → Type 0
+GoesOnAnswered client front message (Err broken) old new = new ≡ old
+GoesOnAnswered client front message (Ok progress) old new = GoesOnTaken client front (request_of message) progress old new
+
+-- with a beat on channel A
+abbrev pub GoesOnRequest : ℕ → Option ClientBoard → ABeat → Order → Order → Type 0
+GoesOnRequest number None beat old new = new ≡ old
+GoesOnRequest number (Some client) beat old new =
+    GoesOnAnswered number client.front (joined client.limits client.front beat) (answer_to RealTime client beat) old new
 
 -- how an order goes on with a beat, on a board on which it comes
 abbrev pub GoesOn : Board → ObservedBeat → Order → Order → Type 0
-GoesOn board (A client beat) old new = IsPutIn (with_request client (slice_get board.clients client) beat []) old new
+GoesOn board (A client beat) old new = GoesOnRequest client (slice_get board.clients client) beat old new
 GoesOn board (D client beat) old new = new ≡ after_beat old client beat.source
 GoesOn board (OnAxi beat) old new = new ≡ old
 GoesOn board Drained old new = new ≡ old
 
--- the orders of what is accepted in a list of beats, on a board and behind an order of what was accepted before
+-- the orders of what begins in a list of beats, on a board and behind an order of what had begun before
 abbrev pub IsOrderFrom : Board → Order → List ObservedBeat → Order → Type 0
 IsOrderFrom board now [] order = order ≡ now
 IsOrderFrom board now (seen ∷ rest) order = (next : Order) × GoesOn board seen now next × IsOrderFrom (after_seen RealTime board seen) next rest order
 
--- the orders of what is accepted in all beats since the start
+-- the orders of what begins in all beats since the start
 abbrev pub IsOrderOf : SetupLists → List ObservedBeat → Order → Type 0
 IsOrderOf setup beats order = IsOrderFrom (opening_board setup) [] beats order
 
@@ -46,10 +80,11 @@ BlamesByRule =
     → wrong_at RealTime (board_after setup before) (D client beat) ≡ Some wrong
     → IsWrongAs setup order client beat wrong
 
--- a byte that isn't indeterminate is what every order leaves
+-- a byte that isn't indeterminate, and that nothing that has begun may write, is what every order leaves
 abbrev pub KnowsBytes : Type 0
 KnowsBytes =
     (setup : SetupLists) (before : List ObservedBeat) (order : Order) (x : ℕ)
     → IsOrderOf setup before order
     → (board_after setup before).indeterminate x ≡ false
+    → is_awaited (board_after setup before) x ≡ false
     → byte_left setup order x ≡ (board_after setup before).memory.bytes x

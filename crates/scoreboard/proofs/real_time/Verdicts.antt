@@ -1,5 +1,7 @@
 -- A beat that is blamed by a rule breaks the same rule against a beat that is alike.
-use Rattle.std.proofs.Common.{◌≡◌, ℕ, ◌+◌, ◌==◌, Bool, true, false, not, List, [], ◌∷◌, ◌++◌, take, Option, Some, None, sym, ◌∙◌, ap, subst, arith}
+use Rattle.std.proofs.Common.{◌≡◌, ℕ, zero, suc, ◌+◌, ◌-◌, ◌<◌, ◌==◌, Bool, true, false, not, List, [], ◌∷◌, ◌++◌, length, take, Option, Some, None, refl, sym, ◌∙◌, ap, subst, arith}
+use Rattle.std.specs.List.{list_any, range_with_len}
+use Rattle.tl_messages.specs.Operations.{beats_of}
 use Rattle.std.proofs.lemmas.Bool.Decides.{nat_tests}
 use Rattle.bus_words.specs.Tables.{first_broken}
 use Rattle.bus_words.proofs.Ranges.{none_passes}
@@ -41,6 +43,53 @@ same_rule footprint k due other beat broken told alike is =
     λ payload. grind (arith, nat_tests, tells_nothing footprint k due other beat alike, blamed.1 payload) in
     subst (λ (o : DBeat). first_broken (reply_rules o beat) ≡ Some broken) (sym alike.rest)
     (kept_rule (take 5 (reply_rules due beat)) rule.Payload broken (not (beat.payload == due.payload)) (not (beat.payload == other.payload)) blamed.0 differs)
+
+-- ---- the same rule, blamed of the other beat too
+
+-- a test of each number of a range
+any_same : (one other : ℕ → Bool) (from n : ℕ) → ((k : ℕ) → k < n → one (from + k) ≡ other (from + k)) → list_any one (range_with_len from n) ≡ list_any other (range_with_len from n)
+any_same one other from zero same = refl
+any_same one other from (suc n) same =
+    let here : one from ≡ other from = ap one (omega arith) ∙ same 0 (omega arith) ∙ ap other (omega arith) in
+    let rest = any_same one other (from + 1) n (λ k below. ap one (omega arith) ∙ same (k + 1) (omega (arith, below)) ∙ ap other (omega arith)) in
+    cc (here, rest)
+
+otherwise_same : (footprint : Footprint) (k : ℕ) (due other beat : DBeat) → Alike footprint k due other
+    → tells_otherwise footprint k other beat ≡ tells_otherwise footprint k due beat
+otherwise_same footprint k due other beat alike =
+    let corrupt : other.corrupt ≡ due.corrupt = ap (λ (o : DBeat). o.corrupt) alike.rest in
+    let lanes = any_same (differs_in footprint k other.payload beat.payload) (differs_in footprint k due.payload beat.payload) 0 8
+    (λ lane below. grind (arith, nat_tests, alike.payload (0 + lane) (omega (arith, below)))) in
+    rw (corrupt, lanes) refl
+
+still_blamed : (due : DBeat) (otherwise : Bool) (first : Option ReplyRule) (broken : ReplyRule) → first ≡ Some broken → (broken ≡ rule.Payload → otherwise ≡ true)
+    → wrong_by due (unless_indeterminate otherwise first) ≡ Some (wrong.Reply broken (Some due))
+still_blamed due otherwise None broken is tells = absurd (cc (is))
+still_blamed due otherwise (Some r) broken is tells = by_rule r broken is tells
+  where
+    by_rule : (r broken : ReplyRule) → Some r ≡ Some broken → (broken ≡ rule.Payload → otherwise ≡ true)
+        → wrong_by due (unless_indeterminate otherwise (Some r)) ≡ Some (wrong.Reply broken (Some due))
+    by_rule r broken is tells = grind (arith, is, tells)
+
+-- beats that are blamed by a rule are blamed by it too, where they are beside others that are alike, as many are left
+pub left_told : (footprint : Footprint) (mine theirs : List DBeat) (beat : DBeat) (broken : ReplyRule) (told : Option DBeat) → LeftAlike footprint mine theirs
+    → length mine ≡ length theirs → wrong_told footprint mine beat ≡ Some (wrong.Reply broken told)
+    → (other : Option DBeat) × (wrong_told footprint theirs beat ≡ Some (wrong.Reply broken other))
+left_told footprint mine theirs beat broken told (Same same) long is = (told, sym (ap (λ (beats : List DBeat). wrong_told footprint beats beat) same) ∙ is)
+left_told footprint mine theirs beat broken told (Words k due other rest others is_mine is_theirs alike place) long is =
+    let blamed =
+    sym (ap (λ (n : ℕ). wrong_by due (unless_indeterminate (tells_otherwise footprint n due beat) (first_broken (reply_rules due beat)))) place)
+    ∙ sym (ap (λ (beats : List DBeat). wrong_told footprint beats beat) is_mine) ∙ is in
+    let its = is_blamed due (tells_otherwise footprint k due beat) (first_broken (reply_rules due beat)) broken told blamed in
+    let first = same_rule footprint k due other beat broken told alike blamed in
+    let as_many : length (other ∷ others) ≡ length (due ∷ rest) = sym (ap length is_theirs) ∙ sym long ∙ ap length is_mine in
+    let number : beats_of footprint.size true - length (other ∷ others) ≡ k = ap (λ (n : ℕ). beats_of footprint.size true - n) as_many ∙ place in (
+      Some other,
+      ap (λ (beats : List DBeat). wrong_told footprint beats beat) is_theirs
+          ∙ ap (λ (n : ℕ). wrong_by other (unless_indeterminate (tells_otherwise footprint n other beat) (first_broken (reply_rules other beat)))) number
+          ∙ still_blamed other (tells_otherwise footprint k other beat) (first_broken (reply_rules other beat)) broken first
+          (λ payload. otherwise_same footprint k due other beat alike ∙ its.1 payload),
+    )
 
 -- the beats that are blamed by a rule break it
 abbrev pub IsBroken : List DBeat → DBeat → ReplyRule → Type 0

@@ -1,7 +1,7 @@
 -- Boards of both policies that get the same beats hold the same, but for what is known of requests that race, until one is of a busy source or a W
 -- beat without a write; so nothing is found wrong in real time with beats that are right.
-use Rattle.std.proofs.Common.{◌≡◌, ℕ, false, List, [], ◌∷◌, Option, Some, None, Result, Ok, Err, refl, sym, ◌∙◌, ap, subst, arith}
-use Rattle.std.specs.Prelude.{slice_get}
+use Rattle.std.proofs.Common.{◌≡◌, ℕ, Bool, true, false, List, [], ◌∷◌, Option, Some, None, Result, Ok, Err, refl, sym, ◌∙◌, ap, subst, arith}
+use Rattle.std.specs.Prelude.{is_some, slice_get}
 use Rattle.std.specs.Option.{option_map}
 use Rattle.std.proofs.lemmas.Option.{slice_get-map}
 use Rattle.tl_messages.specs.Requests.{HeldMessage, request_of}
@@ -13,15 +13,15 @@ use Rattle.tl_checker.specs.declared.Progress.TheVariants.{More, Whole}
 use Rattle.tl_checker.specs.declared.TlRule.{TlRule}
 use Rattle.axi_checker.specs.declared.AxiBeat.{AxiBeat}
 use Rattle.scoreboard.specs.AxiPorts.{PortBoard, after_in_order, after_with_early, tells_no_write, wrong_in_order}
-use Rattle.scoreboard.specs.Boards.{Board, ClientBoard, IsReached, a_wrong, after_a, after_all, after_d, after_seen, answer_to, answered_on, joining_on, opening_board, with_client, wrong_at}
-use Rattle.scoreboard.specs.Flights.{Flights, flights_after}
+use Rattle.scoreboard.specs.Boards.{Board, ClientBoard, IsReached, a_wrong, after_a, after_all, after_d, after_seen, answer_to, answered_on, coming_on, joining_on, more_on, opening_board, whole_on, with_client, with_taken, wrong_at}
+use Rattle.scoreboard.specs.Flights.{Flights, flights_after, no_footprint}
 use Rattle.scoreboard.specs.Wider.{AreTogether, IsWiderAlong, LetsRightPass, TellsNoMore, board_alone, client_alone, tells_apart, tells_busy}
 use Rattle.scoreboard.specs.declared.Policy.TheVariants.{AcceptanceOrder, RealTime}
 use Rattle.scoreboard.specs.declared.ObservedBeat.{ObservedBeat}
 use Rattle.scoreboard.specs.declared.ObservedBeat.TheVariants.{A, D, Axi as OnAxi, Drained}
 use Rattle.scoreboard.proofs.acceptance_order.Reached.{right_exactly, right_front, right_reached}
 use Rattle.scoreboard.proofs.held.EarlyBeats.{after_as}
-use Rattle.scoreboard.proofs.real_time.FlightsAlone.{client_changed_alone, flights_alone, joined_alone, opens_alone}
+use Rattle.scoreboard.proofs.real_time.FlightsAlone.{begun_alone, client_changed_alone, flights_alone, given_alone, joined_alone, opens_alone}
 use Rattle.scoreboard.proofs.real_time.WiderVerdicts.{none_told, nothing_early, same_answer, tells_no_more}
 
 -- a board of real time holds what one of acceptance order does, and nothing is early
@@ -40,11 +40,22 @@ request_on old number (Some client) beat none free = rw (same_answer client beat
     message : HeldMessage
     message = joined client.limits client.front beat
 
+    changed : ClientBoard
+    changed = record client { front = Some message }
+
+    more : (begun : Bool) → IsOn (with_client number (client_alone changed) (board_alone old)) (more_on (with_client number changed old) number changed (request_of message) begun)
+    more true = record { holds = client_changed_alone old number changed; early = none }
+    more false = record { holds = begun_alone old number changed (joining_on (with_client number changed old) (request_of message)); early = none }
+
+    whole : (begun : Bool) → IsOn (with_taken (board_alone old) number (client_alone client) (request_of message) no_footprint) (whole_on old number client (request_of message) begun)
+    whole true = record { holds = given_alone old number client (request_of message) (coming_on old (request_of message) client.coming); early = none }
+    whole false = record { holds = joined_alone old number client (request_of message) (joining_on old (request_of message)); early = none }
+
     by_answer : (answer : Result Progress TlRule)
         → IsOn (answered_on AcceptanceOrder (board_alone old) number (client_alone client) message answer) (answered_on RealTime old number client message answer)
     by_answer (Err broken) = record { holds = refl; early = none }
-    by_answer (Ok More) = record { holds = client_changed_alone old number (record client { front = Some message }); early = none }
-    by_answer (Ok Whole) = record { holds = joined_alone old number client (request_of message) (joining_on old (request_of message)); early = none }
+    by_answer (Ok More) = more (is_some client.front)
+    by_answer (Ok Whole) = whole (is_some client.front)
 
 reply_on : (old : Board) (number : ℕ) (found : Option ClientBoard) (beat : DBeat) → old.axi.early ≡ []
     → IsOn (after_d (board_alone old) number (option_map client_alone found) beat) (after_d old number found beat)
@@ -52,7 +63,7 @@ reply_on old number None beat none = record { holds = refl; early = none }
 reply_on old number (Some client) beat none =
     record {
       holds = client_changed_alone old number (record client { flights = flights_after client.flights beat.source })
-          ∙ ap (λ (flights : Flights). with_client number (record client { flights = flights }) (board_alone old)) (flights_alone client.flights beat.source);
+          ∙ ap (λ (flights : Flights). with_client number (record (client_alone client) { flights = flights }) (board_alone old)) (flights_alone client.flights beat.source);
       early = none;
     }
 

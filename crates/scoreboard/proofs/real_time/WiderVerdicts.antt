@@ -1,10 +1,11 @@
 -- What a board of real time says of a beat, beside one of acceptance order that holds the same: no more, and less only of a busy source, of a W
 -- beat without a write and of another payload.
-use Rattle.std.proofs.Common.{◌≡◌, Bool, true, false, ◌&&◌, ◌||◌, if◌then◌else◌, List, [], ◌∷◌, ◌++◌, take, Option, Some, None, Result, Err}
+use Rattle.std.proofs.Common.{◌≡◌, Bool, true, false, ◌&&◌, ◌||◌, not, if◌then◌else◌, List, [], ◌∷◌, ◌++◌, take, Option, Some, None, Result, Err}
 use Rattle.std.proofs.Common.{◌⊎◌, inl, inr, refl, ◌∙◌, ap, arith}
 use Rattle.std.specs.Prelude.{slice_get}
 use Rattle.std.specs.List.{list_any}
 use Rattle.std.specs.Option.{option_map}
+use Rattle.std.proofs.lemmas.Bool.{or_right}
 use Rattle.std.proofs.lemmas.Option.{slice_get-map}
 use Rattle.bus_words.specs.Tables.{first_broken}
 use Rattle.tl_messages.specs.Requests.{HeldMessage}
@@ -19,14 +20,15 @@ use Rattle.axi_checker.specs.declared.AxiBeat.{AxiBeat}
 use Rattle.axi_checker.specs.declared.AxiBeat.TheVariants.{Ar as OnAr, Aw as OnAw, B as OnB, R as OnR, W as OnW}
 use Rattle.axi_checker.specs.Rules.{axi_fault}
 use Rattle.scoreboard.specs.AxiPorts.{PortBoard, none_early, tells_no_write, wrong_in_order, wrong_with_early}
-use Rattle.scoreboard.specs.Boards.{Board, ClientBoard, a_wrong, answer_to, d_wrong, reply_rules, unless_indeterminate, wrong_at, wrong_beat, wrong_by, wrong_reply, wrong_request, wrong_told}
+use Rattle.scoreboard.specs.Boards.{Board, ClientBoard, a_wrong, answer_to, d_wrong, is_payload, reply_rules, unless_indeterminate, wrong_at, wrong_beat, wrong_by, wrong_reply, wrong_request, wrong_told}
 use Rattle.scoreboard.specs.Flights.{Footprint, InFlight, begun_is_of, is_of_source, next_reply}
-use Rattle.scoreboard.specs.Wider.{TellsNoMore, board_alone, client_alone, flight_alone, tells_apart, tells_busy}
+use Rattle.scoreboard.specs.Wider.{TellsNoMore, board_alone, client_alone, flight_alone, tells_apart, tells_busy, tells_payload}
 use Rattle.scoreboard.specs.declared.Policy.TheVariants.{AcceptanceOrder, RealTime}
 use Rattle.scoreboard.specs.declared.ReplyRule.{ReplyRule}
 use Rattle.scoreboard.specs.declared.ObservedBeat.{ObservedBeat}
 use Rattle.scoreboard.specs.declared.ObservedBeat.TheVariants.{A, D, Axi as OnAxi, Drained}
 use Rattle.scoreboard.specs.declared.Wrong.{Wrong}
+use Rattle.scoreboard.specs.declared.Wrong.TheVariants.{Reply}
 use Rattle.scoreboard.proofs.held.EarlyBeats.{aw_wrong}
 use Rattle.scoreboard.proofs.real_time.FlightsAlone.{busy_alone, next_alone}
 
@@ -88,9 +90,18 @@ same_answer client beat free = elim (answers_to client beat) [ inl same ↦ same
 
 -- ---- channel D
 
+is_told : (rule : ReplyRule) (due : DBeat) → is_payload rule ≡ true → tells_payload (Some (Reply rule (Some due))) ≡ true
+is_told rule due is = grind (arith, is)
+
 rule_told : (otherwise : Bool) (due : DBeat) (broken : Option ReplyRule)
     → TellsNoMore (wrong_by due broken) (wrong_by due (unless_indeterminate otherwise broken))
-rule_told otherwise due broken = grind arith
+rule_told otherwise due None = inl refl
+rule_told otherwise due (Some rule) = by_tests (is_payload rule) otherwise refl
+  where
+    by_tests : (payload tells : Bool) → is_payload rule ≡ payload → TellsNoMore (Some (Reply rule (Some due))) (wrong_by due (if payload && not tells then None else Some rule))
+    by_tests true true is = inl refl
+    by_tests true false is = inr (inr (is_told rule due is), refl)
+    by_tests false tells is = inl refl
 
 told_less : (footprint : Footprint) (dues : List DBeat) (beat : DBeat) → TellsNoMore (wrong_beat dues beat) (wrong_told footprint dues beat)
 told_less footprint [] beat = inl refl
@@ -108,7 +119,11 @@ d_told (Some client) beat = rw (next_alone client.flights beat.source) (reply_to
 
 -- a W beat without a write is early, if there is room
 w_told : (verdict : Option Wrong) → TellsNoMore verdict (if tells_no_write verdict && true then None else verdict)
-w_told verdict = grind arith
+w_told verdict = by_test (tells_no_write verdict) refl
+  where
+    by_test : (b : Bool) → tells_no_write verdict ≡ b → TellsNoMore verdict (if b && true then None else verdict)
+    by_test true is = inr (inl (or_right (tells_busy verdict) (tells_no_write verdict) is), refl)
+    by_test false is = inl refl
 
 -- a port on which nothing is early
 pub nothing_early : (port : PortBoard) → port.early ≡ [] → port ≡ none_early port.limits port.open_bursts

@@ -3,10 +3,10 @@ use Rattle.std.proofs.Common.{ℕ, Bool, ap, map, refl, subst, sym, take, ◌∙
 use Rattle.std.proofs.lemmas.List.{take_all}
 use Rattle.bus_words.proofs.PlaceChanges.{all-at}
 use Rattle.subordinate.specs.Faults.{Faults}
-use Rattle.scoreboard.specs.Boards.{footprints_of}
+use Rattle.scoreboard.specs.Boards.{client_footprints, footprints_of}
 use Rattle.scoreboard.specs.InsideBoards.{AreOnGoodPages, ClientState, client_of, footprint_of, is_marked}
 use Rattle.scoreboard.specs.Races.{beside_dependent}
-use Rattle.scoreboard.proofs.held.ClientFootprints.{footprints_more, good_each, own}
+use Rattle.scoreboard.proofs.held.ClientFootprints.{footprints_more, good_each}
 use Rattle.scoreboard.proofs.held.Others.{beside_dependent-append, beside_dependent-none}
 use Rattle.scoreboard.proofs.board.mark_beside.Goals as goal
 
@@ -16,8 +16,8 @@ loop-client-init c = (refl, sym (beside_dependent-none (is_marked c.args.marks.n
 pub mark-requires : goal.mark-requires
 mark-requires c =
     record {
-      good = subst (λ (f : Faults). AreOnGoodPages f (own (client_of c.client-item.result))) (sym c.loop-client.invariant.0)
-          (subst (λ (client : ClientState). AreOnGoodPages c.args.marks.now.faults (own (client_of client))) (sym c.client-item.is)
+      good = subst (λ (f : Faults). AreOnGoodPages f (client_footprints (client_of c.client-item.result))) (sym c.loop-client.invariant.0)
+          (subst (λ (client : ClientState). AreOnGoodPages c.args.marks.now.faults (client_footprints (client_of client))) (sym c.client-item.is)
           (all-at _ c.args.clients.now c.loop-client.client-index c.client-item.result (good_each c.args.marks.now.faults c.args.clients.now c.requires.good) c.loop-client-test.true));
     }
 
@@ -29,8 +29,8 @@ loop-client-preserved c =
     let marks = is_marked c.args.marks.now in (
       c.mark.ensures.faults ∙ c.loop-client.invariant.0,
       c.mark.ensures.bytes
-          ∙ ap (λ (m : ℕ → Bool). beside_dependent m other (own (client_of c.client-item.result))) c.loop-client.invariant.1
-          ∙ beside_dependent-append marks other before (own (client_of c.client-item.result))
+          ∙ ap (λ (m : ℕ → Bool). beside_dependent m other (client_footprints (client_of c.client-item.result))) c.loop-client.invariant.1
+          ∙ beside_dependent-append marks other before (client_footprints (client_of c.client-item.result))
           ∙ ap (beside_dependent marks other) (footprints_more c.args.clients.now i c.client-item.result c.loop-client-test.true c.client-item.is),
     )
 

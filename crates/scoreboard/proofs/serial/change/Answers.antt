@@ -1,5 +1,6 @@
 -- The old value is the number that the memory shows; where it is found the result is put.
-use Rattle.std.proofs.Common.{◌≡◌, ◌^◌, ◌<◌, ◌≤◌, ℕ, Option, refl, sym, subst, ◌∙◌, ap}
+use Rattle.std.proofs.Common.{◌≡◌, ◌^◌, ◌<◌, ◌≤◌, ℕ, Option, refl, sym, subst, ◌∙◌, ap, arith}
+use Rattle.std.proofs.lemmas.Grind.{common_steps}
 use Rattle.std.specs.Prelude.{unwrap_or}
 use Rattle.tl_messages.specs.Operations.{beats_of, has_data}
 use Rattle.tl_messages.specs.Requests.{request_of}
@@ -56,3 +57,6 @@ returns-clause-bytes c =
     c.put_word.ensures.bytes
     ∙ rw (c.place.ensures.value, c.full_mask.ensures.value, c.size-2.ensures.value, c.size-3.ensures.value, c.size-4.ensures.value, number, there.0, there.1)
     (number_put (bytes_in c.args.pages.now) c.args.address c.args.address c.args.request.now.size _ small wide.aligned wide.aligned refl)
+
+pub put_word-requires-clause-lanes : goal.put_word-requires-clause-lanes
+put_word-requires-clause-lanes c = grind (arith, common_steps)

@@ -1,34 +1,30 @@
 -- It joins by its parts.
-use Rattle.std.proofs.Common.{◌≡◌, ◌%◌, ℕ, IfSome, None, Option, Some, List, ap, ap₂, arith, length, map, rules, subst, sym, ◌∙◌}
+use Rattle.std.proofs.Common.{◌≡◌, List, ap, ap₂, arith, map, rules, subst, sym, ◌∙◌}
 use Rattle.std.specs.Vec.{with_items}
 use Rattle.std.proofs.lemmas.List.{places, with_items_is}
 use Rattle.tl_messages.specs.Requests.{bytes_given, request_of}
 use Rattle.scoreboard.specs.Boards.{client_beside, footprints_of, joining_on}
 use Rattle.scoreboard.specs.Flights.{Footprint}
-use Rattle.scoreboard.specs.InsideBoards.{AreOnGoodPages, BoardState, ClientState, ClientsHaveRoom, FootprintState, board_of, client_of, footprint_of, is_marked, room_by}
-use Rattle.scoreboard.specs.InsideSerial.{IsMemoryRange}
+use Rattle.scoreboard.specs.InsideBoards.{BoardState, ClientState, ClientsHaveRoom, FootprintState, board_of, client_of, footprint_of, is_marked, room_by}
 use Rattle.scoreboard.specs.Races.{after_joining, alone, beside_all}
 use Rattle.scoreboard.specs.SerialMemory.{IsCheckedRequest, memory_of, place_in}
-use Rattle.scoreboard.proofs.held.ClientFootprints.{all_beside}
+use Rattle.scoreboard.proofs.held.BoardSteps.{beside_kept}
 use Rattle.scoreboard.proofs.held.FootprintBytes.{few_bytes}
-use Rattle.scoreboard.proofs.memory_words.RequestWords.{range}
+use Rattle.scoreboard.proofs.memory_words.RequestWords.{own_range, placed_range}
 use Rattle.scoreboard.proofs.board.Scoreboard.join.Goals as goal
 
 checked : (c : goal.After-place) → IsCheckedRequest c.self.inside.request
 checked c = subst IsCheckedRequest (sym (ap (λ (b : BoardState). b.request) c.self.view_is)) c.requires.checked
 
 pub start_footprint-requires-clause-range : goal.start_footprint-requires-clause-range
-start_footprint-requires-clause-range c = at c.place.result c.place.ensures.same_byte
-  where
-    at : (place : Option ℕ) → IfSome place (λ address. address % 4096 ≡ c.self.inside.request.address % 4096) → IfSome place (λ address. IsMemoryRange address c.self.inside.request.size)
-    at None same = tt
-    at (Some address) same = range c.self.inside.request address (checked c) same
+start_footprint-requires-clause-range c =
+    placed_range c.self.inside.request.address c.self.inside.request.size c.place.result (own_range c.self.inside.request (checked c)) c.place.ensures.same_byte
 
 pub start_footprint-requires-clause-room : goal.start_footprint-requires-clause-room
 start_footprint-requires-clause-room c =
     let policy = ap (λ (b : BoardState). b.policy) c.self.view_is ∙ c.requires.policy in
     let room = c.self.invariant.2 ∙ ap room_by policy in
-    omega (arith, few_bytes c.self.inside.request.size (omega (arith, (checked c).1, (checked c).2.size)), room)
+    omega (arith, few_bytes c.self.inside.request.size (own_range c.self.inside.request (checked c)).small, room)
 
 held : (c : goal.After-self-1) → (with_items c.self.inside.clients c.give_way.new.clients).items ≡ c.give_way.new.clients
 held c = with_items_is c.self.inside.clients c.give_way.new.clients (search (rules, places))
@@ -41,15 +37,16 @@ given c =
 
 pub invariant_of-self : goal.invariant_of-self
 invariant_of-self c =
+    let clients = c.self.inside.clients.items in
     let room = room_by c.self.inside.policy in
     let faults = c.self.inside.serial.pages.faults in
-    let before = subst (ClientsHaveRoom room) (sym c.deref_mut.ensures.value) c.self.invariant.1 in
-    let beside = all_beside faults (footprint_of c.limit.new.joined.footprint) (map client_of c.self.inside.clients.items) c.self.invariant.4 in (
-      rw (held c) (omega (arith, c.self.invariant.0, c.give_way.auto.clients, ap length c.deref_mut.ensures.value)),
-      rw (held c) (c.give_way.ensures.room room before),
+    let kept = beside_kept room faults clients c.give_way.new.clients (footprint_of c.limit.new.joined.footprint) (given c)
+    (λ have. c.give_way.ensures.room room (subst (ClientsHaveRoom room) (sym c.deref_mut.ensures.value) have)) (c.self.invariant.0, c.self.invariant.1, c.self.invariant.4) in (
+      rw (held c) kept.0,
+      rw (held c) kept.1,
       c.limit.ensures.room ∙ c.start_footprint.ensures.room ∙ c.self.invariant.2,
       c.mark_written.ensures.faults ∙ c.self.invariant.3,
-      rw (held c) (subst (λ cs. AreOnGoodPages faults (footprints_of cs)) (sym (given c)) beside),
+      rw (held c) kept.2,
     )
 
 -- its footprint, on the board as it is held
@@ -71,3 +68,8 @@ returns-clause-bytes c =
     ∙ ap₂ (λ (f : FootprintState) (cs : List ClientState). after_joining (is_marked c.self.inside.indeterminate) (footprints_of (map client_of cs)) (footprint_of f) (bytes_given c.self.inside.request))
     c.footprint-footprint.ensures c.deref-2.ensures.value
     ∙ ap (λ (b : BoardState). after_joining (is_marked b.indeterminate) (footprints_of (map client_of b.clients)) (footprint_of c.limit.new.joined.footprint) (bytes_given b.request)) c.self.view_is
+
+pub returns-clause-clients : goal.returns-clause-clients
+returns-clause-clients c =
+    ap (map client_of) (held c) ∙ given c
+    ∙ ap (λ (b : BoardState). map (client_beside (footprint_of c.limit.new.joined.footprint)) (board_of b).clients) c.self.view_is

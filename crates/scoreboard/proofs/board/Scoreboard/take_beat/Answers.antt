@@ -1,33 +1,29 @@
 -- The client that is there takes it.
-use Rattle.std.proofs.Common.{◌≡◌, Some, ap, map, rules, subst, sym, ◌∙◌}
+use Rattle.std.proofs.Common.{◌≡◌, Some, ap, rules, subst, sym, ◌∙◌}
 use Rattle.std.specs.Prelude.{slice_get, slice_set}
 use Rattle.std.proofs.lemmas.List.{map-set}
 use Rattle.bus_words.proofs.StoredPlaces.{get_set}
 use Rattle.tl_checker.specs.Ports.{joined}
-use Rattle.scoreboard.specs.Boards.{Board, ClientBoard, answer_to, with_client}
+use Rattle.scoreboard.specs.Boards.{Board, ClientBoard, answer_to, client_footprints, with_client}
 use Rattle.scoreboard.specs.InsideBoards.{AreOnGoodPages, BoardState, ClientState, IsFreeOf, board_of, client_of, front_after, room_by}
 use Rattle.scoreboard.specs.contracts.board.Scoreboard.{the_view}
-use Rattle.scoreboard.proofs.held.BoardSteps.{client_kept, client_there, there_at}
-use Rattle.scoreboard.proofs.held.ClientFootprints.{own}
+use Rattle.scoreboard.proofs.held.BoardSteps.{client_is, client_kept, there_at}
 use Rattle.scoreboard.proofs.held.RequestAnswered.{free_whole}
 use Rattle.scoreboard.proofs.board.Scoreboard.take_beat.Goals as goal
-
-one_only : {one other : ClientBoard} → Some one ≡ Some other → one ≡ other
-one_only is = cc
 
 there : (c : goal.After-self-1) → slice_get c.self.inside.clients.items c.args.client ≡ Some c.index_mut.result.now
 there c = there_at c.self.inside.clients.items c.args.client c.index_mut.result.now (search rules) c.index_mut.ensures.value
 
 same : (c : goal.After-self-1) (found : ClientBoard) → slice_get (board_of c.args.self.now).clients c.args.client ≡ Some found → client_of c.index_mut.result.now ≡ found
 same c found is =
-    one_only (sym (client_there c.self.inside.clients.items c.args.client c.index_mut.result.now (there c)) ∙ ap (λ (b : BoardState). slice_get (board_of b).clients c.args.client) c.self.view_is ∙ is)
+    client_is c.self.inside.clients.items c.args.client c.index_mut.result.now found (there c) (ap (λ (b : BoardState). slice_get (board_of b).clients c.args.client) c.self.view_is ∙ is)
 
 pub invariant_of-self : goal.invariant_of-self
 invariant_of-self c =
     let faults = c.self.inside.serial.pages.faults in
     let kept = client_kept (room_by c.self.inside.policy) faults c.self.inside.clients.items c.args.client c.index_mut.result.now c.take_beat.new.self (there c)
     (ap (λ (client : ClientState). client.flights.room) c.take_beat.ensures.client)
-    (subst (λ (client : ClientState). AreOnGoodPages faults (own (client_of client))) (sym c.take_beat.ensures.client)) (c.self.invariant.0, c.self.invariant.1, c.self.invariant.4) in
+    (subst (λ (client : ClientState). AreOnGoodPages faults (client_footprints (client_of client))) (sym c.take_beat.ensures.client)) (c.self.invariant.0, c.self.invariant.1, c.self.invariant.4) in
     (kept.0, kept.1, c.self.invariant.2, c.self.invariant.3, kept.2)
 
 pub returns-clause-answer : goal.returns-clause-answer
@@ -51,6 +47,8 @@ pub returns-clause-free : goal.returns-clause-free
 returns-clause-free c found is whole =
     let clients = c.self.inside.clients.items in
     let new = c.take_beat.new.self in
-    let own : slice_get (map client_of (slice_set clients c.args.client new)) c.args.client ≡ Some (client_of new) = client_there (slice_set clients c.args.client new) c.args.client new (get_set clients c.args.client new (search rules)) in
-    subst (IsFreeOf c.take_beat.new.request.source) (one_only (sym own ∙ is))
+    subst (IsFreeOf c.take_beat.new.request.source) (client_is (slice_set clients c.args.client new) c.args.client new found (get_set clients c.args.client new (search rules)) is)
     (free_whole c.index_mut.result.now new _ c.take_beat.new.request c.take_beat.result whole c.take_beat.ensures.client (c.take_beat.ensures.free whole))
+
+pub returns-clause-first : goal.returns-clause-first
+returns-clause-first c found is none more = c.take_beat.ensures.first (ap (λ (client : ClientBoard). client.front) (same c found is) ∙ none) more

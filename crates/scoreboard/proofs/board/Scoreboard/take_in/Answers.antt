@@ -1,16 +1,17 @@
 -- The client that is there gets it.
-use Rattle.std.proofs.Common.{◌≡◌, Some, ap, false, map, rules, subst, sym, ◌∙◌}
+use Rattle.std.proofs.Common.{◌≡◌, Some, ap, false, map, rules, subst, sym, ◌∙◌, arith}
+use Rattle.std.proofs.lemmas.Grind.{common_steps}
 use Rattle.std.specs.Prelude.{slice_get}
 use Rattle.std.specs.List.{list_any}
 use Rattle.bus_words.proofs.PlaceChanges.{all-got}
 use Rattle.tl_messages.specs.Requests.{request_of}
-use Rattle.scoreboard.specs.Boards.{ClientBoard, with_taken}
+use Rattle.scoreboard.specs.Boards.{ClientBoard, client_footprints, with_taken}
 use Rattle.scoreboard.specs.Flights.{is_of_source}
 use Rattle.scoreboard.specs.InsideBoards.{AreOnGoodPages, BoardState, ClientState, IsFreeOf, IsOnGoodPage, FlightState, board_of, client_of, flight_of, footprint_of, room_by}
 use Rattle.scoreboard.specs.SerialMemory.{Memory}
 use Rattle.scoreboard.specs.contracts.board.Scoreboard.{the_view}
-use Rattle.scoreboard.proofs.held.BoardSteps.{client_kept, client_there, taken, there_at}
-use Rattle.scoreboard.proofs.held.ClientFootprints.{own, own_with}
+use Rattle.scoreboard.proofs.held.BoardSteps.{client_is, client_kept, client_there, taken, there_at}
+use Rattle.scoreboard.proofs.held.ClientFootprints.{good_accepted}
 use Rattle.scoreboard.proofs.board.Scoreboard.take_in.Goals as goal
 
 free : (c : goal.After-index_mut) → IsFreeOf c.self.inside.request.source (client_of c.index_mut.result.now)
@@ -39,8 +40,9 @@ invariant_of-self c =
     let same : c.carry_out.new.serial.pages.faults ≡ faults = ap (λ (m : Memory). m.faults) c.carry_out.ensures.memory in
     let good = subst (λ (b : BoardState). IsOnGoodPage b.memory.pages.faults (footprint_of b.joining.footprint)) (sym c.self.view_is) c.requires.good in
     let flight_good = subst (λ (f : FlightState). IsOnGoodPage faults (footprint_of f.footprint)) (sym c.carry_out.ensures.flight) good in
-    let kept = client_kept room faults clients c.args.client found c.join.new.self (still c) (ap (λ (client : ClientState). client.flights.room) c.join.ensures.client)
-    (λ own_good. subst (λ (client : ClientState). AreOnGoodPages faults (own (client_of client))) (sym c.join.ensures.client) (own_with faults found c.carry_out.new.self own_good flight_good))
+    let kept = client_kept room faults clients c.args.client found c.join.new.self (still c) (ap (λ (client : ClientState). client.flights.room) c.join.ensures.state)
+    (λ own_good. subst (λ (client : ClientBoard). AreOnGoodPages faults (client_footprints client)) (sym c.join.ensures.client)
+    (good_accepted faults (flight_of c.carry_out.new.self) (client_of found) own_good flight_good))
     (c.self.invariant.0, c.self.invariant.1, c.self.invariant.4) in (
       kept.0,
       kept.1,
@@ -53,11 +55,11 @@ pub returns-clause-state : goal.returns-clause-state
 returns-clause-state c found is =
     let one = c.index_mut.result.now in
     let there = ap (λ (b : BoardState). slice_get (board_of b).clients c.args.client) c.self.view_is ∙ is in
-    let same : client_of one ≡ found = one_only (sym (client_there c.self.inside.clients.items c.args.client one (still c)) ∙ there) in
+    let same = client_is c.self.inside.clients.items c.args.client one found (still c) there in
     taken (the_view c.self.inside) c.args.client one c.join.new.self c.carry_out.new.serial c.carry_out.new.self c.join.new.flight (footprint_of c.self.inside.joining.footprint) c.join.ensures.client
-    (ap (λ (client : ClientBoard). client.front) same ∙ (c.requires.free found is).front) (ap flight_of c.carry_out.ensures.flight) c.carry_out.ensures.memory
+    (ap flight_of c.carry_out.ensures.flight) c.carry_out.ensures.memory
     ∙ ap (λ (client : ClientBoard). with_taken (board_of (the_view c.self.inside)) c.args.client client (request_of c.self.inside.request) (footprint_of c.self.inside.joining.footprint)) same
     ∙ ap (λ (b : BoardState). with_taken (board_of b) c.args.client found (request_of b.request) (footprint_of b.joining.footprint)) c.self.view_is
-  where
-    one_only : {one other : ClientBoard} → Some one ≡ Some other → one ≡ other
-    one_only is = cc
+
+pub join-requires-clause-room : goal.join-requires-clause-room
+join-requires-clause-room c = grind (arith, common_steps)

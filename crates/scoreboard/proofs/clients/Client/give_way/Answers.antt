@@ -1,4 +1,5 @@
 -- As much is due as before.
+use Rattle.std.proofs.Common.{◌∙◌, sym}
 use Rattle.scoreboard.specs.InsideBoards.{flights_of, footprint_of}
 use Rattle.scoreboard.proofs.held.FreeFronts.{front_beside}
 use Rattle.scoreboard.proofs.clients.Client.give_way.Goals as goal
@@ -8,4 +9,6 @@ invariant_of-self c = (
   c.self.invariant.0,
   c.self.invariant.1,
   rw c.give_way.ensures.flights (front_beside c.self.inside.port.front (flights_of c.self.inside.flights) (footprint_of c.args.other.now) c.self.invariant.2),
+  c.self.invariant.3,
+  c.give_way-2.ensures.room ∙ c.self.invariant.4 ∙ sym c.give_way.ensures.room,
 )

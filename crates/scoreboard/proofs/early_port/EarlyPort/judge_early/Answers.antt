@@ -1,5 +1,6 @@
 -- A W beat that isn't early.
-use Rattle.std.proofs.Common.{◌≡◌, ◌&&◌, false, length, nat_lt, sym, subst, ◌∙◌, rules}
+use Rattle.std.proofs.Common.{◌≡◌, ◌&&◌, false, length, nat_lt, sym, subst, ◌∙◌, rules, arith}
+use Rattle.std.proofs.lemmas.Grind.{common_steps}
 use Rattle.scoreboard.specs.AxiPorts.{PortBoard, wrong_with_early, tells_no_write}
 use Rattle.scoreboard.proofs.held.EarlyBeats.{not_early}
 use Rattle.scoreboard.proofs.early_port.EarlyPort.judge_early.Goals as goal
@@ -13,3 +14,9 @@ returns-in_default-2-clause-wrong c =
 
 pub returns-in-W-clause-state : goal.returns-in-W-clause-state
 returns-in-W-clause-state c = search rules
+
+pub returns-in-Aw-clause-wrong : goal.returns-in-Aw-clause-wrong
+returns-in-Aw-clause-wrong c = grind (arith, common_steps)
+
+pub returns-in_default-clause-wrong : goal.returns-in_default-clause-wrong
+returns-in_default-clause-wrong c = grind (arith, common_steps)

@@ -31,3 +31,6 @@ invariant_of-self c =
           )
       | in_default w ↦ rw w.self-inside-is (due, c.self.invariant.1, c.self.invariant.2, omega (arith, count, c.self.invariant.3), c.self.invariant.4, c.self.invariant.5)
     ]
+
+pub returns-clause-flights : goal.returns-clause-flights
+returns-clause-flights c = grind (arith, common_steps)

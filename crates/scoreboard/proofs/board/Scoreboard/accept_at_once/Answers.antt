@@ -2,7 +2,7 @@
 use Rattle.std.proofs.Common.{ap, map, subst, ◌∙◌}
 use Rattle.scoreboard.specs.InsideBoards.{BoardState, IsFreeOf, client_of, footprint_of}
 use Rattle.scoreboard.proofs.held.BoardSteps.{free_beside, is_there, joined_taken, was_there}
-use Rattle.scoreboard.proofs.board.Scoreboard.accept_in_real_time.Goals as goal
+use Rattle.scoreboard.proofs.board.Scoreboard.accept_at_once.Goals as goal
 
 pub take_in-requires-clause-free : goal.take_in-requires-clause-free
 take_in-requires-clause-free c made there =

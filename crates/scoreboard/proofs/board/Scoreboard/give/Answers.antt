@@ -1,0 +1,37 @@
+-- It keeps of its footprint what was determined all the while.
+use Rattle.std.proofs.Common.{ap, ap₂, arith, rules, subst, sym, ◌∙◌}
+use Rattle.std.specs.Prelude.{slice_get}
+use Rattle.tl_messages.specs.Requests.{request_of}
+use Rattle.scoreboard.specs.Boards.{ClientBoard, coming_on, kept_from}
+use Rattle.scoreboard.specs.Flights.{Footprint}
+use Rattle.scoreboard.specs.InsideBoards.{BoardState, board_of, is_marked, room_by}
+use Rattle.scoreboard.specs.Races.{alone}
+use Rattle.scoreboard.specs.SerialMemory.{IsCheckedRequest}
+use Rattle.scoreboard.proofs.held.BoardSteps.{client_is, there_at}
+use Rattle.scoreboard.proofs.held.FootprintBytes.{few_bytes}
+use Rattle.scoreboard.proofs.memory_words.RequestWords.{own_range, placed_range}
+use Rattle.scoreboard.proofs.board.Scoreboard.give.Goals as goal
+
+checked : (c : goal.After-place) → IsCheckedRequest c.self.inside.request
+checked c = subst IsCheckedRequest (sym (ap (λ (b : BoardState). b.request) c.self.view_is)) c.requires.checked
+
+pub start_footprint-requires-clause-range : goal.start_footprint-requires-clause-range
+start_footprint-requires-clause-range c =
+    placed_range c.self.inside.request.address c.self.inside.request.size c.place.result (own_range c.self.inside.request (checked c)) c.place.ensures.same_byte
+
+pub start_footprint-requires-clause-room : goal.start_footprint-requires-clause-room
+start_footprint-requires-clause-room c =
+    let policy = ap (λ (b : BoardState). b.policy) c.self.view_is ∙ c.requires.policy in
+    let room = c.self.invariant.2 ∙ ap room_by policy in
+    omega (arith, few_bytes c.self.inside.request.size (own_range c.self.inside.request (checked c)).small, room)
+
+pub returns-clause-footprint : goal.returns-clause-footprint
+returns-clause-footprint c found is =
+    let clients = c.self.inside.clients.items in
+    let one = c.index.result.now in
+    let there = there_at clients c.args.client one (search rules) c.index.ensures in
+    let same = client_is clients c.args.client one found there (ap (λ (b : BoardState). slice_get (board_of b).clients c.args.client) c.self.view_is ∙ is) in
+    let start = c.start_footprint.ensures.footprint ∙ ap (λ place. alone (is_marked c.self.inside.indeterminate) place (request_of c.self.inside.request)) c.place.ensures.place in
+    c.keep.ensures.footprint
+    ∙ ap₂ (λ (coming footprint : Footprint). kept_from coming footprint) (ap (λ (client : ClientBoard). client.coming) same) start
+    ∙ ap (λ (b : BoardState). coming_on (board_of b) (request_of b.request) found.coming) c.self.view_is

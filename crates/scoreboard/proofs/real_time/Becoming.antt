@@ -1,0 +1,329 @@
+-- What has begun and isn't whole, along lists of beats: its client's port holds its beats so far. So what a request may become after a beat, it may have
+-- become before.
+use Rattle.std.proofs.Common.{◌≡◌, ℕ, ◌<◌, ◌==◌, Bool, true, false, ◌&&◌, not, List, [], ◌∷◌, ◌++◌, map, length, Option, Some, None, Result, Ok, Err, inl, inr, if◌then◌else◌, refl, sym, ◌∙◌, ap, subst, arith}
+use Rattle.std.specs.Prelude.{slice_get}
+use Rattle.std.specs.List.{list_any}
+use Rattle.std.proofs.lemmas.Bool.{and_parts, cases_eq, cases_Bool, eq-eqb, eqb-true, ne_eqb, not-true}
+use Rattle.std.proofs.lemmas.List.{get_or-map, get_or_append_left, get_or_at, length-append, length-map}
+use Rattle.tl_messages.specs.Requests.{HeldMessage, WholeRequest, begun, bytes_given, no_message, request_of, with_beat as with_more}
+use Rattle.tl_messages.specs.declared.ABeat.{ABeat}
+use Rattle.tl_checker.specs.Ports.{joined, judged}
+use Rattle.tl_checker.specs.RequestRules.{TlPortLimits}
+use Rattle.tl_checker.specs.declared.Progress.{Progress}
+use Rattle.tl_checker.specs.declared.Progress.TheVariants.{More, Whole}
+use Rattle.tl_checker.specs.declared.TlRule.{TlRule}
+use Rattle.setups.specs.Setups.{SetupLists}
+use Rattle.scoreboard.specs.Boards.{Board, ClientBoard, after_a, after_all, after_seen, answer_to, answered_on, opening_board}
+use Rattle.scoreboard.specs.Flights.{is_busy}
+use Rattle.scoreboard.specs.InsideBoards.{front_after}
+use Rattle.scoreboard.specs.Orders.{Entry, Order, begun_to, board_after, is_due, with_beat}
+use Rattle.scoreboard.specs.RealTime.{MayBecome, MayBecomeAll, begun_from, begun_in, begun_next, completed, entry_of, numbered, with_answered, with_progress, with_request}
+use Rattle.scoreboard.specs.declared.ObservedBeat.{ObservedBeat}
+use Rattle.scoreboard.specs.declared.ObservedBeat.TheVariants.{A, D, Axi as OnAxi, Drained}
+use Rattle.scoreboard.specs.declared.Policy.TheVariants.{RealTime}
+use Rattle.scoreboard.proofs.real_time.CheckedRequests.{first_well, sound_well, whole_sound}
+use Rattle.scoreboard.proofs.real_time.Fronts.{AreFronts, front_answered, front_at, front_of, front_replied, fronts_next, fronts_opening}
+use Rattle.scoreboard.proofs.real_time.RequestActs.{IsWell, well_bytes}
+
+-- ---- what is held of a request
+
+-- a front holds the beats so far of a request that isn't whole
+pub record IsHeld (front : Option HeldMessage) (request : WholeRequest) : Type 0 where
+  pub held : HeldMessage
+  pub is : front ≡ Some held
+  pub fields : request_of held ≡ record request { bytes = bytes_given held; corrupt = held.corrupt }
+  pub corrupt : request.corrupt ≡ true → held.corrupt ≡ true
+  pub well : IsWell request
+
+-- with one more beat
+abbrev held_more : (front : Option HeldMessage) (request : WholeRequest) (beat : ABeat) (h : IsHeld front request)
+    → IsHeld (Some (with_more h.held beat)) request
+held_more front request beat h =
+    record {
+      held = with_more h.held beat;
+      is = refl;
+      fields = ap (λ (q : WholeRequest). record q { bytes = bytes_given (with_more h.held beat); corrupt = (with_more h.held beat).corrupt }) h.fields;
+      corrupt = λ is. let was = h.corrupt is in rw was refl;
+      well = h.well;
+    }
+
+-- it may become what is held
+held_becomes : (front : Option HeldMessage) (entry : Entry) (q : WholeRequest) (h : IsHeld front entry.request) → entry.whole ≡ false → q ≡ request_of h.held
+    → IsWell q → MayBecome entry q
+held_becomes front entry q h unwhole is well =
+    record {
+      same = λ whole. absurd (cc (unwhole, whole));
+      fields = subst (λ (r : WholeRequest). r ≡ record entry.request { bytes = r.bytes; corrupt = r.corrupt }) (sym is) h.fields;
+      corrupt = λ corrupt. ap (λ (r : WholeRequest). r.corrupt) is ∙ h.corrupt corrupt;
+      bytes = λ not_whole. well_bytes q well;
+    }
+
+-- ---- each entry of an order, by its number
+
+abbrev pub EachIn : (Entry → Type 0) → Order → Type 0
+EachIn P now = (number : ℕ) → number < length now → P (numbered now number)
+
+abbrev pub no_entry : Entry
+no_entry = entry_of 0 (request_of no_message) true
+
+pub numbered_map : (change : Entry → Entry) (now : Order) (number : ℕ) → number < length now → numbered (map change now) number ≡ change (numbered now number)
+numbered_map change now number small = get_or-map change now number no_entry no_entry small
+
+pub numbered_first : (now : Order) (entry : Entry) (number : ℕ) → number < length now → numbered (now ++ entry ∷ []) number ≡ numbered now number
+numbered_first now entry number small = get_or_append_left now (entry ∷ []) no_entry number small
+
+pub numbered_last : (now : Order) (entry : Entry) → numbered (now ++ entry ∷ []) (length now) ≡ entry
+numbered_last now entry = get_or_at now entry [] no_entry (length now) refl
+
+each_map : (P Q : Entry → Type 0) (change : Entry → Entry) (now : Order) → ((entry : Entry) → P entry → Q (change entry)) → EachIn P now
+    → EachIn Q (map change now)
+each_map P Q change now goes all number small =
+    let within : number < length now = omega (arith, small, length-map now change) in
+    subst Q (sym (numbered_map change now number within)) (goes (numbered now number) (all number within))
+
+each_last : (P : Entry → Type 0) (now : Order) (entry : Entry) → EachIn P now → P entry → EachIn P (now ++ entry ∷ [])
+each_last P now entry all last number small =
+    elim (cases_eq number (length now)) [
+      | inl same ↦ subst P (sym (ap (numbered (now ++ entry ∷ [])) same ∙ numbered_last now entry)) last
+      | inr differ ↦
+          let within : number < length now = omega (arith, small, differ, length-append now (entry ∷ [])) in
+          subst P (sym (numbered_first now entry number within)) (all number within)
+    ]
+
+-- ---- what is held of those that have begun
+
+-- a request that isn't whole is held by its client's front
+abbrev pub IsHeldBy : (ℕ → Option HeldMessage) → Entry → Type 0
+IsHeldBy fronts entry = entry.whole ≡ false → IsHeld (fronts entry.client) entry.request
+
+abbrev pub AreHeld : (ℕ → Option HeldMessage) → Order → Type 0
+AreHeld fronts now = EachIn (IsHeldBy fronts) now
+
+-- where its client's front stays
+held_still : (fronts next : ℕ → Option HeldMessage) (entry : Entry) → (entry.whole ≡ false → next entry.client ≡ fronts entry.client)
+    → IsHeldBy fronts entry → IsHeldBy next entry
+held_still fronts next entry same held unwhole = subst (λ (front : Option HeldMessage). IsHeld front entry.request) (sym (same unwhole)) (held unwhole)
+
+-- of a client that has begun nothing, nothing is held
+of_others : (fronts : ℕ → Option HeldMessage) (entry : Entry) (number : ℕ) → fronts number ≡ None → IsHeldBy fronts entry → entry.whole ≡ false
+    → entry.client ≡ number → ⊥
+of_others fronts entry number none held unwhole same =
+    let is = (held unwhole).is in cc (sym none ∙ sym (ap fronts same) ∙ is)
+
+-- what isn't completed isn't the client's, or is whole
+still_others : (entry : Entry) (number : ℕ) → (entry.client == number && not entry.whole) ≡ false → entry.whole ≡ false → entry.client ≡ number → ⊥
+still_others entry number test unwhole same = let is = eq-eqb entry.client number same in grind (arith, test, unwhole, is)
+
+module _ (limits : TlPortLimits) (beat : ABeat) (busy : Bool) (number : ℕ) (fronts next : ℕ → Option HeldMessage) (now : Order) where
+  -- the fronts after an answer
+  abbrev ComeNext : Option HeldMessage → Progress → Type 0
+  ComeNext front progress =
+      (other : ℕ) → next other ≡ (if other == number then front_after front (joined limits front beat) (Ok progress) else fronts other)
+
+  next_other : (front : Option HeldMessage) (progress : Progress) → ComeNext front progress → (other : ℕ) → (other ≡ number → ⊥) → next other ≡ fronts other
+  next_other front progress come other differ = come other ∙ rw (ne_eqb other number differ) refl
+
+  next_own : (front : Option HeldMessage) (progress : Progress) → ComeNext front progress
+      → next number ≡ front_after front (joined limits front beat) (Ok progress)
+  next_own front progress come = come number ∙ rw (eq-eqb number number refl) refl
+
+  -- all that had begun, where the client had begun nothing
+  others_held : (progress : Progress) → ComeNext None progress → fronts number ≡ None → AreHeld fronts now → AreHeld next now
+  others_held progress come none are k small =
+      let entry = numbered now k in
+      held_still fronts next entry
+      (λ unwhole. next_other None progress come entry.client (of_others fronts entry number none (are k small) unwhole)) (are k small)
+
+  -- with a beat that a port takes
+  held_progress : (front : Option HeldMessage) (progress : Progress) → judged limits front beat busy ≡ Ok progress → fronts number ≡ front
+      → ComeNext front progress
+      → AreHeld fronts now → AreHeld next (with_progress number front (request_of (joined limits front beat)) progress now)
+  held_progress None More answer own come are =
+      each_last (IsHeldBy next) now (entry_of number (request_of (begun limits.client beat)) false) (others_held More come own are)
+      (λ unwhole. record {
+        held = begun limits.client beat;
+        is = next_own None More come;
+        fields = refl;
+        corrupt = λ is. is;
+        well = first_well limits beat busy answer;
+      })
+  held_progress None Whole answer own come are =
+      each_last (IsHeldBy next) now (entry_of number (request_of (begun limits.client beat)) true) (others_held Whole come own are)
+      (λ unwhole. absurd (cc (unwhole)))
+  held_progress (Some held) More answer own come are = λ k small. by_client (numbered now k) (are k small)
+    where
+      by_client : (entry : Entry) → IsHeldBy fronts entry → IsHeldBy next entry
+      by_client entry was unwhole =
+          let h = was unwhole in
+          elim (cases_eq entry.client number) [
+            | inl same ↦
+                let this : held ≡ h.held = cc (sym own ∙ sym (ap fronts same) ∙ h.is) in
+                subst (λ (front : Option HeldMessage). IsHeld front entry.request)
+                (ap (λ (m : HeldMessage). Some (with_more m beat)) (sym this) ∙ sym (next_own (Some held) More come) ∙ sym (ap next same))
+                (held_more (fronts entry.client) entry.request beat h)
+            | inr differ ↦ held_still fronts next entry (λ again. next_other (Some held) More come entry.client differ) was unwhole
+          ]
+  held_progress (Some held) Whole answer own come are =
+      each_map (IsHeldBy fronts) (IsHeldBy next) (completed number (request_of (with_more held beat))) now by_test are
+    where
+      by_test : (entry : Entry) → IsHeldBy fronts entry → IsHeldBy next (completed number (request_of (with_more held beat)) entry)
+      by_test entry was =
+          elim (cases_Bool (entry.client == number && not entry.whole)) [
+            | inl is ↦ rw is (λ unwhole. absurd (cc (unwhole)))
+            | inr is ↦
+                rw is (held_still fronts next entry (λ unwhole. next_other (Some held) Whole come entry.client (still_others entry number is unwhole)) was)
+          ]
+
+  -- ---- what they may become
+
+  -- after the beat, and so before it
+  may_progress : (front : Option HeldMessage) (progress : Progress) (requests : ℕ → WholeRequest) → fronts number ≡ front
+      → ((held : HeldMessage) → front ≡ Some held → progress ≡ Whole → IsWell (request_of (with_more held beat)))
+      → AreHeld fronts now → MayBecomeAll (with_progress number front (request_of (joined limits front beat)) progress now) requests → MayBecomeAll now requests
+  may_progress None More requests own well are may k small =
+      subst (λ (entry : Entry). MayBecome entry (requests k)) (numbered_first now (entry_of number (request_of (begun limits.client beat)) false) k small)
+      (may k (omega (arith, small, length-append now (entry_of number (request_of (begun limits.client beat)) false ∷ []))))
+  may_progress None Whole requests own well are may k small =
+      subst (λ (entry : Entry). MayBecome entry (requests k)) (numbered_first now (entry_of number (request_of (begun limits.client beat)) true) k small)
+      (may k (omega (arith, small, length-append now (entry_of number (request_of (begun limits.client beat)) true ∷ []))))
+  may_progress (Some held) More requests own well are may k small = may k small
+  may_progress (Some held) Whole requests own well are may k small =
+      by_test (numbered now k) (are k small)
+      (subst (λ (entry : Entry). MayBecome entry (requests k)) (numbered_map change now k small) (may k (omega (arith, small, length-map now change))))
+    where
+      change : Entry → Entry
+      change = completed number (request_of (with_more held beat))
+
+      by_test : (entry : Entry) → IsHeldBy fronts entry → MayBecome (change entry) (requests k) → MayBecome entry (requests k)
+      by_test entry was becomes =
+          elim (cases_Bool (entry.client == number && not entry.whole)) [
+            | inl is ↦ own_request is
+            | inr is ↦ let still : change entry ≡ entry = rw is refl in subst (λ (e : Entry). MayBecome e (requests k)) still becomes
+          ]
+        where
+          own_request : (entry.client == number && not entry.whole) ≡ true → MayBecome entry (requests k)
+          own_request is =
+              let parts = and_parts (entry.client == number) (not entry.whole) is in
+              let unwhole = not-true entry.whole parts.1 in
+              let h = was unwhole in
+              let this : held ≡ h.held = cc (sym own ∙ sym (ap fronts (eqb-true entry.client number parts.0)) ∙ h.is) in
+              let done : change entry ≡ record entry { request = request_of (with_more held beat); whole = true } = rw is refl in
+              let same = (subst (λ (e : Entry). MayBecome e (requests k)) done becomes).same refl in
+              held_becomes (Some (with_more h.held beat)) entry (requests k) (held_more (fronts entry.client) entry.request beat h) unwhole
+              (same ∙ ap (λ (m : HeldMessage). request_of (with_more m beat)) this) (subst IsWell (sym same) (well held refl refl))
+
+-- ---- along lists of beats
+
+-- what a board's clients hold is what has begun and isn't whole
+pub record IsFollowed (board : Board) (now : Order) : Type 0 where
+  pub fronts : AreFronts board.clients
+  pub held : AreHeld (front_at board.clients) now
+
+-- a beat on channel D changes how many have come alone
+held_beat : (fronts next : ℕ → Option HeldMessage) (begun : Bool) (client source : ℕ) (entry : Entry) → ((other : ℕ) → next other ≡ fronts other)
+    → IsHeldBy fronts entry → IsHeldBy next (with_beat begun client source entry)
+held_beat fronts next begun client source entry same was =
+    elim (cases_Bool (is_due begun client source entry && entry.request.source == source)) [
+      | inl is ↦ rw is (held_still fronts next entry (λ unwhole. same entry.client) was)
+      | inr is ↦ rw is (held_still fronts next entry (λ unwhole. same entry.client) was)
+    ]
+
+held_request : (board : Board) (number : ℕ) (beat : ABeat) (now : Order) → AreHeld (front_at board.clients) now
+    → AreHeld (front_at (after_a RealTime board number (slice_get board.clients number) beat).clients)
+    (with_request number (slice_get board.clients number) beat now)
+held_request board number beat now are = by_client (slice_get board.clients number) refl
+  where
+    by_answer : (client : ClientBoard) (answer : Result Progress TlRule) → slice_get board.clients number ≡ Some client
+        → answer_to RealTime client beat ≡ answer
+        → AreHeld (front_at (answered_on RealTime board number client (joined client.limits client.front beat) answer).clients)
+        (with_answered number client.front (joined client.limits client.front beat) answer now)
+    by_answer client (Err rule) there is = are
+    by_answer client (Ok progress) there is =
+        let message = joined client.limits client.front beat in
+        held_progress client.limits beat (is_busy RealTime client.flights beat.source) number (front_at board.clients)
+        (front_at (answered_on RealTime board number client message (Ok progress)).clients) now client.front progress is (ap front_of there)
+        (λ other. front_answered board number other client message (Ok progress) there) are
+
+    by_client : (found : Option ClientBoard) → slice_get board.clients number ≡ found
+        → AreHeld (front_at (after_a RealTime board number found beat).clients) (with_request number found beat now)
+    by_client None there = are
+    by_client (Some client) there = by_answer client (answer_to RealTime client beat) there refl
+
+-- with any beat
+pub followed_next : (board : Board) (seen : ObservedBeat) (now : Order) → IsFollowed board now
+    → IsFollowed (after_seen RealTime board seen) (begun_next board seen now)
+followed_next board seen now follows = record { fronts = fronts_next board seen follows.fronts; held = by_seen seen }
+  where
+    by_seen : (seen : ObservedBeat) → AreHeld (front_at (after_seen RealTime board seen).clients) (begun_next board seen now)
+    by_seen (A number beat) = held_request board number beat now follows.held
+    by_seen (D number beat) =
+        let next = front_at (after_seen RealTime board (D number beat)).clients in
+        let begun = list_any (begun_to number) now in
+        each_map (IsHeldBy (front_at board.clients)) (IsHeldBy next) (with_beat begun number beat.source) now
+        (λ entry. held_beat (front_at board.clients) next begun number beat.source entry (λ other. front_replied board number other beat)) follows.held
+    by_seen (OnAxi beat) = follows.held
+    by_seen Drained = follows.held
+
+-- with a list of beats
+followed_from : (beats : List ObservedBeat) (board : Board) (now : Order) → IsFollowed board now
+    → IsFollowed (after_all RealTime board beats) (begun_from board now beats)
+followed_from [] board now follows = follows
+followed_from (seen ∷ beats) board now follows =
+    followed_from beats (after_seen RealTime board seen) (begun_next board seen now) (followed_next board seen now follows)
+
+followed_opening : (setup : SetupLists) → IsFollowed (opening_board setup) []
+followed_opening setup = record { fronts = fronts_opening setup; held = λ number small. absurd (omega (arith, small)) }
+
+-- since the start
+pub followed : (setup : SetupLists) (beats : List ObservedBeat) → IsFollowed (board_after setup beats) (begun_in setup beats)
+followed setup beats = followed_from beats (opening_board setup) [] (followed_opening setup)
+
+-- ---- what they may become after a beat, they may become before
+
+may_beat : (begun : Bool) (client source : ℕ) (entry : Entry) (q : WholeRequest) → MayBecome (with_beat begun client source entry) q → MayBecome entry q
+may_beat begun client source entry q =
+    elim (cases_Bool (is_due begun client source entry && entry.request.source == source)) [
+      | inl is ↦ rw is (λ may. record { same = may.same; fields = may.fields; corrupt = may.corrupt; bytes = may.bytes })
+      | inr is ↦ rw is (λ may. may)
+    ]
+
+may_request : (board : Board) (number : ℕ) (beat : ABeat) (now : Order) (requests : ℕ → WholeRequest) → IsFollowed board now
+    → MayBecomeAll (with_request number (slice_get board.clients number) beat now) requests → MayBecomeAll now requests
+may_request board number beat now requests follows = by_client (slice_get board.clients number) refl
+  where
+    by_answer : (client : ClientBoard) (answer : Result Progress TlRule) → slice_get board.clients number ≡ Some client
+        → answer_to RealTime client beat ≡ answer
+        → MayBecomeAll (with_answered number client.front (joined client.limits client.front beat) answer now) requests → MayBecomeAll now requests
+    by_answer client (Err rule) there is may = may
+    by_answer client (Ok progress) there is may =
+        may_progress client.limits beat (is_busy RealTime client.flights beat.source) number (front_at board.clients) (front_at board.clients) now
+        client.front progress requests (ap front_of there) well follows.held may
+      where
+        well : (held : HeldMessage) → client.front ≡ Some held → progress ≡ Whole → IsWell (request_of (with_more held beat))
+        well held front whole =
+            subst (λ (f : Option HeldMessage). IsWell (request_of (joined client.limits f beat))) front
+            (sound_well client.limits (joined client.limits client.front beat)
+            (whole_sound client beat (follows.fronts number client there) (is ∙ ap (λ (p : Progress). Ok p) whole)))
+
+    by_client : (found : Option ClientBoard) → slice_get board.clients number ≡ found → MayBecomeAll (with_request number found beat now) requests
+        → MayBecomeAll now requests
+    by_client None there may = may
+    by_client (Some client) there may = by_answer client (answer_to RealTime client beat) there refl may
+
+pub may_before : (board : Board) (seen : ObservedBeat) (now : Order) (requests : ℕ → WholeRequest) → IsFollowed board now
+    → MayBecomeAll (begun_next board seen now) requests → MayBecomeAll now requests
+may_before board (A number beat) now requests follows may k small = may_request board number beat now requests follows may k small
+may_before board (D number beat) now requests follows may k small =
+    let change : Entry → Entry = with_beat (list_any (begun_to number) now) number beat.source in
+    may_beat (list_any (begun_to number) now) number beat.source (numbered now k) (requests k)
+    (subst (λ (entry : Entry). MayBecome entry (requests k)) (numbered_map change now k small) (may k (omega (arith, small, length-map now change))))
+may_before board (OnAxi beat) now requests follows may k small = may k small
+may_before board Drained now requests follows may k small = may k small
+
+-- along a list of beats
+pub may_from : (beats : List ObservedBeat) (board : Board) (now : Order) (requests : ℕ → WholeRequest) → IsFollowed board now
+    → MayBecomeAll (begun_from board now beats) requests → MayBecomeAll now requests
+may_from [] board now requests follows may = may
+may_from (seen ∷ beats) board now requests follows may =
+    may_before board seen now requests follows
+    (may_from beats (after_seen RealTime board seen) (begun_next board seen now) requests (followed_next board seen now follows) may)

@@ -1,0 +1,165 @@
+-- A request that had begun on a board is whole: on its shadow it was carried out before, and the shadow is still ahead.
+use Rattle.std.proofs.Common.{◌≡◌, ℕ, Bool, true, false, ◌&&◌, not, List, length, drop, Option, Some, None, ◌⊎◌, inl, inr, refl, sym, ◌∙◌, ap, subst}
+use Rattle.std.specs.Prelude.{is_some, slice_get}
+use Rattle.std.specs.List.{list_any}
+use Rattle.std.proofs.lemmas.Bool.{and_parts, and_right, cases_eq, not-false}
+use Rattle.std.proofs.lemmas.List.{length-set}
+use Rattle.tl_messages.specs.Operations.{reply_has_data}
+use Rattle.tl_messages.specs.Requests.{WholeRequest}
+use Rattle.burst_plan.specs.declared.Region.{Region}
+use Rattle.subordinate.specs.Faults.{Faults}
+use Rattle.scoreboard.specs.Boards.{Board, ClientBoard, coming_on, flight_for, given_on, with_accepted}
+use Rattle.scoreboard.specs.Flights.{Footprint, InFlight, is_of_source}
+use Rattle.scoreboard.specs.Races.{alone, is_fixed}
+use Rattle.scoreboard.specs.SerialMemory.{place_in}
+use Rattle.scoreboard.proofs.real_time.Ahead.{HasBecome, HasBeside, IsAhead, IsBehind, IsFinal, IsGiven, IsSame, Shadow, comes, will_give}
+use Rattle.scoreboard.proofs.real_time.AlikeBeats.{Same}
+use Rattle.scoreboard.proofs.real_time.Comings.{comes_other, comes_same}
+use Rattle.scoreboard.proofs.real_time.Entries.{carry}
+use Rattle.scoreboard.proofs.real_time.Explained.{sources_with}
+use Rattle.scoreboard.proofs.real_time.FlightLists.{HaveAllSources}
+use Rattle.scoreboard.proofs.real_time.FlightPlaces.{coming_other, other_taken, own_taken, sources_more}
+use Rattle.scoreboard.proofs.real_time.Places.{Place, cases_place, coming_at, coming_in, due_at, flight_at}
+use Rattle.scoreboard.proofs.real_time.RequestActs.{acts}
+
+module _ (board : Board) (shadow : Shadow) (ahead : IsAhead board shadow) (number : ℕ) (client : ClientBoard) (q : WholeRequest)
+    (there : slice_get board.clients number ≡ Some client) (some : comes board.clients number ≡ true) (final : shadow.finals number ≡ q)
+    (free : list_any (is_of_source q.source) client.flights.due ≡ false) where
+  abbrev pub faults : Faults
+  faults = board.memory.faults
+
+  abbrev pub regions : List Region
+  regions = board.memory.regions
+
+  abbrev pub kept : Footprint
+  kept = coming_on board q client.coming
+
+  abbrev pub now : Board
+  now = given_on board number client q kept
+
+  abbrev pub flight : InFlight
+  flight = flight_for board.memory kept q
+
+  abbrev pub own_place : Place
+  own_place = due_at number q.source
+
+  abbrev pub changed : ClientBoard
+  changed = with_accepted flight client
+
+  become : HasBecome faults regions shadow.clients client.coming number q
+  become =
+      subst (λ coming. HasBecome faults regions shadow.clients coming number q) (ap coming_in there)
+      (subst (λ r. HasBecome faults regions shadow.clients (coming_at board.clients number) number r) final (ahead.begun number some))
+
+  behind : IsBehind flight become.other
+  behind =
+      record {
+        source = sym become.becomes.source;
+        acts = ap (λ (r : Footprint). record r { determined = kept.determined }) (sym become.becomes.acts);
+        less = λ x reads. absurd (cc (sym (and_right (is_some (place_in board.memory q)) (reply_has_data q.operation) become.becomes.silent) ∙ reads));
+        long = ap length (sym (become.becomes.beats board.memory.bytes));
+        alike = λ n below. Same (ap (drop n) (sym (become.becomes.beats board.memory.bytes)));
+      }
+
+  -- ---- what is in flight, and coming
+
+  pub own_here : flight_at now.clients own_place ≡ Some flight
+  own_here = own_taken board.clients number client flight there free
+
+  pub others_here : (i : Place) → (i ≡ own_place → ⊥) → flight_at now.clients i ≡ flight_at board.clients i
+  others_here i differ = other_taken board.clients number client flight there free i differ
+
+  none_now : comes now.clients number ≡ false
+  none_now = comes_same board.clients number client changed there
+
+  pub apart_now : (c : ℕ) → comes now.clients c ≡ true → c ≡ number → ⊥
+  apart_now c comes_it same = absurd (cc (sym none_now ∙ ap (comes now.clients) (sym same) ∙ comes_it))
+
+  pub comes_others : (c : ℕ) → (c ≡ number → ⊥) → comes now.clients c ≡ comes board.clients c
+  comes_others c differ = comes_other board.clients number c changed differ
+
+  coming_others : (c : ℕ) → (c ≡ number → ⊥) → coming_at now.clients c ≡ coming_at board.clients c
+  coming_others c differ = coming_other board.clients number c changed differ
+
+  -- ---- the shadow is ahead
+
+  placed : (place : Place) (after : InFlight) → flight_at now.clients place ≡ Some after → HasBeside shadow place after
+  placed place after is = by_place (cases_place place own_place)
+    where
+      by_place : (place ≡ own_place) ⊎ (place ≡ own_place → ⊥) → HasBeside shadow place after
+      by_place (inl same) =
+          let one : Some flight ≡ Some after = sym own_here ∙ ap (flight_at now.clients) (sym same) ∙ is in
+          let it : flight ≡ after = cc (one) in
+          record { other = become.other; there = ap (flight_at shadow.clients) same ∙ become.there; behind = subst (λ (f : InFlight). IsBehind f become.other) it behind }
+      by_place (inr differ) = ahead.placed place after (sym (others_here place differ) ∙ is)
+
+  begun : (c : ℕ) → comes now.clients c ≡ true → HasBecome faults regions shadow.clients (coming_at now.clients c) c (shadow.finals c)
+  begun c comes_it =
+      let differ = apart_now c comes_it in
+      subst (λ coming. HasBecome faults regions shadow.clients coming c (shadow.finals c)) (sym (coming_others c differ))
+      (ahead.begun c (sym (comes_others c differ) ∙ comes_it))
+
+  others : (place : Place) (other : InFlight) → flight_at shadow.clients place ≡ Some other → flight_at now.clients place ≡ None → IsFinal now shadow place
+  others place other is none = by_place (cases_place place own_place)
+    where
+      by_place : (place ≡ own_place) ⊎ (place ≡ own_place → ⊥) → IsFinal now shadow place
+      by_place (inl same) = absurd (cc (sym none ∙ ap (flight_at now.clients) same ∙ own_here))
+      by_place (inr differ) =
+          let old = ahead.others place other is (sym (others_here place differ) ∙ none) in
+          let apart : place.client ≡ number → ⊥ = λ same. differ (old.there ∙ ap (λ c. due_at c (shadow.finals c).source) same
+          ∙ ap (λ (r : WholeRequest). due_at number r.source) final) in
+          record { begun = comes_others place.client apart ∙ old.begun; there = old.there }
+
+  known : (x : ℕ) → now.indeterminate x ≡ false → ((c : ℕ) → comes now.clients c ≡ true → will_give faults regions (shadow.finals c) x ≡ false)
+      → IsSame now shadow x
+  known x certain none = by_given (will_give faults regions q x) refl
+    where
+      none_before : will_give faults regions q x ≡ false → (c : ℕ) → comes board.clients c ≡ true → will_give faults regions (shadow.finals c) x ≡ false
+      none_before not_given c comes_it =
+          elim (cases_eq c number) [
+            | inl same ↦ ap (λ (r : WholeRequest). will_give faults regions r x) (ap shadow.finals same ∙ final) ∙ not_given
+            | inr differ ↦ none c (comes_others c differ ∙ comes_it)
+          ]
+
+      by_given : (b : Bool) → will_give faults regions q x ≡ b → IsSame now shadow x
+      by_given false not_given =
+          let same = ahead.known x (rw not_given at certain) (none_before not_given) in
+          record { byte = same.byte ∙ sym ((acts faults regions q become.becomes.well).keeps board.memory.bytes x not_given); certain = same.certain }
+      by_given true gives_it =
+          let doubt : not (kept.determined x && is_fixed kept) ≡ false = rw gives_it at certain in
+          let both = and_parts (kept.determined x) (is_fixed kept) (not-false (kept.determined x && is_fixed kept) doubt) in
+          let determined : (coming_at board.clients number).determined x ≡ true =
+          ap (λ (o : Option ClientBoard). (coming_in o).determined x) there
+          ∙ (and_parts ((alone board.indeterminate (place_in board.memory q) q).determined x) (client.coming.determined x) both.0).1 in
+          let given = ahead.given number x some determined (ap (λ (r : WholeRequest). will_give faults regions r x) final ∙ gives_it) in
+          record { byte = given.byte board.memory.bytes ∙ ap (λ (r : WholeRequest). carry faults regions r board.memory.bytes x) final; certain = given.certain }
+
+  given : (c x : ℕ) → comes now.clients c ≡ true → (coming_at now.clients c).determined x ≡ true → will_give faults regions (shadow.finals c) x ≡ true
+      → IsGiven faults regions shadow.bytes shadow.indeterminate (shadow.finals c) x
+  given c x comes_it determined gives_it =
+      let differ = apart_now c comes_it in
+      ahead.given c x (sym (comes_others c differ) ∙ comes_it) (sym (ap (λ (r : Footprint). r.determined x) (coming_others c differ)) ∙ determined) gives_it
+
+  sources : HaveAllSources now.clients
+  sources =
+      sources_with board.clients number client changed there ahead.sources (sources_more flight client.flights free (ahead.sources number client there))
+
+  waits : (c : ℕ) → comes now.clients c ≡ true → flight_at now.clients (due_at c (shadow.finals c).source) ≡ None
+  waits c comes_it =
+      let differ = apart_now c comes_it in
+      others_here (due_at c (shadow.finals c).source) (λ same. differ (ap (λ (p : Place). p.client) same))
+      ∙ ahead.waits c (sym (comes_others c differ) ∙ comes_it)
+
+  pub given_ahead : IsAhead (given_on board number client q (coming_on board q client.coming)) shadow
+  given_ahead =
+      record {
+        sources = sources;
+        small = (acts faults regions q become.becomes.well).small board.memory.bytes ahead.small;
+        waits = waits;
+        many = ahead.many ∙ sym (length-set board.clients number changed);
+        placed = placed;
+        begun = begun;
+        others = others;
+        known = known;
+        given = given;
+      }

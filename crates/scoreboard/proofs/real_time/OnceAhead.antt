@@ -1,0 +1,301 @@
+-- A request of one beat is accepted on a board, and on its shadow: the shadow is still ahead.
+use Rattle.std.proofs.Common.{◌≡◌, ℕ, ◌<◌, ◌+◌, ◌^◌, Bool, nat_le, nat_lt, true, false, ◌&&◌, not, List, map, set, length, Some, None, ◌⊎◌, inl, inr, refl, sym, ◌∙◌, ap, subst}
+use Rattle.std.specs.Prelude.{is_some, option_map, slice_get}
+use Rattle.std.specs.List.{list_any}
+use Rattle.std.proofs.lemmas.Bool.{and_parts, not-false, not-true, or_parts}
+use Rattle.std.proofs.lemmas.List.{length-map, length-set}
+use Rattle.std.proofs.lemmas.Option.{slice_get-map}
+use Rattle.tl_messages.specs.Operations.{reply_has_data}
+use Rattle.tl_messages.specs.Requests.{WholeRequest}
+use Rattle.burst_plan.specs.declared.Region.{Region}
+use Rattle.subordinate.specs.Faults.{Faults}
+use Rattle.meaning.specs.Meaning.{meaning}
+use Rattle.scoreboard.specs.Boards.{Board, ClientBoard, client_beside, flight_for, footprints_of, joined_on, joining_on, with_accepted}
+use Rattle.scoreboard.specs.Flights.{Footprint, InFlight, is_of_source}
+use Rattle.scoreboard.specs.Orders.{Order}
+use Rattle.scoreboard.specs.Races.{after_given, after_joining, alone as alone_of, beside, covers, flight_beside, is_fixed, may_write}
+use Rattle.scoreboard.specs.SerialMemory.{place_in}
+use Rattle.scoreboard.proofs.MappedLists.{any_map}
+use Rattle.scoreboard.proofs.real_time.Acceptance.{other_flight, own_flight, sources_beside}
+use Rattle.scoreboard.proofs.real_time.Ahead.{HasBecome, HasBeside, IsAhead, IsBehind, IsFinal, IsGiven, IsSame, IsWithin, Shadow, comes, none_given, shadow_of, shadow_touches, shadow_writes, touches, will_give, within_writes}
+use Rattle.scoreboard.proofs.real_time.AheadBeside.{behind_beside, coming_beside_it, none_beside, was_beside}
+use Rattle.scoreboard.proofs.real_time.AlikeBeats.{left_alike}
+use Rattle.scoreboard.proofs.real_time.Apart.{AreAll, determined_fixed, fixed_determined}
+use Rattle.scoreboard.proofs.real_time.Comings.{comes_beside, comes_other, comes_same}
+use Rattle.scoreboard.proofs.real_time.Entries.{carry}
+use Rattle.scoreboard.proofs.real_time.Explained.{Explains, sources_with}
+use Rattle.scoreboard.proofs.real_time.FlightLists.{HaveAllSources, are_all, each_coming, sources_kept}
+use Rattle.scoreboard.proofs.real_time.FlightPlaces.{coming_beside, coming_other, sources_more}
+use Rattle.scoreboard.proofs.real_time.Lengths.{length-shown}
+use Rattle.scoreboard.proofs.real_time.Places.{Place, cases_place, coming_at, due_at, flight_at, footprint_at}
+use Rattle.scoreboard.proofs.real_time.RequestActs.{IsWell, acts}
+use Rattle.scoreboard.proofs.real_time.ShadowJoins.{bytes_kept, certain_there, given_kept, still_certain}
+use Rattle.scoreboard.proofs.real_time.ShadowPlaces.{free_there, none_there, nothing_begun}
+
+-- ---- whether a byte is determined, by what may be its doubt
+
+was_certain : (after before acts shows doubt others : Bool) → (acts && shows) ≡ true → ((after && before && not (acts && shows && doubt)) && not others) ≡ true → doubt ≡ false
+was_certain true true true true false others reads determined = refl
+was_certain true true true true true others reads determined = absurd (cc (determined))
+was_certain true true true false doubt others reads determined = absurd (cc (reads))
+was_certain true true false shows doubt others reads determined = absurd (cc (reads))
+was_certain true false acts shows doubt others reads determined = absurd (cc (determined))
+was_certain false before acts shows doubt others reads determined = absurd (cc (determined))
+
+still_determined : (after before acts shows doubt doubt_there others others_there : Bool) → ((after && before && not (acts && shows && doubt)) && not others) ≡ true
+    → ((acts && shows) ≡ true → doubt_there ≡ false) → others_there ≡ false → ((after && before && not (acts && shows && doubt_there)) && not others_there) ≡ true
+still_determined true true true true doubt doubt_there others others_there determined certain none = rw (certain refl, none) refl
+still_determined true true true false doubt doubt_there others others_there determined certain none = rw none refl
+still_determined true true false shows doubt doubt_there others others_there determined certain none = rw none refl
+still_determined true false acts shows doubt doubt_there others others_there determined certain none = absurd (cc (determined))
+still_determined false before acts shows doubt doubt_there others others_there determined certain none = absurd (cc (determined))
+
+module _ (board : Board) (shadow : Shadow) (order : Order) (explains : Explains (shadow_of board shadow) order) (ahead : IsAhead board shadow)
+    (number : ℕ) (client other_client : ClientBoard) (q : WholeRequest)
+    (there : slice_get board.clients number ≡ Some client) (there_too : slice_get shadow.clients number ≡ Some other_client) (front : client.front ≡ None)
+    (free : list_any (is_of_source q.source) client.flights.due ≡ false) (well : IsWell q) where
+  abbrev pub faults : Faults
+  faults = board.memory.faults
+
+  abbrev pub regions : List Region
+  regions = board.memory.regions
+
+  abbrev pub mine : Footprint
+  mine = joining_on board q
+
+  abbrev pub theirs : Footprint
+  theirs = joining_on (shadow_of board shadow) q
+
+  abbrev pub now : Board
+  now = joined_on board number client q mine
+
+  abbrev pub flight : InFlight
+  flight = flight_for board.memory mine q
+
+  abbrev pub other_flight_for : InFlight
+  other_flight_for = flight_for (shadow_of board shadow).memory theirs q
+
+  abbrev pub now_shadow : Shadow
+  now_shadow =
+      record {
+        clients = set (map (client_beside theirs) shadow.clients) number (with_accepted other_flight_for (client_beside theirs other_client));
+        bytes = carry faults regions q shadow.bytes;
+        indeterminate = after_joining shadow.indeterminate (footprints_of shadow.clients) theirs q.bytes;
+        finals = shadow.finals;
+      }
+
+  abbrev pub own_place : Place
+  own_place = due_at number q.source
+
+  -- ---- the footprints of both
+
+  within : IsWithin theirs mine
+  within = record { writes = λ does. does; address = λ does. refl; size = λ does. refl }
+
+  are : AreAll (footprint_at shadow.clients) (footprints_of shadow.clients)
+  are = are_all shadow.clients explains.sources explains.nothing
+
+  alone : (x : ℕ) → mine.determined x ≡ true → list_any (λ r. may_write r x) (footprints_of board.clients) ≡ false
+  alone x determined =
+      not-true (list_any (λ r. may_write r x) (footprints_of board.clients))
+      (and_parts ((alone_of board.indeterminate (place_in board.memory q) q).determined x) (not (list_any (λ r. may_write r x) (footprints_of board.clients))) determined).1
+
+  -- what has begun gives nothing where nobody may write
+  nothing_coming : (x : ℕ) → list_any (λ r. may_write r x) (footprints_of board.clients) ≡ false → (c : ℕ) → comes board.clients c ≡ true
+      → will_give faults regions (shadow.finals c) x ≡ false
+  nothing_coming x nobody c some =
+      let become = ahead.begun c some in
+      none_given faults regions (coming_at board.clients c) (shadow.finals c) become.other x become.becomes (each_coming (λ r. may_write r x) refl board.clients nobody c)
+
+  -- what it reads and is determined both know
+  read_same : (x : ℕ) → mine.reads ≡ true → mine.determined x ≡ true → IsSame board shadow x
+  read_same x reads determined = ahead.known x (was_certain (nat_le mine.address x) (nat_lt x (mine.address + 2 ^ q.size)) (is_some (place_in board.memory q)) (reply_has_data q.operation)
+      (board.indeterminate x) (list_any (λ r. may_write r x) (footprints_of board.clients)) reads determined) (nothing_coming x (alone x determined))
+
+  less : (x : ℕ) → mine.determined x ≡ true → theirs.determined x ≡ true
+  less x determined =
+      still_determined (nat_le mine.address x) (nat_lt x (mine.address + 2 ^ q.size)) (is_some (place_in board.memory q)) (reply_has_data q.operation)
+      (board.indeterminate x) (shadow.indeterminate x) (list_any (λ r. may_write r x) (footprints_of board.clients)) (list_any (λ r. may_write r x) (footprints_of shadow.clients))
+      determined (λ reads. (read_same x reads determined).certain) (are.none (λ r. may_write r x) (shadow_writes board shadow ahead x (alone x determined)))
+
+  behind : IsBehind flight other_flight_for
+  behind =
+      record {
+        source = refl;
+        acts = refl;
+        less = λ x reads. less x;
+        long = length-shown q (meaning faults regions q board.memory.bytes).reply ∙ sym (length-shown q (meaning faults regions q shadow.bytes).reply);
+        alike = λ n below.
+            left_alike faults regions q mine n board.memory.bytes shadow.bytes
+            (subst (λ (k : ℕ). n < k) (length-shown q (meaning faults regions q shadow.bytes).reply) below) refl ahead.small explains.small
+            (λ x reads determined. sym (read_same x reads determined).byte);
+      }
+
+  -- ---- what is in flight, and coming
+
+  there_given : slice_get (map (client_beside mine) board.clients) number ≡ Some (client_beside mine client)
+  there_given = slice_get-map (client_beside mine) board.clients number ∙ ap (option_map (client_beside mine)) there
+
+  abbrev pub changed : ClientBoard
+  changed = with_accepted flight (client_beside mine client)
+
+  pub own_here : flight_at now.clients own_place ≡ Some flight
+  own_here = own_flight board number client q there free
+
+  pub others_here : (i : Place) → (i ≡ own_place → ⊥) → flight_at now.clients i ≡ option_map (flight_beside mine) (flight_at board.clients i)
+  others_here i differ = other_flight board number client q there free i differ
+
+  pub none_before : comes board.clients number ≡ false
+  none_before = nothing_begun board shadow ahead number q.source client there front free
+
+  none_now : comes now.clients number ≡ false
+  none_now = comes_same (map (client_beside mine) board.clients) number (client_beside mine client) changed there_given
+
+  -- one that comes is another's
+  pub apart_now : (c : ℕ) → comes now.clients c ≡ true → c ≡ number → ⊥
+  apart_now c some same = absurd (cc (sym none_now ∙ ap (comes now.clients) (sym same) ∙ some))
+
+  pub apart_before : (c : ℕ) → comes board.clients c ≡ true → c ≡ number → ⊥
+  apart_before c some same = absurd (cc (sym none_before ∙ ap (comes board.clients) (sym same) ∙ some))
+
+  pub comes_others : (c : ℕ) → (c ≡ number → ⊥) → comes now.clients c ≡ comes board.clients c
+  comes_others c differ = comes_other (map (client_beside mine) board.clients) number c changed differ ∙ comes_beside mine board.clients c
+
+  coming_others : (c : ℕ) → (c ≡ number → ⊥) → coming_at now.clients c ≡ beside (coming_at board.clients c) mine
+  coming_others c differ = coming_other (map (client_beside mine) board.clients) number c changed differ ∙ coming_beside mine board.clients c
+
+  none_yet : flight_at shadow.clients own_place ≡ None
+  none_yet = none_there board shadow ahead number q.source client there front free
+
+  free_too : list_any (is_of_source q.source) other_client.flights.due ≡ false
+  free_too = free_there board shadow ahead number q.source client there front free other_client there_too
+
+  own_there : flight_at now_shadow.clients own_place ≡ Some other_flight_for
+  own_there = own_flight (shadow_of board shadow) number other_client q there_too free_too
+
+  others_there : (i : Place) → (i ≡ own_place → ⊥) → flight_at now_shadow.clients i ≡ option_map (flight_beside theirs) (flight_at shadow.clients i)
+  others_there i differ = other_flight (shadow_of board shadow) number other_client q there_too free_too i differ
+
+  -- ---- the shadow is ahead
+
+  placed : (place : Place) (after : InFlight) → flight_at now.clients place ≡ Some after → HasBeside now_shadow place after
+  placed place after is = by_place (cases_place place own_place)
+    where
+      by_place : (place ≡ own_place) ⊎ (place ≡ own_place → ⊥) → HasBeside now_shadow place after
+      by_place (inl same) =
+          let one : Some flight ≡ Some after = sym own_here ∙ ap (flight_at now.clients) (sym same) ∙ is in
+          let it : flight ≡ after = cc (one) in
+          record { other = other_flight_for; there = ap (flight_at now_shadow.clients) same ∙ own_there; behind = subst (λ (f : InFlight). IsBehind f other_flight_for) it behind }
+      by_place (inr differ) =
+          let was = was_beside mine (flight_at board.clients place) after (sym (others_here place differ) ∙ is) in
+          let old = ahead.placed place was.0 was.1 in
+          record {
+            other = flight_beside theirs old.other;
+            there = others_there place differ ∙ ap (option_map (flight_beside theirs)) old.there;
+            behind = subst (λ (f : InFlight). IsBehind f (flight_beside theirs old.other)) was.2 (behind_beside mine theirs within was.0 old.other old.behind);
+          }
+
+  begun : (c : ℕ) → comes now.clients c ≡ true → HasBecome faults regions now_shadow.clients (coming_at now.clients c) c (shadow.finals c)
+  begun c some =
+      let differ = apart_now c some in
+      let old = ahead.begun c (sym (comes_others c differ) ∙ some) in
+      subst (λ coming. HasBecome faults regions now_shadow.clients coming c (shadow.finals c)) (sym (coming_others c differ))
+      (record {
+        other = flight_beside theirs old.other;
+        there = others_there (due_at c (shadow.finals c).source) (λ same. differ (ap (λ (p : Place). p.client) same))
+            ∙ ap (option_map (flight_beside theirs)) old.there;
+        becomes = coming_beside_it mine theirs within faults regions (coming_at board.clients c) (shadow.finals c) old.other old.becomes;
+      })
+
+  others : (place : Place) (other : InFlight) → flight_at now_shadow.clients place ≡ Some other → flight_at now.clients place ≡ None → IsFinal now now_shadow place
+  others place other is none = by_place (cases_place place own_place)
+    where
+      by_place : (place ≡ own_place) ⊎ (place ≡ own_place → ⊥) → IsFinal now now_shadow place
+      by_place (inl same) = absurd (cc (sym none ∙ ap (flight_at now.clients) same ∙ own_here))
+      by_place (inr differ) =
+          let was = was_beside theirs (flight_at shadow.clients place) other (sym (others_there place differ) ∙ is) in
+          let old = ahead.others place was.0 was.1 (none_beside mine (flight_at board.clients place) (sym (others_here place differ) ∙ none)) in
+          record { begun = comes_others place.client (apart_before place.client old.begun) ∙ old.begun; there = old.there }
+
+  known : (x : ℕ) → now.indeterminate x ≡ false → ((c : ℕ) → comes now.clients c ≡ true → will_give faults regions (shadow.finals c) x ≡ false)
+      → IsSame now now_shadow x
+  known x certain none = by_given (will_give faults regions q x) refl
+    where
+      parts : (after_given board.indeterminate mine q.bytes x ≡ false) × (list_any (touches mine x) (footprints_of board.clients) ≡ false)
+      parts = or_parts (after_given board.indeterminate mine q.bytes x) (list_any (touches mine x) (footprints_of board.clients)) certain
+
+      none_before_it : (c : ℕ) → comes board.clients c ≡ true → will_give faults regions (shadow.finals c) x ≡ false
+      none_before_it c begun = none c (comes_others c (apart_before c begun) ∙ begun)
+
+      same_with : carry faults regions q shadow.bytes x ≡ carry faults regions q board.memory.bytes x
+          → after_given shadow.indeterminate theirs q.bytes x ≡ false → IsSame now now_shadow x
+      same_with byte own_certain =
+          record {
+            byte = byte;
+            certain = certain_there board shadow order explains q well x own_certain (shadow_touches board shadow ahead theirs mine x within parts.1);
+          }
+
+      by_given : (b : Bool) → will_give faults regions q x ≡ b → IsSame now now_shadow x
+      by_given false not_given =
+          let same = ahead.known x (rw not_given at parts.0) none_before_it in
+          same_with
+          (bytes_kept board shadow order explains q well x not_given ∙ same.byte ∙ sym ((acts faults regions q well).keeps board.memory.bytes x not_given))
+          (still_certain board shadow order explains q well x not_given same.certain)
+      by_given true gives_it =
+          let doubt : not (mine.determined x && is_fixed mine) ≡ false = rw gives_it at parts.0 in
+          let both = and_parts (mine.determined x) (is_fixed mine) (not-false (mine.determined x && is_fixed mine) doubt) in
+          let all_read : mine.reads ≡ true → (y : ℕ) → covers mine y ≡ true → mine.determined y ≡ true =
+          λ reads y covered. fixed_determined mine y both.1 reads covered in
+          same_with
+          ((acts faults regions q well).same shadow.bytes board.memory.bytes x gives_it (λ reads y covered. (read_same y reads (all_read reads y covered)).byte))
+          (rw gives_it (ap not (fixed_there (less x both.0) (fixed_less all_read))))
+        where
+          fixed_less : (mine.reads ≡ true → (y : ℕ) → covers mine y ≡ true → mine.determined y ≡ true) → is_fixed theirs ≡ true
+          fixed_less all_read = by_reads mine.reads refl
+            where
+              by_reads : (b : Bool) → mine.reads ≡ b → is_fixed theirs ≡ true
+              by_reads false reads = rw reads refl
+              by_reads true reads = determined_fixed theirs (λ y covered. less y (all_read reads y covered))
+
+          fixed_there : theirs.determined x ≡ true → is_fixed theirs ≡ true → (theirs.determined x && is_fixed theirs) ≡ true
+          fixed_there here fixed = rw (here, fixed) refl
+
+  given : (c x : ℕ) → comes now.clients c ≡ true → (coming_at now.clients c).determined x ≡ true → will_give faults regions (shadow.finals c) x ≡ true
+      → IsGiven faults regions now_shadow.bytes now_shadow.indeterminate (shadow.finals c) x
+  given c x some determined gives_it =
+      let differ = apart_now c some in
+      let before = sym (comes_others c differ) ∙ some in
+      let both = and_parts ((coming_at board.clients c).determined x) (not (may_write mine x))
+      (sym (ap (λ (r : Footprint). r.determined x) (coming_others c differ)) ∙ determined) in
+      given_kept board shadow order explains q well (coming_at board.clients c) c (shadow.finals c) x (ahead.begun c before) both.0 gives_it
+      (ahead.given c x before both.0 gives_it) (within_writes theirs mine x within (not-true (may_write mine x) both.1))
+
+  sources : HaveAllSources now.clients
+  sources =
+      sources_with (map (client_beside mine) board.clients) number (client_beside mine client) changed there_given
+      (sources_beside mine board.clients ahead.sources)
+      (sources_more flight (client_beside mine client).flights (any_map (is_of_source q.source) (flight_beside mine) client.flights.due ∙ free)
+      (sources_kept mine client.flights (ahead.sources number client there)))
+
+  waits : (c : ℕ) → comes now.clients c ≡ true → flight_at now.clients (due_at c (shadow.finals c).source) ≡ None
+  waits c some =
+      let differ = apart_now c some in
+      others_here (due_at c (shadow.finals c).source) (λ same. differ (ap (λ (p : Place). p.client) same))
+      ∙ ap (option_map (flight_beside mine)) (ahead.waits c (sym (comes_others c differ) ∙ some))
+
+  pub once_ahead : IsAhead (joined_on board number client q (joining_on board q)) now_shadow
+  once_ahead =
+      record {
+        sources = sources;
+        small = (acts faults regions q well).small board.memory.bytes ahead.small;
+        waits = waits;
+        many = length-set (map (client_beside theirs) shadow.clients) number (with_accepted other_flight_for (client_beside theirs other_client))
+            ∙ length-map shadow.clients (client_beside theirs) ∙ ahead.many
+            ∙ sym (length-map board.clients (client_beside mine))
+            ∙ sym (length-set (map (client_beside mine) board.clients) number changed);
+        placed = placed;
+        begun = begun;
+        others = others;
+        known = known;
+        given = given;
+      }
