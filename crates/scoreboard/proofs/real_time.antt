@@ -9,9 +9,11 @@ pub mod BegunAhead
 pub mod Blames
 pub mod CheckedRequests
 pub mod Comings
+pub mod EachFlight
 pub mod Entries
 mod Examples
 pub mod Explained
+pub mod Failures
 pub mod FirstBeats
 pub mod FlightLists
 pub mod FlightPlaces

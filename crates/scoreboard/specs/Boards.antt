@@ -1,8 +1,9 @@
 -- What a scoreboard holds, what it says of a beat, and what it holds after it, by its policy: whether the accepted requests take effect in order of
 -- acceptance, or those in flight together in any order. By the second a source is free from its reply's first beat on, a payload is compared where it
 -- tells a determined byte, so that the board keeps which bytes are determined, a request that writes races from its first beat on, and W beats may
--- come before their AW.
-use Rattle.std.specs.Prelude.{ℕ, ◌≡◌, ◌+◌, ◌-◌, ◌*◌, ◌==◌, Bool, true, false, ◌&&◌, not, List, [], ◌∷◌, ◌++◌, map, length, sum_by, Option, Some, None, is_some, Result, Ok, Err, if◌then◌else◌, slice_get, slice_set}
+-- come before their AW. Where errors are told in any way a request that fails may be denied or corrupt as TileLink allows, and what it may have written
+-- is in doubt.
+use Rattle.std.specs.Prelude.{ℕ, ◌≡◌, ◌+◌, ◌-◌, ◌*◌, ◌==◌, Bool, true, false, ◌&&◌, ◌||◌, not, List, [], ◌∷◌, ◌++◌, map, length, sum_by, Option, Some, None, is_some, Result, Ok, Err, if◌then◌else◌, option_map, slice_get, slice_set, unwrap_or}
 use Rattle.std.specs.Bool.{beq}
 use Rattle.std.specs.List.{flat_map, list_any, range_with_len}
 use Rattle.bus_words.specs.Lanes.{lane_byte, word_address}
@@ -24,8 +25,10 @@ use Rattle.setups.specs.Setups.{SetupLists, faults_of}
 use Rattle.meaning.specs.Meaning.{zeros}
 use Rattle.scoreboard.specs.AxiPorts.{PortBoard, drained, none_early, port_after, port_wrong}
 use Rattle.scoreboard.specs.Flights.{Flights, Footprint, InFlight, each_flight, flights_after, in_flight, is_busy, next_reply, no_flights, no_footprint, replies_left, with_flight}
-use Rattle.scoreboard.specs.Races.{after_given, after_joining, alone, beside, flight_beside, joining}
+use Rattle.scoreboard.specs.Races.{after_given, after_joining, alone, beside, flight_beside, joining, unless_failed}
 use Rattle.scoreboard.specs.SerialMemory.{Memory, carried_out, meaning_in, place_in}
+use Rattle.scoreboard.specs.declared.Errors.{Errors}
+use Rattle.scoreboard.specs.declared.Errors.TheVariants.{Any, Strict}
 use Rattle.scoreboard.specs.declared.Policy.{Policy}
 use Rattle.scoreboard.specs.declared.Policy.TheVariants.{AcceptanceOrder, RealTime}
 use Rattle.scoreboard.specs.declared.ReplyRule.{ReplyRule}
@@ -36,21 +39,23 @@ use Rattle.scoreboard.specs.declared.ObservedBeat.TheVariants.{A, D, Axi as OnAx
 use Rattle.scoreboard.specs.declared.Wrong.{Wrong}
 use Rattle.scoreboard.specs.declared.Wrong.TheVariants.{NoClient, Request, Reply}
 
--- a client: its port's limits, the message that has begun on channel A, its requests in flight, and the footprint of the message that has begun, which
--- is kept where requests take effect in real time
+-- a client: its port's limits, the message that has begun on channel A, its requests in flight, the footprint of the message that has begun, which is kept
+-- where requests take effect in real time, and whether the first beat of the reply that began last was denied
 pub record ClientBoard : Type 0 where
   pub limits : TlPortLimits
   pub front : Option HeldMessage
   pub flights : Flights
   pub coming : Footprint
+  pub told : Bool
 
 -- each client by its number; the memory as the accepted requests leave it in order of acceptance; which of its bytes they may not leave the same in every
--- order; and what is outstanding on the AXI4 port, and early
+-- order; what is outstanding on the AXI4 port, and early; and how errors may be told, which stays
 pub record Board : Type 0 where
   pub clients : List ClientBoard
   pub memory : Memory
   pub indeterminate : ℕ → Bool
   pub axi : PortBoard
+  pub errors : Errors
 
 -- ---- channel A
 
@@ -103,17 +108,38 @@ abbrev pub unless_indeterminate : Bool → Option ReplyRule → Option ReplyRule
 unless_indeterminate otherwise None = None
 unless_indeterminate otherwise (Some rule) = if is_payload rule && not otherwise then None else Some rule
 
--- the same of a request with this footprint: what it tells of indeterminate bytes isn't wrong
-abbrev pub wrong_told : Footprint → List DBeat → DBeat → Option Wrong
-wrong_told footprint [] beat = Some (Reply rule.Unasked None)
-wrong_told footprint (due ∷ rest) beat =
-    wrong_by due (unless_indeterminate (tells_otherwise footprint (beats_of footprint.size true - length (due ∷ rest)) due beat) (first_broken (reply_rules due beat)))
+-- a beat that is due as a request that has failed may show it to the one that came: denied or not, but as the reply's first beat told, if that came; with data
+-- corrupt or not, but corrupt where it is denied; and with any payload (TileLink 1.8, channel D)
+abbrev pub failed_beat : Option Bool → DBeat → DBeat → DBeat
+failed_beat told due beat =
+    record due {
+      denied = unwrap_or told beat.denied;
+      corrupt = due.opcode == 1 && (unwrap_or told beat.denied || beat.corrupt);
+      payload = beat.payload;
+    }
 
--- what is wrong with a beat, by the request whose reply has its next beat there
-abbrev pub wrong_reply : Policy → Option InFlight → DBeat → Option Wrong
-wrong_reply policy None beat = Some (Reply rule.Unasked None)
-wrong_reply AcceptanceOrder (Some flight) beat = wrong_beat flight.beats beat
-wrong_reply RealTime (Some flight) beat = wrong_told flight.footprint flight.beats beat
+-- by whether the request has failed
+abbrev pub due_beat : Bool → Option Bool → DBeat → DBeat → DBeat
+due_beat true told due beat = failed_beat told due beat
+due_beat false told due beat = due
+
+-- what is wrong with a beat of the reply to a request with this footprint: what it tells of indeterminate bytes isn't
+abbrev pub wrong_told : Footprint → Option Bool → List DBeat → DBeat → Option Wrong
+wrong_told footprint told [] beat = Some (Reply rule.Unasked None)
+wrong_told footprint told (due ∷ rest) beat =
+    wrong_by (due_beat footprint.failed told due beat)
+    (unless_indeterminate (tells_otherwise footprint (beats_of footprint.size true - length (due ∷ rest)) due beat)
+    (first_broken (reply_rules (due_beat footprint.failed told due beat) beat)))
+
+-- what is wrong with a beat, by whether the reply that has begun was denied, and by the request whose reply has its next beat there
+abbrev pub wrong_reply : Policy → Option Bool → Option InFlight → DBeat → Option Wrong
+wrong_reply policy told None beat = Some (Reply rule.Unasked None)
+wrong_reply AcceptanceOrder told (Some flight) beat = wrong_beat flight.beats beat
+wrong_reply RealTime told (Some flight) beat = wrong_told flight.footprint told flight.beats beat
+
+-- whether the reply that has begun to a client was denied in its first beat, if one has begun
+abbrev pub told_to : ClientBoard → Option Bool
+told_to client = option_map (λ flight. client.told) client.flights.begun
 
 -- ---- one beat
 
@@ -123,7 +149,7 @@ a_wrong policy (Some client) beat = wrong_request (answer_to policy client beat)
 
 abbrev pub d_wrong : Policy → Option ClientBoard → DBeat → Option Wrong
 d_wrong policy None beat = Some NoClient
-d_wrong policy (Some client) beat = wrong_reply policy (next_reply client.flights beat.source) beat
+d_wrong policy (Some client) beat = wrong_reply policy (told_to client) (next_reply client.flights beat.source) beat
 
 -- what is wrong with a beat, if anything is
 abbrev pub wrong_at : Policy → Board → ObservedBeat → Option Wrong
@@ -166,9 +192,31 @@ with_taken board number client q footprint =
       memory = carried_out board.memory q;
     }
 
--- the footprint of a request beside those in flight, and those that have begun
+-- whether a reply tells an error in some beat
+abbrev pub tells_error : List DBeat → Bool
+tells_error beats = list_any (λ beat. beat.denied || beat.corrupt) beats
+
+-- whether a request has failed, where that may be told in any way: its reply would tell an error, since a beat of it was corrupt or its access fails
+abbrev pub fails : Errors → Memory → WholeRequest → Bool
+fails Strict memory q = false
+fails Any memory q = tells_error (shown q (meaning_in memory q).reply)
+
+-- a request as it may act: where errors are told in any way, one that is corrupt may be carried out all the same
+abbrev pub acting : Errors → WholeRequest → WholeRequest
+acting Strict q = q
+acting Any q = record q { corrupt = false }
+
+-- the address of a good page at which it may act, if it has one
+abbrev pub place_on : Board → WholeRequest → Option ℕ
+place_on board q = place_in board.memory (acting board.errors q)
+
+-- the footprint of a request that begins beside those in flight, and those that have begun
+abbrev pub beginning_on : Board → WholeRequest → Footprint
+beginning_on board q = joining board.indeterminate (footprints_of board.clients) (place_on board q) q
+
+-- that of one that is whole with its first beat
 abbrev pub joining_on : Board → WholeRequest → Footprint
-joining_on board q = joining board.indeterminate (footprints_of board.clients) (place_in board.memory q) q
+joining_on board q = unless_failed (fails board.errors board.memory q) (beginning_on board q)
 
 -- the board where all these are beside a request of this footprint, which gives these bytes
 abbrev pub beside_on : Board → Footprint → List (Option ℕ) → Board
@@ -187,13 +235,13 @@ abbrev pub begun_on : Board → ℕ → ClientBoard → Footprint → Board
 begun_on board number client footprint =
     with_client number (record (client_beside footprint client) { coming = footprint }) (beside_on board footprint [])
 
--- the footprint of a request that had begun, when it is whole: what was determined of it all the while. One of which a later beat was corrupt acts nowhere
+-- the footprint of a request that had begun, when it is whole: what was determined of it all the while
 abbrev pub kept_from : Footprint → Footprint → Footprint
 kept_from coming footprint = record footprint { determined = λ x. footprint.determined x && coming.determined x }
 
 -- the same on a board
 abbrev pub coming_on : Board → WholeRequest → Footprint → Footprint
-coming_on board q coming = kept_from coming (alone board.indeterminate (place_in board.memory q) q)
+coming_on board q coming = kept_from coming (unless_failed (fails board.errors board.memory q) (alone board.indeterminate (place_on board q) q))
 
 -- the board where a request that had begun is whole: it is carried out, and what it gives is determined only where no other raced with it
 abbrev pub given_on : Board → ℕ → ClientBoard → WholeRequest → Footprint → Board
@@ -212,7 +260,7 @@ accepted_on RealTime board number client message begun = whole_on board number c
 
 -- in real time, by whether it had begun: with its first beat a request joins the others, a later one changes nothing
 abbrev pub more_on : Board → ℕ → ClientBoard → WholeRequest → Bool → Board
-more_on board number client q false = begun_on board number client (joining_on board q)
+more_on board number client q false = begun_on board number client (beginning_on board q)
 more_on board number client q true = board
 
 -- the board where beats of a client's message are still to come, by whether it had begun before
@@ -238,7 +286,8 @@ after_a policy old number (Some client) beat = answered_on policy old number cli
 -- after a beat on channel D
 abbrev pub after_d : Board → ℕ → Option ClientBoard → DBeat → Board
 after_d old number None beat = old
-after_d old number (Some client) beat = with_client number (record client { flights = flights_after client.flights beat.source }) old
+after_d old number (Some client) beat =
+    with_client number (record client { flights = flights_after client.flights beat.source; told = unwrap_or (told_to client) beat.denied }) old
 
 -- the board after a beat
 abbrev pub after_seen : Policy → Board → ObservedBeat → Board
@@ -256,9 +305,9 @@ replies_open clients = sum_by (λ client. replies_left client.flights) clients
 -- ---- at the start
 
 abbrev pub opening_client : Config → ℕ → ClientBoard
-opening_client config client = record { limits = port_of config client; front = None; flights = no_flights; coming = no_footprint }
+opening_client config client = record { limits = port_of config client; front = None; flights = no_flights; coming = no_footprint; told = false }
 
--- nothing was observed, all bytes are zero, and none is indeterminate
+-- nothing was observed, all bytes are zero, and none is indeterminate; errors are told as this project's bridge tells them
 abbrev pub opening_board : SetupLists → Board
 opening_board setup =
     record {
@@ -266,7 +315,12 @@ opening_board setup =
       memory = record { regions = setup.regions; faults = faults_of setup; bytes = zeros };
       indeterminate = λ x. false;
       axi = none_early (axi_port_of setup.config) nothing_open;
+      errors = Strict;
     }
+
+-- the same where errors are told in a way
+abbrev pub opening_with : Errors → SetupLists → Board
+opening_with errors setup = record (opening_board setup) { errors = errors }
 
 -- ---- lists of beats
 

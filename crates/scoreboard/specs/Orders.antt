@@ -1,5 +1,5 @@
 -- What is due and what is left where requests take effect in an order, whichever it is; RealTime says which orders there are.
-use Rattle.std.specs.Prelude.{ℕ, ◌≡◌, ◌+◌, ◌==◌, Bool, ◌&&◌, not, List, [], ◌∷◌, map, drop, Option, Some, None, if◌then◌else◌, nat_le, nat_lt}
+use Rattle.std.specs.Prelude.{ℕ, ◌≡◌, ◌+◌, ◌==◌, Bool, true, false, ◌&&◌, ◌||◌, not, List, [], ◌∷◌, map, drop, Option, Some, None, if◌then◌else◌, nat_le, nat_lt}
 use Rattle.std.specs.List.{list_any}
 use Rattle.tl_messages.specs.Operations.{beats_of, reply_has_data}
 use Rattle.tl_messages.specs.Requests.{WholeRequest}
@@ -7,7 +7,9 @@ use Rattle.tl_messages.specs.declared.DBeat.{DBeat}
 use Rattle.responses.specs.Shown.{shown}
 use Rattle.meaning.specs.Meaning.{Bytes, Effect, bytes_after_all, meaning, zeros}
 use Rattle.setups.specs.Setups.{SetupLists, faults_of}
-use Rattle.scoreboard.specs.Boards.{Board, after_all, opening_board, wrong_beat}
+use Rattle.scoreboard.specs.Boards.{Board, after_all, due_beat, opening_with, tells_error, wrong_beat}
+use Rattle.scoreboard.specs.declared.Errors.{Errors}
+use Rattle.scoreboard.specs.declared.Errors.TheVariants.{Any, Strict}
 use Rattle.scoreboard.specs.declared.Policy.TheVariants.{RealTime}
 use Rattle.scoreboard.specs.declared.ObservedBeat.{ObservedBeat}
 use Rattle.scoreboard.specs.declared.Wrong.{Wrong}
@@ -15,11 +17,13 @@ use Rattle.scoreboard.specs.declared.Wrong.TheVariants.{NoClient, Request, Reply
 
 -- ---- requests that have begun
 
--- a request of a client, of which at least one beat came, whether it is whole, and how many beats of its reply came up to now
+-- a request of a client, of which at least one beat came; whether it is whole; whether a beat of it was corrupt, where that may be told in any way; and how
+-- many beats of its reply came up to now
 pub record Entry : Type 0 where
   pub client : ℕ
   pub request : WholeRequest
   pub whole : Bool
+  pub spoiled : Bool
   pub came : ℕ
 
 -- all that have begun, in an order in which they may take effect
@@ -69,31 +73,52 @@ after_beat order client source = map (with_beat (list_any (begun_to client) orde
 abbrev pub meaning_on : SetupLists → WholeRequest → Bytes → Effect
 meaning_on setup q m = meaning (faults_of setup) setup.regions q m
 
--- the beats that are left of the reply to the first request that passes a test, where each is carried out on the bytes that those before it leave
-abbrev pub left_of : SetupLists → (Entry → Bool) → Bytes → Order → List DBeat
-left_of setup test m [] = []
-left_of setup test m (entry ∷ order) =
-    if test entry
-    then drop entry.came (shown entry.request (meaning_on setup entry.request m).reply)
-    else left_of setup test (meaning_on setup entry.request m).after order
+-- whether the access of a request fails: its reply would tell an error, were no beat of it corrupt. It would on any bytes, if it does on zeros
+abbrev pub access_fails : SetupLists → WholeRequest → Bool
+access_fails setup q = tells_error (shown (record q { corrupt = false }) (meaning_on setup (record q { corrupt = false }) zeros).reply)
 
--- the beats that are due on a client's channel D, for its source, where the requests take effect in an order, all bytes zero before
-abbrev pub due_beats : SetupLists → Order → ℕ → ℕ → List DBeat
-due_beats setup order client source = left_of setup (is_due_in order client source) zeros order
+-- whether a request has failed, where that may be told in any way
+abbrev pub has_failed : Errors → SetupLists → Entry → Bool
+has_failed Strict setup entry = false
+has_failed Any setup entry = entry.spoiled || access_fails setup entry.request
+
+-- what an order is asked for, on a client's channel D: how errors may be told, whether the reply that has begun there was denied in its first beat, if one
+-- has begun, and the beat that came
+pub record Asked : Type 0 where
+  pub errors : Errors
+  pub told : Option Bool
+  pub client : ℕ
+  pub beat : DBeat
+
+-- the beats that are left of the reply to a request that is carried out on some bytes, as it may show them to the beat that came
+abbrev pub shown_to : SetupLists → Asked → Entry → Bytes → List DBeat
+shown_to setup asked entry m =
+    map (λ due. due_beat (has_failed asked.errors setup entry) asked.told due asked.beat)
+    (drop entry.came (shown entry.request (meaning_on setup entry.request m).reply))
+
+-- those of the reply to the first request that passes a test, where each is carried out on the bytes that those before it leave
+abbrev pub left_of : SetupLists → Asked → (Entry → Bool) → Bytes → Order → List DBeat
+left_of setup asked test m [] = []
+left_of setup asked test m (entry ∷ order) =
+    if test entry then shown_to setup asked entry m else left_of setup asked test (meaning_on setup entry.request m).after order
+
+-- the beats that are due on a client's channel D, for the source of the beat that came, where the requests take effect in an order, all bytes zero before
+abbrev pub due_beats : SetupLists → Order → Asked → List DBeat
+due_beats setup order asked = left_of setup asked (is_due_in order asked.client asked.beat.source) zeros order
 
 -- a beat on channel D is wrong in an order: nothing is due there, or a beat that isn't this one
-abbrev pub IsWrongIn : SetupLists → Order → ℕ → DBeat → Type 0
-IsWrongIn setup order client beat = wrong_beat (due_beats setup order client beat.source) beat ≡ None → ⊥
+abbrev pub IsWrongIn : SetupLists → Order → Asked → Type 0
+IsWrongIn setup order asked = wrong_beat (due_beats setup order asked) asked.beat ≡ None → ⊥
 
 -- a beat on channel D is wrong in an order as it is blamed: by the same rule, whatever beat is due there; and nothing is due where there is no such
 -- client
-abbrev pub IsWrongAs : SetupLists → Order → ℕ → DBeat → Wrong → Type 0
-IsWrongAs setup order client beat NoClient = due_beats setup order client beat.source ≡ []
-IsWrongAs setup order client beat (Request broken) = ⊥
-IsWrongAs setup order client beat (Reply broken due) =
-    (other : Option DBeat) × (wrong_beat (due_beats setup order client beat.source) beat ≡ Some (Reply broken other))
-IsWrongAs setup order client beat (Axi broken) = ⊥
-IsWrongAs setup order client beat Place = ⊥
+abbrev pub IsWrongAs : SetupLists → Order → Asked → Wrong → Type 0
+IsWrongAs setup order asked NoClient = due_beats setup order asked ≡ []
+IsWrongAs setup order asked (Request broken) = ⊥
+IsWrongAs setup order asked (Reply broken due) =
+    (other : Option DBeat) × (wrong_beat (due_beats setup order asked) asked.beat ≡ Some (Reply broken other))
+IsWrongAs setup order asked (Axi broken) = ⊥
+IsWrongAs setup order asked Place = ⊥
 
 -- the byte at an address, where all requests of an order took effect
 abbrev pub byte_left : SetupLists → Order → ℕ → ℕ
@@ -102,5 +127,5 @@ byte_left setup order x = bytes_after_all (faults_of setup) setup.regions (map (
 -- ---- whatever was seen
 
 -- the board after all beats since the start
-abbrev pub board_after : SetupLists → List ObservedBeat → Board
-board_after setup before = after_all RealTime (opening_board setup) before
+abbrev pub board_after : Errors → SetupLists → List ObservedBeat → Board
+board_after errors setup before = after_all RealTime (opening_with errors setup) before

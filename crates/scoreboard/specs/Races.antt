@@ -1,5 +1,5 @@
 -- Requests in flight together, which may take effect in any order, and the bytes that are the same in each of these orders.
-use Rattle.std.specs.Prelude.{ℕ, ◌+◌, ◌^◌, Bool, ◌&&◌, ◌||◌, not, List, Option, is_some, unwrap_or, if◌then◌else◌, nat_le, nat_lt}
+use Rattle.std.specs.Prelude.{ℕ, ◌+◌, ◌^◌, Bool, true, false, ◌&&◌, ◌||◌, not, List, Option, is_some, unwrap_or, if◌then◌else◌, nat_le, nat_lt}
 use Rattle.std.specs.List.{list_all, list_any, range_with_len}
 use Rattle.bus_words.specs.Lanes.{given_at}
 use Rattle.tl_messages.specs.Operations.{has_data, reply_has_data}
@@ -22,8 +22,14 @@ alone indeterminate place q =
       writes = is_some place && has_data q.operation;
       address = unwrap_or place 0;
       size = q.size;
+      failed = false;
       determined = λ x. nat_le (unwrap_or place 0) x && nat_lt x (unwrap_or place 0 + 2 ^ q.size) && not (is_some place && reply_has_data q.operation && indeterminate x);
     }
+
+-- where it has failed nothing of it is determined
+abbrev pub unless_failed : Bool → Footprint → Footprint
+unless_failed true footprint = record footprint { failed = true; determined = λ x. false }
+unless_failed false footprint = footprint
 
 -- what another request may write isn't determined
 abbrev pub beside : Footprint → Footprint → Footprint

@@ -1,19 +1,24 @@
 -- The orders in which requests may have taken effect. A request begins with its first beat on channel A, and takes effect between that and the last beat
 -- of its reply; so one whose whole reply was seen before another began comes before it. Nothing else is asked of an order: this is real time. Requests are
 -- numbered as they begin, and an order is a list of all numbers.
-use Rattle.std.specs.Prelude.{ℕ, ◌≡◌, ◌^◌, ◌<◌, ◌≤◌, ◌==◌, ⊤, Bool, true, false, ◌&&◌, not, List, [], ◌∷◌, ◌++◌, map, filter, length, Option, Some, None, Result, Ok, Err, if◌then◌else◌, nat_lt, slice_get, slice_index_or}
+use Rattle.std.specs.Prelude.{ℕ, ◌≡◌, ◌^◌, ◌<◌, ◌≤◌, ◌==◌, ⊤, Bool, true, false, ◌&&◌, not, List, [], ◌∷◌, ◌++◌, map, filter, length, Option, Some, None, Result, Ok, Err, if◌then◌else◌, is_some, nat_lt, option_map, slice_get, slice_index_or}
+use Rattle.std.specs.Option.{option_flatten}
 use Rattle.std.specs.List.{AllByRecursion, list_any, range_with_len}
 use Rattle.tl_messages.specs.Requests.{HeldMessage, WholeRequest, no_message, request_of}
 use Rattle.tl_messages.specs.declared.ABeat.{ABeat}
+use Rattle.tl_messages.specs.declared.AtomicOp.{AtomicOp}
 use Rattle.tl_messages.specs.declared.DBeat.{DBeat}
+use Rattle.tl_messages.specs.declared.Operation.TheVariants.{Atomic}
 use Rattle.tl_checker.specs.Ports.{joined}
 use Rattle.tl_checker.specs.declared.Progress.{Progress}
 use Rattle.tl_checker.specs.declared.Progress.TheVariants.{More, Whole}
 use Rattle.tl_checker.specs.declared.TlRule.{TlRule}
 use Rattle.setups.specs.Setups.{SetupLists}
-use Rattle.scoreboard.specs.Boards.{Board, ClientBoard, IsReached, after_seen, answer_to, opening_board}
+use Rattle.scoreboard.specs.Boards.{Board, ClientBoard, IsReached, after_seen, answer_to, opening_with, told_to}
 use Rattle.scoreboard.specs.Races.{may_write}
-use Rattle.scoreboard.specs.Orders.{Entry, IsWrongAs, IsWrongIn, Order, after_beat, board_after, byte_left, has_ended}
+use Rattle.scoreboard.specs.Orders.{Asked, Entry, IsWrongAs, IsWrongIn, Order, after_beat, board_after, byte_left, has_ended}
+use Rattle.scoreboard.specs.declared.Errors.{Errors}
+use Rattle.scoreboard.specs.declared.Errors.TheVariants.{Any, Strict}
 use Rattle.scoreboard.specs.declared.Policy.TheVariants as policy
 use Rattle.scoreboard.specs.declared.ObservedBeat.{ObservedBeat}
 use Rattle.scoreboard.specs.declared.ObservedBeat.TheVariants.{A, D, Axi as OnAxi, Drained}
@@ -21,36 +26,42 @@ use Rattle.scoreboard.specs.declared.Wrong.{Wrong}
 
 -- ---- what has begun, in the order of first beats
 
+-- whether a beat of a request was corrupt, where that may be told in any way
+abbrev pub is_spoiled : Errors → WholeRequest → Bool
+is_spoiled Strict q = false
+is_spoiled Any q = q.corrupt
+
 -- a request that has just begun, by what came of it, and whether that is the whole
-abbrev pub entry_of : ℕ → WholeRequest → Bool → Entry
-entry_of client q whole = record { client = client; request = q; whole = whole; came = 0 }
+abbrev pub entry_of : Errors → ℕ → WholeRequest → Bool → Entry
+entry_of errors client q whole = record { client = client; request = q; whole = whole; spoiled = is_spoiled errors q; came = 0 }
 
 -- where a client's request wasn't whole, it is now, and is this one
-abbrev pub completed : ℕ → WholeRequest → Entry → Entry
-completed client q entry = if entry.client == client && not entry.whole then record entry { request = q; whole = true } else entry
+abbrev pub completed : Errors → ℕ → WholeRequest → Entry → Entry
+completed errors client q entry =
+    if entry.client == client && not entry.whole then record entry { request = q; whole = true; spoiled = is_spoiled errors q } else entry
 
 -- with a beat that a port takes, by what had begun there: a first beat begins a request, which is the last; the last beat makes the one that has begun
 -- whole; and one between them changes nothing
-abbrev pub with_progress : ℕ → Option HeldMessage → WholeRequest → Progress → Order → Order
-with_progress client None q More old = old ++ entry_of client q false ∷ []
-with_progress client None q Whole old = old ++ entry_of client q true ∷ []
-with_progress client (Some held) q More old = old
-with_progress client (Some held) q Whole old = map (completed client q) old
+abbrev pub with_progress : Errors → ℕ → Option HeldMessage → WholeRequest → Progress → Order → Order
+with_progress errors client None q More old = old ++ entry_of errors client q false ∷ []
+with_progress errors client None q Whole old = old ++ entry_of errors client q true ∷ []
+with_progress errors client (Some held) q More old = old
+with_progress errors client (Some held) q Whole old = map (completed errors client q) old
 
 -- with a port's answer to a beat on channel A, by the message with this beat
-abbrev pub with_answered : ℕ → Option HeldMessage → HeldMessage → Result Progress TlRule → Order → Order
-with_answered client front message (Err broken) old = old
-with_answered client front message (Ok progress) old = with_progress client front (request_of message) progress old
+abbrev pub with_answered : Errors → ℕ → Option HeldMessage → HeldMessage → Result Progress TlRule → Order → Order
+with_answered errors client front message (Err broken) old = old
+with_answered errors client front message (Ok progress) old = with_progress errors client front (request_of message) progress old
 
 -- with a beat on channel A
-abbrev pub with_request : ℕ → Option ClientBoard → ABeat → Order → Order
-with_request number None beat old = old
-with_request number (Some client) beat old =
-    with_answered number client.front (joined client.limits client.front beat) (answer_to policy.RealTime client beat) old
+abbrev pub with_request : Errors → ℕ → Option ClientBoard → ABeat → Order → Order
+with_request errors number None beat old = old
+with_request errors number (Some client) beat old =
+    with_answered errors number client.front (joined client.limits client.front beat) (answer_to policy.RealTime client beat) old
 
 -- with a beat, on a board on which it comes
 abbrev pub begun_next : Board → ObservedBeat → Order → Order
-begun_next board (A client beat) old = with_request client (slice_get board.clients client) beat old
+begun_next board (A client beat) old = with_request board.errors client (slice_get board.clients client) beat old
 begun_next board (D client beat) old = after_beat old client beat.source
 begun_next board (OnAxi beat) old = old
 begun_next board Drained old = old
@@ -61,27 +72,38 @@ begun_from board now [] = now
 begun_from board now (seen ∷ rest) = begun_from (after_seen policy.RealTime board seen) (begun_next board seen now) rest
 
 -- all that have begun since the start, each with how many beats of its reply came
-abbrev pub begun_in : SetupLists → List ObservedBeat → Order
-begun_in setup beats = begun_from (opening_board setup) [] beats
+abbrev pub begun_in : Errors → SetupLists → List ObservedBeat → Order
+begun_in errors setup beats = begun_from (opening_with errors setup) [] beats
 
 -- a request by its number, from 0
 abbrev pub numbered : Order → ℕ → Entry
-numbered begun number = slice_index_or begun number (entry_of 0 (request_of no_message) true)
+numbered begun number = slice_index_or begun number (entry_of Strict 0 (request_of no_message) true)
 
--- ---- what becomes of a request of which beats are still to come
+-- ---- what becomes of a request of which beats are still to come, or of which one was corrupt
 
 -- as many bytes as the request has, each of them a byte where it is given
 pub record GivesBytes (q : WholeRequest) : Type 0 where
   pub count : length q.bytes ≡ 2 ^ q.size
   pub small : (i b : ℕ) → slice_get q.bytes i ≡ Some (Some b) → b < 256
 
--- a whole one is what it is; another keeps the fields of its first beat, may give any bytes, also others than have come, and be corrupt though its first
--- beat wasn't
+-- whether a request gives its byte i
+abbrev pub gives_byte : WholeRequest → ℕ → Bool
+gives_byte q i = is_some (option_flatten (slice_get q.bytes i))
+
+-- what a request may leave of which a beat was corrupt, where that may be told in any way: any bytes, where it gives some; an atomic all of them
+pub record MayLeave (q left : WholeRequest) : Type 0 where
+  pub bytes : GivesBytes left
+  pub within : (i : ℕ) → gives_byte left i ≡ true → gives_byte q i ≡ true
+  pub full : (op : AtomicOp) → q.operation ≡ Atomic op → (i : ℕ) → i < 2 ^ q.size → gives_byte left i ≡ true
+
+-- a whole one is what it is, or leaves what it may; another keeps the fields of its first beat, may give any bytes, also others than have come, and be
+-- corrupt though its first beat wasn't. One of which a beat was corrupt may be carried out all the same where that may be told in any way
 pub record MayBecome (entry : Entry) (q : WholeRequest) : Type 0 where
-  pub same : entry.whole ≡ true → q ≡ entry.request
+  pub same : entry.whole ≡ true → entry.spoiled ≡ false → q ≡ entry.request
   pub fields : q ≡ record entry.request { bytes = q.bytes; corrupt = q.corrupt }
-  pub corrupt : entry.request.corrupt ≡ true → q.corrupt ≡ true
+  pub corrupt : entry.spoiled ≡ false → entry.request.corrupt ≡ true → q.corrupt ≡ true
   pub bytes : entry.whole ≡ false → GivesBytes q
+  pub left : entry.whole ≡ true → entry.spoiled ≡ true → MayLeave entry.request q
 
 -- what each that has begun may become, by its number
 abbrev pub MayBecomeAll : Order → (ℕ → WholeRequest) → Type 0
@@ -95,36 +117,36 @@ IsArrangement count numbers =
     (number : ℕ) → length (filter (λ other. other == number) numbers) ≡ (if nat_lt number count then 1 else 0)
 
 -- the whole reply to a request had come before another began: it came in a first part of the beats, in which the other hadn't begun
-pub record EndedBefore (setup : SetupLists) (beats : List ObservedBeat) (number later : ℕ) : Type 0 where
+pub record EndedBefore (errors : Errors) (setup : SetupLists) (beats : List ObservedBeat) (number later : ℕ) : Type 0 where
   pub first : List ObservedBeat
   pub rest : List ObservedBeat
   pub parts : beats ≡ first ++ rest
-  pub begun : number < length (begun_in setup first)
-  pub ended : has_ended (numbered (begun_in setup first) number) ≡ true
-  pub not_yet : length (begun_in setup first) ≤ later
+  pub begun : number < length (begun_in errors setup first)
+  pub ended : has_ended (numbered (begun_in errors setup first) number) ≡ true
+  pub not_yet : length (begun_in errors setup first) ≤ later
 
 -- behind none stands one that ended before it began
-abbrev pub KeepsRealTime : SetupLists → List ObservedBeat → List ℕ → Type 0
-KeepsRealTime setup beats [] = ⊤
-KeepsRealTime setup beats (later ∷ numbers) =
-    AllByRecursion (λ number. EndedBefore setup beats number later → ⊥) numbers × KeepsRealTime setup beats numbers
+abbrev pub KeepsRealTime : Errors → SetupLists → List ObservedBeat → List ℕ → Type 0
+KeepsRealTime errors setup beats [] = ⊤
+KeepsRealTime errors setup beats (later ∷ numbers) =
+    AllByRecursion (λ number. EndedBefore errors setup beats number later → ⊥) numbers × KeepsRealTime errors setup beats numbers
 
 -- a list of numbers is an order of what has begun that keeps real time
-pub record IsOrderOf (setup : SetupLists) (beats : List ObservedBeat) (numbers : List ℕ) : Type 0 where
-  pub all : IsArrangement (length (begun_in setup beats)) numbers
-  pub keeps : KeepsRealTime setup beats numbers
+pub record IsOrderOf (errors : Errors) (setup : SetupLists) (beats : List ObservedBeat) (numbers : List ℕ) : Type 0 where
+  pub all : IsArrangement (length (begun_in errors setup beats)) numbers
+  pub keeps : KeepsRealTime errors setup beats numbers
 
 -- a request by its number, as it becomes
 abbrev pub becoming : Order → (ℕ → WholeRequest) → ℕ → Entry
 becoming begun requests number = record (numbered begun number) { request = requests number }
 
 -- the requests as a list of numbers has them, and as they become
-abbrev pub arranged : SetupLists → List ObservedBeat → (ℕ → WholeRequest) → List ℕ → Order
-arranged setup beats requests numbers = map (becoming (begun_in setup beats) requests) numbers
+abbrev pub arranged : Errors → SetupLists → List ObservedBeat → (ℕ → WholeRequest) → List ℕ → Order
+arranged errors setup beats requests numbers = map (becoming (begun_in errors setup beats) requests) numbers
 
 -- what came of each: it may become that
-abbrev pub as_begun : SetupLists → List ObservedBeat → ℕ → WholeRequest
-as_begun setup beats number = (numbered (begun_in setup beats) number).request
+abbrev pub as_begun : Errors → SetupLists → List ObservedBeat → ℕ → WholeRequest
+as_begun errors setup beats number = (numbered (begun_in errors setup beats) number).request
 
 -- ---- the laws
 
@@ -132,19 +154,29 @@ as_begun setup beats number = (numbered (begun_in setup beats) number).request
 abbrev pub is_awaited : Board → ℕ → Bool
 is_awaited board x = list_any (λ client. may_write client.coming x) board.clients
 
+-- what is asked of an order by a beat on a client's channel D, on a board on which it comes
+abbrev pub asked_on : Board → ℕ → DBeat → Asked
+asked_on board client beat =
+    record { errors = board.errors; told = option_flatten (option_map told_to (slice_get board.clients client)); client = client; beat = beat }
+
 -- what the laws say of a board, by its beats so far and its verdict on one more: a beat on channel D that it blames is wrong in every order that keeps
--- real time, whatever the requests become that aren't whole, and by the rule that is blamed; and a byte that isn't indeterminate, and that none of those
--- may write, is what every such order leaves. There is one: that of first beats, where nothing more comes. The beats so far may have been wrong; where none
--- was, a list of them is one by which the board is reached
+-- real time, whatever the requests become that aren't whole, and whatever those leave that have failed, and by the rule that is blamed; and a byte that
+-- isn't indeterminate, and that none of those may write that aren't whole, is what every such order leaves. There is one: that of first beats, where
+-- nothing more comes, and all are carried out as they came. The beats so far may have been wrong; where none was, a list of them is one by which the
+-- board is reached
 pub record JudgesRightly (old : Board) (seen : ObservedBeat) (verdict : Option Wrong) : Type 0 where
-  pub some : (setup : SetupLists) (before : List ObservedBeat)
-      → IsOrderOf setup before (range_with_len 0 (length (begun_in setup before))) × MayBecomeAll (begun_in setup before) (as_begun setup before)
-  pub reached : (setup : SetupLists) (before : List ObservedBeat) → IsReached policy.RealTime (opening_board setup) before old → old ≡ board_after setup before
-  pub blamed : (setup : SetupLists) (before : List ObservedBeat) (requests : ℕ → WholeRequest) (numbers : List ℕ) (client : ℕ) (beat : DBeat) (wrong : Wrong)
-      → old ≡ board_after setup before → seen ≡ D client beat → verdict ≡ Some wrong
-      → IsOrderOf setup before numbers → MayBecomeAll (begun_in setup before) requests
-      → IsWrongIn setup (arranged setup before requests numbers) client beat × IsWrongAs setup (arranged setup before requests numbers) client beat wrong
-  pub bytes : (setup : SetupLists) (before : List ObservedBeat) (requests : ℕ → WholeRequest) (numbers : List ℕ) (x : ℕ)
-      → old ≡ board_after setup before → IsOrderOf setup before numbers → MayBecomeAll (begun_in setup before) requests
+  pub some : (errors : Errors) (setup : SetupLists) (before : List ObservedBeat)
+      → IsOrderOf errors setup before (range_with_len 0 (length (begun_in errors setup before)))
+      × MayBecomeAll (begun_in errors setup before) (as_begun errors setup before)
+  pub reached : (errors : Errors) (setup : SetupLists) (before : List ObservedBeat) → IsReached policy.RealTime (opening_with errors setup) before old
+      → old ≡ board_after errors setup before
+  pub blamed : (errors : Errors) (setup : SetupLists) (before : List ObservedBeat) (requests : ℕ → WholeRequest) (numbers : List ℕ) (client : ℕ) (beat : DBeat)
+      (wrong : Wrong)
+      → old ≡ board_after errors setup before → seen ≡ D client beat → verdict ≡ Some wrong
+      → IsOrderOf errors setup before numbers → MayBecomeAll (begun_in errors setup before) requests
+      → IsWrongIn setup (arranged errors setup before requests numbers) (asked_on old client beat)
+      × IsWrongAs setup (arranged errors setup before requests numbers) (asked_on old client beat) wrong
+  pub bytes : (errors : Errors) (setup : SetupLists) (before : List ObservedBeat) (requests : ℕ → WholeRequest) (numbers : List ℕ) (x : ℕ)
+      → old ≡ board_after errors setup before → IsOrderOf errors setup before numbers → MayBecomeAll (begun_in errors setup before) requests
       → old.indeterminate x ≡ false → is_awaited old x ≡ false
-      → byte_left setup (arranged setup before requests numbers) x ≡ old.memory.bytes x
+      → byte_left setup (arranged errors setup before requests numbers) x ≡ old.memory.bytes x

@@ -7,10 +7,11 @@ ghost use Rattle.config.specs.Configs.{is_valid};
 ghost use Rattle.meaning.specs.InTurn.{bytes_of_all};
 ghost use Rattle.setups.specs.Setups.{SetupLists, lists_of, setup_fault};
 ghost use Rattle.setups.specs.declared.SetupFault.TheVariants.{NoMemory};
-ghost use Rattle.scoreboard.specs.Boards.{client_beside, footprints_of, opening_client, replies_open};
+ghost use Rattle.subordinate.specs.Faults.{is_good, standing_at};
+ghost use Rattle.scoreboard.specs.Boards.{acting, client_beside, footprints_of, opening_client, replies_open};
 ghost use Rattle.scoreboard.specs.InsideBoards.{AreOnGoodPages, ClientsHaveRoom, IsOnGoodPage, client_of, footprint_of, is_marked, room_by};
 ghost use Rattle.scoreboard.specs.Races.{after_given, after_joining, beside_all, beside_dependent};
-ghost use Rattle.scoreboard.specs.SerialMemory.{IsCheckedRequest, byte_at, memory_of};
+ghost use Rattle.scoreboard.specs.SerialMemory.{IsCheckedRequest, byte_at, carried_out, memory_of, place_in};
 
 use crate::clients::Client;
 use crate::early_port::EarlyPort;
@@ -18,7 +19,7 @@ use crate::footprint::Footprint;
 use crate::in_flight::InFlight;
 use crate::marks::mark_given;
 use crate::serial::SerialMemory;
-use crate::{ObservedBeat, Policy, Wrong};
+use crate::{Errors, ObservedBeat, Policy, Wrong};
 use burst_plan::PageMap;
 use config::Config;
 use setups::{Setup, SetupFault, setup_fault};
@@ -31,12 +32,14 @@ use tl_messages::{ABeat, DBeat, Request};
 /// Tells of each beat that was observed at the ports of a bridge whether it can be right: that the requests and the AXI4
 /// beats keep their rules, and that the replies are those of the accepted requests, carried out whole, one at a time, in an order
 /// that its policy allows: in order of acceptance, or in any in which a request whose whole reply was seen before another began comes
-/// before it.
+/// before it. Where requests take effect in real time, errors may be told as this project's bridge tells them, or in any way that
+/// TileLink allows.
 ///
 /// A beat that breaks a rule changes nothing, but a beat of a due reply counts as come whatever it shows, and an AW that is wrong
 /// for the data before it alone opens its burst. All room is taken by `new`; no other call takes memory.
 pub struct Scoreboard {
     policy: Policy,
+    errors: Errors,
     clients: Vec<Client>,
     serial: SerialMemory,
     indeterminate: Pages,
@@ -52,7 +55,7 @@ impl Model for Scoreboard {
 
     ghost Value = { BoardState };
 
-    ghost view = { λ b. record { policy = b.policy; clients = b.clients.items; memory = b.serial; indeterminate = b.indeterminate; axi = b.axi; request = b.request; joining = b.joining } };
+    ghost view = { λ b. record { policy = b.policy; errors = b.errors; clients = b.clients.items; memory = b.serial; indeterminate = b.indeterminate; axi = b.axi; request = b.request; joining = b.joining } };
 
     ghost invariant = { λ b. (length b.clients.items ≤ 8) × ClientsHaveRoom (room_by b.policy) b.clients.items
         × (length b.joining.footprint.determined ≡ room_by b.policy) × (b.indeterminate.faults ≡ b.serial.pages.faults)
@@ -64,6 +67,7 @@ impl Drop for Scoreboard {
     fn drop(self) {
         let Scoreboard {
             policy: _,
+            errors: _,
             clients: _,
             serial: _,
             indeterminate: _,
@@ -108,6 +112,19 @@ fn outstanding_of(clients: &[Client]) -> u16
         count += client.outstanding();
     }
     count
+}
+
+/// The address of a good page at which a request may act, if it has one: one that is corrupt may act all the same where errors are
+/// told in any way.
+fn place_of(serial: &SerialMemory, errors: Errors, request: &Request) -> Option<u32>
+    ensures place { result ≡ place_in (memory_of serial.now) (acting errors (request_of request.now)) }
+    ensures same_byte { IfSome result (λ address. address % 4096 ≡ request.now.address % 4096) }
+    ensures good { IfSome result (λ address. is_good (standing_at serial.now.pages.faults address) ≡ true) }
+{
+    match errors {
+        Errors::Strict => serial.place(request),
+        Errors::Any => serial.place_if_sound(request),
+    }
 }
 
 /// What the requests of some clients may write, in flight or begun, isn't determined of another request.
@@ -175,9 +192,9 @@ fn give_way(clients: &mut [Client], other: &Footprint)
 }
 
 impl Scoreboard {
-    ghost use Rattle.scoreboard.specs.Boards.{ClientBoard, IsReached, a_wrong, accepted_on, after_a, after_d, after_seen, answer_to, begun_on, coming_on, continued_on, d_wrong, given_on, joined_on, joining_on, opening_board, with_client, with_taken, wrong_at};
+    ghost use Rattle.scoreboard.specs.Boards.{ClientBoard, IsReached, a_wrong, accepted_on, after_a, after_d, after_seen, answer_to, beginning_on, begun_on, coming_on, continued_on, d_wrong, flight_for, given_on, joined_on, joining_on, opening_board, opening_with, with_accepted, with_client, with_taken, wrong_at};
     ghost use Rattle.scoreboard.specs.Flights.{no_footprint};
-    ghost use Rattle.scoreboard.specs.InsideBoards.{IsFirstBeat, IsFreeOf, board_of, front_after};
+    ghost use Rattle.scoreboard.specs.InsideBoards.{IsFirstBeat, IsFreeOf, board_of, flight_of, front_after};
     ghost use Rattle.tl_messages.specs.Requests.{HeldMessage};
     ghost use Rattle.tl_checker.specs.Ports.{joined};
     ghost use Rattle.tl_checker.specs.declared.Progress.TheVariants.{More, Whole};
@@ -192,23 +209,33 @@ impl Scoreboard {
     /// ports allow, and all bytes of its good pages are zero.
     ///
     /// It refuses what `setup_fault` does, with that fault; its one other error is NoMemory.
-    pub fn new(alloc: Global, policy: Policy, setup: &Setup) -> Result<Self, SetupFault>
+    pub fn new(
+        alloc: Global,
+        policy: Policy,
+        errors: Errors,
+        setup: &Setup,
+    ) -> Result<Self, SetupFault>
         ensures refused { IfSome (setup_fault (lists_of setup.now)) (λ fault. result ≡ Err fault) }
         ensures want { IfErr result (λ fault. (setup_fault (lists_of setup.now) ≡ Some fault) ⊎ (fault ≡ NoMemory)) }
-        ensures opens { IfOk result (λ board. (board_of board ≡ opening_board (lists_of setup.now)) × (board.policy ≡ policy)) }
+        ensures opens { IfOk result (λ board. (board_of board ≡ opening_with errors (lists_of setup.now)) × (board.policy ≡ policy)) }
     {
         if let Some(fault) = setup_fault(setup) {
             return Err(fault);
         }
-        match Scoreboard::opening(alloc, policy, setup) {
+        match Scoreboard::opening(alloc, policy, errors, setup) {
             Ok(board) => Ok(board),
             Err(_) => Err(SetupFault::NoMemory),
         }
     }
 
-    fn opening(alloc: Global, policy: Policy, setup: &Setup) -> Result<Self, AllocError>
+    fn opening(
+        alloc: Global,
+        policy: Policy,
+        errors: Errors,
+        setup: &Setup,
+    ) -> Result<Self, AllocError>
         requires { setup_fault (lists_of setup.now) ≡ None }
-        ensures { IfOk result (λ board. (board_of board ≡ opening_board (lists_of setup.now)) × (board.policy ≡ policy)) }
+        ensures { IfOk result (λ board. (board_of board ≡ opening_with errors (lists_of setup.now)) × (board.policy ≡ policy)) }
     {
         let Ok(map) = PageMap::new(alloc, setup.regions.as_slice()) else {
             return Err(AllocError);
@@ -224,6 +251,7 @@ impl Scoreboard {
         let joining = InFlight::new(alloc, room)?;
         Ok(Scoreboard {
             policy,
+            errors,
             clients,
             serial,
             indeterminate,
@@ -335,10 +363,11 @@ impl Scoreboard {
         requires client { client < length self.old.clients }
         requires first { IsFirstBeat beat.now }
         ensures state { (found : ClientBoard) → slice_get (board_of self.old).clients client ≡ Some found
-            → board_of self.new ≡ begun_on (board_of self.old) client found (joining_on (board_of self.old) (request_of (joined found.limits None beat.now))) }
+            → board_of self.new ≡ begun_on (board_of self.old) client found (beginning_on (board_of self.old) (request_of (joined found.limits None beat.now))) }
         ensures policy { self.new.policy ≡ self.old.policy }
     {
         let Scoreboard {
+            errors,
             clients,
             serial,
             indeterminate,
@@ -347,7 +376,8 @@ impl Scoreboard {
             ..
         } = self;
         request.begin(client, beat);
-        joining.start_footprint(indeterminate, serial.place(request), request);
+        let place = place_of(serial, *errors, request);
+        joining.start_footprint(indeterminate, place, request);
         limit(joining, clients);
         let footprint = joining.footprint();
         mark_beside(indeterminate, clients, footprint);
@@ -380,8 +410,8 @@ impl Scoreboard {
             → board_of self.new ≡ with_taken (board_of self.old) client found (request_of self.old.request) no_footprint }
         ensures policy { self.new.policy ≡ self.old.policy }
     {
-        self.joining.clear_footprint();
-        self.take_in(client);
+        self.carry_out();
+        self.put_in(client);
     }
 
     /// The same where they take effect in real time, of a request that had begun before.
@@ -396,7 +426,7 @@ impl Scoreboard {
         ensures policy { self.new.policy ≡ self.old.policy }
     {
         self.give(client);
-        self.take_in(client);
+        self.put_in(client);
     }
 
     /// The same where they take effect in real time, of a request of one beat.
@@ -411,43 +441,61 @@ impl Scoreboard {
         ensures policy { self.new.policy ≡ self.old.policy }
     {
         self.join();
-        self.take_in(client);
+        self.put_in(client);
     }
 
-    /// The request that came whole is carried out, and in flight with its footprint.
-    fn take_in(&mut self, client: usize)
-        requires client { client < length self.old.clients }
+    /// The request that came whole is carried out, without a footprint.
+    fn carry_out(&mut self)
         requires checked { IsCheckedRequest self.old.request }
-        requires good { IsOnGoodPage self.old.memory.pages.faults (footprint_of self.old.joining.footprint) }
-        requires free { (found : ClientBoard) → slice_get (board_of self.old).clients client ≡ Some found → IsFreeOf self.old.request.source found }
-        ensures state { (found : ClientBoard) → slice_get (board_of self.old).clients client ≡ Some found
-            → board_of self.new ≡ with_taken (board_of self.old) client found (request_of self.old.request) (footprint_of self.old.joining.footprint) }
-        ensures policy { self.new.policy ≡ self.old.policy }
+        ensures footprint { footprint_of self.new.joining.footprint ≡ no_footprint }
+        ensures memory { memory_of self.new.memory ≡ carried_out (memory_of self.old.memory) (request_of self.old.request) }
+        ensures flight { flight_of self.new.joining ≡ flight_for (memory_of self.old.memory) (footprint_of self.new.joining.footprint) (request_of self.old.request) }
+        ensures rest { self.new ≡ record self.old { memory = self.new.memory; joining = self.new.joining } }
     {
         let Scoreboard {
-            clients,
             serial,
             request,
             joining,
             ..
         } = self;
+        joining.clear_footprint();
         joining.carry_out(serial, request);
+    }
+
+    /// The request that was carried out is in flight, with its footprint.
+    fn put_in(&mut self, client: usize)
+        requires client { client < length self.old.clients }
+        requires good { IsOnGoodPage self.old.memory.pages.faults (footprint_of self.old.joining.footprint) }
+        requires free { (found : ClientBoard) → slice_get (board_of self.old).clients client ≡ Some found → IsFreeOf self.old.joining.source found }
+        ensures state { (found : ClientBoard) → slice_get (board_of self.old).clients client ≡ Some found
+            → board_of self.new ≡ with_client client (with_accepted (flight_of self.old.joining) found) (board_of self.old) }
+        ensures policy { self.new.policy ≡ self.old.policy }
+    {
+        let Scoreboard {
+            clients,
+            joining,
+            ..
+        } = self;
         clients[client].join(joining);
     }
 
-    /// The request that came whole, and had begun before, gives its bytes. Determined of it is what stayed so all the while.
+    /// The request that came whole, and had begun before, is carried out, and gives its bytes. Determined of it is what stayed so all
+    /// the while.
     fn give(&mut self, client: usize)
         requires policy { self.old.policy ≡ RealTime }
         requires client { client < length self.old.clients }
         requires checked { IsCheckedRequest self.old.request }
         ensures footprint { (found : ClientBoard) → slice_get (board_of self.old).clients client ≡ Some found
             → footprint_of self.new.joining.footprint ≡ coming_on (board_of self.old) (request_of self.old.request) found.coming }
-        ensures good { IsOnGoodPage self.old.memory.pages.faults (footprint_of self.new.joining.footprint) }
+        ensures memory { memory_of self.new.memory ≡ carried_out (memory_of self.old.memory) (request_of self.old.request) }
+        ensures flight { flight_of self.new.joining ≡ flight_for (memory_of self.old.memory) (footprint_of self.new.joining.footprint) (request_of self.old.request) }
+        ensures good { IsOnGoodPage self.new.memory.pages.faults (footprint_of self.new.joining.footprint) }
         ensures bytes { is_marked self.new.indeterminate
             ≡ after_given (is_marked self.old.indeterminate) (footprint_of self.new.joining.footprint) (bytes_given self.old.request) }
-        ensures rest { self.new ≡ record self.old { indeterminate = self.new.indeterminate; joining = self.new.joining } }
+        ensures rest { self.new ≡ record self.old { memory = self.new.memory; indeterminate = self.new.indeterminate; joining = self.new.joining } }
     {
         let Scoreboard {
+            errors,
             clients,
             serial,
             indeterminate,
@@ -455,23 +503,29 @@ impl Scoreboard {
             joining,
             ..
         } = self;
-        joining.start_footprint(indeterminate, serial.place(request), request);
+        let place = place_of(serial, *errors, request);
+        joining.start_footprint(indeterminate, place, request);
         clients[client].keep(joining);
+        joining.carry_out(serial, request);
+        joining.fail_by(*errors);
         mark_own(indeterminate, joining.footprint(), request);
     }
 
-    /// The request that came whole in one beat gets its footprint beside those in flight and those that have begun.
+    /// The request that came whole in one beat is carried out, and gets its footprint beside those in flight and those that have begun.
     fn join(&mut self)
         requires policy { self.old.policy ≡ RealTime }
         requires checked { IsCheckedRequest self.old.request }
         ensures footprint { footprint_of self.new.joining.footprint ≡ joining_on (board_of self.old) (request_of self.old.request) }
-        ensures good { IsOnGoodPage self.old.memory.pages.faults (footprint_of self.new.joining.footprint) }
+        ensures memory { memory_of self.new.memory ≡ carried_out (memory_of self.old.memory) (request_of self.old.request) }
+        ensures flight { flight_of self.new.joining ≡ flight_for (memory_of self.old.memory) (footprint_of self.new.joining.footprint) (request_of self.old.request) }
+        ensures good { IsOnGoodPage self.new.memory.pages.faults (footprint_of self.new.joining.footprint) }
         ensures clients { map client_of self.new.clients ≡ map (client_beside (footprint_of self.new.joining.footprint)) (map client_of self.old.clients) }
         ensures bytes { is_marked self.new.indeterminate
             ≡ after_joining (is_marked self.old.indeterminate) (footprints_of (map client_of self.old.clients)) (footprint_of self.new.joining.footprint) (bytes_given self.old.request) }
-        ensures rest { self.new ≡ record self.old { clients = self.new.clients; indeterminate = self.new.indeterminate; joining = self.new.joining } }
+        ensures rest { self.new ≡ record self.old { clients = self.new.clients; memory = self.new.memory; indeterminate = self.new.indeterminate; joining = self.new.joining } }
     {
         let Scoreboard {
+            errors,
             clients,
             serial,
             indeterminate,
@@ -479,8 +533,11 @@ impl Scoreboard {
             joining,
             ..
         } = self;
-        joining.start_footprint(indeterminate, serial.place(request), request);
+        let place = place_of(serial, *errors, request);
+        joining.start_footprint(indeterminate, place, request);
         limit(joining, clients);
+        joining.carry_out(serial, request);
+        joining.fail_by(*errors);
         let footprint = joining.footprint();
         mark_written(indeterminate, clients, footprint, request);
         give_way(clients, footprint);

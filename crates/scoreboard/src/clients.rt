@@ -1,11 +1,11 @@
 //! A client as a scoreboard sees it: what it has begun to ask, and its requests in flight.
-ghost use Rattle.std.specs.Prelude.{◌≡◌, ◌≤◌, ◌++◌, [], ◌∷◌, None, Ok, IfOk, false, is_some, length, true};
+ghost use Rattle.std.specs.Prelude.{◌≡◌, ◌≤◌, ◌++◌, [], ◌∷◌, None, Ok, IfOk, false, is_some, length, true, unwrap_or};
 ghost use Rattle.std.specs.List.{list_any};
 ghost use Rattle.tl_messages.specs.Requests.{request_of};
 ghost use Rattle.tl_checker.specs.Ports.{joined};
 ghost use Rattle.tl_checker.specs.declared.Progress.TheVariants.{More, Whole};
 ghost use Rattle.config.specs.Configs.{is_valid};
-ghost use Rattle.scoreboard.specs.Boards.{answer_to, client_beside, client_footprints, kept_from, opening_client, with_accepted, wrong_reply};
+ghost use Rattle.scoreboard.specs.Boards.{answer_to, client_beside, client_footprints, kept_from, opening_client, told_to, with_accepted, wrong_reply};
 ghost use Rattle.scoreboard.specs.Flights.{flights_after, is_of_source, next_reply, replies_left};
 ghost use Rattle.scoreboard.specs.InsideBoards.{AreOnGoodPages, IsFirstBeat, client_of, flight_of, flights_of, footprint_of, front_after, is_marked};
 ghost use Rattle.scoreboard.specs.Races.{beside_all, beside_dependent};
@@ -23,13 +23,14 @@ use subordinate::Pages;
 use tl_checker::{Port, Progress, TlRule};
 use tl_messages::{ABeat, DBeat, Request};
 
-/// A client: its port, its requests in flight, whether a message has begun, and the footprint of that message, which is kept where
-/// requests take effect in real time.
+/// A client: its port, its requests in flight, whether a message has begun, the footprint of that message, which is kept where
+/// requests take effect in real time, and whether the first beat of the reply that began last was denied.
 pub(crate) struct Client {
     port: Port,
     flights: Flights,
     has_begun: bool,
     coming: Footprint,
+    told: bool,
 }
 
 impl Model for Client {
@@ -38,7 +39,7 @@ impl Model for Client {
 
     ghost Value = { ClientState };
 
-    ghost view = { λ c. record { limits = c.port.limits; front = c.port.front; flights = c.flights; coming = c.coming } };
+    ghost view = { λ c. record { limits = c.port.limits; front = c.port.front; flights = c.flights; coming = c.coming; told = c.told } };
 
     // No whole request stands, so that the next beat may come, and a message that has begun is of a free source.
     ghost invariant = { λ c. (c.port.whole ≡ None) × (c.port.limits.max_size ≤ 12) × IsFrontFree c.port.front (flights_of c.flights)
@@ -53,6 +54,7 @@ impl Drop for Client {
             flights: _,
             has_begun: _,
             coming: _,
+            told: _,
         } = self;
     }
 }
@@ -79,6 +81,7 @@ impl Client {
             flights,
             has_begun: false,
             coming,
+            told: false,
         })
     }
 
@@ -154,13 +157,28 @@ impl Client {
         flight.keep(&self.coming);
     }
 
+    /// Whether the reply that has begun was denied in its first beat, if one has begun.
+    fn told(&self) -> Option<bool>
+        ensures { result ≡ told_to (client_of self.now) }
+    {
+        if !self.flights.has_begun() {
+            return None;
+        }
+        Some(self.told)
+    }
+
     /// Judges a beat on channel D.
     pub(crate) fn judge_reply(&mut self, policy: Policy, beat: &DBeat) -> Option<Wrong>
-        ensures wrong { result ≡ wrong_reply policy (next_reply (flights_of self.old.flights) beat.now.source) beat.now }
-        ensures state { client_of self.new ≡ record (client_of self.old) { flights = flights_after (flights_of self.old.flights) beat.now.source } }
+        ensures wrong { result ≡ wrong_reply policy (told_to (client_of self.old)) (next_reply (flights_of self.old.flights) beat.now.source) beat.now }
+        ensures state { client_of self.new ≡ record (client_of self.old) {
+          flights = flights_after (flights_of self.old.flights) beat.now.source;
+          told = unwrap_or (told_to (client_of self.old)) beat.now.denied;
+        } }
         ensures room { self.new.flights.room ≡ self.old.flights.room }
     {
-        self.flights.judge(policy, beat)
+        let told = self.told();
+        self.told = told.unwrap_or(beat.denied);
+        self.flights.judge(policy, told, beat)
     }
 
     /// What any of its requests may write, in flight or begun, isn't determined of another request.

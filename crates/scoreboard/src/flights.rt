@@ -1,5 +1,5 @@
 //! A client's requests in flight.
-ghost use Rattle.std.specs.Prelude.{◌≡◌, ◌<◌, ◌≤◌, ◌==◌, ◌++◌, [], ◌∷◌, ℕ, None, Some, IfOk, false, length, map};
+ghost use Rattle.std.specs.Prelude.{◌≡◌, ◌<◌, ◌≤◌, ◌==◌, ◌++◌, [], ◌∷◌, ℕ, None, Some, IfOk, false, is_some, length, map};
 ghost use Rattle.std.specs.List.{list_any, position};
 ghost use Rattle.std.specs.Vec.{vec_capacity};
 ghost use Rattle.bus_words.specs.Places.{without_first};
@@ -143,6 +143,13 @@ impl Flights {
         }
     }
 
+    /// Whether a reply has begun.
+    pub(crate) fn has_begun(&self) -> bool
+        ensures { result ≡ is_some self.now.begun }
+    {
+        self.begun.is_some()
+    }
+
     /// How many replies aren't whole.
     pub(crate) fn outstanding(&self) -> u16
         ensures count { result ≡ replies_left (flights_of self.now) }
@@ -201,9 +208,15 @@ impl Flights {
         self.begun = Some(flight);
     }
 
-    /// Judges a beat on channel D, which then has come of the reply whose next it may be, if it is of its source.
-    pub(crate) fn judge(&mut self, policy: Policy, beat: &DBeat) -> Option<Wrong>
-        ensures wrong { result ≡ wrong_reply policy (next_reply (flights_of self.old) beat.now.source) beat.now }
+    /// Judges a beat on channel D, by whether the reply that has begun was denied. It then has come of the reply whose next it may
+    /// be, if it is of its source.
+    pub(crate) fn judge(
+        &mut self,
+        policy: Policy,
+        told: Option<bool>,
+        beat: &DBeat,
+    ) -> Option<Wrong>
+        ensures wrong { result ≡ wrong_reply policy told (next_reply (flights_of self.old) beat.now.source) beat.now }
         ensures flights { flights_of self.new ≡ flights_after (flights_of self.old) beat.now.source }
         ensures room { self.new.room ≡ self.old.room }
     {
@@ -213,7 +226,7 @@ impl Flights {
         let Some(flight) = &self.begun else {
             return Some(Wrong::Reply(ReplyRule::Unasked, None));
         };
-        let wrong = flight.wrong_reply(policy, beat);
+        let wrong = flight.wrong_reply(policy, told, beat);
         self.count(beat.source);
         wrong
     }

@@ -1,25 +1,26 @@
 //! The bytes of the memory that a request may read and write which is in flight, or has begun.
-ghost use Rattle.std.specs.Prelude.{◌≡◌, ◌≢◌, ◌≤◌, ◌<◌, ◌+◌, ◌^◌, ◌&&◌, ℕ, IfOk, IfSome, false, length, not, slice_index_or};
+ghost use Rattle.std.specs.Prelude.{◌≡◌, ◌≢◌, ◌≤◌, ◌<◌, ◌+◌, ◌^◌, ◌&&◌, ℕ, IfOk, IfSome, false, length, not, slice_index_or, true};
 ghost use Rattle.tl_messages.specs.Requests.{request_of};
 ghost use Rattle.subordinate.specs.Faults.{is_good, standing_at};
 ghost use Rattle.scoreboard.specs.InsideSerial.{IsMemoryRange};
 ghost use Rattle.scoreboard.specs.InsideBoards.{is_marked, footprint_of, determined_in};
 ghost use Rattle.scoreboard.specs.Boards.{kept_from};
 ghost use Rattle.scoreboard.specs.Flights.{no_footprint};
-ghost use Rattle.scoreboard.specs.Races.{alone, beside, covers, is_fixed, meets};
+ghost use Rattle.scoreboard.specs.Races.{alone, beside, covers, is_fixed, meets, unless_failed};
 
 use std::alloc::{AllocError, Global};
 use std::marker::Model;
 use subordinate::Pages;
 use tl_messages::Request;
 
-/// What a request does to the memory: whether it may read, and write, the `2^size` bytes at an address, and which of them are
-/// determined. All room is taken by `new`.
+/// What a request does to the memory: whether it may read, and write, the `2^size` bytes at an address, whether it has failed, and
+/// which of the bytes are determined. All room is taken by `new`.
 pub(crate) struct Footprint {
     reads: bool,
     writes: bool,
     address: u32,
     size: u8,
+    failed: bool,
     determined: Vec<bool>,
 }
 
@@ -30,7 +31,7 @@ impl Model for Footprint {
 
     ghost Value = { FootprintState };
 
-    ghost view = { λ r. record { reads = r.reads; writes = r.writes; address = r.address; size = r.size; determined = r.determined.items } };
+    ghost view = { λ r. record { reads = r.reads; writes = r.writes; address = r.address; size = r.size; failed = r.failed; determined = r.determined.items } };
 
     ghost invariant = { λ r. (2 ^ r.size ≤ length r.determined.items) × IsMemoryRange r.address r.size };
 }
@@ -43,6 +44,7 @@ impl Drop for Footprint {
             writes: _,
             address: _,
             size: _,
+            failed: _,
             determined: _,
         } = self;
     }
@@ -66,6 +68,7 @@ impl Footprint {
             writes: false,
             address: 0,
             size: 0,
+            failed: false,
             determined: vec![in alloc; false; room]?,
         })
     }
@@ -98,6 +101,13 @@ impl Footprint {
         ensures most { result ≤ 12 }
     {
         self.size
+    }
+
+    /// Whether it has failed, so that its reply may tell so in any way.
+    pub(crate) fn failed(&self) -> bool
+        ensures { result ≡ self.now.failed }
+    {
+        self.failed
     }
 
     /// How many bytes it has.
@@ -154,6 +164,7 @@ impl Footprint {
         self.writes = place.is_some() && operation.has_data();
         self.address = place.unwrap_or(0);
         self.size = request.size();
+        self.failed = false;
         self.determine(marks);
     }
 
@@ -238,6 +249,18 @@ impl Footprint {
         }
     }
 
+    /// It has failed: none of its bytes is determined.
+    pub(crate) fn fail(&mut self)
+        ensures footprint { footprint_of self.new ≡ unless_failed true (footprint_of self.old) }
+        ensures room { length self.new.determined ≡ length self.old.determined }
+        ensures rest { self.new ≡ record self.old { failed = true; determined = self.new.determined } }
+    {
+        for i in 0..self.bytes() {
+            self.put(i, false);
+        }
+        self.failed = true;
+    }
+
     /// Whether it leaves its bytes the same in every order, where they are determined.
     pub(crate) fn is_fixed(&self) -> bool
         ensures { result ≡ is_fixed (footprint_of self.now) }
@@ -262,6 +285,7 @@ impl Footprint {
         self.writes = false;
         self.address = 0;
         self.size = 0;
+        self.failed = false;
         self.put(0, false);
     }
 }

@@ -4,16 +4,16 @@ ghost use Rattle.bus_words.specs.Tables.{first_broken};
 ghost use Rattle.tl_messages.specs.Operations.{beats_of};
 ghost use Rattle.tl_messages.specs.Requests.{request_of};
 ghost use Rattle.responses.specs.Shown.{shown};
-ghost use Rattle.scoreboard.specs.Boards.{differs_in, is_payload, kept_from, reply_rules, tells_otherwise, wrong_reply};
+ghost use Rattle.scoreboard.specs.Boards.{differs_in, due_beat, is_payload, kept_from, reply_rules, tells_error, tells_otherwise, unless_indeterminate, wrong_by, wrong_reply};
 ghost use Rattle.scoreboard.specs.Flights.{no_footprint};
-ghost use Rattle.scoreboard.specs.InsideBoards.{flight_of, footprint_of, is_marked};
+ghost use Rattle.scoreboard.specs.InsideBoards.{fails_by, flight_of, footprint_of, is_marked};
 ghost use Rattle.scoreboard.specs.InsideSerial.{IsMemoryRange};
-ghost use Rattle.scoreboard.specs.Races.{alone, flight_beside};
+ghost use Rattle.scoreboard.specs.Races.{alone, flight_beside, unless_failed};
 ghost use Rattle.scoreboard.specs.SerialMemory.{IsCheckedRequest, carried_out, meaning_in, memory_of};
 
 use crate::footprint::Footprint;
 use crate::serial::SerialMemory;
-use crate::{Policy, ReplyRule, Wrong};
+use crate::{Errors, Policy, ReplyRule, Wrong};
 use bus_words::lane_byte;
 use std::alloc::{AllocError, Global};
 use std::marker::Model;
@@ -110,6 +110,29 @@ fn is_payload(rule: ReplyRule) -> bool
     ensures { result ≡ is_payload rule }
 {
     matches!(rule, ReplyRule::Payload)
+}
+
+/// The beat that is due, as a request that has failed may show it to the one that came; else itself.
+fn due_beat(failed: bool, told: Option<bool>, due: &DBeat, beat: &DBeat) -> DBeat
+    ensures { result ≡ due_beat failed told due.now beat.now }
+{
+    if !failed {
+        return *due;
+    }
+    let denied = told.unwrap_or(beat.denied);
+    DBeat {
+        denied,
+        corrupt: due.opcode == 1 && (denied || beat.corrupt),
+        payload: beat.payload,
+        ..*due
+    }
+}
+
+/// Whether one of some beats tells an error.
+fn tells_error(beats: &[DBeat]) -> bool
+    ensures { result ≡ tells_error beats.now }
+{
+    beats.iter().any(|beat| beat.denied || beat.corrupt)
 }
 
 /// Which beat of a reply, from 0, is its next, where so many are left.
@@ -226,18 +249,55 @@ impl InFlight {
         serial.carry_out(request, &mut self.reply);
     }
 
-    /// What is wrong with a beat on channel D, whose next it may be.
-    pub(crate) fn wrong_reply(&self, policy: Policy, beat: &DBeat) -> Option<Wrong>
-        ensures { result ≡ wrong_reply policy (Some (flight_of self.now)) beat.now }
+    /// Whether a beat of its reply that is left tells an error.
+    fn tells_error(&self) -> bool
+        ensures { result ≡ tells_error self.now.beats }
+    {
+        tells_error(&self.reply.as_slice()[usize::from(self.came)..])
+    }
+
+    /// Where errors may be told in any way it has failed if its reply tells one.
+    pub(crate) fn fail_by(&mut self, errors: Errors)
+        ensures footprint { footprint_of self.new.footprint ≡ unless_failed (fails_by errors self.old.beats) (footprint_of self.old.footprint) }
+        ensures room { length self.new.footprint.determined ≡ length self.old.footprint.determined }
+        ensures rest { self.new ≡ record self.old { footprint = record self.old.footprint { failed = self.new.footprint.failed; determined = self.new.footprint.determined } } }
+    {
+        if errors == Errors::Any && self.tells_error() {
+            self.footprint.fail();
+        }
+    }
+
+    /// What is wrong with a beat on channel D, whose next it may be, by whether the reply that has begun was denied.
+    pub(crate) fn wrong_reply(
+        &self,
+        policy: Policy,
+        told: Option<bool>,
+        beat: &DBeat,
+    ) -> Option<Wrong>
+        ensures { result ≡ wrong_reply policy told (Some (flight_of self.now)) beat.now }
     {
         let Some(due) = self.next_beat() else {
             return Some(Wrong::Reply(ReplyRule::Unasked, None));
         };
+        if policy == Policy::RealTime {
+            return self.wrong_told(told, &due, beat);
+        }
         let rule = difference(&due, beat)?;
-        if policy == Policy::RealTime && is_payload(rule) && !self.tells_otherwise(&due, beat) {
+        Some(Wrong::Reply(rule, Some(due)))
+    }
+
+    /// What is wrong with a beat where another is due, and requests take effect in real time.
+    fn wrong_told(&self, told: Option<bool>, due: &DBeat, beat: &DBeat) -> Option<Wrong>
+        ensures { result ≡ wrong_by (due_beat self.now.footprint.failed told due.now beat.now)
+            (unless_indeterminate (tells_otherwise (footprint_of self.now.footprint) (beats_of self.now.footprint.size true - length self.now.beats) due.now beat.now)
+            (first_broken (reply_rules (due_beat self.now.footprint.failed told due.now beat.now) beat.now))) }
+    {
+        let shown = due_beat(self.footprint.failed(), told, due, beat);
+        let rule = difference(&shown, beat)?;
+        if is_payload(rule) && !self.tells_otherwise(due, beat) {
             return None;
         }
-        Some(Wrong::Reply(rule, Some(due)))
+        Some(Wrong::Reply(rule, Some(shown)))
     }
 
     /// Whether a beat, as the next of its reply, tells of a determined byte something else than the one that is due.

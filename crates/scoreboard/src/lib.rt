@@ -32,6 +32,17 @@ pub enum Policy {
     RealTime,
 }
 
+/// How errors may be told. It counts where requests take effect in real time; in order of acceptance they are told as by `Strict`.
+#[derive(Clone, Copy, Debug, PartialEq, Eq)]
+pub enum Errors {
+    /// As this project's bridge tells them: a request of which a beat was corrupt, or whose access fails by the page map or a bad
+    /// word, writes nothing, and each beat of its reply is denied and corrupt as this project's profile says.
+    Strict,
+    /// In any way that TileLink allows: a request of which a beat was corrupt, or whose access fails by the page map or a bad word,
+    /// may be denied or not, its data may be corrupt or not, and what it may have written is in doubt.
+    Any,
+}
+
 /// What was observed: a beat that was taken at a port, where the two sides agreed on it, or that a port went unobserved.
 #[derive(Clone, Copy, Debug, PartialEq, Eq)]
 pub enum ObservedBeat {

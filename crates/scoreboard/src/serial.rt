@@ -1,5 +1,5 @@
 //! The memory that requests leave which are carried out whole, one at a time.
-ghost use Rattle.std.specs.Prelude.{◌≡◌, ◌+◌, ◌*◌, ◌%◌, ◌^◌, ◌<◌, ◌≤◌, true, false, length, if◌then◌else◌, None, Some, IfOk, IfSome, IsTrue};
+ghost use Rattle.std.specs.Prelude.{◌≡◌, ◌+◌, ◌*◌, ◌%◌, ◌^◌, ◌<◌, ◌≤◌, ℕ, true, false, length, if◌then◌else◌, None, Some, IfOk, IfSome, IsTrue};
 ghost use Rattle.std.specs.List.{enumerate_from};
 ghost use Rattle.tl_messages.specs.Operations.{has_data};
 ghost use Rattle.tl_messages.specs.Requests.{bytes_given, request_of};
@@ -195,6 +195,14 @@ fn place_of(map: &PageMap, request: &Request) -> Option<u32>
     if request.corrupt() {
         return None;
     }
+    place_if_sound(map, request)
+}
+
+/// The AXI address that a request would have were it not corrupt; none where it leads nowhere.
+fn place_if_sound(map: &PageMap, request: &Request) -> Option<u32>
+    ensures place { result ≡ address_of map.now (record (request_of request.now) { corrupt = false }) }
+    ensures same_byte { IfSome result (λ address. address % 4096 ≡ request.now.address % 4096) }
+{
     map.translate(request.operation(), request.address())
 }
 
@@ -246,7 +254,7 @@ impl Drop for SerialMemory {
 }
 
 impl SerialMemory {
-    ghost use Rattle.scoreboard.specs.SerialMemory.{byte_at, carried_out, meaning_in, memory_of, opening_memory_state, place_in};
+    ghost use Rattle.scoreboard.specs.SerialMemory.{byte_at, carried_out, meaning_in, memory_of, on_good_page, opening_memory_state, place_in};
 
     /// The memory behind a page map, of these pages and bad words, which `device_fault` doesn't refuse; all bytes are zero.
     ///
@@ -272,17 +280,35 @@ impl SerialMemory {
         self.pages.byte(address)
     }
 
+    /// An address, where its page is good.
+    fn if_good(&self, address: Option<u32>) -> Option<u32>
+        ensures place { result ≡ on_good_page self.now.pages.faults address }
+        ensures same_byte { (byte : ℕ) → IfSome address (λ found. found % 4096 ≡ byte) → IfSome result (λ found. found % 4096 ≡ byte) }
+        ensures good { IfSome result (λ found. is_good (standing_at self.now.pages.faults found) ≡ true) }
+    {
+        let address = address?;
+        if self.byte(address).is_none() {
+            return None;
+        }
+        Some(address)
+    }
+
     /// The address of a good page at which a request acts; none where it acts on no good page.
     pub fn place(&self, request: &Request) -> Option<u32>
         ensures place { result ≡ place_in (memory_of self.now) (request_of request.now) }
         ensures same_byte { IfSome result (λ address. address % 4096 ≡ request.now.address % 4096) }
         ensures good { IfSome result (λ address. is_good (standing_at self.now.pages.faults address) ≡ true) }
     {
-        let address = place_of(&self.map, request)?;
-        if self.byte(address).is_none() {
-            return None;
-        }
-        Some(address)
+        self.if_good(place_of(&self.map, request))
+    }
+
+    /// The address of a good page at which a request would act were it not corrupt; none where it would act on no good page.
+    pub fn place_if_sound(&self, request: &Request) -> Option<u32>
+        ensures place { result ≡ place_in (memory_of self.now) (record (request_of request.now) { corrupt = false }) }
+        ensures same_byte { IfSome result (λ address. address % 4096 ≡ request.now.address % 4096) }
+        ensures good { IfSome result (λ address. is_good (standing_at self.now.pages.faults address) ≡ true) }
+    {
+        self.if_good(place_if_sound(&self.map, request))
     }
 
     /// Carries out a request that a checker let pass, whole and at once, and puts the beats of its reply into a box.

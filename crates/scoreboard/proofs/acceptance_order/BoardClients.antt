@@ -14,7 +14,7 @@ use Rattle.setups.proofs.SetupFaults.{valid_of}
 use Rattle.subordinate.specs.Faults.{Faults, device_fault}
 use Rattle.subordinate.proofs.ZeroBytes.{zero_byte}
 use Rattle.scoreboard.specs.AxiPorts.{none_early}
-use Rattle.scoreboard.specs.Boards.{footprints_of, opening_board, opening_client}
+use Rattle.scoreboard.specs.Boards.{footprints_of, opening_board, opening_client, opening_with}
 use Rattle.scoreboard.specs.InsideBoards.{AreOnGoodPages, BoardState, ClientState, board_of, client_of, is_marked}
 use Rattle.scoreboard.specs.InsideSerial.{bytes_in}
 use Rattle.scoreboard.specs.SerialMemory.{opening_memory_state}
@@ -34,7 +34,7 @@ device_fine setup none = grind (arith, none)
 pub board_opens : (setup : SetupLists) (state : BoardState) → map client_of state.clients ≡ (opening_board setup).clients
     → state.memory ≡ opening_memory_state setup.regions setup.pages setup.bad_words
     → state.indeterminate ≡ (opening_memory_state setup.regions setup.pages setup.bad_words).pages → state.axi ≡ none_early (axi_port_of setup.config) nothing_open
-    → board_of state ≡ opening_board setup
+    → board_of state ≡ opening_with state.errors setup
 board_opens setup state clients memory indeterminate axi =
     let zero : bytes_in (opening_memory_state setup.regions setup.pages setup.bad_words).pages ≡ zeros = fun_ext (λ x. zero_byte setup.pages x) in
     let none : is_marked (opening_memory_state setup.regions setup.pages setup.bad_words).pages ≡ (opening_board setup).indeterminate = fun_ext (λ x. rw (zero_byte setup.pages x) refl) in

@@ -1,5 +1,5 @@
 -- What a scoreboard holds in flight of a client is what is left to tell it, source by source.
-use Rattle.std.proofs.Common.{◌≡◌, ℕ, ◌==◌, true, false, ◌&&◌, List, [], ◌∷◌, ◌++◌, length, Option, Some, None, ◌⊎◌, inl, inr, refl, sym, ◌∙◌, ap, subst, arith}
+use Rattle.std.proofs.Common.{◌≡◌, Bool, ℕ, ◌==◌, true, false, ◌&&◌, List, [], ◌∷◌, ◌++◌, length, Option, Some, None, ◌⊎◌, inl, inr, refl, sym, ◌∙◌, ap, subst, arith}
 use Rattle.std.specs.Prelude.{◌≢◌, is_some, nat_lt}
 use Rattle.std.specs.List.{find}
 use Rattle.std.specs.Option.{option_to_list}
@@ -96,22 +96,22 @@ left_begun flight beat rest own beats = rw (eq-eqb flight.source beat.source own
 comes : (due : List InFlight) (begun : Option InFlight) (beat : DBeat) (flight : InFlight) → next_reply (record { due = due; begun = begun }) beat.source ≡ Some flight
     → flight.source ≡ beat.source → flying_of (record { due = due; begun = begun }) beat.source ≡ Some flight
     → due_after begun due beat.source ≡ without_first (is_of_source beat.source) (option_to_list begun ++ due) → ((source : ℕ) → begun_is_of source begun ≡ true → source ≡ beat.source)
-    → wrong_reply AcceptanceOrder (Some flight) beat ≡ None → Comes (record { due = due; begun = begun }) beat
+    → wrong_reply AcceptanceOrder None (Some flight) beat ≡ None → Comes (record { due = due; begun = begun }) beat
 comes due begun beat flight next own found others alone none =
     let (rest, beats) = right_next flight.beats beat none in
     let left = ap (λ (next : Option InFlight). begun_after next beat.source) next ∙ left_begun flight beat rest own beats in
     record { flight = flight; rest = rest; own = own; beats = beats; found = found; flying_is = rw (left, others) refl; begun_is = left; alone = alone }
 
-pub right_comes : (flights : Flights) (beat : DBeat) → AreDues (flying flights) → wrong_reply AcceptanceOrder (next_reply flights beat.source) beat ≡ None → Comes flights beat
+pub right_comes : (flights : Flights) (beat : DBeat) → AreDues (flying flights) → wrong_reply AcceptanceOrder None (next_reply flights beat.source) beat ≡ None → Comes flights beat
 right_comes flights beat dues none = by_begun flights.due flights.begun dues none
   where
-    by_found : (due : List InFlight) (next : Option InFlight) → find (is_of_source beat.source) due ≡ next → wrong_reply AcceptanceOrder next beat ≡ None → Comes (record { due = due; begun = None }) beat
+    by_found : (due : List InFlight) (next : Option InFlight) → find (is_of_source beat.source) due ≡ next → wrong_reply AcceptanceOrder None next beat ≡ None → Comes (record { due = due; begun = None }) beat
     by_found due None found right = absurd (cc (right))
     by_found due (Some flight) found right =
         comes due None beat flight found (eqb-true flight.source beat.source (find-passes (is_of_source beat.source) due flight found)) found refl (λ source is. absurd (cc (is))) right
 
     by_begun : (due : List InFlight) (begun : Option InFlight) → AreDues (option_to_list begun ++ due)
-        → wrong_reply AcceptanceOrder (next_reply (record { due = due; begun = begun }) beat.source) beat ≡ None → Comes (record { due = due; begun = begun }) beat
+        → wrong_reply AcceptanceOrder None (next_reply (record { due = due; begun = begun }) beat.source) beat ≡ None → Comes (record { due = due; begun = begun }) beat
     by_begun due None are right = by_found due (find (is_of_source beat.source) due) refl right
     by_begun due (Some flight) are right =
         let own : flight.source ≡ beat.source = sym (subst (AreOf flight.source) (right_next flight.beats beat right).1 are.0.own).0 in
@@ -162,15 +162,15 @@ owed_beside flights beat source come other owed =
 
 -- a beat isn't wrong that is the next left of its source, where no reply of another source has begun
 pub left_comes : (flights : Flights) (beat : DBeat) (rest : List DBeat) → beats_in (flying_of flights beat.source) ≡ beat ∷ rest
-    → ((source : ℕ) → begun_is_of source flights.begun ≡ true → source ≡ beat.source) → wrong_reply AcceptanceOrder (next_reply flights beat.source) beat ≡ None
+    → ((source : ℕ) → begun_is_of source flights.begun ≡ true → source ≡ beat.source) → wrong_reply AcceptanceOrder None (next_reply flights beat.source) beat ≡ None
 left_comes flights beat rest left alone = by_begun flights.due flights.begun left alone
   where
-    of_found : (next : Option InFlight) → beats_in next ≡ beat ∷ rest → wrong_reply AcceptanceOrder next beat ≡ None
+    of_found : (next : Option InFlight) → beats_in next ≡ beat ∷ rest → wrong_reply AcceptanceOrder None next beat ≡ None
     of_found None is = absurd (cc (is))
     of_found (Some flight) is = rw is (next_right beat rest)
 
     by_begun : (due : List InFlight) (begun : Option InFlight) → beats_in (flying_of (record { due = due; begun = begun }) beat.source) ≡ beat ∷ rest
-        → ((source : ℕ) → begun_is_of source begun ≡ true → source ≡ beat.source) → wrong_reply AcceptanceOrder (next_reply (record { due = due; begun = begun }) beat.source) beat ≡ None
+        → ((source : ℕ) → begun_is_of source begun ≡ true → source ≡ beat.source) → wrong_reply AcceptanceOrder None (next_reply (record { due = due; begun = begun }) beat.source) beat ≡ None
     by_begun due None is only = of_found (find (is_of_source beat.source) due) is
     by_begun due (Some flight) is only = of_found (Some flight) (sym (rw (eq-eqb flight.source beat.source (only flight.source (eqb_same flight.source))) refl) ∙ is)
 
@@ -203,3 +203,8 @@ owed_other flights flight other replies told differs owed =
     let same : flying_of (with_flight flight flights) other ≡ flying_of flights other =
     ap (find (is_of_source other)) (flying_with flights flight) ∙ find-append-fails (is_of_source other) (flying flights) flight (ne_eqb flight.source other (λ is. differs (sym is))) in
     record { is_told = owed.is_told; left_is = owed.left_is ∙ ap beats_in (sym same); has_begun = owed.has_begun; partly = owed.partly }
+
+-- in order of acceptance it plays no part what was told before
+pub as_untold : (told : Option Bool) (next : Option InFlight) (beat : DBeat) → wrong_reply AcceptanceOrder None next beat ≡ wrong_reply AcceptanceOrder told next beat
+as_untold told None beat = refl
+as_untold told (Some flight) beat = refl

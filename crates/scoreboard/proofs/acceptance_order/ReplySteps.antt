@@ -1,6 +1,6 @@
 -- A beat on channel D, or on the AXI4 port, that isn't wrong: what is held then is what was observed then, and it is right.
 use Rattle.std.proofs.Common.{◌≡◌, ℕ, List, [], ◌∷◌, ◌++◌, Some, None, ◌⊎◌, inl, inr, refl, sym, ◌∙◌, ap, subst, arith}
-use Rattle.std.specs.Prelude.{◌≢◌, slice_get}
+use Rattle.std.specs.Prelude.{◌≢◌, slice_get, unwrap_or}
 use Rattle.tl_messages.specs.declared.ABeat.{ABeat}
 use Rattle.tl_messages.specs.declared.DBeat.{DBeat}
 use Rattle.axi_checker.specs.OpenBursts.{nothing_open}
@@ -9,13 +9,13 @@ use Rattle.axi_checker.specs.Rules.{axi_fault, first_axi_fault, open_after_all}
 use Rattle.setups.specs.Setups.{SetupLists}
 use Rattle.config.specs.Configs.{axi_port_of}
 use Rattle.scoreboard.specs.AxiPorts.{PortBoard, after_in_order, drained, wrong_axi, wrong_in_order}
-use Rattle.scoreboard.specs.Boards.{Board, ClientBoard, with_client, wrong_reply}
+use Rattle.scoreboard.specs.Boards.{Board, ClientBoard, told_to, with_client, wrong_reply}
 use Rattle.scoreboard.specs.Flights.{flights_after, next_reply}
 use Rattle.scoreboard.specs.Observed.{Observed, with_axi_beat, with_reply_beat}
 use Rattle.scoreboard.specs.declared.Policy.TheVariants.{AcceptanceOrder}
 use Rattle.scoreboard.specs.Right.{IsFree, IsPartly, IsRightNow, IsTold, left_of, replies_to}
 use Rattle.scoreboard.proofs.acceptance_order.BoardOf.{IsBoardOf, IsClientOf}
-use Rattle.scoreboard.proofs.acceptance_order.Owed.{Comes, IsOwed, dues_after, eqb_same, left_before, left_comes, owed_after, owed_beside, right_comes, same_or_not}
+use Rattle.scoreboard.proofs.acceptance_order.Owed.{Comes, IsOwed, as_untold, dues_after, eqb_same, left_before, left_comes, owed_after, owed_beside, right_comes, same_or_not}
 use Rattle.scoreboard.proofs.acceptance_order.RequestSteps.{board_with, client_kept}
 use Rattle.scoreboard.proofs.acceptance_order.SeenLists.{axi_fault-append, open_after_all-append}
 use Rattle.scoreboard.proofs.acceptance_order.Told.{left-beat}
@@ -42,7 +42,7 @@ owed_told setup observed number client beat to source = elim (same_or_not source
 ]
 
 client_told : (setup : SetupLists) (observed : Observed) (number : ℕ) (client : ClientBoard) (beat : DBeat) → ComesTo setup observed number client beat
-    → IsClientOf setup (with_reply_beat number beat observed) number (record client { flights = flights_after client.flights beat.source })
+    → IsClientOf setup (with_reply_beat number beat observed) number (record client { flights = flights_after client.flights beat.source; told = unwrap_or (told_to client) beat.denied })
 client_told setup observed number client beat to =
     record { limits = to.of.limits; front = to.of.front; dues = dues_after client.flights beat to.of.dues to.comes; owed = owed_told setup observed number client beat to }
 
@@ -75,31 +75,32 @@ right_told setup observed number client beat to right =
     free_at other (first ∷ rest) free (inr differs) = rw (told_other observed number beat other first.source (inl differs)) free
 
 pub step_reply : (setup : SetupLists) (observed : Observed) (board : Board) (number : ℕ) (client : ClientBoard) (beat : DBeat) → IsBoardOf setup observed board → slice_get board.clients number ≡ Some client
-    → wrong_reply AcceptanceOrder (next_reply client.flights beat.source) beat ≡ None
-    → IsBoardOf setup (with_reply_beat number beat observed) (with_client number (record client { flights = flights_after client.flights beat.source }) board)
+    → wrong_reply AcceptanceOrder (told_to client) (next_reply client.flights beat.source) beat ≡ None
+    → IsBoardOf setup (with_reply_beat number beat observed) (with_client number (record client { flights = flights_after client.flights beat.source; told = unwrap_or (told_to client) beat.denied }) board)
 step_reply setup observed board number client beat of there none =
     board_with number client _ board.memory of there (client_told setup observed number client beat to)
     (λ other found differs was. client_kept was refl (λ source. refl) (λ source. told_other observed number beat other source (inl differs))) of.memory refl
     (right_told setup observed number client beat to of.right)
   where
     to : ComesTo setup observed number client beat
-    to = record { of = of.clients number client there; comes = right_comes client.flights beat (of.clients number client there).dues none }
+    to = record { of = of.clients number client there; comes = right_comes client.flights beat (of.clients number client there).dues (as_untold (told_to client) (next_reply client.flights beat.source) beat ∙ none) }
 
 -- while a reply of a source of the client has begun, the beat is of that source
 pub next_contiguous : (setup : SetupLists) (observed : Observed) (number : ℕ) (client : ClientBoard) (beat : DBeat) → IsClientOf setup observed number client
-    → wrong_reply AcceptanceOrder (next_reply client.flights beat.source) beat ≡ None → (source : ℕ)
+    → wrong_reply AcceptanceOrder (told_to client) (next_reply client.flights beat.source) beat ≡ None → (source : ℕ)
     → IsPartly (replies_to setup observed number source) (observed.told number source) → source ≡ beat.source
-next_contiguous setup observed number client beat of none source partly = (right_comes client.flights beat of.dues none).alone source ((of.owed source).has_begun partly)
+next_contiguous setup observed number client beat of none source partly = (right_comes client.flights beat of.dues (as_untold (told_to client) (next_reply client.flights beat.source) beat ∙ none)).alone source ((of.owed source).has_begun partly)
 
 -- a beat that may come isn't wrong
 pub reply_right : (setup : SetupLists) (observed : Observed) (number : ℕ) (client : ClientBoard) (beat : DBeat) → IsClientOf setup observed number client
     → IsRightNow setup (with_reply_beat number beat observed)
     → ((source : ℕ) → IsPartly (replies_to setup observed number source) (observed.told number source) → source ≡ beat.source)
-    → wrong_reply AcceptanceOrder (next_reply client.flights beat.source) beat ≡ None
+    → wrong_reply AcceptanceOrder (told_to client) (next_reply client.flights beat.source) beat ≡ None
 reply_right setup observed number client beat of right contiguous =
     let replies = replies_to setup observed number beat.source in
     let left = left-beat replies (observed.told number beat.source) beat (subst (IsTold replies) (told_own observed number beat) (right.told number beat.source)) in
-    left_comes client.flights beat (left_of replies (observed.told number beat.source ++ beat ∷ [])) (sym (of.owed beat.source).left_is ∙ left) (λ source is. contiguous source ((of.owed source).partly is))
+    sym (as_untold (told_to client) (next_reply client.flights beat.source) beat)
+    ∙ left_comes client.flights beat (left_of replies (observed.told number beat.source ++ beat ∷ [])) (sym (of.owed beat.source).left_is ∙ left) (λ source is. contiguous source ((of.owed source).partly is))
 
 -- ---- the AXI4 port
 

@@ -1,6 +1,6 @@
 -- What a board holds after a beat, client by client, and that it stays held so.
 use Rattle.std.proofs.Common.{◌≡◌, ℕ, ◌<◌, ◌≤◌, Bool, List, map, set, length, get_or, Some, refl, sym, subst, ◌∙◌, ap, ap₂}
-use Rattle.std.specs.Prelude.{slice_get}
+use Rattle.std.specs.Prelude.{slice_get, unwrap_or}
 use Rattle.std.specs.Option.{option_map}
 use Rattle.std.proofs.lemmas.List.{length-map, length-set, map-set}
 use Rattle.std.proofs.lemmas.Option.{same_Some, slice_get-map, slice_get_read}
@@ -8,13 +8,16 @@ use Rattle.bus_words.proofs.MappedPlaces.{map_some}
 use Rattle.bus_words.proofs.PlaceChanges.{all-got, all-set}
 use Rattle.subordinate.specs.Faults.{Faults}
 use Rattle.subordinate.specs.InsidePages.{PagesState}
-use Rattle.tl_messages.specs.Requests.{HeldMessage, bytes_given, request_of}
+use Rattle.tl_messages.specs.Requests.{HeldMessage, begun, bytes_given, request_of}
+use Rattle.tl_messages.specs.declared.ABeat.{ABeat}
 use Rattle.tl_messages.specs.declared.DBeat.{DBeat}
-use Rattle.scoreboard.specs.Boards.{Board, ClientBoard, after_d, begun_on, client_beside, client_footprints, coming_on, flight_for, footprints_of, given_on, joined_on, joining_on, with_accepted, with_taken}
+use Rattle.scoreboard.specs.Boards.{Board, ClientBoard, acting, after_d, beginning_on, begun_on, client_beside, client_footprints, coming_on, flight_for, footprints_of, given_on, joined_on, joining_on, told_to, with_accepted, with_client, with_taken}
 use Rattle.scoreboard.specs.Flights.{Footprint, InFlight, flights_after, is_of_source}
 use Rattle.scoreboard.specs.InsideBoards.{AreOnGoodPages, BoardState, ClientState, ClientsHaveRoom, FlightState, IsFreeOf, board_of, client_of, flight_of, flights_of, footprint_of, is_marked}
-use Rattle.scoreboard.specs.Races.{after_given, after_joining, beside_dependent, flight_beside}
-use Rattle.scoreboard.specs.SerialMemory.{Memory, MemoryState, carried_out, memory_of}
+use Rattle.scoreboard.specs.Races.{after_given, after_joining, beside_dependent, flight_beside, joining}
+use Rattle.scoreboard.specs.SerialMemory.{Memory, carried_out, memory_of, place_in}
+use Rattle.scoreboard.specs.declared.Errors.{Errors}
+use Rattle.scoreboard.specs.declared.Errors.TheVariants.{Any, Strict}
 use Rattle.scoreboard.proofs.held.ClientFootprints.{all_beside, good_client, good_each}
 use Rattle.scoreboard.proofs.held.Marks.{nothing_given}
 use Rattle.scoreboard.proofs.MappedLists.{any_map}
@@ -36,7 +39,7 @@ client_is clients number one found there is = same_Some _ _ (sym (client_there c
 -- ---- a beat on channel D
 
 pub replied : (state : BoardState) (number : ℕ) (found new : ClientState) (beat : DBeat) → slice_get state.clients number ≡ Some found
-    → client_of new ≡ record (client_of found) { flights = flights_after (flights_of found.flights) beat.source }
+    → client_of new ≡ record (client_of found) { flights = flights_after (flights_of found.flights) beat.source; told = unwrap_or (told_to (client_of found)) beat.denied }
     → board_of (record state { clients = set state.clients number new }) ≡ after_d (board_of state) number (slice_get (board_of state).clients number) beat
 replied state number found new beat there is =
     rw (client_there state.clients number found there)
@@ -70,22 +73,50 @@ beside_kept room faults clients given footprint is rooms held =
 
 -- ---- a request that is taken in
 
-pub taken : (state : BoardState) (number : ℕ) (found new : ClientState) (serial : MemoryState) (flight joining : FlightState) (footprint : Footprint)
-    → client_of new ≡ with_accepted (flight_of flight) (client_of found)
-    → flight_of flight ≡ flight_for (memory_of state.memory) footprint (request_of state.request) → memory_of serial ≡ carried_out (memory_of state.memory) (request_of state.request)
-    → board_of (record state { clients = set state.clients number new; memory = serial; joining = joining }) ≡ with_taken (board_of state) number (client_of found) (request_of state.request) footprint
-taken state number found new serial flight joining footprint is made out =
-    ap₂ {C = Board} (λ (clients : List ClientBoard) (memory : Memory). record (board_of state) { clients = clients; memory = memory })
-    (map-set client_of state.clients number new ∙ ap (set (map client_of state.clients) number) (is ∙ ap (λ (one : InFlight). with_accepted one (client_of found)) made)) out
+pub put_there : (state : BoardState) (number : ℕ) (found new : ClientState) (joining : FlightState) → client_of new ≡ with_accepted (flight_of state.joining) (client_of found)
+    → board_of (record state { clients = set state.clients number new; joining = joining }) ≡ with_client number (with_accepted (flight_of state.joining) (client_of found)) (board_of state)
+put_there state number found new joining is =
+    ap {B = Board} (λ (clients : List ClientBoard). record (board_of state) { clients = clients }) (map-set client_of state.clients number new ∙ ap (set (map client_of state.clients) number) is)
+
+-- a board with what a request changes that is carried out
+abbrev pub with_changes : BoardState → BoardState → BoardState
+with_changes now old = record old { clients = now.clients; memory = now.memory; indeterminate = now.indeterminate; joining = now.joining }
+
+-- one was carried out, and nothing changed but this
+pub record IsCarriedOut (old now : BoardState) : Type 0 where
+  pub rest : now ≡ with_changes now old
+  pub memory : memory_of now.memory ≡ carried_out (memory_of old.memory) (request_of old.request)
+  pub flight : flight_of now.joining ≡ flight_for (memory_of old.memory) (footprint_of now.joining.footprint) (request_of old.request)
+
+put_taken : (old now : BoardState) (number : ℕ) (found : ClientBoard) → IsCarriedOut old now
+    → with_client number (with_accepted (flight_of now.joining) found) (board_of now)
+    ≡ with_taken (record (board_of old) { clients = map client_of now.clients; indeterminate = is_marked now.indeterminate }) number found (request_of old.request) (footprint_of now.joining.footprint)
+put_taken old now number found is =
+    ap {B = Board} (λ (b : BoardState). put (flight_of now.joining) (record (board_of b) { clients = map client_of now.clients; memory = memory_of now.memory; indeterminate = is_marked now.indeterminate })) is.rest
+    ∙ ap₂ {C = Board} (λ (flight : InFlight) (memory : Memory). put flight (record (board_of old) { clients = map client_of now.clients; memory = memory; indeterminate = is_marked now.indeterminate })) is.flight is.memory
+  where
+    put : InFlight → Board → Board
+    put flight board = with_client number (with_accepted flight found) board
+
+-- without a footprint
+pub taken : (old now : BoardState) (number : ℕ) (found : ClientBoard) (footprint : Footprint) → IsCarriedOut old now
+    → now ≡ record old { memory = now.memory; joining = now.joining } → footprint_of now.joining.footprint ≡ footprint
+    → with_client number (with_accepted (flight_of now.joining) found) (board_of now) ≡ with_taken (board_of old) number found (request_of old.request) footprint
+taken old now number found footprint is rest own =
+    put_taken old now number found is
+    ∙ ap (λ (b : BoardState). with_taken (record (board_of old) { clients = map client_of b.clients; indeterminate = is_marked b.indeterminate }) number found (request_of old.request) (footprint_of now.joining.footprint)) rest
+    ∙ ap (with_taken (board_of old) number found (request_of old.request)) own
 
 -- of one that had begun the bytes are given besides
-pub given_taken : (old now : BoardState) (number : ℕ) (found : ClientBoard) → now ≡ record old { indeterminate = now.indeterminate; joining = now.joining }
+pub given_taken : (old now : BoardState) (number : ℕ) (found : ClientBoard) → IsCarriedOut old now
+    → now ≡ record old { memory = now.memory; indeterminate = now.indeterminate; joining = now.joining }
     → footprint_of now.joining.footprint ≡ coming_on (board_of old) (request_of old.request) found.coming
     → is_marked now.indeterminate ≡ after_given (is_marked old.indeterminate) (footprint_of now.joining.footprint) (bytes_given old.request)
-    → with_taken (board_of now) number found (request_of now.request) (footprint_of now.joining.footprint)
+    → with_client number (with_accepted (flight_of now.joining) found) (board_of now)
     ≡ given_on (board_of old) number found (request_of old.request) (coming_on (board_of old) (request_of old.request) found.coming)
-given_taken old now number found rest footprint marked =
-    ap {B = Board} (λ (b : BoardState). with_taken (record (board_of b) { indeterminate = is_marked now.indeterminate }) number found (request_of b.request) own_footprint) rest
+given_taken old now number found is rest footprint marked =
+    put_taken old now number found is
+    ∙ ap (λ (b : BoardState). with_taken (record (board_of old) { clients = map client_of b.clients; indeterminate = is_marked now.indeterminate }) number found (request_of old.request) own_footprint) rest
     ∙ ap {B = Board} (λ (indeterminate : ℕ → Bool). with_taken (record (board_of old) { indeterminate = indeterminate }) number found (request_of old.request) own_footprint) marked
     ∙ ap (given_on (board_of old) number found (request_of old.request)) footprint
   where
@@ -108,19 +139,29 @@ free_beside source footprint client free =
     record { front = free.front; free = any_map (is_of_source source) (flight_beside footprint) client.flights.due ∙ free.free }
 
 -- taken in behind those that have given way, a request has joined them
-pub joined_taken : (old now : BoardState) (number : ℕ) (found : ClientBoard) → now ≡ record old { clients = now.clients; indeterminate = now.indeterminate; joining = now.joining }
+pub joined_taken : (old now : BoardState) (number : ℕ) (found : ClientBoard) → IsCarriedOut old now
     → footprint_of now.joining.footprint ≡ joining_on (board_of old) (request_of old.request)
     → map client_of now.clients ≡ map (client_beside (footprint_of now.joining.footprint)) (map client_of old.clients)
     → is_marked now.indeterminate ≡ after_joining (is_marked old.indeterminate) (footprints_of (map client_of old.clients)) (footprint_of now.joining.footprint) (bytes_given old.request)
-    → with_taken (board_of now) number (client_beside (footprint_of now.joining.footprint) found) (request_of now.request) (footprint_of now.joining.footprint)
+    → with_client number (with_accepted (flight_of now.joining) (client_beside (footprint_of now.joining.footprint) found)) (board_of now)
     ≡ joined_on (board_of old) number found (request_of old.request) (joining_on (board_of old) (request_of old.request))
-joined_taken old now number found rest footprint given marked =
-    ap {B = Board} (λ (b : BoardState). with_taken (record (board_of b) { clients = map client_of now.clients; indeterminate = is_marked now.indeterminate }) number (client_beside own_footprint found) (request_of b.request) own_footprint) rest
+joined_taken old now number found is footprint given marked =
+    put_taken old now number (client_beside own_footprint found) is
     ∙ ap₂ {C = Board} (λ (clients : List ClientBoard) (indeterminate : ℕ → Bool). with_taken (record (board_of old) { clients = clients; indeterminate = indeterminate }) number (client_beside own_footprint found) (request_of old.request) own_footprint) given marked
     ∙ ap (joined_on (board_of old) number found (request_of old.request)) footprint
   where
     own_footprint : Footprint
     own_footprint = footprint_of now.joining.footprint
+
+-- where a request acts isn't told by its client
+place_same : (errors : Errors) (memory : Memory) (one other : ℕ) (beat : ABeat)
+    → place_in memory (acting errors (request_of (begun one beat))) ≡ place_in memory (acting errors (request_of (begun other beat)))
+place_same Strict memory one other beat = refl
+place_same Any memory one other beat = refl
+
+pub beginning_same : (board : Board) (one other : ℕ) (beat : ABeat) → beginning_on board (request_of (begun one beat)) ≡ beginning_on board (request_of (begun other beat))
+beginning_same board one other beat =
+    ap (λ place. joining board.indeterminate (footprints_of board.clients) place (request_of (begun other beat))) (place_same board.errors board.memory one other beat)
 
 -- behind those that have given way, a request has begun
 pub begun_behind : (old : BoardState) (given : List ClientState) (marks : PagesState) (request : HeldMessage) (joining : FlightState) (number : ℕ) (found : ClientBoard) (new : ClientState) (footprint : Footprint)

@@ -11,7 +11,7 @@ use Rattle.scoreboard.specs.InsideSerial.{IsMemoryRange}
 use Rattle.scoreboard.specs.InsideBoards.{FootprintState, footprint_of, determined_in}
 use Rattle.scoreboard.specs.Boards.{kept_from}
 use Rattle.scoreboard.specs.Flights.{Footprint}
-use Rattle.scoreboard.specs.Races.{beside, covers, may_write}
+use Rattle.scoreboard.specs.Races.{beside, covers, may_write, unless_failed}
 
 -- ---- how many, and where
 
@@ -75,3 +75,12 @@ kept old now coming rest each = ap footprint_of rest ∙ ap (λ (f : ℕ → Boo
         by_place old.address (2 ^ old.size) now.determined (λ y. get_or old.determined (y - old.address) false && coming.determined y)
         (λ i below. let place : old.address + i - old.address ≡ i = omega arith in rw place (each i below)) x
         ∙ grind arith
+
+-- those of one that has failed
+pub none_determined : (old now : FootprintState) → now ≡ record old { failed = true; determined = now.determined }
+    → ((k : ℕ) → k < 2 ^ old.size → get_or now.determined k false ≡ false) → footprint_of now ≡ unless_failed true (footprint_of old)
+none_determined old now rest each =
+    ap footprint_of rest ∙ ap {B = Footprint} (λ (f : ℕ → Bool). record (footprint_of old) { failed = true; determined = f }) (fun_ext (λ x. at x))
+  where
+    at : (x : ℕ) → determined_in (record old { failed = true; determined = now.determined }) x ≡ false
+    at x = by_place old.address (2 ^ old.size) now.determined (λ y. false) each x ∙ grind arith

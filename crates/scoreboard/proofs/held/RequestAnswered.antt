@@ -10,11 +10,11 @@ use Rattle.tl_checker.specs.Ports.{joined}
 use Rattle.tl_checker.specs.declared.Progress.{Progress}
 use Rattle.tl_checker.specs.declared.Progress.TheVariants.{More, Whole}
 use Rattle.tl_checker.specs.declared.TlRule.{TlRule}
-use Rattle.scoreboard.specs.Boards.{Board, ClientBoard, a_wrong, accepted_on, after_a, answer_to, answered_on, client_beside, client_footprints, coming_on, continued_on, flight_for, footprints_of, joining_on, with_accepted, with_client, wrong_request}
+use Rattle.scoreboard.specs.Boards.{Board, ClientBoard, a_wrong, accepted_on, after_a, answer_to, answered_on, client_beside, client_footprints, coming_on, continued_on, fails, flight_for, footprints_of, joining_on, place_on, with_accepted, with_client, wrong_request}
 use Rattle.scoreboard.specs.Flights.{Footprint, InFlight, is_of_source, no_footprint}
 use Rattle.scoreboard.specs.InsideBoards.{ClientState, IsFreeOf, client_of, flights_of, front_after}
-use Rattle.scoreboard.specs.Races.{after_given, after_joining, joining}
-use Rattle.scoreboard.specs.SerialMemory.{carried_out, place_in}
+use Rattle.scoreboard.specs.Races.{after_given, after_joining, joining, unless_failed}
+use Rattle.scoreboard.specs.SerialMemory.{carried_out}
 use Rattle.scoreboard.specs.declared.Policy.{Policy}
 use Rattle.scoreboard.specs.declared.Policy.TheVariants.{AcceptanceOrder, RealTime}
 
@@ -63,7 +63,7 @@ accepted_same RealTime board number client message false there =
     -- the board where it has joined clients, of which these are the footprints
     joined_beside : List ClientBoard → ClientBoard → List Footprint → Board
     joined_beside clients own_client footprints =
-        let joined_footprint = joining board.indeterminate footprints (place_in board.memory (request_of message)) (request_of message) in
+        let joined_footprint = unless_failed (fails board.errors board.memory (request_of message)) (joining board.indeterminate footprints (place_on board (request_of message)) (request_of message)) in
         record board {
           clients = set (map (client_beside joined_footprint) clients) number (with_accepted (flight_for board.memory joined_footprint (request_of message)) (client_beside joined_footprint own_client));
           memory = carried_out board.memory (request_of message);

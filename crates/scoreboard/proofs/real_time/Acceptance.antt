@@ -9,12 +9,13 @@ use Rattle.burst_plan.specs.declared.Region.{Region}
 use Rattle.burst_plan.specs.PageMap.{address_of}
 use Rattle.subordinate.specs.Faults.{Faults}
 use Rattle.meaning.specs.Meaning.{Bytes, zeros}
-use Rattle.scoreboard.specs.Boards.{Board, ClientBoard, client_beside, flight_for, footprints_of, joined_on, joining_on, with_accepted}
-use Rattle.scoreboard.specs.SerialMemory.{on_good_page}
+use Rattle.scoreboard.specs.Boards.{Board, ClientBoard, client_beside, flight_for, footprints_of, joined_on, with_accepted}
+use Rattle.scoreboard.specs.SerialMemory.{on_good_page, place_in}
 use Rattle.scoreboard.specs.Orders.{Order, begun_to, has_ended}
 use Rattle.scoreboard.specs.RealTime.{entry_of}
+use Rattle.scoreboard.specs.declared.Errors.TheVariants.{Strict}
 use Rattle.scoreboard.specs.Flights.{Flights, Footprint, InFlight, due_to, is_of_source}
-use Rattle.scoreboard.specs.Races.{alone, beside, beside_all, flight_beside, may_write}
+use Rattle.scoreboard.specs.Races.{alone, beside, beside_all, flight_beside, joining, may_write}
 use Rattle.scoreboard.proofs.MappedLists.{any_map}
 use Rattle.scoreboard.proofs.real_time.Apart.{AreAll, IsJoining}
 use Rattle.scoreboard.proofs.real_time.Entries.{Each, IsElsewhere, Stands, any_here, any_with, carry, distinct_with}
@@ -64,11 +65,12 @@ nothing_beside footprint clients nothing number client is =
 
 -- ---- the board with the request
 
-module _ (board : Board) (number : ℕ) (client : ClientBoard) (q : WholeRequest) (there : slice_get board.clients number ≡ Some client)
-    (free : list_any (is_of_source q.source) client.flights.due ≡ false) where
-  abbrev footprint : Footprint
-  footprint = joining_on board q
+-- where errors are told as this project's bridge tells them
+abbrev pub sure_on : Board → WholeRequest → Footprint
+sure_on board q = joining board.indeterminate (footprints_of board.clients) (place_in board.memory q) q
 
+module _ (board : Board) (number : ℕ) (client : ClientBoard) (q : WholeRequest) (footprint : Footprint) (there : slice_get board.clients number ≡ Some client)
+    (free : list_any (is_of_source q.source) client.flights.due ≡ false) where
   abbrev flight : InFlight
   flight = flight_for board.memory footprint q
 
@@ -90,66 +92,87 @@ module _ (board : Board) (number : ℕ) (client : ClientBoard) (q : WholeRequest
   free_beside : list_any (is_of_source q.source) (client_beside footprint client).flights.due ≡ false
   free_beside = any_map (is_of_source q.source) (flight_beside footprint) client.flights.due ∙ free
 
-  pub own_flight : flight_at (set (map (client_beside (joining_on board q)) board.clients) number (with_accepted (flight_for board.memory (joining_on board q) q) (client_beside (joining_on board q) client))) (due_at number q.source) ≡ Some flight
+  pub own_flight : flight_at (set (map (client_beside footprint) board.clients) number (with_accepted (flight_for board.memory footprint q) (client_beside footprint client))) (due_at number q.source)
+      ≡ Some (flight_for board.memory footprint q)
   own_flight = own_taken given number (client_beside footprint client) flight there_beside free_beside
 
   pub other_flight : (i : Place) → (i ≡ due_at number q.source → ⊥)
-      → flight_at (set (map (client_beside (joining_on board q)) board.clients) number
-      (with_accepted (flight_for board.memory (joining_on board q) q) (client_beside (joining_on board q) client))) i
-      ≡ option_map (flight_beside (joining_on board q)) (flight_at board.clients i)
+      → flight_at (set (map (client_beside footprint) board.clients) number (with_accepted (flight_for board.memory footprint q) (client_beside footprint client))) i
+      ≡ option_map (flight_beside footprint) (flight_at board.clients i)
   other_flight i differ = other_taken given number (client_beside footprint client) flight there_beside free_beside i differ ∙ at_beside footprint board.clients i
 
-  still_some : (i : Place) → (i ≡ own_place → ⊥) → is_some (flight_at new_clients i) ≡ is_some (flight_at board.clients i)
+  pub still_some : (i : Place) → (i ≡ due_at number q.source → ⊥)
+      → is_some (flight_at (set (map (client_beside footprint) board.clients) number (with_accepted (flight_for board.memory footprint q) (client_beside footprint client))) i)
+      ≡ is_some (flight_at board.clients i)
   still_some i differ = grind (arith, other_flight i differ)
 
+module _ (board : Board) (number : ℕ) (client : ClientBoard) (q : WholeRequest) (there : slice_get board.clients number ≡ Some client)
+    (free : list_any (is_of_source q.source) client.flights.due ≡ false) where
+  abbrev sure : Footprint
+  sure = sure_on board q
+
+  abbrev accepted : InFlight
+  accepted = flight board number client q sure there free
+
+  abbrev beside_it : List ClientBoard
+  beside_it = given board number client q sure there free
+
+  abbrev with_it_all : List ClientBoard
+  with_it_all = new_clients board number client q sure there free
+
+  abbrev its_place : Place
+  its_place = due_at number q.source
+
   pub explains_joined : (before after : Order) → IsWell q → list_any has_ended after ≡ false → Explains board (before ++ after)
-      → Explains (joined_on board number client q (joining_on board q)) (before ++ entry_of number q true ∷ after)
+      → Explains (joined_on board number client q (sure_on board q)) (before ++ entry_of Strict number q true ∷ after)
   explains_joined before after well none explains =
       let with_it =
-      inserted board.memory.faults board.memory.regions (flight_at board.clients) (flight_at new_clients) (footprints_of board.clients)
-      board.indeterminate board.memory.bytes (entry_of number q true) flight well refl refl
+      inserted board.memory.faults board.memory.regions (flight_at board.clients) (flight_at with_it_all) (footprints_of board.clients)
+      board.indeterminate board.memory.bytes (entry_of Strict number q true) accepted well refl refl
       (joins_right board.memory.faults board.memory.regions board.indeterminate (footprint_at board.clients) (footprints_of board.clients) q are well)
-      are explains.apart explains.either own_flight other_flight before after zeros explains.entries none elsewhere explains.distinct explains.known refl
+      are explains.apart explains.either (own_flight board number client q sure there free) (other_flight board number client q sure there free) before after zeros explains.entries none elsewhere explains.distinct explains.known refl
       explains.small refl in
       record {
         sources =
-            sources_with given number (client_beside footprint client) changed there_beside
-            (sources_beside footprint board.clients explains.sources)
-            (sources_more flight (client_beside footprint client).flights free_beside
-            (sources_kept footprint client.flights (explains.sources number client there)));
+            sources_with beside_it number (client_beside sure client) (changed board number client q sure there free) (there_beside board number client q sure there free)
+            (sources_beside sure board.clients explains.sources)
+            (sources_more accepted (client_beside sure client).flights (free_beside board number client q sure there free)
+            (sources_kept sure client.flights (explains.sources number client there)));
         nothing =
-            nothing_with given number (client_beside footprint client) changed there_beside
-            (nothing_beside footprint board.clients explains.nothing) refl;
+            nothing_with beside_it number (client_beside sure client) (changed board number client q sure there free) (there_beside board number client q sure there free)
+            (nothing_beside sure board.clients explains.nothing) refl;
         small = (acts board.memory.faults board.memory.regions q well).small board.memory.bytes explains.small;
         apart = with_it.apart_now;
         either = with_it.either_now;
-        distinct = distinct_with before after (entry_of number q true) explains.distinct elsewhere;
+        distinct = distinct_with before after (entry_of Strict number q true) explains.distinct elsewhere;
         entries = with_it.entries;
         known = with_it.known;
-        waiting = λ c source some. waiting c source some (cases_place (due_at c source) own_place);
+        waiting = λ c source some. waiting c source some (cases_place (due_at c source) its_place);
         begun = λ c some.
-            any_with (begun_to c) before after (entry_of number q true) (explains.begun c (sym (still_some (begun_at c) (not_due c)) ∙ some));
+            any_with (begun_to c) before after (entry_of Strict number q true)
+            (explains.begun c (sym (still_some board number client q sure there free (begun_at c) (not_due c)) ∙ some));
       }
     where
       are : AreAll (footprint_at board.clients) (footprints_of board.clients)
       are = are_all board.clients explains.sources explains.nothing
 
-      nothing : flight_at board.clients own_place ≡ None
+      nothing : flight_at board.clients its_place ≡ None
       nothing = ap (λ (f : Flights). due_to f q.source) (ap flights_in there) ∙ none_found q.source client.flights.due free
 
-      elsewhere : AllByRecursion (IsElsewhere own_place) (before ++ after)
-      elsewhere = all_elsewhere board.memory.faults board.memory.regions (flight_at board.clients) own_place nothing (before ++ after) zeros explains.entries
+      elsewhere : AllByRecursion (IsElsewhere its_place) (before ++ after)
+      elsewhere = all_elsewhere board.memory.faults board.memory.regions (flight_at board.clients) its_place nothing (before ++ after) zeros explains.entries
 
-      not_due : (c : ℕ) → begun_at c ≡ own_place → ⊥
+      not_due : (c : ℕ) → begun_at c ≡ its_place → ⊥
       not_due c same = let source = ap (λ (p : Place). p.source) same in absurd (cc (source))
 
-      waiting : (c source : ℕ) → is_some (flight_at new_clients (due_at c source)) ≡ true
-          → (due_at c source ≡ own_place) ⊎ (due_at c source ≡ own_place → ⊥)
-          → list_any (waits_for c source) (before ++ entry_of number q true ∷ after) ≡ true
+      waiting : (c source : ℕ) → is_some (flight_at with_it_all (due_at c source)) ≡ true
+          → (due_at c source ≡ its_place) ⊎ (due_at c source ≡ its_place → ⊥)
+          → list_any (waits_for c source) (before ++ entry_of Strict number q true ∷ after) ≡ true
       waiting c source some (inr differ) =
-          any_with (waits_for c source) before after (entry_of number q true) (explains.waiting c source (sym (still_some (due_at c source) differ) ∙ some))
+          any_with (waits_for c source) before after (entry_of Strict number q true)
+          (explains.waiting c source (sym (still_some board number client q sure there free (due_at c source) differ) ∙ some))
       waiting c source some (inl same) =
           let there : Some source ≡ Some q.source = ap (λ (p : Place). p.source) same in
           let is : source ≡ q.source = cc (there) in
-          any_here (waits_for c source) before after (entry_of number q true)
+          any_here (waits_for c source) before after (entry_of Strict number q true)
           (grind (arith, nat_tests, is, ap (λ (p : Place). p.client) same))

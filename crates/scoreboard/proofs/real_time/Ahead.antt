@@ -1,6 +1,6 @@
 -- A board beside its shadow, on which each request is carried out with its first beat, as what it becomes. The board knows less: a request that has begun
 -- there is in flight on the shadow. What the board holds to be determined is so on the shadow, as far as it is read, and tells the same.
-use Rattle.std.proofs.Common.{◌≡◌, ℕ, ◌<◌, Bool, true, false, ◌&&◌, List, length, drop, Option, Some, None, inl, inr, refl, sym, ◌∙◌, ap, arith}
+use Rattle.std.proofs.Common.{◌≡◌, ℕ, ◌<◌, Bool, true, false, ◌&&◌, ◌||◌, List, map, length, drop, Option, Some, None, inl, inr, refl, sym, ◌∙◌, ap, arith}
 use Rattle.std.specs.Prelude.{is_some, slice_get}
 use Rattle.std.specs.List.{list_any}
 use Rattle.std.proofs.lemmas.Bool.{cases_Bool}
@@ -14,20 +14,26 @@ use Rattle.scoreboard.specs.Boards.{Board, ClientBoard, footprints_of}
 use Rattle.scoreboard.specs.Flights.{Footprint, InFlight, no_footprint}
 use Rattle.scoreboard.specs.Races.{covers, depends_on, may_write}
 use Rattle.scoreboard.proofs.real_time.AlikeBeats.{LeftAlike}
+use Rattle.scoreboard.specs.declared.Errors.TheVariants.{Strict}
 use Rattle.scoreboard.proofs.real_time.Entries.{carry}
+use Rattle.scoreboard.proofs.real_time.Failures.{shape_of}
 use Rattle.scoreboard.proofs.real_time.FlightLists.{HaveAllSources, each_coming, each_of}
 use Rattle.scoreboard.proofs.real_time.Places.{Place, coming_at, due_at, flight_at, footprint_at, footprint_in}
 use Rattle.scoreboard.proofs.real_time.RequestActs.{AreBytes, IsWell, acts, gives, own}
 
 -- ---- one request
 
--- a request in flight beside the same one on the shadow: it acts the same, what it reads is determined there too, and its reply's beats are alike
+-- a request in flight beside the same one on the shadow, where it acts as it does here, if it does; what it reads is determined there too, and its reply's
+-- beats have the same shape. If it hasn't failed it acts on the shadow as it does here, and its reply's beats are alike
 pub record IsBehind (mine theirs : InFlight) : Type 0 where
   pub source : mine.source ≡ theirs.source
-  pub acts : mine.footprint ≡ record theirs.footprint { determined = mine.footprint.determined }
+  pub acts : (theirs.footprint.reads || theirs.footprint.writes) ≡ true
+      → mine.footprint ≡ record theirs.footprint { failed = mine.footprint.failed; determined = mine.footprint.determined }
+  pub sound : mine.footprint.failed ≡ false → mine.footprint ≡ record theirs.footprint { determined = mine.footprint.determined }
   pub less : (x : ℕ) → mine.footprint.reads ≡ true → mine.footprint.determined x ≡ true → theirs.footprint.determined x ≡ true
   pub long : length mine.beats ≡ length theirs.beats
-  pub alike : (n : ℕ) → n < length theirs.beats → LeftAlike mine.footprint (drop n mine.beats) (drop n theirs.beats)
+  pub shapes : map shape_of mine.beats ≡ map shape_of theirs.beats
+  pub alike : mine.footprint.failed ≡ false → (n : ℕ) → n < length theirs.beats → LeftAlike mine.footprint (drop n mine.beats) (drop n theirs.beats)
 
 -- the footprint of what has begun beside the request that it becomes, which is in flight on the shadow: one that reads nothing, and that may write no
 -- more than was said with the first beat
@@ -42,7 +48,8 @@ pub record IsComing (faults : Faults) (regions : List Region) (coming : Footprin
 
 -- ---- the board
 
--- a shadow: its clients, bytes and indeterminate bytes, and what becomes of each client's message that has begun; all else is the board's
+-- a shadow: its clients, bytes and indeterminate bytes, and what becomes of each client's message that has begun; all else is the board's, but that errors are
+-- told there as this project's bridge tells them, of what the requests become
 pub record Shadow : Type 0 where
   pub clients : List ClientBoard
   pub bytes : Bytes
@@ -51,7 +58,7 @@ pub record Shadow : Type 0 where
 
 abbrev pub shadow_of : Board → Shadow → Board
 shadow_of board shadow =
-    record board { clients = shadow.clients; memory = record board.memory { bytes = shadow.bytes }; indeterminate = shadow.indeterminate }
+    record board { clients = shadow.clients; memory = record board.memory { bytes = shadow.bytes }; indeterminate = shadow.indeterminate; errors = Strict }
 
 abbrev pub front_in : Option ClientBoard → Option HeldMessage
 front_in None = None
@@ -165,19 +172,25 @@ module _ (board : Board) (shadow : Shadow) (ahead : IsAhead board shadow) where
   -- a test that passes nothing on the board passes nothing on the shadow, if it asks the same of those that act the same, and passes none of those that
   -- have begun
   at_shadow : (test : Footprint → Bool) → test no_footprint ≡ false
-      → ((mine theirs : Footprint) → mine ≡ record theirs { determined = mine.determined } → test mine ≡ test theirs)
+      → ((footprint : Footprint) → (footprint.reads || footprint.writes) ≡ false → test footprint ≡ false)
+      → ((mine theirs : Footprint) → mine ≡ record theirs { failed = mine.failed; determined = mine.determined } → test mine ≡ test theirs)
       → ((client : ℕ) (other : InFlight) → IsComing board.memory.faults board.memory.regions (coming_at board.clients client) (shadow.finals client) other
       → test (coming_at board.clients client) ≡ false → test other.footprint ≡ false)
       → list_any test (footprints_of board.clients) ≡ false → (i : Place) → test (footprint_at shadow.clients i) ≡ false
-  at_shadow test nobody same becomes none i = by_shadow (flight_at shadow.clients i) refl
+  at_shadow test nobody idle same becomes none i = by_shadow (flight_at shadow.clients i) refl
     where
       own_or_coming : (other : InFlight) (o : Option InFlight) → flight_at shadow.clients i ≡ Some other → flight_at board.clients i ≡ o → test other.footprint ≡ false
       own_or_coming other (Some flight) there is =
           let beside = ahead.placed i flight is in
           let one : Some other ≡ Some beside.other = sym there ∙ beside.there in
           let it : other ≡ beside.other = cc (one) in
-          ap (λ (f : InFlight). test f.footprint) it ∙ sym (same flight.footprint beside.other.footprint beside.behind.acts)
-          ∙ ap (λ (o : Option InFlight). test (footprint_in o)) (sym is) ∙ each_of test nobody board.clients none i.client i.source
+          ap (λ (f : InFlight). test f.footprint) it
+          ∙ elim (cases_Bool (beside.other.footprint.reads || beside.other.footprint.writes)) [
+            | inl does ↦
+                sym (same flight.footprint beside.other.footprint (beside.behind.acts does))
+                ∙ ap (λ (o : Option InFlight). test (footprint_in o)) (sym is) ∙ each_of test nobody board.clients none i.client i.source
+            | inr does_nothing ↦ idle beside.other.footprint does_nothing
+          ]
       own_or_coming other None there is =
           let final = ahead.others i other there is in
           let become = ahead.begun i.client final.begun in
@@ -193,7 +206,7 @@ module _ (board : Board) (shadow : Shadow) (ahead : IsAhead board shadow) where
   -- what nobody may write
   pub shadow_writes : (x : ℕ) → list_any (λ r. may_write r x) (footprints_of board.clients) ≡ false → (i : Place) → may_write (footprint_at shadow.clients i) x ≡ false
   shadow_writes x =
-      at_shadow (λ r. may_write r x) refl (λ mine theirs is. ap (λ (r : Footprint). may_write r x) is)
+      at_shadow (λ r. may_write r x) refl (λ r nothing. grind (arith, nothing)) (λ mine theirs is. ap (λ (r : Footprint). may_write r x) is)
       (λ client other coming none. within_writes other.footprint (coming_at board.clients client) x
       (becomes_within board.memory.faults board.memory.regions (coming_at board.clients client) (shadow.finals client) other coming) none)
 
@@ -202,5 +215,5 @@ module _ (board : Board) (shadow : Shadow) (ahead : IsAhead board shadow) where
       → (i : Place) → touches theirs x (footprint_at shadow.clients i) ≡ false
   shadow_touches theirs mine x within none i =
       touches_less theirs mine (footprint_at shadow.clients i) x within
-      (at_shadow (touches mine x) (grind arith) (λ one other is. ap (touches mine x) is)
+      (at_shadow (touches mine x) (grind arith) (λ r nothing. grind (arith, nothing)) (λ one other is. ap (touches mine x) is)
       (λ client other coming nothing. grind (arith, reads_nothing board.memory.faults board.memory.regions (coming_at board.clients client) (shadow.finals client) other coming)) none i)

@@ -37,10 +37,12 @@ module _ (joined joined_there : Footprint) (within : IsWithin joined_there joine
   behind_beside mine theirs is =
       record {
         source = is.source;
-        acts = ap (λ (r : Footprint). record r { determined = (beside mine.footprint joined).determined }) is.acts;
+        acts = λ does. ap (λ (r : Footprint). record r { determined = (beside mine.footprint joined).determined }) (is.acts does);
+        sound = λ sound. ap (λ (r : Footprint). record r { determined = (beside mine.footprint joined).determined }) (is.sound sound);
         less = λ x reads determined. less_beside mine.footprint theirs.footprint x (is.less x reads) determined;
         long = is.long;
-        alike = λ n below. left_beside mine.footprint joined (drop n mine.beats) (drop n theirs.beats) (is.alike n below);
+        shapes = is.shapes;
+        alike = λ sound n below. left_beside mine.footprint joined (drop n mine.beats) (drop n theirs.beats) (is.alike sound n below);
       }
 
   pub coming_beside_it : (faults : Faults) (regions : List Region) (coming : Footprint) (q : WholeRequest) (theirs : InFlight) → IsComing faults regions coming q theirs

@@ -41,10 +41,10 @@ told_none : (hidden : ℕ → Bool) (m n : Bytes) (a count start x : ℕ)
     → is_none (given_at (told_bytes hidden m a count) start x) ≡ is_none (given_at (told_bytes hidden n a count) start x)
 told_none hidden m n a count start x = rw (told_at hidden m a count start x, told_at hidden n a count start x) (grind arith)
 
-abbrev reply_of : (ℕ → Bool) → Bytes → ℕ → WholeRequest → Reply
+abbrev pub reply_of : (ℕ → Bool) → Bytes → ℕ → WholeRequest → Reply
 reply_of hidden m a q = record { denied = false; bytes = told_bytes hidden m a (2 ^ q.size) }
 
-lacks_same : (hidden : ℕ → Bool) (m n : Bytes) (a : ℕ) (q : WholeRequest) (j : ℕ)
+pub lacks_same : (hidden : ℕ → Bool) (m n : Bytes) (a : ℕ) (q : WholeRequest) (j : ℕ)
     → lacks_a_byte q (reply_of hidden m a q) j ≡ lacks_a_byte q (reply_of hidden n a q) j
 lacks_same hidden m n a q j =
     ap (λ (test : ℕ → Bool). list_any test (range_with_len 0 8))

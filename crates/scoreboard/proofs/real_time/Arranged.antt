@@ -16,12 +16,13 @@ use Rattle.tl_checker.specs.declared.Progress.{Progress}
 use Rattle.tl_checker.specs.declared.Progress.TheVariants.{More, Whole}
 use Rattle.tl_checker.specs.declared.TlRule.{TlRule}
 use Rattle.setups.specs.Setups.{SetupLists}
-use Rattle.scoreboard.specs.Boards.{Board, ClientBoard, after_all, after_seen, answer_to, opening_board}
+use Rattle.scoreboard.specs.Boards.{Board, ClientBoard, after_all, after_seen, answer_to, opening_with}
+use Rattle.scoreboard.specs.declared.Errors.{Errors}
 use Rattle.scoreboard.specs.declared.Policy.TheVariants as policy
 use Rattle.scoreboard.specs.declared.ObservedBeat.{ObservedBeat}
 use Rattle.scoreboard.specs.declared.ObservedBeat.TheVariants.{A, D, Axi as OnAxi, Drained}
 use Rattle.scoreboard.specs.Orders.{Entry, Order, after_beat, begun_to, board_after, has_ended, is_due, with_beat}
-use Rattle.scoreboard.specs.RealTime.{EndedBefore, IsOrderOf, KeepsRealTime, MayBecome, MayBecomeAll, arranged, as_begun, becoming, begun_from, begun_in, begun_next, completed, entry_of, numbered, with_answered, with_progress, with_request}
+use Rattle.scoreboard.specs.RealTime.{EndedBefore, IsOrderOf, KeepsRealTime, MayBecome, MayBecomeAll, arranged, as_begun, becoming, begun_from, begun_in, begun_next, completed, entry_of, is_spoiled, numbered, with_answered, with_progress, with_request}
 use Rattle.scoreboard.proofs.real_time.RequestActs.{well_bytes}
 use Rattle.scoreboard.proofs.real_time.StepOrders as steps
 use Rattle.scoreboard.proofs.real_time.StepOrders.{GoesOn, GoesOnAnswered, GoesOnRequest, GoesOnTaken, IsOrderFrom, IsPutIn, finished, is_coming}
@@ -152,9 +153,9 @@ beat_kept begun client source entry q may =
     same = ap (λ (r : WholeRequest). is_due begun client source (record entry { request = r }) && r.source == source) may.fields
 
 -- its last beat
-finish_kept : (client : ℕ) (q r : WholeRequest) (entry : Entry)
-    → record (completed client q entry) { request = r } ≡ finished client (record entry { request = r })
-finish_kept client q r entry =
+finish_kept : (errors : Errors) (client : ℕ) (q r : WholeRequest) (entry : Entry)
+    → record (completed errors client q entry) { request = r } ≡ finished errors client q (record entry { request = r })
+finish_kept errors client q r entry =
     elim (cases_Bool (is_coming client entry)) [
       | inl is ↦ rw is refl
       | inr is ↦ rw is refl
@@ -163,22 +164,22 @@ finish_kept client q r entry =
 -- ---- what a beat does to those that have begun
 
 -- fewer have never begun
-no_fewer_taken : (client : ℕ) (front : Option HeldMessage) (q : WholeRequest) (progress : Progress) (now : Order)
-    → length now ≤ length (with_progress client front q progress now)
-no_fewer_taken client None q More now = omega (arith, length-append now (entry_of client q false ∷ []))
-no_fewer_taken client None q Whole now = omega (arith, length-append now (entry_of client q true ∷ []))
-no_fewer_taken client (Some held) q More now = omega arith
-no_fewer_taken client (Some held) q Whole now = omega (arith, length-map now (completed client q))
+no_fewer_taken : (errors : Errors) (client : ℕ) (front : Option HeldMessage) (q : WholeRequest) (progress : Progress) (now : Order)
+    → length now ≤ length (with_progress errors client front q progress now)
+no_fewer_taken errors client None q More now = omega (arith, length-append now (entry_of errors client q false ∷ []))
+no_fewer_taken errors client None q Whole now = omega (arith, length-append now (entry_of errors client q true ∷ []))
+no_fewer_taken errors client (Some held) q More now = omega arith
+no_fewer_taken errors client (Some held) q Whole now = omega (arith, length-map now (completed errors client q))
 
 no_fewer : (board : Board) (seen : ObservedBeat) (now : Order) → length now ≤ length (begun_next board seen now)
 no_fewer board (A number beat) now = by_client (slice_get board.clients number)
   where
     by_answer : (front : Option HeldMessage) (message : HeldMessage) (answer : Result Progress TlRule)
-        → length now ≤ length (with_answered number front message answer now)
+        → length now ≤ length (with_answered board.errors number front message answer now)
     by_answer front message (Err broken) = omega arith
-    by_answer front message (Ok progress) = no_fewer_taken number front (request_of message) progress now
+    by_answer front message (Ok progress) = no_fewer_taken board.errors number front (request_of message) progress now
 
-    by_client : (found : Option ClientBoard) → length now ≤ length (with_request number found beat now)
+    by_client : (found : Option ClientBoard) → length now ≤ length (with_request board.errors number found beat now)
     by_client None = omega arith
     by_client (Some client) = by_answer client.front (joined client.limits client.front beat) (answer_to policy.RealTime client beat)
 no_fewer board (D client beat) now = omega (arith, length-map now (with_beat (list_any (begun_to client) now) client beat.source))
@@ -197,15 +198,15 @@ from_parts (seen ∷ first) rest board now = from_parts first rest (after_seen p
 -- ---- an order of all, as far as its requests have begun
 
 -- behind it
-kept_behind : (setup : SetupLists) (beats : List ObservedBeat) (later : ℕ) (left right : List ℕ) → KeepsRealTime setup beats (left ++ later ∷ right)
-    → AllByRecursion (λ number. EndedBefore setup beats number later → ⊥) right
-kept_behind setup beats later [] right keeps = keeps.0
-kept_behind setup beats later (first ∷ left) right keeps = kept_behind setup beats later left right keeps.1
+kept_behind : (errors : Errors) (setup : SetupLists) (beats : List ObservedBeat) (later : ℕ) (left right : List ℕ) → KeepsRealTime errors setup beats (left ++ later ∷ right)
+    → AllByRecursion (λ number. EndedBefore errors setup beats number later → ⊥) right
+kept_behind errors setup beats later [] right keeps = keeps.0
+kept_behind errors setup beats later (first ∷ left) right keeps = kept_behind errors setup beats later left right keeps.1
 
-module _ (setup : SetupLists) (beats : List ObservedBeat) (requests : ℕ → WholeRequest) (numbers : List ℕ) (is_order : IsOrderOf setup beats numbers)
-    (may : MayBecomeAll (begun_in setup beats) requests) where
+module _ (errors : Errors) (setup : SetupLists) (beats : List ObservedBeat) (requests : ℕ → WholeRequest) (numbers : List ℕ) (is_order : IsOrderOf errors setup beats numbers)
+    (may : MayBecomeAll (begun_in errors setup beats) requests) where
   abbrev begun : List ObservedBeat → Order
-  begun done = begun_in setup done
+  begun done = begun_in errors setup done
 
   -- some that have begun as the order has them
   abbrev entries_of : Order → Order
@@ -216,13 +217,13 @@ module _ (setup : SetupLists) (beats : List ObservedBeat) (requests : ℕ → Wh
   so_far done = entries_of (begun done)
 
   within : (done rest : List ObservedBeat) → beats ≡ done ++ rest → length (begun done) ≤ length (begun beats)
-  within done rest is = rw (is, from_parts done rest (opening_board setup) []) (more_begun rest (board_after setup done) (begun done))
+  within done rest is = rw (is, from_parts done rest (opening_with errors setup) []) (more_begun rest (board_after errors setup done) (begun done))
 
   -- what they may become after all, they may become there
   may_there : (done rest : List ObservedBeat) → beats ≡ done ++ rest → MayBecomeAll (begun done) requests
   may_there done rest is =
-      may_from rest (board_after setup done) (begun done) requests (followed setup done)
-      (subst (λ (now : Order). MayBecomeAll now requests) (ap begun is ∙ from_parts done rest (opening_board setup) []) may)
+      may_from rest (board_after errors setup done) (begun done) requests (followed errors setup done)
+      (subst (λ (now : Order). MayBecomeAll now requests) (ap begun is ∙ from_parts done rest (opening_with errors setup) []) may)
 
   once : (number : ℕ) → number < length (begun beats) → times number numbers ≡ 1
   once number small = is_order.all number ∙ rw (lt-ltb number (length (begun beats)) small) refl
@@ -265,14 +266,14 @@ module _ (setup : SetupLists) (beats : List ObservedBeat) (requests : ℕ → Wh
 
   module _ (done : List ObservedBeat) (seen : ObservedBeat) (rest : List ObservedBeat) (parts : beats ≡ done ++ seen ∷ rest) where
     abbrev now : Order
-    now = begun_next (board_after setup done) seen (begun done)
+    now = begun_next (board_after errors setup done) seen (begun done)
 
     -- the order so far with the next beat
     abbrev longer : Order
     longer = so_far (done ++ seen ∷ [])
 
     is_next : begun (done ++ seen ∷ []) ≡ now
-    is_next = from_parts done (seen ∷ []) (opening_board setup) []
+    is_next = from_parts done (seen ∷ []) (opening_with errors setup) []
 
     with_next : beats ≡ (done ++ seen ∷ []) ++ rest
     with_next = parts ∙ sym (append_assoc done (seen ∷ []) rest)
@@ -306,34 +307,39 @@ module _ (setup : SetupLists) (beats : List ObservedBeat) (requests : ℕ → Wh
             ∙ sym (beat_kept (list_any (begun_to client) (begun done)) client source (numbered (begun done) k) (requests k)
             (may_there done (seen ∷ rest) parts k small))
 
+    -- how errors may be told there
+    abbrev errors_now : Errors
+    errors_now = (board_after errors setup done).errors
+
     -- the last beat of a request
-    finish : (client : ℕ) (q : WholeRequest) → now ≡ map (completed client q) (begun done)
-        → (longer ≡ map (finished client) (so_far done)) × AllByRecursion (λ entry. is_coming client entry ≡ true → entry.request ≡ q) (so_far done)
+    finish : (client : ℕ) (q : WholeRequest) → now ≡ map (completed errors_now client q) (begun done)
+        → (longer ≡ map (finished errors_now client q) (so_far done))
+        × AllByRecursion (λ entry. is_coming client entry ≡ true → MayBecome (entry_of errors_now client q true) entry.request) (so_far done)
     finish client q same = (
       ap entries_of (is_next ∙ same)
           ∙ ap (λ n. map (becoming (map change (begun done)) requests) (below n numbers)) (length-map (begun done) change)
-          ∙ same_below (becoming (map change (begun done)) requests) (λ k. finished client (becoming (begun done) requests k))
+          ∙ same_below (becoming (map change (begun done)) requests) (λ k. finished errors_now client q (becoming (begun done) requests k))
           (length (begun done)) numbers each
-          ∙ sym (map-map (finished client) (becoming (begun done) requests) (below (length (begun done)) numbers)),
-      each_below (λ entry. is_coming client entry ≡ true → entry.request ≡ q) (becoming (begun done) requests) (length (begun done)) numbers own,
+          ∙ sym (map-map (finished errors_now client q) (becoming (begun done) requests) (below (length (begun done)) numbers)),
+      each_below (λ entry. is_coming client entry ≡ true → MayBecome (entry_of errors_now client q true) entry.request) (becoming (begun done) requests) (length (begun done)) numbers own,
     )
       where
         change : Entry → Entry
-        change = completed client q
+        change = completed errors_now client q
 
-        each : (k : ℕ) → k < length (begun done) → becoming (map change (begun done)) requests k ≡ finished client (becoming (begun done) requests k)
+        each : (k : ℕ) → k < length (begun done) → becoming (map change (begun done)) requests k ≡ finished errors_now client q (becoming (begun done) requests k)
         each k small =
             ap (λ (entry : Entry). record entry { request = requests k }) (numbered_map change (begun done) k small)
-            ∙ finish_kept client q (requests k) (numbered (begun done) k)
+            ∙ finish_kept errors_now client q (requests k) (numbered (begun done) k)
 
-        own : (k : ℕ) → k < length (begun done) → is_coming client (becoming (begun done) requests k) ≡ true → requests k ≡ q
+        own : (k : ℕ) → k < length (begun done) → is_coming client (becoming (begun done) requests k) ≡ true → MayBecome (entry_of errors_now client q true) (requests k)
         own k small coming =
             let entry = numbered (begun done) k in
-            let whole : change entry ≡ record entry { request = q; whole = true } = rw coming refl in
-            let is : numbered now k ≡ record entry { request = q; whole = true } =
+            let whole : change entry ≡ record entry { request = q; whole = true; spoiled = is_spoiled errors_now q } = rw coming refl in
+            let is : numbered now k ≡ record entry { request = q; whole = true; spoiled = is_spoiled errors_now q } =
             ap (λ (o : Order). numbered o k) same ∙ numbered_map change (begun done) k small ∙ whole in
-            (subst (λ (e : Entry). MayBecome e (requests k)) is
-            (may_now k (omega (arith, small, ap (λ (o : Order). length o) same, length-map (begun done) change)))).same refl
+            let may_then = subst (λ (e : Entry). MayBecome e (requests k)) is (may_now k (omega (arith, small, ap (λ (o : Order). length o) same, length-map (begun done) change))) in
+            record { same = may_then.same; fields = may_then.fields; corrupt = may_then.corrupt; bytes = may_then.bytes; left = may_then.left }
 
     -- a request begins, as what it becomes
     put : (Goes : Order → Type 0) (entry : Entry) → now ≡ begun done ++ entry ∷ []
@@ -381,12 +387,12 @@ module _ (setup : SetupLists) (beats : List ObservedBeat) (requests : ℕ → Wh
         none_ended : list_any has_ended (map (becoming (begun done) requests) right) ≡ false
         none_ended =
             none_below has_ended (becoming (begun done) requests) count here.right
-            (all-map (λ number. EndedBefore setup beats number count → ⊥)
+            (all-map (λ number. EndedBefore errors setup beats number count → ⊥)
             (λ number. number < count → has_ended (becoming (begun done) requests number) ≡ false) here.right
             (λ number keeps small. ended_kept (numbered (begun done) number) (requests number) (may_there done (seen ∷ rest) parts number small)
             ∙ false_from_ne_true (has_ended (numbered (begun done) number)) (λ over.
             keeps (record { first = done; rest = seen ∷ rest; parts = parts; begun = small; ended = over; not_yet = omega arith })))
-            (kept_behind setup beats count here.left here.right (subst (KeepsRealTime setup beats) here.is is_order.keeps)))
+            (kept_behind errors setup beats count here.left here.right (subst (KeepsRealTime errors setup beats) here.is is_order.keeps)))
 
         with_it : ℕ → Entry
         with_it = becoming (begun done ++ entry ∷ []) requests
@@ -418,42 +424,43 @@ module _ (setup : SetupLists) (beats : List ObservedBeat) (requests : ℕ → Wh
             ∙ ap entries_of (sym same)
 
     -- a beat that a port takes
-    taken : (client : ℕ) (front : Option HeldMessage) (q : WholeRequest) (progress : Progress) → now ≡ with_progress client front q progress (begun done)
-        → GoesOnTaken client front q progress (so_far done) longer
+    taken : (client : ℕ) (front : Option HeldMessage) (q : WholeRequest) (progress : Progress) → now ≡ with_progress errors_now client front q progress (begun done)
+        → GoesOnTaken errors_now client front q progress (so_far done) longer
     taken client None q More same =
-        put (GoesOnTaken client None q More (so_far done)) (entry_of client q false) same (λ new becomes is. (requests (length (begun done)), becomes, is))
+        put (GoesOnTaken errors_now client None q More (so_far done)) (entry_of errors_now client q false) same
+        (λ new becomes is. (requests (length (begun done)), becomes, is))
     taken client None q Whole same =
-        put (GoesOnTaken client None q Whole (so_far done)) (entry_of client q true) same
-        (λ new becomes is. subst (λ (r : WholeRequest). IsPutIn (entry_of client r true) (so_far done) new) (becomes.same refl) is)
+        put (GoesOnTaken errors_now client None q Whole (so_far done)) (entry_of errors_now client q true) same
+        (λ new becomes is. (requests (length (begun done)), becomes, is))
     taken client (Some held) q More same = quiet same
     taken client (Some held) q Whole same = finish client q same
 
     answered : (client : ℕ) (front : Option HeldMessage) (message : HeldMessage) (answer : Result Progress TlRule)
-        → now ≡ with_answered client front message answer (begun done) → GoesOnAnswered client front message answer (so_far done) longer
+        → now ≡ with_answered errors_now client front message answer (begun done) → GoesOnAnswered errors_now client front message answer (so_far done) longer
     answered client front message (Err broken) same = quiet same
     answered client front message (Ok progress) same = taken client front (request_of message) progress same
 
   goes_on : (done : List ObservedBeat) (seen : ObservedBeat) (rest : List ObservedBeat) → beats ≡ done ++ seen ∷ rest
-      → GoesOn (board_after setup done) seen (so_far done) (so_far (done ++ seen ∷ []))
+      → GoesOn (board_after errors setup done) seen (so_far done) (so_far (done ++ seen ∷ []))
   goes_on done (OnAxi message) rest parts = quiet done (OnAxi message) rest parts refl
   goes_on done Drained rest parts = quiet done Drained rest parts refl
   goes_on done (D client message) rest parts = beat done (D client message) rest parts client message.source refl
-  goes_on done (A number message) rest parts = by_client (slice_get (board_after setup done).clients number) refl
+  goes_on done (A number message) rest parts = by_client (slice_get (board_after errors setup done).clients number) refl
     where
       by_client : (found : Option ClientBoard)
-          → begun_next (board_after setup done) (A number message) (begun done) ≡ with_request number found message (begun done)
-          → GoesOnRequest number found message (so_far done) (so_far (done ++ A number message ∷ []))
+          → begun_next (board_after errors setup done) (A number message) (begun done) ≡ with_request (board_after errors setup done).errors number found message (begun done)
+          → GoesOnRequest (board_after errors setup done).errors number found message (so_far done) (so_far (done ++ A number message ∷ []))
       by_client None same = quiet done (A number message) rest parts same
       by_client (Some client) same =
           answered done (A number message) rest parts number client.front (joined client.limits client.front message)
           (answer_to policy.RealTime client message) same
 
-  goes_from : (done rest : List ObservedBeat) → beats ≡ done ++ rest → IsOrderFrom (board_after setup done) (so_far done) rest (so_far beats)
+  goes_from : (done rest : List ObservedBeat) → beats ≡ done ++ rest → IsOrderFrom (board_after errors setup done) (so_far done) rest (so_far beats)
   goes_from done [] is = ap so_far (is ∙ append-nil done)
   goes_from done (seen ∷ rest) is = (
     so_far (done ++ seen ∷ []),
     goes_on done seen rest is,
-    subst (λ (board : Board). IsOrderFrom board (so_far (done ++ seen ∷ [])) rest (so_far beats)) (after_snoc done seen (opening_board setup))
+    subst (λ (board : Board). IsOrderFrom board (so_far (done ++ seen ∷ [])) rest (so_far beats)) (after_snoc done seen (opening_with errors setup))
         (goes_from (done ++ seen ∷ []) rest (is ∙ sym (append_assoc done (seen ∷ []) rest))),
   )
 
@@ -462,12 +469,12 @@ module _ (setup : SetupLists) (beats : List ObservedBeat) (requests : ℕ → Wh
   none_yet (first ∷ ks) = grind (arith, nat_tests, none_yet ks)
 
   -- the order arises step by step
-  pub arises : steps.IsOrderOf setup beats (arranged setup beats requests numbers)
+  pub arises : steps.IsOrderOf errors setup beats (arranged errors setup beats requests numbers)
   arises =
-      subst (λ ks. steps.IsOrderOf setup beats (map (becoming (begun beats) requests) ks))
+      subst (λ ks. steps.IsOrderOf errors setup beats (map (becoming (begun beats) requests) ks))
       (all_below (length (begun beats)) numbers (λ number past.
       let test : nat_lt number (length (begun beats)) ≡ false = grind (arith, nat_tests, past) in is_order.all number ∙ rw test refl))
-      (subst (λ (o : Order). IsOrderFrom (opening_board setup) o beats (so_far beats)) (ap (map (becoming [] requests)) (none_yet numbers))
+      (subst (λ (o : Order). IsOrderFrom (opening_with errors setup) o beats (so_far beats)) (ap (map (becoming [] requests)) (none_yet numbers))
       (goes_from [] beats refl))
 
 -- ---- the order of first beats
@@ -477,31 +484,33 @@ range_times : (from count number : ℕ)
 range_times from zero number = grind (arith, nat_tests)
 range_times from (suc count) number = grind (arith, nat_tests, range_times (from + 1) count number)
 
-none_before : (setup : SetupLists) (beats : List ObservedBeat) (later from count : ℕ) → later < from
-    → AllByRecursion (λ number. EndedBefore setup beats number later → ⊥) (range_with_len from count)
-none_before setup beats later from zero behind = tt
-none_before setup beats later from (suc count) behind =
-    ((λ ended. omega (arith, ended.begun, ended.not_yet, behind)), none_before setup beats later (from + 1) count (omega (arith, behind)))
+none_before : (errors : Errors) (setup : SetupLists) (beats : List ObservedBeat) (later from count : ℕ) → later < from
+    → AllByRecursion (λ number. EndedBefore errors setup beats number later → ⊥) (range_with_len from count)
+none_before errors setup beats later from zero behind = tt
+none_before errors setup beats later from (suc count) behind =
+    ((λ ended. omega (arith, ended.begun, ended.not_yet, behind)), none_before errors setup beats later (from + 1) count (omega (arith, behind)))
 
-range_keeps : (setup : SetupLists) (beats : List ObservedBeat) (from count : ℕ) → KeepsRealTime setup beats (range_with_len from count)
-range_keeps setup beats from zero = tt
-range_keeps setup beats from (suc count) = (none_before setup beats from (from + 1) count (omega arith), range_keeps setup beats (from + 1) count)
+range_keeps : (errors : Errors) (setup : SetupLists) (beats : List ObservedBeat) (from count : ℕ) → KeepsRealTime errors setup beats (range_with_len from count)
+range_keeps errors setup beats from zero = tt
+range_keeps errors setup beats from (suc count) = (none_before errors setup beats from (from + 1) count (omega arith), range_keeps errors setup beats (from + 1) count)
 
-pub first_beats : (setup : SetupLists) (beats : List ObservedBeat) → IsOrderOf setup beats (range_with_len 0 (length (begun_in setup beats)))
-first_beats setup beats =
+pub first_beats : (errors : Errors) (setup : SetupLists) (beats : List ObservedBeat) → IsOrderOf errors setup beats (range_with_len 0 (length (begun_in errors setup beats)))
+first_beats errors setup beats =
     record {
-      all = λ number. grind (arith, nat_tests, range_times 0 (length (begun_in setup beats)) number);
-      keeps = range_keeps setup beats 0 (length (begun_in setup beats));
+      all = λ number. grind (arith, nat_tests, range_times 0 (length (begun_in errors setup beats)) number);
+      keeps = range_keeps errors setup beats 0 (length (begun_in errors setup beats));
     }
 
 -- ---- where nothing more comes
 
 -- each may be what came of it
-pub nothing_more : (setup : SetupLists) (beats : List ObservedBeat) → MayBecomeAll (begun_in setup beats) (as_begun setup beats)
-nothing_more setup beats number small =
+pub nothing_more : (errors : Errors) (setup : SetupLists) (beats : List ObservedBeat) → MayBecomeAll (begun_in errors setup beats) (as_begun errors setup beats)
+nothing_more errors setup beats number small =
+    let well = ((followed errors setup beats).held number small).2 in
     record {
-      same = λ whole. refl;
+      same = λ whole sound. refl;
       fields = refl;
-      corrupt = λ is. is;
-      bytes = λ unwhole. well_bytes (as_begun setup beats number) ((followed setup beats).held number small unwhole).well;
+      corrupt = λ sound is. is;
+      bytes = λ unwhole. well_bytes (as_begun errors setup beats number) well;
+      left = λ whole spoiled. record { bytes = well_bytes (as_begun errors setup beats number) well; within = λ i gives. gives; full = well.full };
     }

@@ -13,15 +13,18 @@ use Rattle.tl_checker.specs.declared.Progress.{Progress}
 use Rattle.tl_checker.specs.declared.Progress.TheVariants.{More, Whole}
 use Rattle.tl_checker.specs.declared.TlRule.{TlRule}
 use Rattle.setups.specs.Setups.{SetupLists}
-use Rattle.scoreboard.specs.Boards.{Board, ClientBoard, after_a, after_all, after_seen, answer_to, answered_on, opening_board}
+use Rattle.scoreboard.specs.Boards.{Board, ClientBoard, after_a, after_all, after_seen, answer_to, answered_on, opening_with}
 use Rattle.scoreboard.specs.Flights.{is_busy}
 use Rattle.scoreboard.specs.InsideBoards.{front_after}
 use Rattle.scoreboard.specs.Orders.{Entry, Order, begun_to, board_after, is_due, with_beat}
-use Rattle.scoreboard.specs.RealTime.{MayBecome, MayBecomeAll, begun_from, begun_in, begun_next, completed, entry_of, numbered, with_answered, with_progress, with_request}
+use Rattle.scoreboard.specs.RealTime.{MayBecome, MayBecomeAll, begun_from, begun_in, begun_next, completed, entry_of, is_spoiled, numbered, with_answered, with_progress, with_request}
+use Rattle.scoreboard.specs.declared.Errors.{Errors}
+use Rattle.scoreboard.specs.declared.Errors.TheVariants.{Any, Strict}
 use Rattle.scoreboard.specs.declared.ObservedBeat.{ObservedBeat}
 use Rattle.scoreboard.specs.declared.ObservedBeat.TheVariants.{A, D, Axi as OnAxi, Drained}
 use Rattle.scoreboard.specs.declared.Policy.TheVariants.{RealTime}
 use Rattle.scoreboard.proofs.real_time.CheckedRequests.{first_well, sound_well, whole_sound}
+use Rattle.scoreboard.proofs.real_time.Failures.{well_as}
 use Rattle.scoreboard.proofs.real_time.Fronts.{AreFronts, front_answered, front_at, front_of, front_replied, fronts_next, fronts_opening}
 use Rattle.scoreboard.proofs.real_time.RequestActs.{IsWell, well_bytes}
 
@@ -47,16 +50,23 @@ held_more front request beat h =
       well = h.well;
     }
 
--- it may become what is held
-held_becomes : (front : Option HeldMessage) (entry : Entry) (q : WholeRequest) (h : IsHeld front entry.request) → entry.whole ≡ false → q ≡ request_of h.held
-    → IsWell q → MayBecome entry q
-held_becomes front entry q h unwhole is well =
+-- what it may become once it is whole, as what is held, it may become before
+held_becomes : (errors : Errors) (front : Option HeldMessage) (entry : Entry) (q r : WholeRequest) (h : IsHeld front entry.request) → entry.whole ≡ false
+    → entry.spoiled ≡ is_spoiled errors entry.request → q ≡ request_of h.held → IsWell q → MayBecome (entry_of errors entry.client q true) r → MayBecome entry r
+held_becomes errors front entry q r h unwhole spoiled is well may =
     record {
       same = λ whole. absurd (cc (unwhole, whole));
-      fields = subst (λ (r : WholeRequest). r ≡ record entry.request { bytes = r.bytes; corrupt = r.corrupt }) (sym is) h.fields;
-      corrupt = λ corrupt. ap (λ (r : WholeRequest). r.corrupt) is ∙ h.corrupt corrupt;
-      bytes = λ not_whole. well_bytes q well;
+      fields = may.fields ∙ ap (λ (x : WholeRequest). record x { bytes = r.bytes; corrupt = r.corrupt }) (is ∙ h.fields);
+      corrupt = by_errors errors spoiled may;
+      bytes = λ not_whole. well_bytes r (well_as errors entry.client q r may well);
+      left = λ whole. absurd (cc (unwhole, whole));
     }
+  where
+    by_errors : (e : Errors) → entry.spoiled ≡ is_spoiled e entry.request → MayBecome (entry_of e entry.client q true) r
+        → entry.spoiled ≡ false → entry.request.corrupt ≡ true → r.corrupt ≡ true
+    by_errors Any told becomes sound corrupt = absurd (cc (sym sound ∙ told ∙ corrupt))
+    by_errors Strict told becomes sound corrupt =
+        ap (λ (x : WholeRequest). x.corrupt) (becomes.same refl refl ∙ is) ∙ h.corrupt corrupt
 
 -- ---- each entry of an order, by its number
 
@@ -64,7 +74,7 @@ abbrev pub EachIn : (Entry → Type 0) → Order → Type 0
 EachIn P now = (number : ℕ) → number < length now → P (numbered now number)
 
 abbrev pub no_entry : Entry
-no_entry = entry_of 0 (request_of no_message) true
+no_entry = entry_of Strict 0 (request_of no_message) true
 
 pub numbered_map : (change : Entry → Entry) (now : Order) (number : ℕ) → number < length now → numbered (map change now) number ≡ change (numbered now number)
 numbered_map change now number small = get_or-map change now number no_entry no_entry small
@@ -92,29 +102,34 @@ each_last P now entry all last number small =
 
 -- ---- what is held of those that have begun
 
--- a request that isn't whole is held by its client's front
-abbrev pub IsHeldBy : (ℕ → Option HeldMessage) → Entry → Type 0
-IsHeldBy fronts entry = entry.whole ≡ false → IsHeld (fronts entry.client) entry.request
+-- a request that isn't whole is held by its client's front; each is known by what came of it to be spoiled, and is well
+abbrev pub IsHeldBy : Errors → (ℕ → Option HeldMessage) → Entry → Type 0
+IsHeldBy errors fronts entry =
+    (entry.whole ≡ false → IsHeld (fronts entry.client) entry.request) × (entry.spoiled ≡ is_spoiled errors entry.request) × IsWell entry.request
 
-abbrev pub AreHeld : (ℕ → Option HeldMessage) → Order → Type 0
-AreHeld fronts now = EachIn (IsHeldBy fronts) now
+abbrev pub AreHeld : Errors → (ℕ → Option HeldMessage) → Order → Type 0
+AreHeld errors fronts now = EachIn (IsHeldBy errors fronts) now
 
 -- where its client's front stays
-held_still : (fronts next : ℕ → Option HeldMessage) (entry : Entry) → (entry.whole ≡ false → next entry.client ≡ fronts entry.client)
-    → IsHeldBy fronts entry → IsHeldBy next entry
-held_still fronts next entry same held unwhole = subst (λ (front : Option HeldMessage). IsHeld front entry.request) (sym (same unwhole)) (held unwhole)
+held_still : (errors : Errors) (fronts next : ℕ → Option HeldMessage) (entry : Entry) → (entry.whole ≡ false → next entry.client ≡ fronts entry.client)
+    → IsHeldBy errors fronts entry → IsHeldBy errors next entry
+held_still errors fronts next entry same held = (
+  λ unwhole. subst (λ (front : Option HeldMessage). IsHeld front entry.request) (sym (same unwhole)) (held.0 unwhole),
+  held.1,
+  held.2,
+)
 
 -- of a client that has begun nothing, nothing is held
-of_others : (fronts : ℕ → Option HeldMessage) (entry : Entry) (number : ℕ) → fronts number ≡ None → IsHeldBy fronts entry → entry.whole ≡ false
-    → entry.client ≡ number → ⊥
-of_others fronts entry number none held unwhole same =
-    let is = (held unwhole).is in cc (sym none ∙ sym (ap fronts same) ∙ is)
+of_others : (errors : Errors) (fronts : ℕ → Option HeldMessage) (entry : Entry) (number : ℕ) → fronts number ≡ None → IsHeldBy errors fronts entry
+    → entry.whole ≡ false → entry.client ≡ number → ⊥
+of_others errors fronts entry number none held unwhole same =
+    let is = (held.0 unwhole).is in cc (sym none ∙ sym (ap fronts same) ∙ is)
 
 -- what isn't completed isn't the client's, or is whole
 still_others : (entry : Entry) (number : ℕ) → (entry.client == number && not entry.whole) ≡ false → entry.whole ≡ false → entry.client ≡ number → ⊥
 still_others entry number test unwhole same = let is = eq-eqb entry.client number same in grind (arith, test, unwhole, is)
 
-module _ (limits : TlPortLimits) (beat : ABeat) (busy : Bool) (number : ℕ) (fronts next : ℕ → Option HeldMessage) (now : Order) where
+module _ (errors : Errors) (limits : TlPortLimits) (beat : ABeat) (busy : Bool) (number : ℕ) (fronts next : ℕ → Option HeldMessage) (now : Order) where
   -- the fronts after an answer
   abbrev ComeNext : Option HeldMessage → Progress → Type 0
   ComeNext front progress =
@@ -128,50 +143,57 @@ module _ (limits : TlPortLimits) (beat : ABeat) (busy : Bool) (number : ℕ) (fr
   next_own front progress come = come number ∙ rw (eq-eqb number number refl) refl
 
   -- all that had begun, where the client had begun nothing
-  others_held : (progress : Progress) → ComeNext None progress → fronts number ≡ None → AreHeld fronts now → AreHeld next now
+  others_held : (progress : Progress) → ComeNext None progress → fronts number ≡ None → AreHeld errors fronts now → AreHeld errors next now
   others_held progress come none are k small =
       let entry = numbered now k in
-      held_still fronts next entry
-      (λ unwhole. next_other None progress come entry.client (of_others fronts entry number none (are k small) unwhole)) (are k small)
+      held_still errors fronts next entry
+      (λ unwhole. next_other None progress come entry.client (of_others errors fronts entry number none (are k small) unwhole)) (are k small)
 
   -- with a beat that a port takes
   held_progress : (front : Option HeldMessage) (progress : Progress) → judged limits front beat busy ≡ Ok progress → fronts number ≡ front
-      → ComeNext front progress
-      → AreHeld fronts now → AreHeld next (with_progress number front (request_of (joined limits front beat)) progress now)
-  held_progress None More answer own come are =
-      each_last (IsHeldBy next) now (entry_of number (request_of (begun limits.client beat)) false) (others_held More come own are)
-      (λ unwhole. record {
-        held = begun limits.client beat;
-        is = next_own None More come;
-        fields = refl;
-        corrupt = λ is. is;
-        well = first_well limits beat busy answer;
-      })
-  held_progress None Whole answer own come are =
-      each_last (IsHeldBy next) now (entry_of number (request_of (begun limits.client beat)) true) (others_held Whole come own are)
-      (λ unwhole. absurd (cc (unwhole)))
-  held_progress (Some held) More answer own come are = λ k small. by_client (numbered now k) (are k small)
+      → ComeNext front progress → (progress ≡ Whole → IsWell (request_of (joined limits front beat)))
+      → AreHeld errors fronts now → AreHeld errors next (with_progress errors number front (request_of (joined limits front beat)) progress now)
+  held_progress None More answer own come well are =
+      each_last (IsHeldBy errors next) now (entry_of errors number (request_of (begun limits.client beat)) false) (others_held More come own are)
+      (
+        λ unwhole. record {
+          held = begun limits.client beat;
+          is = next_own None More come;
+          fields = refl;
+          corrupt = λ is. is;
+          well = first_well limits beat busy answer;
+        },
+        refl,
+        first_well limits beat busy answer,
+      )
+  held_progress None Whole answer own come well are =
+      each_last (IsHeldBy errors next) now (entry_of errors number (request_of (begun limits.client beat)) true) (others_held Whole come own are)
+      (λ unwhole. absurd (cc (unwhole)), refl, well refl)
+  held_progress (Some held) More answer own come well are = λ k small. by_client (numbered now k) (are k small)
     where
-      by_client : (entry : Entry) → IsHeldBy fronts entry → IsHeldBy next entry
-      by_client entry was unwhole =
-          let h = was unwhole in
+      by_front : (entry : Entry) → IsHeldBy errors fronts entry → entry.whole ≡ false → IsHeld (next entry.client) entry.request
+      by_front entry was unwhole =
+          let h = was.0 unwhole in
           elim (cases_eq entry.client number) [
             | inl same ↦
                 let this : held ≡ h.held = cc (sym own ∙ sym (ap fronts same) ∙ h.is) in
                 subst (λ (front : Option HeldMessage). IsHeld front entry.request)
                 (ap (λ (m : HeldMessage). Some (with_more m beat)) (sym this) ∙ sym (next_own (Some held) More come) ∙ sym (ap next same))
                 (held_more (fronts entry.client) entry.request beat h)
-            | inr differ ↦ held_still fronts next entry (λ again. next_other (Some held) More come entry.client differ) was unwhole
+            | inr differ ↦ (held_still errors fronts next entry (λ again. next_other (Some held) More come entry.client differ) was).0 unwhole
           ]
-  held_progress (Some held) Whole answer own come are =
-      each_map (IsHeldBy fronts) (IsHeldBy next) (completed number (request_of (with_more held beat))) now by_test are
+
+      by_client : (entry : Entry) → IsHeldBy errors fronts entry → IsHeldBy errors next entry
+      by_client entry was = (by_front entry was, was.1, was.2)
+  held_progress (Some held) Whole answer own come well are =
+      each_map (IsHeldBy errors fronts) (IsHeldBy errors next) (completed errors number (request_of (with_more held beat))) now by_test are
     where
-      by_test : (entry : Entry) → IsHeldBy fronts entry → IsHeldBy next (completed number (request_of (with_more held beat)) entry)
+      by_test : (entry : Entry) → IsHeldBy errors fronts entry → IsHeldBy errors next (completed errors number (request_of (with_more held beat)) entry)
       by_test entry was =
           elim (cases_Bool (entry.client == number && not entry.whole)) [
-            | inl is ↦ rw is (λ unwhole. absurd (cc (unwhole)))
+            | inl is ↦ rw is (λ unwhole. absurd (cc (unwhole)), refl, well refl)
             | inr is ↦
-                rw is (held_still fronts next entry (λ unwhole. next_other (Some held) Whole come entry.client (still_others entry number is unwhole)) was)
+                rw is (held_still errors fronts next entry (λ unwhole. next_other (Some held) Whole come entry.client (still_others entry number is unwhole)) was)
           ]
 
   -- ---- what they may become
@@ -179,22 +201,23 @@ module _ (limits : TlPortLimits) (beat : ABeat) (busy : Bool) (number : ℕ) (fr
   -- after the beat, and so before it
   may_progress : (front : Option HeldMessage) (progress : Progress) (requests : ℕ → WholeRequest) → fronts number ≡ front
       → ((held : HeldMessage) → front ≡ Some held → progress ≡ Whole → IsWell (request_of (with_more held beat)))
-      → AreHeld fronts now → MayBecomeAll (with_progress number front (request_of (joined limits front beat)) progress now) requests → MayBecomeAll now requests
+      → AreHeld errors fronts now → MayBecomeAll (with_progress errors number front (request_of (joined limits front beat)) progress now) requests
+      → MayBecomeAll now requests
   may_progress None More requests own well are may k small =
-      subst (λ (entry : Entry). MayBecome entry (requests k)) (numbered_first now (entry_of number (request_of (begun limits.client beat)) false) k small)
-      (may k (omega (arith, small, length-append now (entry_of number (request_of (begun limits.client beat)) false ∷ []))))
+      subst (λ (entry : Entry). MayBecome entry (requests k)) (numbered_first now (entry_of errors number (request_of (begun limits.client beat)) false) k small)
+      (may k (omega (arith, small, length-append now (entry_of errors number (request_of (begun limits.client beat)) false ∷ []))))
   may_progress None Whole requests own well are may k small =
-      subst (λ (entry : Entry). MayBecome entry (requests k)) (numbered_first now (entry_of number (request_of (begun limits.client beat)) true) k small)
-      (may k (omega (arith, small, length-append now (entry_of number (request_of (begun limits.client beat)) true ∷ []))))
+      subst (λ (entry : Entry). MayBecome entry (requests k)) (numbered_first now (entry_of errors number (request_of (begun limits.client beat)) true) k small)
+      (may k (omega (arith, small, length-append now (entry_of errors number (request_of (begun limits.client beat)) true ∷ []))))
   may_progress (Some held) More requests own well are may k small = may k small
   may_progress (Some held) Whole requests own well are may k small =
       by_test (numbered now k) (are k small)
       (subst (λ (entry : Entry). MayBecome entry (requests k)) (numbered_map change now k small) (may k (omega (arith, small, length-map now change))))
     where
       change : Entry → Entry
-      change = completed number (request_of (with_more held beat))
+      change = completed errors number (request_of (with_more held beat))
 
-      by_test : (entry : Entry) → IsHeldBy fronts entry → MayBecome (change entry) (requests k) → MayBecome entry (requests k)
+      by_test : (entry : Entry) → IsHeldBy errors fronts entry → MayBecome (change entry) (requests k) → MayBecome entry (requests k)
       by_test entry was becomes =
           elim (cases_Bool (entry.client == number && not entry.whole)) [
             | inl is ↦ own_request is
@@ -205,62 +228,77 @@ module _ (limits : TlPortLimits) (beat : ABeat) (busy : Bool) (number : ℕ) (fr
           own_request is =
               let parts = and_parts (entry.client == number) (not entry.whole) is in
               let unwhole = not-true entry.whole parts.1 in
-              let h = was unwhole in
+              let h = was.0 unwhole in
+              let q = request_of (with_more held beat) in
               let this : held ≡ h.held = cc (sym own ∙ sym (ap fronts (eqb-true entry.client number parts.0)) ∙ h.is) in
-              let done : change entry ≡ record entry { request = request_of (with_more held beat); whole = true } = rw is refl in
-              let same = (subst (λ (e : Entry). MayBecome e (requests k)) done becomes).same refl in
-              held_becomes (Some (with_more h.held beat)) entry (requests k) (held_more (fronts entry.client) entry.request beat h) unwhole
-              (same ∙ ap (λ (m : HeldMessage). request_of (with_more m beat)) this) (subst IsWell (sym same) (well held refl refl))
+              let done : change entry ≡ record entry { request = q; whole = true; spoiled = is_spoiled errors q } = rw is refl in
+              let may_then = subst (λ (e : Entry). MayBecome e (requests k)) done becomes in
+              held_becomes errors (Some (with_more h.held beat)) entry q (requests k) (held_more (fronts entry.client) entry.request beat h) unwhole was.1
+              (ap (λ (m : HeldMessage). request_of (with_more m beat)) this) (well held refl refl)
+              (record { same = may_then.same; fields = may_then.fields; corrupt = may_then.corrupt; bytes = may_then.bytes; left = may_then.left })
 
 -- ---- along lists of beats
 
 -- what a board's clients hold is what has begun and isn't whole
 pub record IsFollowed (board : Board) (now : Order) : Type 0 where
   pub fronts : AreFronts board.clients
-  pub held : AreHeld (front_at board.clients) now
+  pub held : AreHeld board.errors (front_at board.clients) now
 
 -- a beat on channel D changes how many have come alone
-held_beat : (fronts next : ℕ → Option HeldMessage) (begun : Bool) (client source : ℕ) (entry : Entry) → ((other : ℕ) → next other ≡ fronts other)
-    → IsHeldBy fronts entry → IsHeldBy next (with_beat begun client source entry)
-held_beat fronts next begun client source entry same was =
+held_beat : (errors : Errors) (fronts next : ℕ → Option HeldMessage) (begun : Bool) (client source : ℕ) (entry : Entry)
+    → ((other : ℕ) → next other ≡ fronts other)
+    → IsHeldBy errors fronts entry → IsHeldBy errors next (with_beat begun client source entry)
+held_beat errors fronts next begun client source entry same was =
     elim (cases_Bool (is_due begun client source entry && entry.request.source == source)) [
-      | inl is ↦ rw is (held_still fronts next entry (λ unwhole. same entry.client) was)
-      | inr is ↦ rw is (held_still fronts next entry (λ unwhole. same entry.client) was)
+      | inl is ↦ rw is (held_still errors fronts next entry (λ unwhole. same entry.client) was)
+      | inr is ↦ rw is (held_still errors fronts next entry (λ unwhole. same entry.client) was)
     ]
 
-held_request : (board : Board) (number : ℕ) (beat : ABeat) (now : Order) → AreHeld (front_at board.clients) now
-    → AreHeld (front_at (after_a RealTime board number (slice_get board.clients number) beat).clients)
-    (with_request number (slice_get board.clients number) beat now)
-held_request board number beat now are = by_client (slice_get board.clients number) refl
+held_request : (board : Board) (number : ℕ) (beat : ABeat) (now : Order) → AreFronts board.clients → AreHeld board.errors (front_at board.clients) now
+    → AreHeld board.errors (front_at (after_a RealTime board number (slice_get board.clients number) beat).clients)
+    (with_request board.errors number (slice_get board.clients number) beat now)
+held_request board number beat now fronts are = by_client (slice_get board.clients number) refl
   where
     by_answer : (client : ClientBoard) (answer : Result Progress TlRule) → slice_get board.clients number ≡ Some client
         → answer_to RealTime client beat ≡ answer
-        → AreHeld (front_at (answered_on RealTime board number client (joined client.limits client.front beat) answer).clients)
-        (with_answered number client.front (joined client.limits client.front beat) answer now)
+        → AreHeld board.errors (front_at (answered_on RealTime board number client (joined client.limits client.front beat) answer).clients)
+        (with_answered board.errors number client.front (joined client.limits client.front beat) answer now)
     by_answer client (Err rule) there is = are
     by_answer client (Ok progress) there is =
         let message = joined client.limits client.front beat in
-        held_progress client.limits beat (is_busy RealTime client.flights beat.source) number (front_at board.clients)
+        held_progress board.errors client.limits beat (is_busy RealTime client.flights beat.source) number (front_at board.clients)
         (front_at (answered_on RealTime board number client message (Ok progress)).clients) now client.front progress is (ap front_of there)
-        (λ other. front_answered board number other client message (Ok progress) there) are
+        (λ other. front_answered board number other client message (Ok progress) there)
+        (λ whole. sound_well client.limits message (whole_sound client beat (fronts number client there) (is ∙ ap (λ (p : Progress). Ok p) whole))) are
 
     by_client : (found : Option ClientBoard) → slice_get board.clients number ≡ found
-        → AreHeld (front_at (after_a RealTime board number found beat).clients) (with_request number found beat now)
+        → AreHeld board.errors (front_at (after_a RealTime board number found beat).clients) (with_request board.errors number found beat now)
     by_client None there = are
     by_client (Some client) there = by_answer client (answer_to RealTime client beat) there refl
+
+-- how errors may be told stays
+pub errors_kept : (board : Board) (seen : ObservedBeat) → (after_seen RealTime board seen).errors ≡ board.errors
+errors_kept board (A number beat) = grind arith
+errors_kept board (D number beat) = grind arith
+errors_kept board (OnAxi beat) = refl
+errors_kept board Drained = refl
 
 -- with any beat
 pub followed_next : (board : Board) (seen : ObservedBeat) (now : Order) → IsFollowed board now
     → IsFollowed (after_seen RealTime board seen) (begun_next board seen now)
-followed_next board seen now follows = record { fronts = fronts_next board seen follows.fronts; held = by_seen seen }
+followed_next board seen now follows =
+    record {
+      fronts = fronts_next board seen follows.fronts;
+      held = subst (λ errors. AreHeld errors (front_at (after_seen RealTime board seen).clients) (begun_next board seen now)) (sym (errors_kept board seen)) (by_seen seen);
+    }
   where
-    by_seen : (seen : ObservedBeat) → AreHeld (front_at (after_seen RealTime board seen).clients) (begun_next board seen now)
-    by_seen (A number beat) = held_request board number beat now follows.held
+    by_seen : (seen : ObservedBeat) → AreHeld board.errors (front_at (after_seen RealTime board seen).clients) (begun_next board seen now)
+    by_seen (A number beat) = held_request board number beat now follows.fronts follows.held
     by_seen (D number beat) =
         let next = front_at (after_seen RealTime board (D number beat)).clients in
         let begun = list_any (begun_to number) now in
-        each_map (IsHeldBy (front_at board.clients)) (IsHeldBy next) (with_beat begun number beat.source) now
-        (λ entry. held_beat (front_at board.clients) next begun number beat.source entry (λ other. front_replied board number other beat)) follows.held
+        each_map (IsHeldBy board.errors (front_at board.clients)) (IsHeldBy board.errors next) (with_beat begun number beat.source) now
+        (λ entry. held_beat board.errors (front_at board.clients) next begun number beat.source entry (λ other. front_replied board number other beat)) follows.held
     by_seen (OnAxi beat) = follows.held
     by_seen Drained = follows.held
 
@@ -271,32 +309,32 @@ followed_from [] board now follows = follows
 followed_from (seen ∷ beats) board now follows =
     followed_from beats (after_seen RealTime board seen) (begun_next board seen now) (followed_next board seen now follows)
 
-followed_opening : (setup : SetupLists) → IsFollowed (opening_board setup) []
-followed_opening setup = record { fronts = fronts_opening setup; held = λ number small. absurd (omega (arith, small)) }
+followed_opening : (errors : Errors) (setup : SetupLists) → IsFollowed (opening_with errors setup) []
+followed_opening errors setup = record { fronts = fronts_opening setup; held = λ number small. absurd (omega (arith, small)) }
 
 -- since the start
-pub followed : (setup : SetupLists) (beats : List ObservedBeat) → IsFollowed (board_after setup beats) (begun_in setup beats)
-followed setup beats = followed_from beats (opening_board setup) [] (followed_opening setup)
+pub followed : (errors : Errors) (setup : SetupLists) (beats : List ObservedBeat) → IsFollowed (board_after errors setup beats) (begun_in errors setup beats)
+followed errors setup beats = followed_from beats (opening_with errors setup) [] (followed_opening errors setup)
 
 -- ---- what they may become after a beat, they may become before
 
 may_beat : (begun : Bool) (client source : ℕ) (entry : Entry) (q : WholeRequest) → MayBecome (with_beat begun client source entry) q → MayBecome entry q
 may_beat begun client source entry q =
     elim (cases_Bool (is_due begun client source entry && entry.request.source == source)) [
-      | inl is ↦ rw is (λ may. record { same = may.same; fields = may.fields; corrupt = may.corrupt; bytes = may.bytes })
+      | inl is ↦ rw is (λ may. record { same = may.same; fields = may.fields; corrupt = may.corrupt; bytes = may.bytes; left = may.left })
       | inr is ↦ rw is (λ may. may)
     ]
 
 may_request : (board : Board) (number : ℕ) (beat : ABeat) (now : Order) (requests : ℕ → WholeRequest) → IsFollowed board now
-    → MayBecomeAll (with_request number (slice_get board.clients number) beat now) requests → MayBecomeAll now requests
+    → MayBecomeAll (with_request board.errors number (slice_get board.clients number) beat now) requests → MayBecomeAll now requests
 may_request board number beat now requests follows = by_client (slice_get board.clients number) refl
   where
     by_answer : (client : ClientBoard) (answer : Result Progress TlRule) → slice_get board.clients number ≡ Some client
         → answer_to RealTime client beat ≡ answer
-        → MayBecomeAll (with_answered number client.front (joined client.limits client.front beat) answer now) requests → MayBecomeAll now requests
+        → MayBecomeAll (with_answered board.errors number client.front (joined client.limits client.front beat) answer now) requests → MayBecomeAll now requests
     by_answer client (Err rule) there is may = may
     by_answer client (Ok progress) there is may =
-        may_progress client.limits beat (is_busy RealTime client.flights beat.source) number (front_at board.clients) (front_at board.clients) now
+        may_progress board.errors client.limits beat (is_busy RealTime client.flights beat.source) number (front_at board.clients) (front_at board.clients) now
         client.front progress requests (ap front_of there) well follows.held may
       where
         well : (held : HeldMessage) → client.front ≡ Some held → progress ≡ Whole → IsWell (request_of (with_more held beat))
@@ -305,7 +343,7 @@ may_request board number beat now requests follows = by_client (slice_get board.
             (sound_well client.limits (joined client.limits client.front beat)
             (whole_sound client beat (follows.fronts number client there) (is ∙ ap (λ (p : Progress). Ok p) whole)))
 
-    by_client : (found : Option ClientBoard) → slice_get board.clients number ≡ found → MayBecomeAll (with_request number found beat now) requests
+    by_client : (found : Option ClientBoard) → slice_get board.clients number ≡ found → MayBecomeAll (with_request board.errors number found beat now) requests
         → MayBecomeAll now requests
     by_client None there may = may
     by_client (Some client) there may = by_answer client (answer_to RealTime client beat) there refl may

@@ -12,10 +12,11 @@ use Rattle.burst_plan.specs.declared.Region.{Region}
 use Rattle.burst_plan.specs.PageMap.{address_of}
 use Rattle.responses.specs.Shown.{shown}
 use Rattle.subordinate.specs.Faults.{Faults}
-use Rattle.scoreboard.specs.Boards.{Board, ClientBoard, begun_on, client_beside, flight_for, footprints_of, joining_on, with_accepted, with_client}
+use Rattle.scoreboard.specs.Boards.{Board, ClientBoard, beginning_on, begun_on, client_beside, flight_for, footprints_of, joining_on, place_on, with_accepted, with_client}
 use Rattle.scoreboard.specs.Flights.{Flights, Footprint, InFlight, is_of_source}
 use Rattle.scoreboard.specs.Orders.{Order}
 use Rattle.scoreboard.specs.Races.{after_given, after_joining, beside, flight_beside, may_write}
+use Rattle.scoreboard.specs.RealTime.{MayBecome, entry_of}
 use Rattle.scoreboard.specs.SerialMemory.{on_good_page}
 use Rattle.scoreboard.proofs.real_time.Acceptance.{other_flight, own_flight, sources_beside}
 use Rattle.scoreboard.proofs.real_time.Ahead.{HasBecome, HasBeside, IsAhead, IsBehind, IsComing, IsFinal, IsGiven, IsSame, IsWithin, Shadow, comes, shadow_of, shadow_touches, shadow_writes, touches, will_give, within_writes}
@@ -24,6 +25,7 @@ use Rattle.scoreboard.proofs.real_time.Apart.{AreAll}
 use Rattle.scoreboard.proofs.real_time.Comings.{comes_beside, comes_other, comes_same, footprints_front}
 use Rattle.scoreboard.proofs.real_time.Entries.{carry}
 use Rattle.scoreboard.proofs.real_time.Explained.{Explains, sources_with}
+use Rattle.scoreboard.proofs.real_time.Failures.{same_place}
 use Rattle.scoreboard.proofs.real_time.FlightLists.{HaveAllSources, are_all, sources_kept}
 use Rattle.scoreboard.proofs.real_time.FlightPlaces.{at_beside, coming_beside, coming_other, coming_same}
 use Rattle.scoreboard.proofs.real_time.Places.{Place, cases_place, coming_at, due_at, flight_at, flight_in, flights_kept, footprint_at}
@@ -34,7 +36,8 @@ use Rattle.scoreboard.proofs.real_time.ShadowPlaces.{finals_other, finals_own, f
 module _ (board : Board) (shadow : Shadow) (order : Order) (explains : Explains (shadow_of board shadow) order) (ahead : IsAhead board shadow)
     (number : ℕ) (client other_client : ClientBoard) (message : HeldMessage) (bytes : List (Option ℕ)) (spoiled : Bool)
     (there : slice_get board.clients number ≡ Some client) (there_too : slice_get shadow.clients number ≡ Some other_client) (front : client.front ≡ None)
-    (free : list_any (is_of_source message.source) client.flights.due ≡ false) (corrupt : message.corrupt ≡ true → spoiled ≡ true)
+    (free : list_any (is_of_source message.source) client.flights.due ≡ false)
+    (may : MayBecome (entry_of board.errors number (request_of message) false) (record (request_of message) { bytes = bytes; corrupt = spoiled }))
     (silent : reply_has_data message.operation ≡ false) (well : IsWell (record (request_of message) { bytes = bytes; corrupt = spoiled })) where
   abbrev pub faults : Faults
   faults = board.memory.faults
@@ -56,7 +59,7 @@ module _ (board : Board) (shadow : Shadow) (order : Order) (explains : Explains 
   q = record (request_of message) { bytes = bytes; corrupt = spoiled }
 
   abbrev pub mine : Footprint
-  mine = joining_on hearing first
+  mine = beginning_on hearing first
 
   abbrev pub theirs : Footprint
   theirs = joining_on (shadow_of board shadow) q
@@ -81,19 +84,15 @@ module _ (board : Board) (shadow : Shadow) (order : Order) (explains : Explains 
 
   -- ---- the footprints of both
 
-  same_place : (own faults regions q).writes ≡ true → on_good_page faults (address_of regions q) ≡ on_good_page faults (address_of regions first)
-  same_place writes = by_corrupt (cases_Bool spoiled)
-    where
-      by_corrupt : (spoiled ≡ true) ⊎ (spoiled ≡ false) → on_good_page faults (address_of regions q) ≡ on_good_page faults (address_of regions first)
-      by_corrupt (inl is) = absurd (grind (arith, is, writes))
-      by_corrupt (inr is) =
-          let was : message.corrupt ≡ false = grind (arith, is, corrupt) in ap (on_good_page faults) (rw (is, was) refl)
+  its_place : (own faults regions q).writes ≡ true → on_good_page faults (address_of regions q) ≡ place_on board first
+  its_place writes =
+      sym (same_place faults regions board.errors first q may.fields may.corrupt (grind (arith, writes)))
 
   within : IsWithin theirs mine
   within =
       record {
-        writes = λ does. ap (λ (o : Option ℕ). is_some o && has_data message.operation) (sym (same_place does)) ∙ does;
-        address = λ does. ap (λ (o : Option ℕ). unwrap_or o 0) (sym (same_place does));
+        writes = λ does. ap (λ (o : Option ℕ). is_some o && has_data message.operation) (sym (its_place does)) ∙ does;
+        address = λ does. ap (λ (o : Option ℕ). unwrap_or o 0) (sym (its_place does));
         size = λ does. refl;
       }
 
@@ -114,7 +113,7 @@ module _ (board : Board) (shadow : Shadow) (order : Order) (explains : Explains 
   less : (x : ℕ) → (own faults regions q).writes ≡ true → mine.determined x ≡ true → theirs.determined x ≡ true
   less x writes determined =
       let none : list_any (λ r. may_write r x) (footprints_of shadow.clients) ≡ false = are.none (λ r. may_write r x) (nobody_there x determined) in
-      let place = same_place writes in
+      let place = its_place writes in
       grind (arith, determined, none, place, silent)
 
   becomes : IsComing faults regions mine q flight
@@ -129,8 +128,9 @@ module _ (board : Board) (shadow : Shadow) (order : Order) (explains : Explains 
               writes = is_some o && has_data message.operation;
               address = unwrap_or o 0;
               size = message.size;
+              failed = false;
               determined = mine.determined;
-            }) (sym (same_place writes));
+            }) (sym (its_place writes));
         acts = refl;
         less = less;
         beats = λ m. ap (shown q) (reply_same faults regions q shadow.bytes m silent);
@@ -183,10 +183,10 @@ module _ (board : Board) (shadow : Shadow) (order : Order) (explains : Explains 
   free_too = free_there board shadow ahead number message.source client there front free other_client there_too
 
   own_there : flight_at now_shadow.clients own_place ≡ Some flight
-  own_there = own_flight (shadow_of board shadow) number other_client q there_too free_too
+  own_there = own_flight (shadow_of board shadow) number other_client q theirs there_too free_too
 
   others_there : (i : Place) → (i ≡ own_place → ⊥) → flight_at now_shadow.clients i ≡ option_map (flight_beside theirs) (flight_at shadow.clients i)
-  others_there i differ = other_flight (shadow_of board shadow) number other_client q there_too free_too i differ
+  others_there i differ = other_flight (shadow_of board shadow) number other_client q theirs there_too free_too i differ
 
   elsewhere : (i : Place) (other : InFlight) → flight_at shadow.clients i ≡ Some other → i ≡ own_place → ⊥
   elsewhere i other is same = absurd (cc (sym none_yet ∙ ap (flight_at shadow.clients) (sym same) ∙ is))
@@ -324,7 +324,7 @@ module _ (board : Board) (shadow : Shadow) (order : Order) (explains : Explains 
 
   pub begun_ahead : IsAhead
       (begun_on (with_client number (record client { front = Some message }) board) number (record client { front = Some message })
-      (joining_on (with_client number (record client { front = Some message }) board) (request_of message))) now_shadow
+      (beginning_on (with_client number (record client { front = Some message }) board) (request_of message))) now_shadow
   begun_ahead =
       record {
         sources = sources;

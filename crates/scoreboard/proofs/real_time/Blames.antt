@@ -1,6 +1,8 @@
 -- A board blames rightly: a beat on channel D that it blames is wrong in every order of what was accepted.
 use Rattle.std.proofs.Common.{◌≡◌, ℕ, zero, suc, ◌<◌, Bool, true, false, List, [], ◌∷◌, drop, length, map, Option, Some, None, ◌⊎◌, inl, inr, refl, sym, ◌∙◌, ap, ap₂, subst, subst₂, arith}
-use Rattle.std.specs.Prelude.{is_some, slice_get}
+use Rattle.std.specs.Prelude.{is_some, option_map, slice_get}
+use Rattle.std.specs.Option.{option_flatten}
+use Rattle.std.proofs.lemmas.List.{drop-map}
 use Rattle.std.specs.List.{AllByRecursion, list_any}
 use Rattle.std.proofs.lemmas.Bool.{both_ways, leb-false}
 use Rattle.bus_words.proofs.PlaceChanges.{all-map}
@@ -12,9 +14,12 @@ use Rattle.subordinate.specs.Faults.{Faults}
 use Rattle.meaning.specs.Meaning.{Bytes, bytes_after_all, meaning, zeros}
 use Rattle.setups.specs.Setups.{SetupLists, faults_of}
 use Rattle.scoreboard.specs.AxiPorts.{PortBoard}
-use Rattle.scoreboard.specs.Boards.{Board, ClientBoard, IsReached, after_all, after_seen, d_wrong, opening_board, wrong_at, wrong_beat, wrong_by, wrong_reply, wrong_told}
+use Rattle.scoreboard.specs.Boards.{Board, ClientBoard, IsReached, after_all, after_seen, d_wrong, due_beat, opening_board, opening_with, told_to, wrong_at, wrong_beat, wrong_by, wrong_reply, wrong_told}
 use Rattle.scoreboard.specs.Flights.{Footprint, InFlight, next_reply}
-use Rattle.scoreboard.specs.Orders.{Entry, IsWrongAs, IsWrongIn, Order, begun_to, board_after, due_beats, is_due, is_due_in, left_of, meaning_on, reply_beats}
+use Rattle.scoreboard.specs.Orders.{Asked, Entry, IsWrongAs, IsWrongIn, Order, begun_to, board_after, due_beats, has_failed, is_due, is_due_in, left_of, meaning_on, reply_beats, shown_to}
+use Rattle.scoreboard.specs.RealTime.{asked_on}
+use Rattle.scoreboard.specs.declared.Errors.{Errors}
+use Rattle.scoreboard.specs.declared.Errors.TheVariants.{Any, Strict}
 use Rattle.scoreboard.specs.Races.{may_write}
 use Rattle.scoreboard.specs.declared.Policy.TheVariants.{RealTime}
 use Rattle.scoreboard.specs.declared.ReplyRule.{ReplyRule}
@@ -27,140 +32,85 @@ use Rattle.scoreboard.proofs.real_time.Ahead.{HasBeside, Shadow, comes, front_in
 use Rattle.scoreboard.proofs.real_time.AlikeBeats.{left_alike}
 use Rattle.scoreboard.proofs.real_time.Entries.{Each, IsLive, Stands, carry, run}
 use Rattle.scoreboard.proofs.real_time.Explained.{Explains, explains_as, explains_opening, opening_at, opening_flights}
-use Rattle.scoreboard.proofs.real_time.Follows.{Follows, IsMarked, begun_here, begun_settled, follows_as, run_settled, settle, settled}
-use Rattle.scoreboard.proofs.real_time.FollowsReplies.{due_settled, follows_reply, nobody_due}
+use Rattle.scoreboard.proofs.real_time.Failures.{failed_at, same_shapes, shape_of}
+use Rattle.scoreboard.proofs.real_time.Follows.{Follows, IsFailing, IsMarked, IsOpen, begun_here, begun_settled, follows_as, run_settled, settle, settled}
+use Rattle.scoreboard.proofs.real_time.FollowsReplies.{due_settled, due_whole, follows_reply, nobody_due}
 use Rattle.scoreboard.proofs.real_time.FollowsRequests.{IsFollowed, follows_request}
 use Rattle.scoreboard.proofs.real_time.Fronts.{AreFronts, fronts_next, fronts_opening}
 use Rattle.scoreboard.proofs.real_time.Places.{Place, coming_at, flight_at, none_in}
 use Rattle.scoreboard.proofs.real_time.ReplySeen.{next_is}
-use Rattle.scoreboard.proofs.real_time.ReplySteps.{due_known, due_place, next_at, none_due}
+use Rattle.scoreboard.proofs.real_time.ReplySteps.{IsAt, due_known, due_place, next_at, none_due}
 use Rattle.scoreboard.proofs.real_time.RequestActs.{AreBytes, acts, own}
 use Rattle.scoreboard.proofs.real_time.StepOrders.{BlamesByRule, GoesOn, IsOrderFrom, IsOrderOf, KnowsBytes}
-use Rattle.scoreboard.proofs.real_time.Verdicts.{IsBroken, left_broken, left_told}
+use Rattle.scoreboard.proofs.real_time.Verdicts.{IsBroken, failed_broken, left_broken, left_told, sure_shown, sure_told, wrong_sure}
 
 -- ---- the reply that is due in an order
 
 -- the entry to which it is due, with the bytes before it
-pub record Found (setup : SetupLists) (flights : Place → Option InFlight) (test : Entry → Bool) (left : List DBeat) : Type 0 where
+pub record Found (setup : SetupLists) (asked : Asked) (flights : Place → Option InFlight) (P : Entry → Type 0) (test : Entry → Bool) (left : List DBeat) : Type 0 where
   pub entry : Entry
   pub before : Bytes
   pub bytes : AreBytes before
-  pub stands : Stands (faults_of setup) setup.regions flights entry before
+  pub stands : Stands (faults_of setup) setup.regions flights (settled entry) before
+  pub holds : P entry
   pub passes : test entry ≡ true
-  pub is : left ≡ drop entry.came (shown entry.request (meaning_on setup entry.request before).reply)
+  pub is : left ≡ shown_to setup asked entry before
 
 -- or there is none
-abbrev pub Looked : SetupLists → (Place → Option InFlight) → (Entry → Bool) → Order → List DBeat → Type 0
-Looked setup flights test order left = ((list_any test order ≡ false) × (left ≡ [])) ⊎ Found setup flights test left
+abbrev pub Looked : SetupLists → Asked → (Place → Option InFlight) → (Entry → Type 0) → (Entry → Bool) → Order → List DBeat → Type 0
+Looked setup asked flights P test order left = ((list_any test order ≡ false) × (left ≡ [])) ⊎ Found setup asked flights P test left
 
-looked : (setup : SetupLists) (flights : Place → Option InFlight) (test : Entry → Bool) (order : Order) (m : Bytes) → AreBytes m
-    → Each (faults_of setup) setup.regions (Stands (faults_of setup) setup.regions flights) m order
-    → Looked setup flights test order (left_of setup test m order)
-looked setup flights test [] m bytes each = inl (refl, refl)
-looked setup flights test (entry ∷ order) m bytes each =
+looked : (setup : SetupLists) (asked : Asked) (flights : Place → Option InFlight) (P : Entry → Type 0) (test : Entry → Bool) (order : Order) (m : Bytes) → AreBytes m
+    → Each (faults_of setup) setup.regions (Stands (faults_of setup) setup.regions flights) m (settle order) → AllByRecursion P order
+    → Looked setup asked flights P test order (left_of setup asked test m order)
+looked setup asked flights P test [] m bytes each all = inl (refl, refl)
+looked setup asked flights P test (entry ∷ order) m bytes each all =
     by_test (test entry) refl
-    (looked setup flights test order next ((acts (faults_of setup) setup.regions entry.request each.0.well).small m bytes) each.1)
+    (looked setup asked flights P test order next ((acts (faults_of setup) setup.regions entry.request each.0.well).small m bytes) each.1 all.1)
   where
     next : Bytes
     next = carry (faults_of setup) setup.regions entry.request m
 
-    by_test : (b : Bool) → test entry ≡ b → Looked setup flights test order (left_of setup test next order)
-        → Looked setup flights test (entry ∷ order) (left_of setup test m (entry ∷ order))
-    by_test true is later = inr (record { entry = entry; before = m; bytes = bytes; stands = each.0; passes = is; is = rw is refl })
+    by_test : (b : Bool) → test entry ≡ b → Looked setup asked flights P test order (left_of setup asked test next order)
+        → Looked setup asked flights P test (entry ∷ order) (left_of setup asked test m (entry ∷ order))
+    by_test true is later = inr (record { entry = entry; before = m; bytes = bytes; stands = each.0; holds = all.0; passes = is; is = rw is refl })
     by_test false is later = rw (is) later
 
 -- ---- what is blamed
 
 -- a beat that is blamed breaks a rule on replies
-blamed_reply : (next : Option InFlight) (beat : DBeat) (wrong : Wrong) → wrong_reply RealTime next beat ≡ Some wrong
+blamed_reply : (before : Option Bool) (next : Option InFlight) (beat : DBeat) (wrong : Wrong) → wrong_reply RealTime before next beat ≡ Some wrong
     → (broken : ReplyRule) × (told : Option DBeat) × (wrong ≡ Reply broken told)
-blamed_reply None beat wrong is = (Unasked, None, cc (is))
-blamed_reply (Some flight) beat wrong is = by_beats flight.beats is
+blamed_reply before None beat wrong is = (Unasked, None, cc (is))
+blamed_reply before (Some flight) beat wrong is = by_beats flight.beats is
   where
     by_rule : (due : DBeat) (o : Option ReplyRule) → wrong_by due o ≡ Some wrong → (broken : ReplyRule) × (told : Option DBeat) × (wrong ≡ Reply broken told)
     by_rule due None none = absurd (cc (none))
     by_rule due (Some broken) is = (broken, Some due, cc (is))
 
-    by_beats : (beats : List DBeat) → wrong_told flight.footprint beats beat ≡ Some wrong → (broken : ReplyRule) × (told : Option DBeat) × (wrong ≡ Reply broken told)
+    by_beats : (beats : List DBeat) → wrong_told flight.footprint before beats beat ≡ Some wrong → (broken : ReplyRule) × (told : Option DBeat) × (wrong ≡ Reply broken told)
     by_beats [] none = (Unasked, None, cc (none))
-    by_beats (due ∷ rest) some = by_rule due _ some
+    by_beats (due ∷ rest) some = by_rule (due_beat flight.footprint.failed before due beat) _ some
 
 none_of_length : (beats others : List DBeat) → others ≡ [] → length beats ≡ length others → beats ≡ others
 none_of_length [] others none long = sym none
 none_of_length (beat ∷ beats) others none long = absurd (cc (long ∙ ap length none))
 
--- ---- a beat that is blamed, on a board that knows of an order
-
-module _ (setup : SetupLists) (board : Board) (order : Order) (number : ℕ) (beat : DBeat) (explains : Explains board order)
-    (faults : board.memory.faults ≡ faults_of setup) (regions : board.memory.regions ≡ setup.regions) where
-  abbrev flights : Place → Option InFlight
-  flights = flight_at board.clients
-
-  abbrev left : List DBeat
-  left = due_beats setup order number beat.source
-
-  abbrev from : Place
-  from = next_at (list_any (begun_to number) order) number beat.source
-
-  abbrev Searched : Type 0
-  Searched = Looked setup flights (is_due_in order number beat.source) order left
-
-  search_order : Searched
-  search_order =
-      looked setup flights (is_due_in order number beat.source) order zeros (record { at = λ x. omega arith })
-      (subst₂ (λ (f : Faults) (r : List Region). Each f r (Stands f r flights) zeros order) faults regions explains.entries)
-
-  -- the request to which the beat is due in the order is in flight, where it is due on the board
-  record IsDue (found : Found setup flights (is_due_in order number beat.source) left) : Type 0 where
-    live : found.entry.came < reply_beats found.entry.request
-    stands : IsLive (faults_of setup) setup.regions flights found.entry found.before
-    there : flights from ≡ Some stands.flight
-
-  found_due : (found : Found setup flights (is_due_in order number beat.source) left) → IsDue found
-  found_due found =
-      let at = due_place (list_any (begun_to number) order) number beat.source found.entry found.passes in
-      let was = found.stands.live at.live in
-      record { live = leb-false (reply_beats found.entry.request) found.entry.came at.live; stands = was; there = ap flights (sym at.there) ∙ was.there }
-
-  -- beats that are blamed of a request in flight there, by a footprint that is determined no further
-  pub broken_at : (other : InFlight) (footprint : Footprint) → flight_at board.clients (next_at (list_any (begun_to number) order) number beat.source) ≡ Some other
-      → footprint ≡ record other.footprint { determined = footprint.determined }
-      → ((x : ℕ) → footprint.reads ≡ true → footprint.determined x ≡ true → other.footprint.determined x ≡ true)
-      → (broken : ReplyRule) (told : Option DBeat) → wrong_told footprint other.beats beat ≡ Some (Reply broken told)
-      → IsBroken (due_beats setup order number beat.source) beat broken
-  broken_at other footprint there acts less broken told is = by_look search_order
-    where
-      by_look : Searched → IsBroken left beat broken
-      by_look (inl nowhere) =
-          let due = due_known board order explains number beat.source (ap (λ (o : Option InFlight). is_some o) there) in
-          absurd (both_ways (list_any (is_due_in order number beat.source) order) nowhere.0 due)
-      by_look (inr found) =
-          let due = found_due found in
-          let live = due.stands in
-          let one : Some live.flight ≡ Some other = sym due.there ∙ there in
-          let same : live.flight ≡ other = cc (one) in
-          let its = ap (λ (f : InFlight). f.footprint) (sym same) in
-          let acting = acts ∙ ap (λ (r : Footprint). record r { determined = footprint.determined }) (its ∙ live.acting) in
-          let determined : (x : ℕ) → (own (faults_of setup) setup.regions found.entry.request).reads ≡ true → footprint.determined x ≡ true → live.made_of x ≡ found.before x =
-          λ x reads here. live.same x reads (ap (λ (f : InFlight). f.footprint.determined x) same ∙ less x (ap (λ (r : Footprint). r.reads) acting ∙ reads) here) in
-          let alike = left_alike (faults_of setup) setup.regions found.entry.request footprint found.entry.came live.made_of found.before
-          due.live acting live.bytes found.bytes determined in
-          let beats : other.beats ≡ drop found.entry.came (shown found.entry.request (meaning (faults_of setup) setup.regions found.entry.request live.made_of).reply) =
-          ap (λ (f : InFlight). f.beats) (sym same) ∙ live.left in
-          let told_there = left_broken footprint _ _ beat broken told alike (sym (ap (λ (left : List DBeat). wrong_told footprint left beat) beats) ∙ is) in
-          (told_there.0, ap (λ (left : List DBeat). wrong_beat left beat) found.is ∙ told_there.1)
-
 -- ---- the beats that are due in an order, and as the shadow has it
 
-left_none : (setup : SetupLists) (test : Entry → Bool) (order : Order) (m : Bytes) → AllByRecursion (λ entry. test entry ≡ false) order → left_of setup test m order ≡ []
-left_none setup test [] m none = refl
-left_none setup test (entry ∷ order) m none = rw none.0 (left_none setup test order (meaning_on setup entry.request m).after none.1)
+left_none : (setup : SetupLists) (asked : Asked) (test : Entry → Bool) (order : Order) (m : Bytes) → AllByRecursion (λ entry. test entry ≡ false) order
+    → left_of setup asked test m order ≡ []
+left_none setup asked test [] m none = refl
+left_none setup asked test (entry ∷ order) m none = rw none.0 (left_none setup asked test order (meaning_on setup entry.request m).after none.1)
 
-left_settled : (setup : SetupLists) (test other : Entry → Bool) (order : Order) (m : Bytes) → AllByRecursion (λ entry. test (settled entry) ≡ other entry) order
-    → left_of setup test m (settle order) ≡ left_of setup other m order
-left_settled setup test other [] m same = refl
-left_settled setup test other (entry ∷ order) m same =
-    rw (same.0, left_settled setup test other order (meaning_on setup entry.request m).after same.1) refl
+any_settled : (test : Entry → Bool) (order : Order) → AllByRecursion (λ entry. test (settled entry) ≡ test entry) order → list_any test (settle order) ≡ list_any test order
+any_settled test [] same = refl
+any_settled test (entry ∷ order) same = rw (same.0, any_settled test order same.1) refl
+
+-- whether an entry has failed, as the order has it
+failed_as : (errors : Errors) (setup : SetupLists) (entry : Entry) → failed_at errors (faults_of setup) setup.regions entry ≡ has_failed errors setup entry
+failed_as Strict setup entry = refl
+failed_as Any setup entry = refl
 
 -- ---- a beat that is blamed, on a board that is followed
 
@@ -172,66 +122,171 @@ module _ (setup : SetupLists) (board : Board) (shadow : Shadow) (order : Order) 
   abbrev place : Place
   place = next_at (list_any (begun_to number) order) number beat.source
 
+  abbrev asked : Asked
+  asked = asked_on board number beat
+
+  abbrev test : Entry → Bool
+  test = is_due_in order number beat.source
+
+  abbrev flights : Place → Option InFlight
+  flights = flight_at shadow.clients
+
+  -- what is known of an entry
+  record Known (entry : Entry) : Type 0 where
+    marked : IsMarked board.clients entry
+    failing : IsFailing board entry
+    opened : entry.whole ≡ false → IsOpen board shadow entry
+
+  all_known : AllByRecursion Known order
+  all_known = known_in order follows.marked follows.failing follows.open_ones
+    where
+      known_in : (some_order : Order) → AllByRecursion (IsMarked board.clients) some_order → AllByRecursion (IsFailing board) some_order
+          → AllByRecursion (λ entry. entry.whole ≡ false → IsOpen board shadow entry) some_order → AllByRecursion Known some_order
+      known_in [] marked failing opened = tt
+      known_in (entry ∷ rest) marked failing opened =
+          (record { marked = marked.0; failing = failing.0; opened = opened.0 }, known_in rest marked.1 failing.1 opened.1)
+
+  abbrev Searched : Type 0
+  Searched = Looked setup asked flights Known test order (due_beats setup order asked)
+
+  search_order : Searched
+  search_order =
+      looked setup asked flights Known test order zeros (record { at = λ x. omega arith })
+      (subst₂ (λ (f : Faults) (r : List Region). Each f r (Stands f r flights) zeros (settle order)) faults regions follows.explains.entries) all_known
+
   -- where nothing is due on the board
-  nothing_left : flight_at board.clients place ≡ None → due_beats setup order number beat.source ≡ []
-  nothing_left nothing = left_none setup (is_due_in order number beat.source) order zeros (nobody_due board shadow order follows number beat.source nothing)
+  nothing_left : flight_at board.clients place ≡ None → due_beats setup order asked ≡ []
+  nothing_left nothing = left_none setup asked test order zeros (nobody_due board shadow order follows number beat.source nothing)
 
   -- where something is due
-  same_left : (due : InFlight) → flight_at board.clients place ≡ Some due → due_beats setup (settle order) number beat.source ≡ due_beats setup order number beat.source
-  same_left due here =
-      ap (λ (b : Bool). left_of setup (is_due b number beat.source) zeros (settle order)) (begun_settled board shadow order follows number)
-      ∙ left_settled setup (is_due begun number beat.source) (is_due begun number beat.source) order zeros
-      (all-map (IsMarked board.clients) (λ entry. is_due begun number beat.source (settled entry) ≡ is_due begun number beat.source entry) order
-      (due_settled board shadow order follows number beat.source due here) follows.marked)
+  module _ (due : InFlight) (here : flight_at board.clients place ≡ Some due) where
+    beside : HasBeside shadow place due
+    beside = follows.ahead.placed place due here
 
-  -- blamed of a request that is due
-  broken_due : (due : InFlight) → flight_at board.clients place ≡ Some due → (broken : ReplyRule) (told : Option DBeat)
-      → wrong_told due.footprint due.beats beat ≡ Some (Reply broken told) → IsBroken (due_beats setup order number beat.source) beat broken
-  broken_due due here broken told is = subst (λ left. IsBroken left beat broken) (same_left due here) (by_beats beside.other.beats refl)
-    where
-      beside : HasBeside shadow place due
-      beside = follows.ahead.placed place due here
+    -- it is due in the order
+    some_due : list_any test order ≡ true
+    some_due =
+        sym (any_settled test order (all-map (IsMarked board.clients) (λ entry. test (settled entry) ≡ test entry) order
+        (due_settled board shadow order follows number beat.source due here) follows.marked))
+        ∙ ap (λ (b : Bool). list_any (is_due b number beat.source) (settle order)) (sym (begun_settled board shadow order follows number))
+        ∙ due_known (shadow_of board shadow) (settle order) follows.explains number beat.source
+        (ap (λ (b : Bool). is_some (flight_at shadow.clients (next_at b number beat.source))) (begun_settled board shadow order follows number)
+        ∙ ap (λ (o : Option InFlight). is_some o) beside.there)
 
-      there : flight_at shadow.clients (next_at (list_any (begun_to number) (settle order)) number beat.source) ≡ Some beside.other
-      there = ap (λ (b : Bool). flight_at shadow.clients (next_at b number beat.source)) (begun_settled board shadow order follows number) ∙ beside.there
+    module _ (found : Found setup asked flights Known test (due_beats setup order asked)) where
+      at : IsAt place found.entry
+      at = due_place begun number beat.source found.entry found.passes
 
-      by_told : (other : Option DBeat) × (wrong_told due.footprint beside.other.beats beat ≡ Some (Reply broken other)) → IsBroken (due_beats setup (settle order) number beat.source) beat broken
-      by_told other =
-          broken_at setup (shadow_of board shadow) (settle order) number beat follows.explains faults regions beside.other due.footprint there beside.behind.acts
-          beside.behind.less broken other.0 other.1
+      whole : found.entry.whole ≡ true
+      whole = (due_whole board shadow order follows number beat.source found.entry found.holds.marked found.holds.opened found.passes).0
 
-      by_beats : (beats : List DBeat) → beside.other.beats ≡ beats → IsBroken (due_beats setup (settle order) number beat.source) beat broken
-      by_beats [] none =
-          let nothing : due.beats ≡ beside.other.beats = none_of_length due.beats beside.other.beats none beside.behind.long in
-          by_told (told, sym (ap (λ (beats : List DBeat). wrong_told due.footprint beats beat) nothing) ∙ is)
-      by_beats (first ∷ rest) some =
-          by_told (left_told due.footprint due.beats beside.other.beats beat broken told
-          (beside.behind.alike 0 (subst (λ (beats : List DBeat). 0 < length beats) (sym some) (omega arith))) beside.behind.long is)
+      live : IsLive (faults_of setup) setup.regions flights (settled found.entry) found.before
+      live = found.stands.live at.live
+
+      same : live.flight ≡ beside.other
+      same = let one : Some live.flight ≡ Some beside.other = sym live.there ∙ ap flights at.there ∙ beside.there in cc (one)
+
+      failed : due.footprint.failed ≡ has_failed board.errors setup found.entry
+      failed =
+          found.holds.failing whole at.live due (ap (flight_at board.clients) at.there ∙ here)
+          ∙ ap₂ (λ (f : Faults) (r : List Region). failed_at board.errors f r found.entry) faults regions ∙ failed_as board.errors setup found.entry
+
+      -- the beats that are left there
+      abbrev raw : List DBeat
+      raw = drop found.entry.came (shown found.entry.request (meaning_on setup found.entry.request found.before).reply)
+
+      abbrev left_there : List DBeat
+      left_there = drop found.entry.came (shown found.entry.request (meaning (faults_of setup) setup.regions found.entry.request live.made_of).reply)
+
+      their_beats : beside.other.beats ≡ left_there
+      their_beats = ap (λ (f : InFlight). f.beats) (sym same) ∙ live.left
+
+      shapes : map shape_of due.beats ≡ map shape_of raw
+      shapes =
+          beside.behind.shapes ∙ ap (map shape_of) their_beats
+          ∙ sym (drop-map shape_of found.entry.came (shown found.entry.request (meaning (faults_of setup) setup.regions found.entry.request live.made_of).reply))
+          ∙ ap (drop found.entry.came) (same_shapes found.entry.request found.entry.request
+          (meaning (faults_of setup) setup.regions found.entry.request live.made_of).reply (meaning_on setup found.entry.request found.before).reply refl)
+          ∙ drop-map shape_of found.entry.came (shown found.entry.request (meaning_on setup found.entry.request found.before).reply)
+
+      -- of one that hasn't failed, blamed as the shadow has it
+      raw_broken : due.footprint.failed ≡ false → (broken : ReplyRule) (told : Option DBeat) → wrong_sure due.footprint beside.other.beats beat ≡ Some (Reply broken told)
+          → IsBroken raw beat broken
+      raw_broken sound broken told is =
+          let acting : due.footprint ≡ record (own (faults_of setup) setup.regions found.entry.request) { determined = due.footprint.determined } =
+          beside.behind.sound sound ∙ ap (λ (f : InFlight). record f.footprint { determined = due.footprint.determined }) (sym same)
+          ∙ ap (λ (r : Footprint). record r { determined = due.footprint.determined }) live.acting in
+          let determined : (x : ℕ) → (own (faults_of setup) setup.regions found.entry.request).reads ≡ true → due.footprint.determined x ≡ true → live.made_of x ≡ found.before x =
+          λ x reads certain. live.same x reads (ap (λ (f : InFlight). f.footprint.determined x) same
+          ∙ beside.behind.less x (ap (λ (r : Footprint). r.reads) acting ∙ reads) certain) in
+          let alike = left_alike (faults_of setup) setup.regions found.entry.request due.footprint found.entry.came live.made_of found.before
+          (leb-false (reply_beats found.entry.request) found.entry.came at.live) acting live.bytes found.bytes determined in
+          left_broken due.footprint left_there raw beat broken told alike (sym (ap (λ (left : List DBeat). wrong_sure due.footprint left beat) their_beats) ∙ is)
+
+      -- and as the board has it
+      due_broken : due.footprint.failed ≡ false → (broken : ReplyRule) (told : Option DBeat) → wrong_sure due.footprint due.beats beat ≡ Some (Reply broken told)
+          → IsBroken raw beat broken
+      due_broken sound broken told is = by_beats beside.other.beats refl
+        where
+          by_beats : (beats : List DBeat) → beside.other.beats ≡ beats → IsBroken raw beat broken
+          by_beats [] none =
+              let nothing : due.beats ≡ beside.other.beats = none_of_length due.beats beside.other.beats none beside.behind.long in
+              raw_broken sound broken told (sym (ap (λ (beats : List DBeat). wrong_sure due.footprint beats beat) nothing) ∙ is)
+          by_beats (first ∷ rest) some =
+              let there = left_told due.footprint due.beats beside.other.beats beat broken told
+              (beside.behind.alike sound 0 (subst (λ (beats : List DBeat). 0 < length beats) (sym some) (omega arith))) beside.behind.long is in
+              raw_broken sound broken there.0 there.1
+
+      found_broken : (broken : ReplyRule) (told : Option DBeat) → wrong_told due.footprint asked.told due.beats beat ≡ Some (Reply broken told)
+          → IsBroken (due_beats setup order asked) beat broken
+      found_broken broken told is = subst (λ left. IsBroken left beat broken) (sym found.is) (by_failed due.footprint.failed refl)
+        where
+          by_failed : (b : Bool) → due.footprint.failed ≡ b → IsBroken (shown_to setup asked found.entry found.before) beat broken
+          by_failed true has =
+              failed_broken due.footprint (has_failed board.errors setup found.entry) asked.told due.beats raw beat broken told has (sym failed ∙ has) shapes is
+          by_failed false sound =
+              let there = due_broken sound broken told (sym (sure_told due.footprint asked.told due.beats beat sound) ∙ is) in
+              (there.0, sure_shown (has_failed board.errors setup found.entry) asked.told raw beat (sym failed ∙ sound) ∙ there.1)
+
+    -- blamed of a request that is due
+    broken_due : (broken : ReplyRule) (told : Option DBeat) → wrong_told due.footprint asked.told due.beats beat ≡ Some (Reply broken told)
+        → IsBroken (due_beats setup order asked) beat broken
+    broken_due broken told is = by_look search_order
+      where
+        by_look : Searched → IsBroken (due_beats setup order asked) beat broken
+        by_look (inl nowhere) = absurd (both_ways (list_any test order) nowhere.0 some_due)
+        by_look (inr found) = found_broken found broken told is
 
   blamed_of : (client : ClientBoard) → slice_get board.clients number ≡ Some client → (broken : ReplyRule) (told : Option DBeat)
-      → wrong_reply RealTime (next_reply client.flights beat.source) beat ≡ Some (Reply broken told) → IsBroken (due_beats setup order number beat.source) beat broken
-  blamed_of client there broken told is = by_flight (flight_at board.clients place) refl (ap (λ (o : Option InFlight). wrong_reply RealTime o beat) next ∙ is)
+      → wrong_reply RealTime (told_to client) (next_reply client.flights beat.source) beat ≡ Some (Reply broken told) → IsBroken (due_beats setup order asked) beat broken
+  blamed_of client there broken told is =
+      by_flight (flight_at board.clients place) refl (ap (λ (o : Option InFlight). wrong_reply RealTime (told_to client) o beat) next ∙ is)
     where
       next : flight_at board.clients place ≡ next_reply client.flights beat.source
       next = next_is board.clients number beat.source client there begun (begun_here board shadow order follows number)
 
-      by_flight : (o : Option InFlight) → flight_at board.clients place ≡ o → wrong_reply RealTime (flight_at board.clients place) beat ≡ Some (Reply broken told)
-          → IsBroken (due_beats setup order number beat.source) beat broken
+      told_is : told_to client ≡ asked.told
+      told_is = sym (ap (λ (o : Option ClientBoard). option_flatten (option_map told_to o)) there)
+
+      by_flight : (o : Option InFlight) → flight_at board.clients place ≡ o
+          → wrong_reply RealTime (told_to client) (flight_at board.clients place) beat ≡ Some (Reply broken told) → IsBroken (due_beats setup order asked) beat broken
       by_flight None nothing blamed = (None, rw (nothing_left nothing) (grind (arith, blamed, nothing)))
       by_flight (Some due) here blamed =
-          broken_due due here broken told (sym (ap (λ (o : Option InFlight). wrong_reply RealTime o beat) here) ∙ blamed)
+          broken_due due here broken told
+          (sym (ap (λ (o : Option Bool). wrong_told due.footprint o due.beats beat) told_is)
+          ∙ sym (ap (λ (o : Option InFlight). wrong_reply RealTime (told_to client) o beat) here) ∙ blamed)
 
-  pub blamed_as : (wrong : Wrong) → wrong_at RealTime board (D number beat) ≡ Some wrong → IsWrongAs setup order number beat wrong
+  pub blamed_as : (wrong : Wrong) → wrong_at RealTime board (D number beat) ≡ Some wrong → IsWrongAs setup order (asked_on board number beat) wrong
   blamed_as wrong is = by_client (slice_get board.clients number) refl
     where
-      by_client : (o : Option ClientBoard) → slice_get board.clients number ≡ o → IsWrongAs setup order number beat wrong
+      by_client : (o : Option ClientBoard) → slice_get board.clients number ≡ o → IsWrongAs setup order asked wrong
       by_client None none =
           let same : NoClient ≡ wrong = grind (arith, none, is) in
-          subst (IsWrongAs setup order number beat) same (nothing_left (none_due board.clients begun number beat.source none))
+          subst (IsWrongAs setup order asked) same (nothing_left (none_due board.clients begun number beat.source none))
       by_client (Some client) there =
           let blamed = sym (ap (λ (o : Option ClientBoard). d_wrong RealTime o beat) there) ∙ is in
-          let reply = blamed_reply (next_reply client.flights beat.source) beat wrong blamed in
-          subst (IsWrongAs setup order number beat) (sym reply.2)
+          let reply = blamed_reply (told_to client) (next_reply client.flights beat.source) beat wrong blamed in
+          subst (IsWrongAs setup order asked) (sym reply.2)
           (blamed_of client there reply.0 reply.1 (blamed ∙ ap (λ (w : Wrong). Some w) reply.2))
 
 -- ---- along lists of beats
@@ -262,8 +317,8 @@ follows_all (seen ∷ beats) board now order goes fronts followed =
     (follows_next board seen now goes.0 goes.1 fronts followed)
 
 -- nothing has begun at the start
-follows_opening : (setup : SetupLists) → IsFollowed (opening_board setup) []
-follows_opening setup = (
+follows_opening : (errors : Errors) (setup : SetupLists) → IsFollowed (opening_with errors setup) []
+follows_opening errors setup = (
   record { clients = (opening_board setup).clients; bytes = zeros; indeterminate = λ x. false; finals = λ client. request_of no_message },
   record {
     explains = explains_opening setup;
@@ -279,6 +334,7 @@ follows_opening setup = (
       given = λ client x some determined gives_it. absurd (cc (sym (none_begun client) ∙ some));
     };
     marked = tt;
+    failing = tt;
     open_ones = tt;
     known = λ client some. absurd (cc (sym (none_begun client) ∙ some));
   },
@@ -316,23 +372,23 @@ all_setup (seen ∷ beats) board =
 
 -- ---- the laws
 
-followed : (setup : SetupLists) (before : List ObservedBeat) (order : Order) → IsOrderOf setup before order → IsFollowed (board_after setup before) order
-followed setup before order orders = follows_all before (opening_board setup) [] order orders (fronts_opening setup) (follows_opening setup)
+followed : (errors : Errors) (setup : SetupLists) (before : List ObservedBeat) (order : Order) → IsOrderOf errors setup before order
+    → IsFollowed (board_after errors setup before) order
+followed errors setup before order orders = follows_all before (opening_with errors setup) [] order orders (fronts_opening setup) (follows_opening errors setup)
 
 pub blames_by_rule : BlamesByRule
-blames_by_rule setup before order client beat wrong orders blamed =
-    let same = all_setup before (opening_board setup) in
-    let (shadow, follows) = followed setup before order orders in
-    blamed_as setup (board_after setup before) shadow order client beat follows same.faults same.regions wrong blamed
+blames_by_rule errors setup before order client beat wrong orders blamed =
+    let same = all_setup before (opening_with errors setup) in
+    let (shadow, follows) = followed errors setup before order orders in
+    blamed_as setup (board_after errors setup before) shadow order client beat follows same.faults same.regions wrong blamed
 
 -- what is wrong by a rule is wrong
-pub wrong_as_in : (setup : SetupLists) (order : Order) (client : ℕ) (beat : DBeat) (wrong : Wrong) → IsWrongAs setup order client beat wrong
-    → IsWrongIn setup order client beat
-wrong_as_in setup order client beat NoClient is none = absurd (cc (sym (ap (λ (beats : List DBeat). wrong_beat beats beat) is) ∙ none))
-wrong_as_in setup order client beat (Request broken) is none = absurd is
-wrong_as_in setup order client beat (Reply broken due) is none = absurd (cc (sym is.1 ∙ none))
-wrong_as_in setup order client beat (Axi broken) is none = absurd is
-wrong_as_in setup order client beat WrongPlace is none = absurd is
+pub wrong_as_in : (setup : SetupLists) (order : Order) (asked : Asked) (wrong : Wrong) → IsWrongAs setup order asked wrong → IsWrongIn setup order asked
+wrong_as_in setup order asked NoClient is none = absurd (cc (sym (ap (λ (beats : List DBeat). wrong_beat beats asked.beat) is) ∙ none))
+wrong_as_in setup order asked (Request broken) is none = absurd is
+wrong_as_in setup order asked (Reply broken due) is none = absurd (cc (sym is.1 ∙ none))
+wrong_as_in setup order asked (Axi broken) is none = absurd is
+wrong_as_in setup order asked WrongPlace is none = absurd is
 
 run_all : (setup : SetupLists) (order : Order) (m : Bytes)
     → bytes_after_all (faults_of setup) setup.regions (map (λ entry. entry.request) order) m ≡ run (faults_of setup) setup.regions m order
@@ -347,10 +403,10 @@ not_awaited x (client ∷ clients) none zero = grind (arith, none)
 not_awaited x (client ∷ clients) none (suc number) = not_awaited x clients (grind (arith, none)) number
 
 pub knows_bytes : KnowsBytes
-knows_bytes setup before order x orders certain awaited =
-    let board = board_after setup before in
-    let same = all_setup before (opening_board setup) in
-    let (shadow, follows) = followed setup before order orders in
+knows_bytes errors setup before order x orders certain awaited =
+    let board = board_after errors setup before in
+    let same = all_setup before (opening_with errors setup) in
+    let (shadow, follows) = followed errors setup before order orders in
     let both = follows.ahead.known x certain (λ client some.
     let become = follows.ahead.begun client some in
     none_given board.memory.faults board.memory.regions (coming_at board.clients client) (shadow.finals client) become.other x become.becomes

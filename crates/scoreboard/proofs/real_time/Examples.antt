@@ -16,7 +16,8 @@ use Rattle.scoreboard.specs.declared.ReplyRule.TheVariants.{Payload, Unasked}
 use Rattle.scoreboard.specs.declared.ObservedBeat.{ObservedBeat}
 use Rattle.scoreboard.specs.declared.ObservedBeat.TheVariants.{A, D}
 use Rattle.scoreboard.specs.declared.Wrong.TheVariants.{Reply}
-use Rattle.scoreboard.specs.Orders.{board_after, due_beats}
+use Rattle.scoreboard.specs.Orders.{Asked, board_after, due_beats}
+use Rattle.scoreboard.specs.declared.Errors.TheVariants.{Strict}
 use Rattle.scoreboard.specs.RealTime.{KeepsRealTime, arranged, as_begun, begun_in}
 use Rattle.scoreboard.specs.Wider.{TellsNoMore}
 use Rattle.scoreboard.specs.declared.Policy.TheVariants.{AcceptanceOrder, RealTime}
@@ -50,28 +51,32 @@ acknowledged = record { opcode = 0; param = 0; size = 0; source = 5; denied = fa
 abbrev told : ℕ → DBeat
 told payload = record { opcode = 1; param = 0; size = 3; source = 2; denied = false; payload = payload; corrupt = false }
 
+-- what is asked of an order by a client's next beat of a source
+abbrev asked : ℕ → ℕ → Asked
+asked client source = record { errors = Strict; told = None; client = client; beat = record acknowledged { source = source } }
+
 -- ---- both in flight
 
 abbrev race : List ObservedBeat
 race = put ∷ get ∷ []
 
 -- what the get is told is what stands there where it takes effect
-both_orders : (length (begun_in setup race) ≡ 2)
-    × (due_beats setup (arranged setup race (as_begun setup race) (0 ∷ 1 ∷ [])) 1 2 ≡ told 0xaa000000 ∷ [])
-    × (due_beats setup (arranged setup race (as_begun setup race) (1 ∷ 0 ∷ [])) 1 2 ≡ told 0 ∷ [])
+both_orders : (length (begun_in Strict setup race) ≡ 2)
+    × (due_beats setup (arranged Strict setup race (as_begun Strict setup race) (0 ∷ 1 ∷ [])) (asked 1 2) ≡ told 0xaa000000 ∷ [])
+    × (due_beats setup (arranged Strict setup race (as_begun Strict setup race) (1 ∷ 0 ∷ [])) (asked 1 2) ≡ told 0 ∷ [])
 unfolding zero_words
 both_orders = (refl, refl, refl)
 
 -- neither is blamed, nor is another value of the byte that both may have been told; and that the put's reply comes first says nothing of their order
-either_told : (wrong_at RealTime (board_after setup race) (D 1 (told 0xaa000000)) ≡ None)
-    × (wrong_at RealTime (board_after setup race) (D 1 (told 0)) ≡ None)
-    × (wrong_at RealTime (board_after setup (race ++ D 0 acknowledged ∷ [])) (D 1 (told 0)) ≡ None)
+either_told : (wrong_at RealTime (board_after Strict setup race) (D 1 (told 0xaa000000)) ≡ None)
+    × (wrong_at RealTime (board_after Strict setup race) (D 1 (told 0)) ≡ None)
+    × (wrong_at RealTime (board_after Strict setup (race ++ D 0 acknowledged ∷ [])) (D 1 (told 0)) ≡ None)
 unfolding zero_words
 either_told = (refl, refl, refl)
 
 -- a byte that nobody puts is the same in both orders; and the byte is indeterminate for none of those that come later: the put was alone when it came
-others_same : (wrong_at RealTime (board_after setup race) (D 1 (told 0xaa000001)) ≡ Some (Reply Payload (Some (told 0xaa000000))))
-    × ((board_after setup race).indeterminate 0x1000b ≡ false)
+others_same : (wrong_at RealTime (board_after Strict setup race) (D 1 (told 0xaa000001)) ≡ Some (Reply Payload (Some (told 0xaa000000))))
+    × ((board_after Strict setup race).indeterminate 0x1000b ≡ false)
 unfolding zero_words
 others_same = (refl, refl)
 
@@ -81,13 +86,13 @@ abbrev apart : List ObservedBeat
 apart = put ∷ D 0 acknowledged ∷ get ∷ []
 
 -- the board blames the beat, which is right in an order out of real time
-zero_blamed : (wrong_at RealTime (board_after setup apart) (D 1 (told 0)) ≡ Some (Reply Payload (Some (told 0xaa000000))))
-    × (due_beats setup (arranged setup apart (as_begun setup apart) (1 ∷ 0 ∷ [])) 1 2 ≡ told 0 ∷ [])
+zero_blamed : (wrong_at RealTime (board_after Strict setup apart) (D 1 (told 0)) ≡ Some (Reply Payload (Some (told 0xaa000000))))
+    × (due_beats setup (arranged Strict setup apart (as_begun Strict setup apart) (1 ∷ 0 ∷ [])) (asked 1 2) ≡ told 0 ∷ [])
 unfolding zero_words
 zero_blamed = (refl, refl)
 
 -- the order in which it would be right doesn't keep real time
-not_before : KeepsRealTime setup apart (1 ∷ 0 ∷ []) → ⊥
+not_before : KeepsRealTime Strict setup apart (1 ∷ 0 ∷ []) → ⊥
 unfolding zero_words
 not_before keeps =
     keeps.0.0
@@ -102,10 +107,10 @@ abbrev two_puts : List ObservedBeat
 two_puts = put ∷ again ∷ D 0 acknowledged ∷ D 1 (record acknowledged { source = 6 }) ∷ get ∷ []
 
 -- either is the last in an order, so whatever is told of the byte is right
-either_last : (wrong_at RealTime (board_after setup two_puts) (D 1 (told 0xaa000000)) ≡ None)
-    × (wrong_at RealTime (board_after setup two_puts) (D 1 (told 0xbb000000)) ≡ None)
-    × (due_beats setup (arranged setup two_puts (as_begun setup two_puts) (1 ∷ 0 ∷ 2 ∷ [])) 1 2 ≡ told 0xaa000000 ∷ [])
-    × (due_beats setup (arranged setup two_puts (as_begun setup two_puts) (0 ∷ 1 ∷ 2 ∷ [])) 1 2 ≡ told 0xbb000000 ∷ [])
+either_last : (wrong_at RealTime (board_after Strict setup two_puts) (D 1 (told 0xaa000000)) ≡ None)
+    × (wrong_at RealTime (board_after Strict setup two_puts) (D 1 (told 0xbb000000)) ≡ None)
+    × (due_beats setup (arranged Strict setup two_puts (as_begun Strict setup two_puts) (1 ∷ 0 ∷ 2 ∷ [])) (asked 1 2) ≡ told 0xaa000000 ∷ [])
+    × (due_beats setup (arranged Strict setup two_puts (as_begun Strict setup two_puts) (0 ∷ 1 ∷ 2 ∷ [])) (asked 1 2) ≡ told 0xbb000000 ∷ [])
 unfolding zero_words
 either_last = (refl, refl, refl, refl)
 
@@ -127,26 +132,26 @@ begun = first_word ∷ get ∷ []
 
 -- the put as it becomes with its last beat
 abbrev becomes : ℕ → WholeRequest
-becomes = as_begun setup (begun ++ last_word ∷ [])
+becomes = as_begun Strict setup (begun ++ last_word ∷ [])
 
 -- it counts among those that have begun, and the get may see what is still to come, or what was there
-seen_or_not : (length (begun_in setup begun) ≡ 2)
-    × (due_beats setup (arranged setup begun becomes (0 ∷ 1 ∷ [])) 1 2 ≡ told 0xcc000000 ∷ [])
-    × (due_beats setup (arranged setup begun becomes (1 ∷ 0 ∷ [])) 1 2 ≡ told 0 ∷ [])
-    × (wrong_at RealTime (board_after setup begun) (D 1 (told 0xcc000000)) ≡ None)
-    × (wrong_at RealTime (board_after setup begun) (D 1 (told 0)) ≡ None)
+seen_or_not : (length (begun_in Strict setup begun) ≡ 2)
+    × (due_beats setup (arranged Strict setup begun becomes (0 ∷ 1 ∷ [])) (asked 1 2) ≡ told 0xcc000000 ∷ [])
+    × (due_beats setup (arranged Strict setup begun becomes (1 ∷ 0 ∷ [])) (asked 1 2) ≡ told 0 ∷ [])
+    × (wrong_at RealTime (board_after Strict setup begun) (D 1 (told 0xcc000000)) ≡ None)
+    × (wrong_at RealTime (board_after Strict setup begun) (D 1 (told 0)) ≡ None)
 unfolding zero_words
 seen_or_not = (refl, refl, refl, refl, refl)
 
 -- its own reply isn't due before it is whole
-not_whole : (due_beats setup (arranged setup begun becomes (0 ∷ 1 ∷ [])) 0 7 ≡ [])
-    × (wrong_at RealTime (board_after setup begun) (D 0 acknowledged_words) ≡ Some (Reply Unasked None))
+not_whole : (due_beats setup (arranged Strict setup begun becomes (0 ∷ 1 ∷ [])) (asked 0 7) ≡ [])
+    × (wrong_at RealTime (board_after Strict setup begun) (D 0 acknowledged_words) ≡ Some (Reply Unasked None))
 unfolding zero_words
 not_whole = (refl, refl)
 
 -- a get changes nothing: once the put is whole its bytes are those of the memory
-sure_when_whole : ((board_after setup (begun ++ last_word ∷ [])).indeterminate 0x1000b ≡ false)
-    × ((board_after setup (begun ++ last_word ∷ [])).memory.bytes 0x1000b ≡ 0xcc)
+sure_when_whole : ((board_after Strict setup (begun ++ last_word ∷ [])).indeterminate 0x1000b ≡ false)
+    × ((board_after Strict setup (begun ++ last_word ∷ [])).memory.bytes 0x1000b ≡ 0xcc)
 unfolding zero_words
 sure_when_whole = (refl, refl)
 
@@ -155,12 +160,12 @@ abbrev overlapping : List ObservedBeat
 overlapping = first_word ∷ again ∷ D 1 (record acknowledged { source = 6 }) ∷ last_word ∷ D 0 acknowledged_words ∷ get ∷ []
 
 -- whichever is the last, so whatever is told of that byte is right, and wrong of its neighbour
-either_of_both : ((board_after setup overlapping).indeterminate 0x1000b ≡ true)
-    × (wrong_at RealTime (board_after setup overlapping) (D 1 (told 0xbb000000)) ≡ None)
-    × (wrong_at RealTime (board_after setup overlapping) (D 1 (told 0xcc000000)) ≡ None)
-    × (due_beats setup (arranged setup overlapping (as_begun setup overlapping) (0 ∷ 1 ∷ 2 ∷ [])) 1 2 ≡ told 0xbb000000 ∷ [])
-    × (due_beats setup (arranged setup overlapping (as_begun setup overlapping) (1 ∷ 0 ∷ 2 ∷ [])) 1 2 ≡ told 0xcc000000 ∷ [])
-    × (wrong_at RealTime (board_after setup overlapping) (D 1 (told 0xcc000001)) ≡ Some (Reply Payload (Some (told 0xcc000000))))
+either_of_both : ((board_after Strict setup overlapping).indeterminate 0x1000b ≡ true)
+    × (wrong_at RealTime (board_after Strict setup overlapping) (D 1 (told 0xbb000000)) ≡ None)
+    × (wrong_at RealTime (board_after Strict setup overlapping) (D 1 (told 0xcc000000)) ≡ None)
+    × (due_beats setup (arranged Strict setup overlapping (as_begun Strict setup overlapping) (0 ∷ 1 ∷ 2 ∷ [])) (asked 1 2) ≡ told 0xbb000000 ∷ [])
+    × (due_beats setup (arranged Strict setup overlapping (as_begun Strict setup overlapping) (1 ∷ 0 ∷ 2 ∷ [])) (asked 1 2) ≡ told 0xcc000000 ∷ [])
+    × (wrong_at RealTime (board_after Strict setup overlapping) (D 1 (told 0xcc000001)) ≡ Some (Reply Payload (Some (told 0xcc000000))))
 unfolding zero_words
 either_of_both = (refl, refl, refl, refl, refl, refl)
 
@@ -171,19 +176,19 @@ swap = A 1 (a 3 3 0 6 0x0b 0x08 0xdd000000)
 abbrev with_atomic : List ObservedBeat
 with_atomic = swap ∷ first_word ∷ []
 
-atomic_in_doubt : ((board_after setup (swap ∷ [])).indeterminate 0x1000b ≡ false)
-    × ((board_after setup with_atomic).indeterminate 0x1000b ≡ true)
+atomic_in_doubt : ((board_after Strict setup (swap ∷ [])).indeterminate 0x1000b ≡ false)
+    × ((board_after Strict setup with_atomic).indeterminate 0x1000b ≡ true)
 unfolding zero_words
 atomic_in_doubt = (refl, refl)
 
 -- ---- where the laws end
 
 -- beats before that are right don't make the next one right: nothing was observed, and a reply comes
-unasked : wrong_at RealTime (board_after setup []) (D 0 acknowledged) ≡ Some (Reply Unasked None)
+unasked : wrong_at RealTime (board_after Strict setup []) (D 0 acknowledged) ≡ Some (Reply Unasked None)
 unfolding zero_words
 unasked = refl
 
-not_whatever_comes_next : ((before : List ObservedBeat) → IsRight setup before → wrong_at RealTime (board_after setup before) (D 0 acknowledged) ≡ None) → ⊥
+not_whatever_comes_next : ((before : List ObservedBeat) → IsRight setup before → wrong_at RealTime (board_after Strict setup before) (D 0 acknowledged) ≡ None) → ⊥
 not_whatever_comes_next law = none-some (Reply Unasked None) (sym (law [] (right_nothing setup)) ∙ unasked)
 
 -- client 1 gets two words, and with the first of them asks for them again by the same source: a board of acceptance order finds the
@@ -198,7 +203,7 @@ abbrev twice : List ObservedBeat
 twice = get_two ∷ D 1 word ∷ get_two ∷ D 1 word ∷ []
 
 -- it finds the reply to the second request unasked, which one of real time has taken: beside one that found a source busy, this board may tell less
-not_behind_busy_sources : TellsNoMore (wrong_at AcceptanceOrder (after_all AcceptanceOrder (opening_board setup) twice) (D 1 word)) (wrong_at RealTime (board_after setup twice) (D 1 word)) → ⊥
+not_behind_busy_sources : TellsNoMore (wrong_at AcceptanceOrder (after_all AcceptanceOrder (opening_board setup) twice) (D 1 word)) (wrong_at RealTime (board_after Strict setup twice) (D 1 word)) → ⊥
 unfolding zero_words
 not_behind_busy_sources law = refuted law
   where

@@ -1,5 +1,5 @@
 -- Boards without their footprints: requests in flight are found, join and end as with them.
-use Rattle.std.proofs.Common.{◌≡◌, ℕ, List, [], ◌∷◌, map, Option, None, ◌∙◌, ap, ap₂, arith}
+use Rattle.std.proofs.Common.{◌≡◌, ℕ, List, [], ◌∷◌, map, Option, None, Some, refl, ◌∙◌, ap, ap₂, arith}
 use Rattle.std.specs.Prelude.{slice_set}
 use Rattle.std.specs.List.{range_with_len}
 use Rattle.std.specs.Option.{option_map}
@@ -8,7 +8,7 @@ use Rattle.std.proofs.lemmas.Simd.{map-map}
 use Rattle.bus_words.proofs.MappedPlaces.{map_same}
 use Rattle.tl_messages.specs.Requests.{WholeRequest}
 use Rattle.setups.specs.Setups.{SetupLists}
-use Rattle.scoreboard.specs.Boards.{Board, ClientBoard, begun_on, client_beside, flight_for, given_on, joined_on, opening_board, opening_client, with_accepted, with_client, with_taken}
+use Rattle.scoreboard.specs.Boards.{Board, ClientBoard, begun_on, client_beside, flight_for, given_on, joined_on, opening_board, opening_client, told_to, with_accepted, with_client, with_taken}
 use Rattle.scoreboard.specs.Flights.{Flights, Footprint, InFlight, each_flight, flights_after, is_busy, is_of_source, next_reply, no_footprint}
 use Rattle.scoreboard.specs.Races.{flight_beside}
 use Rattle.scoreboard.specs.Wider.{board_alone, client_alone, flight_alone}
@@ -30,6 +30,14 @@ pub flights_alone : (flights : Flights) (source : ℕ) → each_flight flight_al
 flights_alone flights source =
     ap₂ {C = Flights} (λ (due : List InFlight) (begun : Option InFlight). record { due = due; begun = begun })
     (grind (arith, without_first_map (is_of_source source) flight_alone flights.due)) (rw (next_alone flights source) (grind arith))
+
+-- what was told
+pub told_alone : (client : ClientBoard) → told_to client ≡ told_to (client_alone client)
+told_alone client = by_begun client.flights.begun
+  where
+    by_begun : (begun : Option InFlight) → option_map (λ flight. client.told) begun ≡ option_map (λ flight. client.told) (option_map flight_alone begun)
+    by_begun None = refl
+    by_begun (Some flight) = refl
 
 -- ---- a client
 

@@ -15,6 +15,7 @@ use Rattle.scoreboard.proofs.MappedLists.{any_map}
 use Rattle.scoreboard.proofs.real_time.Ahead.{IsAhead, IsComing, Shadow, comes, shadow_of}
 use Rattle.scoreboard.proofs.real_time.Entries.{carry, place_of, run}
 use Rattle.scoreboard.proofs.real_time.Explained.{Explains}
+use Rattle.scoreboard.proofs.real_time.Failures.{failed_at}
 use Rattle.scoreboard.proofs.real_time.FlightLists.{HaveAllSources}
 use Rattle.scoreboard.proofs.real_time.Places.{Place, begun_at, coming_at, due_at, flight_at}
 use Rattle.scoreboard.proofs.real_time.ReplySteps.{begun_as}
@@ -22,7 +23,7 @@ use Rattle.scoreboard.proofs.real_time.StepOrders.{is_coming}
 
 -- an entry as the shadow has it
 abbrev pub settled : Entry → Entry
-settled entry = record entry { whole = true }
+settled entry = record entry { whole = true; spoiled = false }
 
 abbrev pub settle : Order → Order
 settle order = map settled order
@@ -30,6 +31,12 @@ settle order = map settled order
 -- one whose reply hasn't ended is in flight on the board exactly where it is whole
 abbrev pub IsMarked : List ClientBoard → Entry → Type 0
 IsMarked clients entry = has_ended entry ≡ false → entry.whole ≡ is_some (flight_at clients (place_of entry))
+
+-- and the board knows whether it has failed
+abbrev pub IsFailing : Board → Entry → Type 0
+IsFailing board entry =
+    entry.whole ≡ true → has_ended entry ≡ false → (flight : InFlight) → flight_at board.clients (place_of entry) ≡ Some flight
+    → flight.footprint.failed ≡ failed_at board.errors board.memory.faults board.memory.regions entry
 
 -- one that isn't whole is what a message becomes that has begun
 pub record IsOpen (board : Board) (shadow : Shadow) (entry : Entry) : Type 0 where
@@ -41,6 +48,7 @@ pub record Follows (board : Board) (shadow : Shadow) (order : Order) : Type 0 wh
   pub explains : Explains (shadow_of board shadow) (settle order)
   pub ahead : IsAhead board shadow
   pub marked : AllByRecursion (IsMarked board.clients) order
+  pub failing : AllByRecursion (IsFailing board) order
   pub open_ones : AllByRecursion (λ entry. entry.whole ≡ false → IsOpen board shadow entry) order
   pub known : (client : ℕ) → comes board.clients client ≡ true → list_any (is_coming client) order ≡ true
 
@@ -104,6 +112,9 @@ module _ (board : Board) (shadow : Shadow) (clients : List ClientBoard) (port : 
         marked =
             all_both (IsMarked board.clients) (IsMarked board.clients) (IsMarked clients) order
             (λ entry was again alive. was alive ∙ sym (ap (λ (o : Option InFlight). is_some o) (flights (place_of entry)))) old.marked old.marked;
+        failing =
+            all_both (IsFailing board) (IsFailing board) (IsFailing same_board) order
+            (λ entry was again whole alive flight there. was whole alive flight (sym (flights (place_of entry)) ∙ there)) old.failing old.failing;
         open_ones =
             all_both (λ entry. entry.whole ≡ false → IsOpen board shadow entry) (λ entry. entry.whole ≡ false → IsOpen board shadow entry)
             (λ entry. entry.whole ≡ false → IsOpen same_board shadow entry) order

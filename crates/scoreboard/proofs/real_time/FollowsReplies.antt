@@ -1,28 +1,32 @@
 -- A beat on channel D: the board, its shadow and an order go on together.
-use Rattle.std.proofs.Common.{◌≡◌, ℕ, ◌==◌, Bool, true, false, ◌&&◌, List, [], ◌∷◌, map, set, Option, Some, None, refl, sym, ◌∙◌, ap, subst, arith}
-use Rattle.std.specs.Prelude.{is_some, slice_get}
+use Rattle.std.proofs.Common.{◌≡◌, ℕ, ◌==◌, Bool, true, false, ◌&&◌, List, [], ◌∷◌, drop, map, set, Option, Some, None, ◌⊎◌, inl, inr, refl, sym, ◌∙◌, ap, subst, arith}
+use Rattle.std.specs.Prelude.{is_some, slice_get, unwrap_or}
 use Rattle.std.specs.List.{AllByRecursion, find, list_any}
 use Rattle.std.proofs.Math.Path.{fun_ext}
-use Rattle.std.proofs.lemmas.Bool.{false_from_ne_true}
+use Rattle.std.proofs.lemmas.Bool.{and_parts, false_from_ne_true}
+use Rattle.std.proofs.lemmas.List.{set-set}
+use Rattle.std.proofs.lemmas.Option.{slice_get_within}
 use Rattle.std.proofs.lemmas.Bool.Decides.{nat_tests}
 use Rattle.bus_words.specs.Places.{without_first}
-use Rattle.bus_words.proofs.StoredPlaces.{set_back}
+use Rattle.bus_words.proofs.StoredPlaces.{get_set, set_back}
 use Rattle.tl_messages.specs.declared.DBeat.{DBeat}
 use Rattle.meaning.specs.Meaning.{Bytes, zeros}
-use Rattle.scoreboard.specs.Boards.{Board, ClientBoard, after_d, with_client}
-use Rattle.scoreboard.specs.Flights.{Flights, InFlight, flights_after, is_of_source, next_reply}
+use Rattle.scoreboard.specs.Boards.{Board, ClientBoard, after_d, told_to, with_client}
+use Rattle.scoreboard.specs.Flights.{Flights, Footprint, InFlight, begun_after, flights_after, is_of_source, next_reply, with_left}
 use Rattle.scoreboard.specs.Orders.{Entry, Order, after_beat, begun_to, has_ended, is_due, with_beat}
 use Rattle.scoreboard.proofs.MappedLists.{any_map}
 use Rattle.scoreboard.proofs.real_time.Ahead.{IsAhead, Shadow, comes, shadow_of}
 use Rattle.scoreboard.proofs.real_time.Entries.{Each, Stands, carry, place_of}
 use Rattle.scoreboard.proofs.real_time.Explained.{Explains}
-use Rattle.scoreboard.proofs.real_time.Follows.{Follows, IsMarked, IsOpen, all_both, begun_here, begun_settled, begun_there, settle, settled}
-use Rattle.scoreboard.proofs.real_time.FollowsRequests.{IsFollowed, there_too}
-use Rattle.scoreboard.proofs.real_time.Places.{Place, due_at, flight_at}
+use Rattle.scoreboard.proofs.real_time.Follows.{Follows, IsFailing, IsMarked, IsOpen, all_both, begun_here, begun_settled, begun_there, settle, settled}
+use Rattle.scoreboard.proofs.real_time.FollowsRequests.{IsFollowed, client_follows, there_too}
+use Rattle.scoreboard.proofs.real_time.Places.{Place, begun_at, cases_place, due_at, flight_at}
 use Rattle.scoreboard.proofs.real_time.RepliedAhead as replies
 use Rattle.scoreboard.proofs.real_time.ReplyBeats.{explains_own}
-use Rattle.scoreboard.proofs.real_time.ReplySeen.{next_is}
-use Rattle.scoreboard.proofs.real_time.ReplySteps.{due_place, next_at, none_due as none_at}
+use Rattle.scoreboard.proofs.real_time.ReplySeen.{are_moved, next_is}
+use Rattle.scoreboard.proofs.real_time.ReplyMoves.{AreMoved, place_next}
+use Rattle.scoreboard.proofs.real_time.Failures.{failed_at, failed_by}
+use Rattle.scoreboard.proofs.real_time.ReplySteps.{due_place, next_at, none_due as none_at, place_due}
 use Rattle.scoreboard.proofs.real_time.StepOrders.{is_coming}
 
 -- ---- where a beat counts for none
@@ -59,8 +63,9 @@ module _ (board : Board) (shadow : Shadow) (order : Order) (follows : Follows bo
   from = next_at (list_any (begun_to number) order) number source
 
   -- one to which the beat is due is whole, in flight on the board
-  due_whole : (entry : Entry) → IsMarked board.clients entry → (entry.whole ≡ false → IsOpen board shadow entry) → is_due begun number source entry ≡ true
-      → (entry.whole ≡ true) × (is_some (flight_at board.clients from) ≡ true)
+  pub due_whole : (entry : Entry) → IsMarked board.clients entry → (entry.whole ≡ false → IsOpen board shadow entry)
+      → is_due (list_any (begun_to number) order) number source entry ≡ true
+      → (entry.whole ≡ true) × (is_some (flight_at board.clients (next_at (list_any (begun_to number) order) number source)) ≡ true)
   due_whole entry marked opened is =
       let at = due_place begun number source entry is in
       let whole : entry.whole ≡ true = by_whole entry.whole refl in
@@ -234,6 +239,86 @@ module _ (board : Board) (shadow : Shadow) (order : Order) (follows : Follows bo
       now_opens [] marked opened = tt
       now_opens (entry ∷ rest) marked opened = (now_open entry marked.0 opened.0, now_opens rest marked.1 opened.1)
 
+      are : AreMoved number source from (flight_at board.clients) (flight_at now.clients)
+      are = are_moved board.clients number source client there begun (begun_here board shadow order follows number) (follows.ahead.sources number client there)
+
+      -- the footprint of one in flight to which the beat is due is what it was
+      begun_kept : (flight after : InFlight) → begun_after (Some flight) source ≡ Some after → after.footprint ≡ flight.footprint
+      begun_kept flight after is = by_source (flight.source == source) refl
+        where
+          by_left : (beats : List DBeat) → with_left flight beats ≡ Some after → after.footprint ≡ flight.footprint
+          by_left [] none = absurd (cc (none))
+          by_left (first ∷ rest) some = let same : record flight { beats = first ∷ rest } ≡ after = cc (some) in ap (λ (f : InFlight). f.footprint) (sym same)
+
+          by_source : (b : Bool) → (flight.source == source) ≡ b → after.footprint ≡ flight.footprint
+          by_source true own = by_left (drop 1 flight.beats) (rw own at is)
+          by_source false other_source = let same : Some flight ≡ Some after = rw other_source at is in
+              let it : flight ≡ after = cc (same) in ap (λ (f : InFlight). f.footprint) (sym it)
+
+      -- whether one has failed stays
+      now_failing : (entry : Entry) → IsMarked board.clients entry → (entry.whole ≡ false → IsOpen board shadow entry) → IsFailing board entry → IsFailing now (step entry)
+      now_failing entry marked opened was whole alive flight there_now = by_counted (is_due begun number source entry && entry.request.source == source) refl
+        where
+          same_failed : failed_at board.errors board.memory.faults board.memory.regions entry ≡ failed_at board.errors board.memory.faults board.memory.regions (step entry)
+          same_failed = failed_by board.errors board.memory.faults board.memory.regions entry (step entry) (grind arith) (grind arith)
+
+          by_counted : (b : Bool) → (is_due begun number source entry && entry.request.source == source) ≡ b
+              → flight.footprint.failed ≡ failed_at board.errors board.memory.faults board.memory.regions (step entry)
+          by_counted true counted =
+              let is = (and_parts (is_due begun number source entry) (entry.request.source == source) counted).0 in
+              let at = due_place begun number source entry is in
+              let place : place_of (step entry) ≡ begun_at number = place_next begun number source entry counted in
+              let after : begun_after (Some due) source ≡ Some flight =
+              ap (λ (o : Option InFlight). begun_after o source) (sym is_due_here) ∙ sym are.next ∙ ap (flight_at now.clients) (sym place) ∙ there_now in
+              ap (λ (f : Footprint). f.failed) (begun_kept due flight after)
+              ∙ was (due_whole entry marked opened is).0 at.live due (ap (flight_at board.clients) at.there ∙ is_due_here)
+              ∙ same_failed
+          by_counted false none =
+              let still : step entry ≡ entry = rw none refl in
+              let alive_before = sym (ap (λ (e : Entry). has_ended e) still) ∙ alive in
+              let whole_before = sym (ap (λ (e : Entry). e.whole) still) ∙ whole in
+              by_places still alive_before whole_before (cases_place (place_of entry) from) (cases_place (place_of entry) (begun_at number))
+            where
+              by_places : step entry ≡ entry → has_ended entry ≡ false → entry.whole ≡ true → (place_of entry ≡ from) ⊎ (place_of entry ≡ from → ⊥)
+                  → (place_of entry ≡ begun_at number) ⊎ (place_of entry ≡ begun_at number → ⊥)
+                  → flight.footprint.failed ≡ failed_at board.errors board.memory.faults board.memory.regions (step entry)
+              by_places still live_before was_whole (inr away) (inr apart) =
+                  was was_whole live_before flight
+                  (sym (are.others (place_of entry) away apart) ∙ ap (λ (e : Entry). flight_at now.clients (place_of e)) (sym still) ∙ there_now)
+                  ∙ same_failed
+              by_places still live_before was_whole (inl same) other = its_own still live_before was_whole same
+                where
+                  by_from : step entry ≡ entry → has_ended entry ≡ false → entry.whole ≡ true → place_of entry ≡ from → is_due begun number source entry ≡ true
+                      → (from ≡ begun_at number) ⊎ (from ≡ begun_at number → ⊥)
+                      → flight.footprint.failed ≡ failed_at board.errors board.memory.faults board.memory.regions (step entry)
+                  by_from same_entry lives is_whole place due_so (inr away) =
+                      absurd (cc (sym (are.gone away) ∙ ap (flight_at now.clients) (sym place)
+                      ∙ ap (λ (e : Entry). flight_at now.clients (place_of e)) (sym same_entry) ∙ there_now))
+                  by_from same_entry lives is_whole place due_so (inl here) =
+                      let after : begun_after (Some due) source ≡ Some flight =
+                      ap (λ (o : Option InFlight). begun_after o source) (sym is_due_here) ∙ sym are.next ∙ ap (flight_at now.clients) (sym (place ∙ here))
+                      ∙ ap (λ (e : Entry). flight_at now.clients (place_of e)) (sym same_entry) ∙ there_now in
+                      ap (λ (f : Footprint). f.failed) (begun_kept due flight after)
+                      ∙ was is_whole lives due (ap (flight_at board.clients) place ∙ is_due_here)
+                      ∙ same_failed
+
+                  its_own : step entry ≡ entry → has_ended entry ≡ false → entry.whole ≡ true → place_of entry ≡ from
+                      → flight.footprint.failed ≡ failed_at board.errors board.memory.faults board.memory.regions (step entry)
+                  its_own same_entry lives is_whole place =
+                      let due_so = place_due begun number source entry is_whole (record { live = lives; there = place }) in
+                      by_from same_entry lives is_whole place due_so (cases_place from (begun_at number))
+              by_places still live_before was_whole (inr away) (inl here) =
+                  let has : begun ≡ true =
+                  begun_here board shadow order follows number
+                  ∙ ap (λ (p : Place). is_some (flight_at board.clients p)) (sym here) ∙ sym (marked live_before) ∙ was_whole in
+                  absurd (away (here ∙ ap (λ (b : Bool). next_at b number source) (sym has)))
+
+      now_fails : (some_order : Order) → AllByRecursion (IsMarked board.clients) some_order
+          → AllByRecursion (λ entry. entry.whole ≡ false → IsOpen board shadow entry) some_order → AllByRecursion (IsFailing board) some_order
+          → AllByRecursion (IsFailing now) (map step some_order)
+      now_fails [] marked opened failing = tt
+      now_fails (entry ∷ rest) marked opened failing = (now_failing entry marked.0 opened.0 failing.0, now_fails rest marked.1 opened.1 failing.1)
+
       moved : IsFollowed now (after_beat order number source)
       moved = (
         now_shadow,
@@ -241,6 +326,7 @@ module _ (board : Board) (shadow : Shadow) (order : Order) (follows : Follows bo
           explains = now_explains;
           ahead = now_ahead;
           marked = now_marks order zeros follows.marked follows.open_ones now_explains.entries;
+          failing = now_fails order follows.marked follows.open_ones follows.failing;
           open_ones = now_opens order follows.marked follows.open_ones;
           known = λ c some.
               any_map (is_coming c) step order ∙ ap (λ (test : Entry → Bool). list_any test order) (fun_ext (λ entry. coming_same c entry))
@@ -266,4 +352,10 @@ follows_reply board order number beat followed = by_client (slice_get board.clie
     by_client None none =
         subst (IsFollowed board)
         (sym (none_due board followed.0 order followed.1 number beat.source (none_at board.clients (list_any (begun_to number) order) number beat.source none))) followed
-    by_client (Some client) there = replied board followed.0 order followed.1 number beat.source client there
+    by_client (Some client) there =
+        let heard : ClientBoard = record client { told = unwrap_or (told_to client) beat.denied } in
+        let changed : ClientBoard = record heard { flights = flights_after client.flights beat.source } in
+        subst (λ (clients : List ClientBoard). IsFollowed (record board { clients = clients }) (after_beat order number beat.source))
+        (set-set board.clients number heard changed)
+        (replied (with_client number heard board) followed.0 order (client_follows board followed.0 order followed.1 number client there heard refl refl refl) number beat.source heard
+        (get_set board.clients number heard (slice_get_within board.clients number client there)))

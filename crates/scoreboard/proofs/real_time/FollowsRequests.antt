@@ -20,27 +20,30 @@ use Rattle.tl_checker.specs.Ports.{joined, judged}
 use Rattle.tl_checker.specs.declared.Progress.{Progress}
 use Rattle.tl_checker.specs.declared.Progress.TheVariants.{More, Whole}
 use Rattle.tl_checker.specs.declared.TlRule.{TlRule}
-use Rattle.scoreboard.specs.Boards.{Board, ClientBoard, after_a, answer_to, answered_on, begun_on, coming_on, continued_on, given_on, joined_on, joining_on, whole_on, with_client}
+use Rattle.scoreboard.specs.Boards.{Board, ClientBoard, after_a, answer_to, answered_on, beginning_on, begun_on, coming_on, continued_on, given_on, joined_on, joining_on, whole_on, with_client}
 use Rattle.scoreboard.specs.Flights.{Flights, InFlight, due_to, is_busy, is_of_source}
 use Rattle.scoreboard.specs.Orders.{Entry, Order, has_ended}
-use Rattle.scoreboard.specs.RealTime.{GivesBytes, entry_of}
+use Rattle.scoreboard.specs.RealTime.{GivesBytes, MayBecome, entry_of, is_spoiled}
+use Rattle.scoreboard.specs.declared.Errors.{Errors}
 use Rattle.scoreboard.specs.declared.Policy.TheVariants.{RealTime}
 use Rattle.scoreboard.proofs.MappedLists.{any_map}
 use Rattle.scoreboard.proofs.real_time.Acceptance.{explains_joined}
 use Rattle.scoreboard.proofs.real_time.Ahead.{Shadow, comes, front_in, shadow_of}
+use Rattle.scoreboard.proofs.real_time.AheadBeside.{was_beside}
 use Rattle.scoreboard.proofs.real_time.BegunAhead as begins
 use Rattle.scoreboard.proofs.real_time.CheckedRequests.{joined_free, sound_well, whole_sound}
 use Rattle.scoreboard.proofs.real_time.Comings.{comes_other, comes_same}
 use Rattle.scoreboard.proofs.real_time.Entries.{all_with, any_here, any_with, place_of}
 use Rattle.scoreboard.proofs.real_time.Explained.{Explains, sources_with}
+use Rattle.scoreboard.proofs.real_time.Failures.{failed_at, failed_by, fails_as, well_as}
 use Rattle.scoreboard.proofs.real_time.FirstBeats.{more_no_data_back, more_put}
 use Rattle.scoreboard.proofs.real_time.FlightLists.{none_found}
 use Rattle.scoreboard.proofs.real_time.FlightPlaces.{coming_other, coming_same}
-use Rattle.scoreboard.proofs.real_time.Follows.{Follows, IsMarked, IsOpen, all_both, all_mapped, follows_as, settle, settled, some_passes}
+use Rattle.scoreboard.proofs.real_time.Follows.{Follows, IsFailing, IsMarked, IsOpen, all_both, all_mapped, follows_as, settle, settled, some_passes}
 use Rattle.scoreboard.proofs.real_time.Fronts.{AreFronts}
 use Rattle.scoreboard.proofs.real_time.GivenAhead as gives
 use Rattle.scoreboard.proofs.real_time.OnceAhead as joins
-use Rattle.scoreboard.proofs.real_time.Places.{Place, cases_place, coming_at, coming_in, due_at, flight_at, flight_in, flights_in, flights_kept}
+use Rattle.scoreboard.proofs.real_time.Places.{HaveSources, Place, cases_place, coming_at, coming_in, due_at, flight_at, flight_in, flights_in, flights_kept}
 use Rattle.scoreboard.proofs.real_time.ShadowPlaces.{finals_other, finals_own, free_there, none_here}
 use Rattle.scoreboard.proofs.real_time.StepOrders.{GoesOnAnswered, GoesOnRequest, GoesOnTaken, finished, is_coming}
 use Rattle.scoreboard.proofs.real_time.RequestActs.{IsWell, well_put}
@@ -50,22 +53,30 @@ use Rattle.scoreboard.proofs.real_time.RequestActs.{IsWell, well_put}
 coming_parts : (client : ℕ) (entry : Entry) → is_coming client entry ≡ true → (entry.client ≡ client) × (entry.whole ≡ false)
 coming_parts client entry is = (grind (arith, nat_tests, is), grind (arith, is))
 
-finished_is : (client : ℕ) (entry : Entry) → is_coming client entry ≡ true → finished client entry ≡ record entry { whole = true }
-finished_is client entry is = rw is refl
+finished_is : (errors : Errors) (client : ℕ) (q : WholeRequest) (entry : Entry) → is_coming client entry ≡ true
+    → finished errors client q entry ≡ record entry { whole = true; spoiled = is_spoiled errors q }
+finished_is errors client q entry is = rw is refl
 
-finished_not : (client : ℕ) (entry : Entry) → is_coming client entry ≡ false → finished client entry ≡ entry
-finished_not client entry is = rw is refl
+finished_not : (errors : Errors) (client : ℕ) (q : WholeRequest) (entry : Entry) → is_coming client entry ≡ false → finished errors client q entry ≡ entry
+finished_not errors client q entry is = rw is refl
 
 -- on the shadow it is whole already
-settled_finished : (client : ℕ) (entry : Entry) → settled (finished client entry) ≡ settled entry
-settled_finished client entry = grind arith
+settled_finished : (errors : Errors) (client : ℕ) (q : WholeRequest) (entry : Entry) → settled (finished errors client q entry) ≡ settled entry
+settled_finished errors client q entry = by_coming (is_coming client entry) refl
+  where
+    by_coming : (b : Bool) → is_coming client entry ≡ b → settled (finished errors client q entry) ≡ settled entry
+    by_coming true is = ap settled (finished_is errors client q entry is)
+    by_coming false is = ap settled (finished_not errors client q entry is)
 
-settle_finished : (client : ℕ) (order : Order) → settle (map (finished client) order) ≡ settle order
-settle_finished client order = map-map settled (finished client) order ∙ map_same (λ entry. settled (finished client entry)) settled order (settled_finished client)
+settle_finished : (errors : Errors) (client : ℕ) (q : WholeRequest) (order : Order) → settle (map (finished errors client q) order) ≡ settle order
+settle_finished errors client q order =
+    map-map settled (finished errors client q) order
+    ∙ map_same (λ entry. settled (finished errors client q entry)) settled order (settled_finished errors client q)
 
 -- others' are what they were
-coming_finished : (client other : ℕ) (entry : Entry) → (other ≡ client → ⊥) → is_coming other (finished client entry) ≡ is_coming other entry
-coming_finished client other entry differ = grind (arith, nat_tests, differ)
+coming_finished : (errors : Errors) (client other : ℕ) (q : WholeRequest) (entry : Entry) → (other ≡ client → ⊥)
+    → is_coming other (finished errors client q entry) ≡ is_coming other entry
+coming_finished errors client other q entry differ = grind (arith, nat_tests, differ)
 
 -- a board that is followed, with some shadow
 abbrev pub IsFollowed : Board → Order → Type 0
@@ -79,30 +90,33 @@ module _ (board : Board) (shadow : Shadow) (order : Order) (follows : Follows bo
       there_is shadow.clients number
       (subst (λ (n : ℕ). number < n) (sym follows.ahead.many) (slice_get_within board.clients number client there))
 
-  -- ---- a message goes on
+  -- ---- the client changes in what plays no part
 
-  pub goes_further : (held message : HeldMessage) → client.front ≡ Some held → Follows (with_client number (record client { front = Some message }) board) shadow order
-  goes_further held message front =
+  pub client_follows : (heard : ClientBoard) → heard.flights ≡ client.flights → heard.coming ≡ client.coming → is_some heard.front ≡ is_some client.front
+      → Follows (with_client number heard board) shadow order
+  client_follows heard flights coming front =
       follows_as board shadow (set board.clients number heard) board.axi
-      (sources_with board.clients number client heard there follows.ahead.sources (follows.ahead.sources number client there))
+      (sources_with board.clients number client heard there follows.ahead.sources (subst HaveSources (sym flights) (follows.ahead.sources number client there)))
       (sym (length-set board.clients number heard))
-      (λ place. ap (λ (f : Flights). flight_in f place.source) (flights_kept board.clients number client heard there refl place.client))
+      (λ place. ap (λ (f : Flights). flight_in f place.source) (flights_kept board.clients number client heard there flights place.client))
       (λ c. elim (cases_eq c number) [
         | inl same ↦
             ap (comes (set board.clients number heard)) same ∙ comes_same board.clients number client heard there
-            ∙ sym (ap (λ (o : Option HeldMessage). is_some o) front) ∙ sym (ap (λ (o : Option ClientBoard). is_some (front_in o)) there)
+            ∙ front ∙ sym (ap (λ (o : Option ClientBoard). is_some (front_in o)) there)
             ∙ ap (comes board.clients) (sym same)
         | inr differ ↦ comes_other board.clients number c heard differ
       ])
       (λ c. elim (cases_eq c number) [
         | inl same ↦
-            ap (coming_at (set board.clients number heard)) same ∙ coming_same board.clients number client heard there ∙ sym (ap coming_in there)
+            ap (coming_at (set board.clients number heard)) same ∙ coming_same board.clients number client heard there ∙ coming ∙ sym (ap coming_in there)
             ∙ ap (coming_at board.clients) (sym same)
         | inr differ ↦ coming_other board.clients number c heard differ
       ]) order follows.explains follows
-    where
-      heard : ClientBoard
-      heard = record client { front = Some message }
+
+  -- a message goes on
+  pub goes_further : (held message : HeldMessage) → client.front ≡ Some held → Follows (with_client number (record client { front = Some message }) board) shadow order
+  goes_further held message front =
+      client_follows (record client { front = Some message }) refl refl (sym (ap (λ (o : Option HeldMessage). is_some o) front))
 
   -- ---- requests that are put in
 
@@ -119,7 +133,7 @@ module _ (board : Board) (shadow : Shadow) (order : Order) (follows : Follows bo
 
     -- a message begins
     module _ (message : HeldMessage) (bytes : List (Option ℕ)) (spoiled : Bool) (free : list_any (is_of_source message.source) client.flights.due ≡ false)
-        (corrupt : message.corrupt ≡ true → spoiled ≡ true) (silent : reply_has_data message.operation ≡ false)
+        (may : MayBecome (entry_of board.errors number (request_of message) false) (record (request_of message) { bytes = bytes; corrupt = spoiled })) (silent : reply_has_data message.operation ≡ false)
         (well : IsWell (record (request_of message) { bytes = bytes; corrupt = spoiled })) where
       abbrev q : WholeRequest
       q = record (request_of message) { bytes = bytes; corrupt = spoiled }
@@ -131,15 +145,15 @@ module _ (board : Board) (shadow : Shadow) (order : Order) (follows : Follows bo
       heard = record client { front = Some message }
 
       abbrev now : Board
-      now = begun_on (with_client number heard board) number heard (joining_on (with_client number heard board) (request_of message))
+      now = begun_on (with_client number heard board) number heard (beginning_on (with_client number heard board) (request_of message))
 
       abbrev now_shadow : Shadow
       now_shadow =
-          begins.now_shadow board shadow (settle order) follows.explains follows.ahead number client other message bytes spoiled there there_too.1 front free corrupt
+          begins.now_shadow board shadow (settle order) follows.explains follows.ahead number client other message bytes spoiled there there_too.1 front free may
           silent well
 
       abbrev entry : Entry
-      entry = entry_of number q false
+      entry = record (entry_of board.errors number (request_of message) false) { request = q }
 
       free_too : list_any (is_of_source message.source) other.flights.due ≡ false
       free_too = free_there board shadow follows.ahead number message.source client there front free other there_too.1
@@ -147,20 +161,20 @@ module _ (board : Board) (shadow : Shadow) (order : Order) (follows : Follows bo
       same_flights : (i : Place) → is_some (flight_at now.clients i) ≡ is_some (flight_at board.clients i)
       same_flights i =
           ap (λ (o : Option InFlight). is_some o)
-          (begins.now_flight board shadow (settle order) follows.explains follows.ahead number client other message bytes spoiled there there_too.1 front free corrupt silent
+          (begins.now_flight board shadow (settle order) follows.explains follows.ahead number client other message bytes spoiled there there_too.1 front free may silent
           well i) ∙ grind arith
 
       comes_own : comes now.clients number ≡ true
       comes_own =
-          begins.comes_own board shadow (settle order) follows.explains follows.ahead number client other message bytes spoiled there there_too.1 front free corrupt silent well
+          begins.comes_own board shadow (settle order) follows.explains follows.ahead number client other message bytes spoiled there there_too.1 front free may silent well
 
       comes_others : (c : ℕ) → (c ≡ number → ⊥) → comes now.clients c ≡ comes board.clients c
       comes_others =
-          begins.comes_others board shadow (settle order) follows.explains follows.ahead number client other message bytes spoiled there there_too.1 front free corrupt silent well
+          begins.comes_others board shadow (settle order) follows.explains follows.ahead number client other message bytes spoiled there there_too.1 front free may silent well
 
       came_before : (c : ℕ) → comes board.clients c ≡ true → c ≡ number → ⊥
       came_before =
-          begins.came_before board shadow (settle order) follows.explains follows.ahead number client other message bytes spoiled there there_too.1 front free corrupt silent well
+          begins.came_before board shadow (settle order) follows.explains follows.ahead number client other message bytes spoiled there there_too.1 front free may silent well
 
       still_open : (one : Entry) → IsOpen board shadow one → IsOpen now now_shadow one
       still_open one was =
@@ -171,6 +185,13 @@ module _ (board : Board) (shadow : Shadow) (order : Order) (follows : Follows bo
             none_came = was.none_came;
           }
 
+      still_failing : (one : Entry) → IsFailing board one → IsFailing now one
+      still_failing one was whole alive flight there_now =
+          let before_it = was_beside (beginning_on (with_client number heard board) (request_of message)) (flight_at board.clients (place_of one)) flight
+          (sym (begins.now_flight board shadow (settle order) follows.explains follows.ahead number client other message bytes spoiled there there_too.1 front free may silent
+          well (place_of one)) ∙ there_now) in
+          sym (ap (λ (f : InFlight). f.footprint.failed) before_it.2) ∙ was whole alive before_it.0 before_it.1
+
       own_marked : IsMarked now.clients entry
       own_marked alive =
           sym (same_flights (due_at number message.source)
@@ -178,8 +199,8 @@ module _ (board : Board) (shadow : Shadow) (order : Order) (follows : Follows bo
 
       pub begun_follows : IsFollowed
           (begun_on (with_client number (record client { front = Some message }) board) number (record client { front = Some message })
-          (joining_on (with_client number (record client { front = Some message }) board) (request_of message)))
-          (before ++ entry_of number (record (request_of message) { bytes = bytes; corrupt = spoiled }) false ∷ after)
+          (beginning_on (with_client number (record client { front = Some message }) board) (request_of message)))
+          (before ++ record (entry_of board.errors number (request_of message) false) { request = record (request_of message) { bytes = bytes; corrupt = spoiled } } ∷ after)
       begun_follows = (
         now_shadow,
         record {
@@ -188,11 +209,15 @@ module _ (board : Board) (shadow : Shadow) (order : Order) (follows : Follows bo
               (explains_joined (shadow_of board shadow) number other q there_too.1 free_too (settle before) (settle after) well none_settled explains_parts);
           ahead =
               begins.begun_ahead board shadow (settle order) follows.explains follows.ahead number client other message bytes spoiled there there_too.1 front free
-              corrupt silent well;
+              may silent well;
           marked =
               all_with (IsMarked now.clients) before after entry
               (all-map (IsMarked board.clients) (IsMarked now.clients) (before ++ after)
               (λ one was alive. was alive ∙ sym (same_flights (place_of one))) (subst (AllByRecursion (IsMarked board.clients)) parts follows.marked)) own_marked;
+          failing =
+              all_with (IsFailing now) before after entry
+              (all-map (IsFailing board) (IsFailing now) (before ++ after) still_failing (subst (AllByRecursion (IsFailing board)) parts follows.failing))
+              (λ unwhole. absurd (cc (unwhole)));
           open_ones =
               all_with (λ one. one.whole ≡ false → IsOpen now now_shadow one) before after entry
               (all-map (λ one. one.whole ≡ false → IsOpen board shadow one) (λ one. one.whole ≡ false → IsOpen now now_shadow one) (before ++ after)
@@ -210,7 +235,8 @@ module _ (board : Board) (shadow : Shadow) (order : Order) (follows : Follows bo
               (ap (list_any (is_coming c)) (sym parts) ∙ follows.known c (sym (comes_others c differ) ∙ some))
 
     -- a request of one beat
-    module _ (q : WholeRequest) (free : list_any (is_of_source q.source) client.flights.due ≡ false) (well : IsWell q) where
+    module _ (q r : WholeRequest) (free : list_any (is_of_source q.source) client.flights.due ≡ false) (well : IsWell q)
+        (may : MayBecome (entry_of board.errors number q true) r) where
       abbrev once_other : ClientBoard
       once_other = there_too.0
 
@@ -219,30 +245,35 @@ module _ (board : Board) (shadow : Shadow) (order : Order) (follows : Follows bo
 
       abbrev once_shadow : Shadow
       once_shadow =
-          joins.now_shadow board shadow (settle order) follows.explains follows.ahead number client once_other q there there_too.1 front free well
+          joins.now_shadow board shadow (settle order) follows.explains follows.ahead number client once_other q r there there_too.1 front free well may
 
       abbrev once_entry : Entry
-      once_entry = entry_of number q true
+      once_entry = record (entry_of board.errors number q true) { request = r }
 
-      once_free : list_any (is_of_source q.source) once_other.flights.due ≡ false
-      once_free = free_there board shadow follows.ahead number q.source client there front free once_other there_too.1
+      once_source : q.source ≡ r.source
+      once_source = sym (ap (λ (x : WholeRequest). x.source) may.fields)
+
+      once_free : list_any (is_of_source r.source) once_other.flights.due ≡ false
+      once_free =
+          subst (λ source. list_any (is_of_source source) once_other.flights.due ≡ false) once_source
+          (free_there board shadow follows.ahead number q.source client there front free once_other there_too.1)
 
       once_comes : (c : ℕ) → (c ≡ number → ⊥) → comes once_now.clients c ≡ comes board.clients c
-      once_comes = joins.comes_others board shadow (settle order) follows.explains follows.ahead number client once_other q there there_too.1 front free well
+      once_comes = joins.comes_others board shadow (settle order) follows.explains follows.ahead number client once_other q r there there_too.1 front free well may
 
       once_before : (c : ℕ) → comes board.clients c ≡ true → c ≡ number → ⊥
-      once_before = joins.apart_before board shadow (settle order) follows.explains follows.ahead number client once_other q there there_too.1 front free well
+      once_before = joins.apart_before board shadow (settle order) follows.explains follows.ahead number client once_other q r there there_too.1 front free well may
 
       once_apart : (c : ℕ) → comes once_now.clients c ≡ true → c ≡ number → ⊥
-      once_apart = joins.apart_now board shadow (settle order) follows.explains follows.ahead number client once_other q there there_too.1 front free well
+      once_apart = joins.apart_now board shadow (settle order) follows.explains follows.ahead number client once_other q r there there_too.1 front free well may
 
-      once_own : flight_at once_now.clients (due_at number q.source) ≡ Some (joins.flight board shadow (settle order) follows.explains follows.ahead number client once_other q there there_too.1 front free well)
-      once_own = joins.own_here board shadow (settle order) follows.explains follows.ahead number client once_other q there there_too.1 front free well
+      once_own : flight_at once_now.clients (due_at number q.source) ≡ Some (joins.flight board shadow (settle order) follows.explains follows.ahead number client once_other q r there there_too.1 front free well may)
+      once_own = joins.own_here board shadow (settle order) follows.explains follows.ahead number client once_other q r there there_too.1 front free well may
 
       once_flights : (i : Place) → (i ≡ due_at number q.source → ⊥) → is_some (flight_at once_now.clients i) ≡ is_some (flight_at board.clients i)
       once_flights i differ =
           ap (λ (o : Option InFlight). is_some o)
-          (joins.others_here board shadow (settle order) follows.explains follows.ahead number client once_other q there there_too.1 front free well i differ) ∙ grind arith
+          (joins.others_here board shadow (settle order) follows.explains follows.ahead number client once_other q r there there_too.1 front free well may i differ) ∙ grind arith
 
       once_marked : (one : Entry) → IsMarked board.clients one → (one.whole ≡ false → IsOpen board shadow one) → IsMarked once_now.clients one
       once_marked one was open_one alive = by_place (cases_place (place_of one) (due_at number q.source))
@@ -255,20 +286,51 @@ module _ (board : Board) (shadow : Shadow) (order : Order) (follows : Follows bo
               ∙ ap (λ (o : Option InFlight). is_some o) (none_here board shadow follows.ahead number q.source client there front free) in
               absurd (once_before one.client (open_one unwhole).begun (ap (λ (p : Place). p.client) same))
 
-      pub once_follows : IsFollowed (joined_on board number client q (joining_on board q)) (before ++ entry_of number q true ∷ after)
+      once_failing : (one : Entry) → IsFailing board one → IsMarked board.clients one → IsFailing once_now one
+      once_failing one was marked whole alive flight there_now = by_place (cases_place (place_of one) (due_at number q.source))
+        where
+          by_place : (place_of one ≡ due_at number q.source) ⊎ (place_of one ≡ due_at number q.source → ⊥)
+              → flight.footprint.failed ≡ failed_at board.errors board.memory.faults board.memory.regions one
+          by_place (inr differ) =
+              let before_it = was_beside (joining_on board q) (flight_at board.clients (place_of one)) flight
+              (sym (joins.others_here board shadow (settle order) follows.explains follows.ahead number client once_other q r there there_too.1 front free well may (place_of one) differ)
+              ∙ there_now) in
+              sym (ap (λ (f : InFlight). f.footprint.failed) before_it.2) ∙ was whole alive before_it.0 before_it.1
+          by_place (inl same) =
+              let unwhole : one.whole ≡ false =
+              marked alive ∙ ap (λ (p : Place). is_some (flight_at board.clients p)) same
+              ∙ ap (λ (o : Option InFlight). is_some o) (none_here board shadow follows.ahead number q.source client there front free) in
+              absurd (cc (sym whole ∙ unwhole))
+
+      own_failing : IsFailing once_now once_entry
+      own_failing whole alive flight there_now =
+          let own_place : place_of once_entry ≡ due_at number q.source = ap (due_at number) (sym once_source) in
+          let one : Some (joins.flight board shadow (settle order) follows.explains follows.ahead number client once_other q r there there_too.1 front free well may) ≡ Some flight =
+          sym once_own ∙ ap (flight_at once_now.clients) (sym own_place) ∙ there_now in
+          let it : joins.flight board shadow (settle order) follows.explains follows.ahead number client once_other q r there there_too.1 front free well may ≡ flight = cc (one) in
+          sym (ap (λ (f : InFlight). f.footprint.failed) it)
+          ∙ joins.mine_failed board shadow (settle order) follows.explains follows.ahead number client once_other q r there there_too.1 front free well may
+          ∙ fails_as board.errors number board.memory q r may
+
+      pub once_follows : IsFollowed (joined_on board number client q (joining_on board q)) (before ++ record (entry_of board.errors number q true) { request = r } ∷ after)
       once_follows = (
         once_shadow,
         record {
           explains =
               subst (Explains (shadow_of once_now once_shadow)) (sym (settle_put before after once_entry))
-              (explains_joined (shadow_of board shadow) number once_other q there_too.1 once_free (settle before) (settle after) well none_settled explains_parts);
-          ahead = joins.once_ahead board shadow (settle order) follows.explains follows.ahead number client once_other q there there_too.1 front free well;
+              (explains_joined (shadow_of board shadow) number once_other r there_too.1 once_free (settle before) (settle after)
+              (well_as board.errors number q r may well) none_settled explains_parts);
+          ahead = joins.once_ahead board shadow (settle order) follows.explains follows.ahead number client once_other q r there there_too.1 front free well may;
           marked =
               all_with (IsMarked once_now.clients) before after once_entry
               (all_both (IsMarked board.clients) (λ one. one.whole ≡ false → IsOpen board shadow one) (IsMarked once_now.clients) (before ++ after) once_marked
               (subst (AllByRecursion (IsMarked board.clients)) parts follows.marked)
               (subst (AllByRecursion (λ one. one.whole ≡ false → IsOpen board shadow one)) parts follows.open_ones))
-              (λ alive. sym (ap (λ (o : Option InFlight). is_some o) once_own));
+              (λ alive. sym (ap (λ (p : Place). is_some (flight_at once_now.clients p)) (ap (due_at number) (sym once_source)) ∙ ap (λ (o : Option InFlight). is_some o) once_own));
+          failing =
+              all_with (IsFailing once_now) before after once_entry
+              (all_both (IsFailing board) (IsMarked board.clients) (IsFailing once_now) (before ++ after) once_failing
+              (subst (AllByRecursion (IsFailing board)) parts follows.failing) (subst (AllByRecursion (IsMarked board.clients)) parts follows.marked)) own_failing;
           open_ones =
               all_with (λ one. one.whole ≡ false → IsOpen once_now once_shadow one) before after once_entry
               (all-map (λ one. one.whole ≡ false → IsOpen board shadow one) (λ one. one.whole ≡ false → IsOpen once_now once_shadow one) (before ++ after)
@@ -286,47 +348,52 @@ module _ (board : Board) (shadow : Shadow) (order : Order) (follows : Follows bo
   -- ---- a request that had begun is whole
 
   module _ (q : WholeRequest) (some : is_some client.front ≡ true) (free : list_any (is_of_source q.source) client.flights.due ≡ false)
-      (becomes : AllByRecursion (λ entry. is_coming number entry ≡ true → entry.request ≡ q) order) where
+      (well : IsWell q) (becomes : AllByRecursion (λ entry. is_coming number entry ≡ true → MayBecome (entry_of board.errors number q true) entry.request) order) where
     abbrev given_now : Board
     given_now = given_on board number client q (coming_on board q client.coming)
 
     comes_it : comes board.clients number ≡ true
     comes_it = ap (λ (o : Option ClientBoard). is_some (front_in o)) there ∙ some
 
-    -- what the message has become is this request
-    final : shadow.finals number ≡ q
-    final =
-        let found = some_passes (λ entry. (entry.whole ≡ false → IsOpen board shadow entry) × (is_coming number entry ≡ true → entry.request ≡ q)) (is_coming number) order
-        (all_both (λ entry. entry.whole ≡ false → IsOpen board shadow entry) (λ entry. is_coming number entry ≡ true → entry.request ≡ q)
-        (λ entry. (entry.whole ≡ false → IsOpen board shadow entry) × (is_coming number entry ≡ true → entry.request ≡ q)) order
+    -- the request that the message has become, whole
+    abbrev final : WholeRequest
+    final = shadow.finals number
+
+    may : MayBecome (entry_of board.errors number q true) final
+    may =
+        let found = some_passes (λ entry. (entry.whole ≡ false → IsOpen board shadow entry) × (is_coming number entry ≡ true → MayBecome (entry_of board.errors number q true) entry.request))
+        (is_coming number) order
+        (all_both (λ entry. entry.whole ≡ false → IsOpen board shadow entry) (λ entry. is_coming number entry ≡ true → MayBecome (entry_of board.errors number q true) entry.request)
+        (λ entry. (entry.whole ≡ false → IsOpen board shadow entry) × (is_coming number entry ≡ true → MayBecome (entry_of board.errors number q true) entry.request)) order
         (λ entry one other. (one, other)) follows.open_ones becomes) (follows.known number comes_it) in
         let parts = coming_parts number found.0 found.2 in
-        ap shadow.finals (sym parts.0) ∙ sym (found.1.0 parts.1).final ∙ found.1.1 found.2
+        subst (MayBecome (entry_of board.errors number q true)) ((found.1.0 parts.1).final ∙ ap shadow.finals parts.0) (found.1.1 found.2)
 
-    given_own : flight_at given_now.clients (due_at number q.source) ≡ Some (gives.flight board shadow follows.ahead number client q there comes_it final free)
-    given_own = gives.own_here board shadow follows.ahead number client q there comes_it final free
+    given_own : flight_at given_now.clients (due_at number q.source) ≡ Some (gives.flight board shadow follows.ahead number client q final there comes_it refl may well free)
+    given_own = gives.own_here board shadow follows.ahead number client q final there comes_it refl may well free
 
     given_others : (i : Place) → (i ≡ due_at number q.source → ⊥) → flight_at given_now.clients i ≡ flight_at board.clients i
-    given_others = gives.others_here board shadow follows.ahead number client q there comes_it final free
+    given_others = gives.others_here board shadow follows.ahead number client q final there comes_it refl may well free
 
     given_apart : (c : ℕ) → comes given_now.clients c ≡ true → c ≡ number → ⊥
-    given_apart = gives.apart_now board shadow follows.ahead number client q there comes_it final free
+    given_apart = gives.apart_now board shadow follows.ahead number client q final there comes_it refl may well free
 
     given_comes : (c : ℕ) → (c ≡ number → ⊥) → comes given_now.clients c ≡ comes board.clients c
-    given_comes = gives.comes_others board shadow follows.ahead number client q there comes_it final free
+    given_comes = gives.comes_others board shadow follows.ahead number client q final there comes_it refl may well free
 
     none_due : flight_at board.clients (due_at number q.source) ≡ None
     none_due = ap (λ (f : Flights). due_to f q.source) (ap flights_in there) ∙ none_found q.source client.flights.due free
 
-    given_marked : (entry : Entry) → IsMarked board.clients entry → (entry.whole ≡ false → IsOpen board shadow entry) → (is_coming number entry ≡ true → entry.request ≡ q)
-        → IsMarked given_now.clients (finished number entry)
+    given_marked : (entry : Entry) → IsMarked board.clients entry → (entry.whole ≡ false → IsOpen board shadow entry) → (is_coming number entry ≡ true → MayBecome (entry_of board.errors number q true) entry.request)
+        → IsMarked given_now.clients (finished board.errors number q entry)
     given_marked entry was open_one becoming = by_coming (is_coming number entry) refl
       where
         its_place : is_coming number entry ≡ true → place_of entry ≡ due_at number q.source
         its_place is =
             let parts = coming_parts number entry is in
             let came = (open_one parts.1).none_came in
-            grind (arith, nat_tests, parts.0, came, becoming is)
+            let source = ap (λ (x : WholeRequest). x.source) (becoming is).fields in
+            grind (arith, nat_tests, parts.0, came, source)
 
         by_place : is_coming number entry ≡ false → has_ended entry ≡ false
             → (place_of entry ≡ due_at number q.source) ⊎ (place_of entry ≡ due_at number q.source → ⊥)
@@ -338,56 +405,100 @@ module _ (board : Board) (shadow : Shadow) (order : Order) (follows : Follows bo
             let client_is : entry.client ≡ number = ap (λ (p : Place). p.client) same in
             absurd (grind (arith, nat_tests, none, unwhole, client_is))
 
-        by_coming : (b : Bool) → is_coming number entry ≡ b → IsMarked given_now.clients (finished number entry)
+        by_coming : (b : Bool) → is_coming number entry ≡ b → IsMarked given_now.clients (finished board.errors number q entry)
         by_coming true is =
-            subst (IsMarked given_now.clients) (sym (finished_is number entry is))
+            subst (IsMarked given_now.clients) (sym (finished_is board.errors number q entry is))
             (λ alive. sym (ap (λ (p : Place). is_some (flight_at given_now.clients p)) (its_place is) ∙ ap (λ (o : Option InFlight). is_some o) given_own))
         by_coming false is =
-            subst (IsMarked given_now.clients) (sym (finished_not number entry is)) (λ alive. by_place is alive (cases_place (place_of entry) (due_at number q.source)))
+            subst (IsMarked given_now.clients) (sym (finished_not board.errors number q entry is)) (λ alive. by_place is alive (cases_place (place_of entry) (due_at number q.source)))
 
-    given_open : (entry : Entry) → (entry.whole ≡ false → IsOpen board shadow entry) → (finished number entry).whole ≡ false
-        → IsOpen given_now shadow (finished number entry)
+    given_failing : (entry : Entry) → IsFailing board entry → IsMarked board.clients entry → (entry.whole ≡ false → IsOpen board shadow entry)
+        → (is_coming number entry ≡ true → MayBecome (entry_of board.errors number q true) entry.request) → IsFailing given_now (finished board.errors number q entry)
+    given_failing entry was marked opened becoming = by_coming (is_coming number entry) refl
+      where
+        by_place : is_coming number entry ≡ false → entry.whole ≡ true → has_ended entry ≡ false → (flight : InFlight)
+            → flight_at given_now.clients (place_of entry) ≡ Some flight
+            → (place_of entry ≡ due_at number q.source) ⊎ (place_of entry ≡ due_at number q.source → ⊥)
+            → flight.footprint.failed ≡ failed_at board.errors board.memory.faults board.memory.regions entry
+        by_place none whole alive flight there_now (inr differ) = was whole alive flight (sym (given_others (place_of entry) differ) ∙ there_now)
+        by_place none whole alive flight there_now (inl same) =
+            let unwhole : entry.whole ≡ false =
+            marked alive ∙ ap (λ (p : Place). is_some (flight_at board.clients p)) same ∙ ap (λ (o : Option InFlight). is_some o) none_due in
+            absurd (cc (sym whole ∙ unwhole))
+
+        by_coming : (b : Bool) → is_coming number entry ≡ b → IsFailing given_now (finished board.errors number q entry)
+        by_coming false is =
+            subst (IsFailing given_now) (sym (finished_not board.errors number q entry is))
+            (λ whole alive flight there_now. by_place is whole alive flight there_now (cases_place (place_of entry) (due_at number q.source)))
+        by_coming true is =
+            subst (IsFailing given_now) (sym (finished_is board.errors number q entry is))
+            (λ whole alive flight there_now.
+            let parts = coming_parts number entry is in
+            let came = (opened parts.1).none_came in
+            let source = ap (λ (x : WholeRequest). x.source) (becoming is).fields in
+            let its_place : place_of entry ≡ due_at number q.source = grind (arith, nat_tests, parts.0, came, source) in
+            let one : Some (gives.flight board shadow follows.ahead number client q final there comes_it refl may well free) ≡ Some flight =
+            sym given_own ∙ ap (flight_at given_now.clients) (sym its_place) ∙ there_now in
+            let it : gives.flight board shadow follows.ahead number client q final there comes_it refl may well free ≡ flight = cc (one) in
+            sym (ap (λ (f : InFlight). f.footprint.failed) it)
+            ∙ gives.kept_failed board shadow follows.ahead number client q final there comes_it refl may well free
+            ∙ fails_as board.errors number board.memory q entry.request (becoming is)
+            ∙ failed_by board.errors board.memory.faults board.memory.regions (record (entry_of board.errors number q true) { request = entry.request })
+            (record entry { whole = true; spoiled = is_spoiled board.errors q }) refl refl)
+
+    given_open : (entry : Entry) → (entry.whole ≡ false → IsOpen board shadow entry) → (finished board.errors number q entry).whole ≡ false
+        → IsOpen given_now shadow (finished board.errors number q entry)
     given_open entry was unwhole = by_coming (is_coming number entry) refl
       where
-        by_coming : (b : Bool) → is_coming number entry ≡ b → IsOpen given_now shadow (finished number entry)
-        by_coming true is = absurd (cc (sym (ap (λ (e : Entry). e.whole) (finished_is number entry is)) ∙ unwhole))
+        by_coming : (b : Bool) → is_coming number entry ≡ b → IsOpen given_now shadow (finished board.errors number q entry)
+        by_coming true is = absurd (cc (sym (ap (λ (e : Entry). e.whole) (finished_is board.errors number q entry is)) ∙ unwhole))
         by_coming false is =
-            let still = finished_not number entry is in
+            let still = finished_not board.errors number q entry is in
             let not_whole = sym (ap (λ (e : Entry). e.whole) still) ∙ unwhole in
             let it = was not_whole in
             let differ : entry.client ≡ number → ⊥ = λ same. grind (arith, nat_tests, is, same, not_whole) in
             subst (IsOpen given_now shadow) (sym still)
             (record { begun = given_comes entry.client differ ∙ it.begun; final = it.final; none_came = it.none_came })
 
-    pub given_follows : IsFollowed (given_on board number client q (coming_on board q client.coming)) (map (finished number) order)
+    pub given_follows : IsFollowed (given_on board number client q (coming_on board q client.coming)) (map (finished board.errors number q) order)
     given_follows = (
       shadow,
       record {
-        explains = subst (Explains (shadow_of board shadow)) (sym (settle_finished number order)) follows.explains;
-        ahead = gives.given_ahead board shadow follows.ahead number client q there comes_it final free;
+        explains = subst (Explains (shadow_of board shadow)) (sym (settle_finished board.errors number q order)) follows.explains;
+        ahead = gives.given_ahead board shadow follows.ahead number client q final there comes_it refl may well free;
         marked = given_marks order follows.marked follows.open_ones becomes;
+        failing = given_fails order follows.failing follows.marked follows.open_ones becomes;
         open_ones =
-            all_mapped (λ entry. entry.whole ≡ false → IsOpen board shadow entry) (λ entry. entry.whole ≡ false → IsOpen given_now shadow entry) (finished number) order
+            all_mapped (λ entry. entry.whole ≡ false → IsOpen board shadow entry) (λ entry. entry.whole ≡ false → IsOpen given_now shadow entry) (finished board.errors number q) order
             given_open follows.open_ones;
         known = λ c comes_now.
             let differ = given_apart c comes_now in
-            any_map (is_coming c) (finished number) order
-            ∙ ap (λ (test : Entry → Bool). list_any test order) (fun_ext (λ entry. coming_finished number c entry differ))
+            any_map (is_coming c) (finished board.errors number q) order
+            ∙ ap (λ (test : Entry → Bool). list_any test order) (fun_ext (λ entry. coming_finished board.errors number c q entry differ))
             ∙ follows.known c (sym (given_comes c differ) ∙ comes_now);
       },
     )
       where
         given_marks : (some_order : Order) → AllByRecursion (IsMarked board.clients) some_order → AllByRecursion (λ entry. entry.whole ≡ false → IsOpen board shadow entry) some_order
-            → AllByRecursion (λ entry. is_coming number entry ≡ true → entry.request ≡ q) some_order → AllByRecursion (IsMarked given_now.clients) (map (finished number) some_order)
+            → AllByRecursion (λ entry. is_coming number entry ≡ true → MayBecome (entry_of board.errors number q true) entry.request) some_order
+            → AllByRecursion (IsMarked given_now.clients) (map (finished board.errors number q) some_order)
         given_marks [] marked opened becoming = tt
         given_marks (entry ∷ rest) marked opened becoming =
             (given_marked entry marked.0 opened.0 becoming.0, given_marks rest marked.1 opened.1 becoming.1)
+
+        given_fails : (some_order : Order) → AllByRecursion (IsFailing board) some_order → AllByRecursion (IsMarked board.clients) some_order
+            → AllByRecursion (λ entry. entry.whole ≡ false → IsOpen board shadow entry) some_order
+            → AllByRecursion (λ entry. is_coming number entry ≡ true → MayBecome (entry_of board.errors number q true) entry.request) some_order
+            → AllByRecursion (IsFailing given_now) (map (finished board.errors number q) some_order)
+        given_fails [] failing marked opened becoming = tt
+        given_fails (entry ∷ rest) failing marked opened becoming =
+            (given_failing entry failing.0 marked.0 opened.0 becoming.0, given_fails rest failing.1 marked.1 opened.1 becoming.1)
 
 -- ---- any beat on channel A
 
 module _ (board : Board) (order new : Order) (fronts : AreFronts board.clients) (followed : IsFollowed board order) (number : ℕ) (beat : ABeat) where
   by_taken : (client : ClientBoard) (front : Option HeldMessage) (progress : Progress) → slice_get board.clients number ≡ Some client → client.front ≡ front
-      → answer_to RealTime client beat ≡ Ok progress → GoesOnTaken number front (request_of (joined client.limits client.front beat)) progress order new
+      → answer_to RealTime client beat ≡ Ok progress → GoesOnTaken board.errors number front (request_of (joined client.limits client.front beat)) progress order new
       → IsFollowed (answered_on RealTime board number client (joined client.limits client.front beat) (Ok progress)) new
   by_taken client None More there front is goes =
       let message = joined client.limits client.front beat in
@@ -405,16 +516,18 @@ module _ (board : Board) (order new : Order) (fronts : AreFronts board.clients) 
       (subst (λ (o : Option HeldMessage). judged client.limits o beat (is_busy RealTime client.flights beat.source) ≡ Ok More) front is)) in
       let well = well_put (record (request_of message) { bytes = becomes.bytes; corrupt = becomes.corrupt }) (subst GivesBytes may.fields (may.bytes refl)) no_atomic in
       let after = begun_follows board followed.0 order followed.1 number client there put.0 put.1 put.2 put.3 front message becomes.bytes becomes.corrupt
-      (joined_free client beat More right is) may.corrupt silent well in
+      (joined_free client beat More right is)
+      (subst (MayBecome (entry_of board.errors number (request_of message) false)) may.fields may) silent well in
       subst₂ IsFollowed (ap (λ (o : Option HeldMessage). continued_on RealTime (with_client number (record client { front = Some message }) board) number
       (record client { front = Some message }) message (is_some o)) (sym front))
-      (ap (λ (r : WholeRequest). put.0 ++ entry_of number r false ∷ put.1) (sym may.fields) ∙ sym put.4) after
+      (ap (λ (r : WholeRequest). put.0 ++ record (entry_of board.errors number (request_of message) false) { request = r } ∷ put.1) (sym may.fields) ∙ sym put.4) after
   by_taken client None Whole there front is goes =
       let message = joined client.limits client.front beat in
       let right = fronts number client there in
-      let after = once_follows board followed.0 order followed.1 number client there goes.0 goes.1 goes.2 goes.3 front (request_of message)
-      (joined_free client beat Whole right is) (sound_well client.limits message (whole_sound client beat right is)) in
-      subst₂ IsFollowed (ap (λ (o : Option HeldMessage). whole_on board number client (request_of message) (is_some o)) (sym front)) (sym goes.4) after
+      let put = goes.2 in
+      let after = once_follows board followed.0 order followed.1 number client there put.0 put.1 put.2 put.3 front (request_of message) goes.0
+      (joined_free client beat Whole right is) (sound_well client.limits message (whole_sound client beat right is)) goes.1 in
+      subst₂ IsFollowed (ap (λ (o : Option HeldMessage). whole_on board number client (request_of message) (is_some o)) (sym front)) (sym put.4) after
   by_taken client (Some held) More there front is goes =
       let message = joined client.limits client.front beat in
       subst₂ IsFollowed (ap (λ (o : Option HeldMessage). continued_on RealTime (with_client number (record client { front = Some message }) board) number
@@ -424,20 +537,20 @@ module _ (board : Board) (order new : Order) (fronts : AreFronts board.clients) 
       let message = joined client.limits client.front beat in
       let right = fronts number client there in
       let after = given_follows board followed.0 order followed.1 number client there (request_of message) (ap (λ (o : Option HeldMessage). is_some o) front)
-      (joined_free client beat Whole right is) goes.1 in
+      (joined_free client beat Whole right is) (sound_well client.limits message (whole_sound client beat right is)) goes.1 in
       subst₂ IsFollowed (ap (λ (o : Option HeldMessage). whole_on board number client (request_of message) (is_some o)) (sym front)) (sym goes.0) after
 
   by_answer : (client : ClientBoard) (answer : Result Progress TlRule) → slice_get board.clients number ≡ Some client → answer_to RealTime client beat ≡ answer
-      → GoesOnAnswered number client.front (joined client.limits client.front beat) answer order new
+      → GoesOnAnswered board.errors number client.front (joined client.limits client.front beat) answer order new
       → IsFollowed (answered_on RealTime board number client (joined client.limits client.front beat) answer) new
   by_answer client (Err rule) there is goes = subst (IsFollowed board) (sym goes) followed
   by_answer client (Ok progress) there is goes = by_taken client client.front progress there refl is goes
 
-  by_client : (found : Option ClientBoard) → slice_get board.clients number ≡ found → GoesOnRequest number found beat order new
+  by_client : (found : Option ClientBoard) → slice_get board.clients number ≡ found → GoesOnRequest board.errors number found beat order new
       → IsFollowed (after_a RealTime board number found beat) new
   by_client None there goes = subst (IsFollowed board) (sym goes) followed
   by_client (Some client) there goes = by_answer client (answer_to RealTime client beat) there refl goes
 
-  pub follows_request : GoesOnRequest number (slice_get board.clients number) beat order new
+  pub follows_request : GoesOnRequest board.errors number (slice_get board.clients number) beat order new
       → IsFollowed (after_a RealTime board number (slice_get board.clients number) beat) new
   follows_request goes = by_client (slice_get board.clients number) refl goes

@@ -1,6 +1,6 @@
 -- What each client has begun, along lists of beats: it came of beats that begin a message, and its source is one to which no reply waits.
 use Rattle.std.proofs.Common.{◌≡◌, ℕ, zero, suc, ◌==◌, Bool, true, false, List, [], ◌∷◌, map, set, Option, Some, None, IfSome, Result, Ok, Err, inl, inr, if◌then◌else◌, refl, ◌∙◌, ap, subst}
-use Rattle.std.specs.Prelude.{is_some, slice_get}
+use Rattle.std.specs.Prelude.{is_some, slice_get, unwrap_or}
 use Rattle.std.specs.List.{list_any}
 use Rattle.std.specs.Option.{option_map}
 use Rattle.std.proofs.lemmas.Bool.{cases_eq, eq-eqb, ne_eqb}
@@ -14,7 +14,7 @@ use Rattle.tl_checker.specs.declared.Progress.{Progress}
 use Rattle.tl_checker.specs.declared.Progress.TheVariants.{More, Whole}
 use Rattle.tl_checker.specs.declared.TlRule.{TlRule}
 use Rattle.setups.specs.Setups.{SetupLists}
-use Rattle.scoreboard.specs.Boards.{Board, ClientBoard, after_a, after_d, after_seen, answer_to, answered_on, client_beside, coming_on, flight_for, joining_on, more_on, opening_board, whole_on, with_accepted, with_client}
+use Rattle.scoreboard.specs.Boards.{Board, ClientBoard, after_a, after_d, after_seen, answer_to, answered_on, beginning_on, client_beside, coming_on, flight_for, joining_on, more_on, opening_board, told_to, whole_on, with_accepted, with_client}
 use Rattle.scoreboard.specs.Flights.{Footprint, flights_after, is_of_source}
 use Rattle.scoreboard.specs.InsideBoards.{front_after}
 use Rattle.scoreboard.specs.Races.{flight_beside}
@@ -32,7 +32,7 @@ abbrev pub AreFronts : List ClientBoard → Type 0
 AreFronts clients = (number : ℕ) (client : ClientBoard) → slice_get clients number ≡ Some client → IsFrontRight client
 
 -- beside a request that joins those in flight, each client is where it was
-beside_at : (footprint : Footprint) (clients : List ClientBoard) (number : ℕ) (client : ClientBoard) → slice_get clients number ≡ Some client
+pub beside_at : (footprint : Footprint) (clients : List ClientBoard) (number : ℕ) (client : ClientBoard) → slice_get clients number ≡ Some client
     → slice_get (map (client_beside footprint) clients) number ≡ Some (client_beside footprint client)
 beside_at footprint clients number client there =
     slice_get-map (client_beside footprint) clients number ∙ ap (option_map (client_beside footprint)) there
@@ -52,7 +52,7 @@ fronts_more : (board : Board) (number : ℕ) (client : ClientBoard) (q : WholeRe
     → AreFronts board.clients → AreFronts (more_on board number client q begun).clients
 fronts_more board number client q true there are = are
 fronts_more board number client q false there are =
-    let footprint = joining_on board q in
+    let footprint = beginning_on board q in
     let right = fronts_beside footprint board.clients are number (client_beside footprint client) (beside_at footprint board.clients number client there) in
     each_client IsFrontRight (map (client_beside footprint) board.clients) number (client_beside footprint client)
     (record (client_beside footprint client) { coming = footprint }) (beside_at footprint board.clients number client there)
@@ -106,7 +106,7 @@ fronts_reply board number beat are = by_client (slice_get board.clients number) 
     by_client None there = are
     by_client (Some client) there =
         let right = are number client there in
-        each_client IsFrontRight board.clients number client (record client { flights = flights_after client.flights beat.source }) there are
+        each_client IsFrontRight board.clients number client (record client { flights = flights_after client.flights beat.source; told = unwrap_or (told_to client) beat.denied }) there are
         (record { heard = right.heard; free = still client client.front right.free })
 
 -- with any beat
@@ -160,7 +160,7 @@ front_more : (board : Board) (number other : ℕ) (client : ClientBoard) (q : Wh
     → front_at (more_on board number client q begun).clients other ≡ front_at board.clients other
 front_more board number other client q true there = refl
 front_more board number other client q false there =
-    let footprint = joining_on board q in
+    let footprint = beginning_on board q in
     front_kept (map (client_beside footprint) board.clients) number other (client_beside footprint client)
     (record (client_beside footprint client) { coming = footprint }) (beside_at footprint board.clients number client there) refl
     ∙ front_beside footprint board.clients other
@@ -201,4 +201,4 @@ front_replied board number other beat = by_client (slice_get board.clients numbe
         → front_at (after_d board number found beat).clients other ≡ front_at board.clients other
     by_client None there = refl
     by_client (Some client) there =
-        front_kept board.clients number other client (record client { flights = flights_after client.flights beat.source }) there refl
+        front_kept board.clients number other client (record client { flights = flights_after client.flights beat.source; told = unwrap_or (told_to client) beat.denied }) there refl

@@ -1,30 +1,34 @@
 -- A request that had begun on a board is whole: on its shadow it was carried out before, and the shadow is still ahead.
-use Rattle.std.proofs.Common.{◌≡◌, ℕ, Bool, true, false, ◌&&◌, not, List, length, drop, Option, Some, None, ◌⊎◌, inl, inr, refl, sym, ◌∙◌, ap, subst}
+use Rattle.std.proofs.Common.{◌≡◌, ℕ, Bool, true, false, ◌&&◌, ◌||◌, not, List, length, drop, map, Option, Some, None, ◌⊎◌, inl, inr, refl, sym, ◌∙◌, ap, subst}
 use Rattle.std.specs.Prelude.{is_some, slice_get}
 use Rattle.std.specs.List.{list_any}
-use Rattle.std.proofs.lemmas.Bool.{and_parts, and_right, cases_eq, not-false}
-use Rattle.std.proofs.lemmas.List.{length-set}
+use Rattle.std.proofs.lemmas.Bool.{and_parts, and_right, both_ways, cases_eq, false_from_ne_true, not-false}
+use Rattle.std.proofs.lemmas.List.{length-map, length-set}
 use Rattle.tl_messages.specs.Operations.{reply_has_data}
 use Rattle.tl_messages.specs.Requests.{WholeRequest}
 use Rattle.burst_plan.specs.declared.Region.{Region}
+use Rattle.responses.specs.Shown.{shown}
 use Rattle.subordinate.specs.Faults.{Faults}
-use Rattle.scoreboard.specs.Boards.{Board, ClientBoard, coming_on, flight_for, given_on, with_accepted}
+use Rattle.meaning.specs.Meaning.{meaning}
+use Rattle.scoreboard.specs.Boards.{Board, ClientBoard, coming_on, fails, flight_for, given_on, place_on, with_accepted}
 use Rattle.scoreboard.specs.Flights.{Footprint, InFlight, is_of_source}
-use Rattle.scoreboard.specs.Races.{alone, is_fixed}
+use Rattle.scoreboard.specs.Races.{alone, is_fixed, unless_failed}
+use Rattle.scoreboard.specs.RealTime.{MayBecome, entry_of}
 use Rattle.scoreboard.specs.SerialMemory.{place_in}
 use Rattle.scoreboard.proofs.real_time.Ahead.{HasBecome, HasBeside, IsAhead, IsBehind, IsFinal, IsGiven, IsSame, Shadow, comes, will_give}
 use Rattle.scoreboard.proofs.real_time.AlikeBeats.{Same}
 use Rattle.scoreboard.proofs.real_time.Comings.{comes_other, comes_same}
 use Rattle.scoreboard.proofs.real_time.Entries.{carry}
 use Rattle.scoreboard.proofs.real_time.Explained.{sources_with}
+use Rattle.scoreboard.proofs.real_time.Failures.{acting_same, fails_flag, fails_keeps, fails_less, gives_less, gives_there, same_acting, same_shapes, shape_of, sound_spoils}
 use Rattle.scoreboard.proofs.real_time.FlightLists.{HaveAllSources}
 use Rattle.scoreboard.proofs.real_time.FlightPlaces.{coming_other, other_taken, own_taken, sources_more}
 use Rattle.scoreboard.proofs.real_time.Places.{Place, cases_place, coming_at, coming_in, due_at, flight_at}
-use Rattle.scoreboard.proofs.real_time.RequestActs.{acts}
+use Rattle.scoreboard.proofs.real_time.RequestActs.{IsWell, acts, gives, own}
 
-module _ (board : Board) (shadow : Shadow) (ahead : IsAhead board shadow) (number : ℕ) (client : ClientBoard) (q : WholeRequest)
-    (there : slice_get board.clients number ≡ Some client) (some : comes board.clients number ≡ true) (final : shadow.finals number ≡ q)
-    (free : list_any (is_of_source q.source) client.flights.due ≡ false) where
+module _ (board : Board) (shadow : Shadow) (ahead : IsAhead board shadow) (number : ℕ) (client : ClientBoard) (q r : WholeRequest)
+    (there : slice_get board.clients number ≡ Some client) (some : comes board.clients number ≡ true) (final : shadow.finals number ≡ r)
+    (may : MayBecome (entry_of board.errors number q true) r) (well : IsWell q) (free : list_any (is_of_source q.source) client.flights.due ≡ false) where
   abbrev pub faults : Faults
   faults = board.memory.faults
 
@@ -46,19 +50,68 @@ module _ (board : Board) (shadow : Shadow) (ahead : IsAhead board shadow) (numbe
   abbrev pub changed : ClientBoard
   changed = with_accepted flight client
 
-  become : HasBecome faults regions shadow.clients client.coming number q
+  become : HasBecome faults regions shadow.clients client.coming number r
   become =
-      subst (λ coming. HasBecome faults regions shadow.clients coming number q) (ap coming_in there)
-      (subst (λ r. HasBecome faults regions shadow.clients (coming_at board.clients number) number r) final (ahead.begun number some))
+      subst (λ coming. HasBecome faults regions shadow.clients coming number r) (ap coming_in there)
+      (subst (λ x. HasBecome faults regions shadow.clients (coming_at board.clients number) number x) final (ahead.begun number some))
+
+  -- ---- the footprint
+
+  abbrev failed : Bool
+  failed = fails board.errors board.memory q
+
+  -- the request's, alone
+  abbrev own_alone : Footprint
+  own_alone = alone board.indeterminate (place_on board q) q
+
+  kept_acts : kept ≡ record (alone (λ x. false) (place_on board q) q) { failed = kept.failed; determined = kept.determined }
+  kept_acts = ap (λ (f : Footprint). record f { determined = kept.determined }) (fails_keeps failed own_alone)
+
+  pub kept_failed : (coming_on board q client.coming).failed ≡ fails board.errors board.memory q
+  kept_failed = fails_flag failed own_alone refl
+
+  -- where it hasn't failed it became what it is
+  is_same : failed ≡ false → r ≡ q
+  is_same sound = may.same refl (sound_spoils board.errors board.memory q sound)
+
+  its_place : failed ≡ false → place_on board q ≡ place_in board.memory q
+  its_place sound = ap (place_in board.memory) (acting_same board.errors q (sound_spoils board.errors board.memory q sound))
+
+  same_source : q.source ≡ r.source
+  same_source = sym (ap (λ (x : WholeRequest). x.source) may.fields)
+
+  silent : reply_has_data q.operation ≡ false
+  silent = sym (ap (λ (x : WholeRequest). reply_has_data x.operation) may.fields) ∙ become.becomes.silent
+
+  reads_none : kept.reads ≡ false
+  reads_none = ap (λ (f : Footprint). f.reads) kept_acts ∙ and_right (is_some (place_on board q)) (reply_has_data q.operation) silent
+
+  shapes : map shape_of flight.beats ≡ map shape_of become.other.beats
+  shapes =
+      same_shapes q r (meaning faults regions q board.memory.bytes).reply (meaning faults regions r board.memory.bytes).reply may.fields
+      ∙ ap (map shape_of) (sym (become.becomes.beats board.memory.bytes))
 
   behind : IsBehind flight become.other
   behind =
       record {
-        source = sym become.becomes.source;
-        acts = ap (λ (r : Footprint). record r { determined = kept.determined }) (sym become.becomes.acts);
-        less = λ x reads. absurd (cc (sym (and_right (is_some (place_in board.memory q)) (reply_has_data q.operation) become.becomes.silent) ∙ reads));
-        long = ap length (sym (become.becomes.beats board.memory.bytes));
-        alike = λ n below. Same (ap (drop n) (sym (become.becomes.beats board.memory.bytes)));
+        source = same_source ∙ sym become.becomes.source;
+        acts = λ does.
+            let own_does = sym (ap (λ (f : Footprint). f.reads || f.writes) become.becomes.acts) ∙ does in
+            kept_acts ∙ same_acting faults regions board.errors q r may.fields may.corrupt kept.failed kept.determined own_does
+            ∙ ap (λ (f : Footprint). record f { failed = kept.failed; determined = kept.determined }) (sym become.becomes.acts);
+        sound = λ sound.
+            let not_failed = sym kept_failed ∙ sound in
+            kept_acts
+            ∙ ap (λ (b : Bool). record (alone (λ x. false) (place_on board q) q) { failed = b; determined = kept.determined }) sound
+            ∙ ap (λ (place : Option ℕ). record (alone (λ x. false) place q) { determined = kept.determined }) (its_place not_failed)
+            ∙ ap (λ (x : WholeRequest). record (own faults regions x) { determined = kept.determined }) (sym (is_same not_failed))
+            ∙ ap (λ (f : Footprint). record f { determined = kept.determined }) (sym become.becomes.acts);
+        less = λ x reads. absurd (cc (sym reads_none ∙ reads));
+        long = sym (length-map flight.beats shape_of) ∙ ap length shapes ∙ length-map become.other.beats shape_of;
+        shapes = shapes;
+        alike = λ sound n below. Same (ap (drop n)
+            (sym (ap (λ (x : WholeRequest). shown x (meaning faults regions x board.memory.bytes).reply) (is_same (sym kept_failed ∙ sound)))
+            ∙ sym (become.becomes.beats board.memory.bytes)));
       }
 
   -- ---- what is in flight, and coming
@@ -90,7 +143,7 @@ module _ (board : Board) (shadow : Shadow) (ahead : IsAhead board shadow) (numbe
       by_place (inl same) =
           let one : Some flight ≡ Some after = sym own_here ∙ ap (flight_at now.clients) (sym same) ∙ is in
           let it : flight ≡ after = cc (one) in
-          record { other = become.other; there = ap (flight_at shadow.clients) same ∙ become.there; behind = subst (λ (f : InFlight). IsBehind f become.other) it behind }
+          record { other = become.other; there = ap (flight_at shadow.clients) (same ∙ ap (due_at number) same_source) ∙ become.there; behind = subst (λ (f : InFlight). IsBehind f become.other) it behind }
       by_place (inr differ) = ahead.placed place after (sym (others_here place differ) ∙ is)
 
   begun : (c : ℕ) → comes now.clients c ≡ true → HasBecome faults regions shadow.clients (coming_at now.clients c) c (shadow.finals c)
@@ -107,32 +160,49 @@ module _ (board : Board) (shadow : Shadow) (ahead : IsAhead board shadow) (numbe
       by_place (inr differ) =
           let old = ahead.others place other is (sym (others_here place differ) ∙ none) in
           let apart : place.client ≡ number → ⊥ = λ same. differ (old.there ∙ ap (λ c. due_at c (shadow.finals c).source) same
-          ∙ ap (λ (r : WholeRequest). due_at number r.source) final) in
+          ∙ ap (λ (x : WholeRequest). due_at number x.source) final ∙ ap (due_at number) (sym same_source)) in
           record { begun = comes_others place.client apart ∙ old.begun; there = old.there }
 
   known : (x : ℕ) → now.indeterminate x ≡ false → ((c : ℕ) → comes now.clients c ≡ true → will_give faults regions (shadow.finals c) x ≡ false)
       → IsSame now shadow x
-  known x certain none = by_given (will_give faults regions q x) refl
+  known x certain none = by_given (gives kept q.bytes x) refl
     where
-      none_before : will_give faults regions q x ≡ false → (c : ℕ) → comes board.clients c ≡ true → will_give faults regions (shadow.finals c) x ≡ false
+      -- what isn't given is given neither here nor there
+      none_there : gives kept q.bytes x ≡ false → will_give faults regions r x ≡ false
+      none_there not_given =
+          false_from_ne_true (will_give faults regions r x) (λ gives_it.
+          both_ways (gives kept q.bytes x) not_given
+          (gives_there faults regions board.errors q r may.fields may.corrupt kept kept_acts (gives_less board.errors number q r may) x gives_it))
+
+      none_own : gives kept q.bytes x ≡ false → will_give faults regions q x ≡ false
+      none_own not_given =
+          false_from_ne_true (will_give faults regions q x) (λ gives_it.
+          both_ways (gives kept q.bytes x) not_given
+          (gives_there faults regions board.errors q q refl (λ sound is. is) kept kept_acts (λ a y given. given) x gives_it))
+
+      none_before : will_give faults regions r x ≡ false → (c : ℕ) → comes board.clients c ≡ true → will_give faults regions (shadow.finals c) x ≡ false
       none_before not_given c comes_it =
           elim (cases_eq c number) [
-            | inl same ↦ ap (λ (r : WholeRequest). will_give faults regions r x) (ap shadow.finals same ∙ final) ∙ not_given
+            | inl same ↦ ap (λ (y : WholeRequest). will_give faults regions y x) (ap shadow.finals same ∙ final) ∙ not_given
             | inr differ ↦ none c (comes_others c differ ∙ comes_it)
           ]
 
-      by_given : (b : Bool) → will_give faults regions q x ≡ b → IsSame now shadow x
+      by_given : (b : Bool) → gives kept q.bytes x ≡ b → IsSame now shadow x
       by_given false not_given =
-          let same = ahead.known x (rw not_given at certain) (none_before not_given) in
-          record { byte = same.byte ∙ sym ((acts faults regions q become.becomes.well).keeps board.memory.bytes x not_given); certain = same.certain }
+          let same = ahead.known x (rw not_given at certain) (none_before (none_there not_given)) in
+          record { byte = same.byte ∙ sym ((acts faults regions q well).keeps board.memory.bytes x (none_own not_given)); certain = same.certain }
       by_given true gives_it =
           let doubt : not (kept.determined x && is_fixed kept) ≡ false = rw gives_it at certain in
           let both = and_parts (kept.determined x) (is_fixed kept) (not-false (kept.determined x && is_fixed kept) doubt) in
-          let determined : (coming_at board.clients number).determined x ≡ true =
-          ap (λ (o : Option ClientBoard). (coming_in o).determined x) there
-          ∙ (and_parts ((alone board.indeterminate (place_in board.memory q) q).determined x) (client.coming.determined x) both.0).1 in
-          let given = ahead.given number x some determined (ap (λ (r : WholeRequest). will_give faults regions r x) final ∙ gives_it) in
-          record { byte = given.byte board.memory.bytes ∙ ap (λ (r : WholeRequest). carry faults regions r board.memory.bytes x) final; certain = given.certain }
+          let parts = and_parts ((unless_failed failed own_alone).determined x) (client.coming.determined x) both.0 in
+          let sound = (fails_less failed own_alone x parts.0).1 in
+          let same = is_same sound in
+          let determined : (coming_at board.clients number).determined x ≡ true = ap (λ (o : Option ClientBoard). (coming_in o).determined x) there ∙ parts.1 in
+          let gives_so : will_give faults regions q x ≡ true =
+          ap (λ (place : Option ℕ). gives (alone (λ y. false) place q) q.bytes x) (sym (its_place sound))
+          ∙ sym (ap (λ (f : Footprint). gives f q.bytes x) kept_acts) ∙ gives_it in
+          let given = ahead.given number x some determined (ap (λ (y : WholeRequest). will_give faults regions y x) (final ∙ same) ∙ gives_so) in
+          record { byte = given.byte board.memory.bytes ∙ ap (λ (y : WholeRequest). carry faults regions y board.memory.bytes x) (final ∙ same); certain = given.certain }
 
   given : (c x : ℕ) → comes now.clients c ≡ true → (coming_at now.clients c).determined x ≡ true → will_give faults regions (shadow.finals c) x ≡ true
       → IsGiven faults regions shadow.bytes shadow.indeterminate (shadow.finals c) x
@@ -154,7 +224,7 @@ module _ (board : Board) (shadow : Shadow) (ahead : IsAhead board shadow) (numbe
   given_ahead =
       record {
         sources = sources;
-        small = (acts faults regions q become.becomes.well).small board.memory.bytes ahead.small;
+        small = (acts faults regions q well).small board.memory.bytes ahead.small;
         waits = waits;
         many = ahead.many ∙ sym (length-set board.clients number changed);
         placed = placed;

@@ -1,34 +1,37 @@
 -- A request of one beat is accepted on a board, and on its shadow: the shadow is still ahead.
-use Rattle.std.proofs.Common.{◌≡◌, ℕ, ◌<◌, ◌+◌, ◌^◌, Bool, nat_le, nat_lt, true, false, ◌&&◌, not, List, map, set, length, Some, None, ◌⊎◌, inl, inr, refl, sym, ◌∙◌, ap, subst}
+use Rattle.std.proofs.Common.{◌≡◌, ℕ, ◌<◌, ◌+◌, ◌^◌, Bool, nat_le, nat_lt, true, false, ◌&&◌, ◌||◌, not, List, drop, map, set, length, Option, Some, None, ◌⊎◌, inl, inr, refl, sym, ◌∙◌, ap, subst}
 use Rattle.std.specs.Prelude.{is_some, option_map, slice_get}
-use Rattle.std.specs.List.{list_any}
-use Rattle.std.proofs.lemmas.Bool.{and_parts, not-false, not-true, or_parts}
+use Rattle.std.specs.List.{list_all, list_any, range_with_len}
+use Rattle.std.proofs.lemmas.Bool.{and_parts, both_ways, false_from_ne_true, not-false, not-true, or_parts, or_right}
 use Rattle.std.proofs.lemmas.List.{length-map, length-set}
 use Rattle.std.proofs.lemmas.Option.{slice_get-map}
 use Rattle.tl_messages.specs.Operations.{reply_has_data}
 use Rattle.tl_messages.specs.Requests.{WholeRequest}
 use Rattle.burst_plan.specs.declared.Region.{Region}
+use Rattle.responses.specs.Shown.{shown}
 use Rattle.subordinate.specs.Faults.{Faults}
 use Rattle.meaning.specs.Meaning.{meaning}
-use Rattle.scoreboard.specs.Boards.{Board, ClientBoard, client_beside, flight_for, footprints_of, joined_on, joining_on, with_accepted}
+use Rattle.scoreboard.specs.Boards.{Board, ClientBoard, beginning_on, client_beside, fails, flight_for, footprints_of, joined_on, joining_on, place_on, with_accepted}
 use Rattle.scoreboard.specs.Flights.{Footprint, InFlight, is_of_source}
 use Rattle.scoreboard.specs.Orders.{Order}
-use Rattle.scoreboard.specs.Races.{after_given, after_joining, alone as alone_of, beside, covers, flight_beside, is_fixed, may_write}
+use Rattle.scoreboard.specs.Races.{after_given, after_joining, alone as alone_of, beside, covers, flight_beside, is_fixed, joining, may_write}
+use Rattle.scoreboard.specs.RealTime.{MayBecome, entry_of}
 use Rattle.scoreboard.specs.SerialMemory.{place_in}
 use Rattle.scoreboard.proofs.MappedLists.{any_map}
 use Rattle.scoreboard.proofs.real_time.Acceptance.{other_flight, own_flight, sources_beside}
 use Rattle.scoreboard.proofs.real_time.Ahead.{HasBecome, HasBeside, IsAhead, IsBehind, IsFinal, IsGiven, IsSame, IsWithin, Shadow, comes, none_given, shadow_of, shadow_touches, shadow_writes, touches, will_give, within_writes}
 use Rattle.scoreboard.proofs.real_time.AheadBeside.{behind_beside, coming_beside_it, none_beside, was_beside}
-use Rattle.scoreboard.proofs.real_time.AlikeBeats.{left_alike}
+use Rattle.scoreboard.proofs.real_time.AlikeBeats.{LeftAlike, left_alike}
 use Rattle.scoreboard.proofs.real_time.Apart.{AreAll, determined_fixed, fixed_determined}
 use Rattle.scoreboard.proofs.real_time.Comings.{comes_beside, comes_other, comes_same}
 use Rattle.scoreboard.proofs.real_time.Entries.{carry}
 use Rattle.scoreboard.proofs.real_time.Explained.{Explains, sources_with}
+use Rattle.scoreboard.proofs.real_time.Failures.{acting_same, fails_flag, fails_keeps, fails_less, gives_less, gives_there, same_acting, same_shapes, shape_of, sound_spoils, well_as}
 use Rattle.scoreboard.proofs.real_time.FlightLists.{HaveAllSources, are_all, each_coming, sources_kept}
 use Rattle.scoreboard.proofs.real_time.FlightPlaces.{coming_beside, coming_other, sources_more}
 use Rattle.scoreboard.proofs.real_time.Lengths.{length-shown}
 use Rattle.scoreboard.proofs.real_time.Places.{Place, cases_place, coming_at, due_at, flight_at, footprint_at}
-use Rattle.scoreboard.proofs.real_time.RequestActs.{IsWell, acts}
+use Rattle.scoreboard.proofs.real_time.RequestActs.{IsWell, acts, gives, own}
 use Rattle.scoreboard.proofs.real_time.ShadowJoins.{bytes_kept, certain_there, given_kept, still_certain}
 use Rattle.scoreboard.proofs.real_time.ShadowPlaces.{free_there, none_there, nothing_begun}
 
@@ -51,9 +54,9 @@ still_determined true false acts shows doubt doubt_there others others_there det
 still_determined false before acts shows doubt doubt_there others others_there determined certain none = absurd (cc (determined))
 
 module _ (board : Board) (shadow : Shadow) (order : Order) (explains : Explains (shadow_of board shadow) order) (ahead : IsAhead board shadow)
-    (number : ℕ) (client other_client : ClientBoard) (q : WholeRequest)
+    (number : ℕ) (client other_client : ClientBoard) (q r : WholeRequest)
     (there : slice_get board.clients number ≡ Some client) (there_too : slice_get shadow.clients number ≡ Some other_client) (front : client.front ≡ None)
-    (free : list_any (is_of_source q.source) client.flights.due ≡ false) (well : IsWell q) where
+    (free : list_any (is_of_source q.source) client.flights.due ≡ false) (well : IsWell q) (may : MayBecome (entry_of board.errors number q true) r) where
   abbrev pub faults : Faults
   faults = board.memory.faults
 
@@ -64,7 +67,7 @@ module _ (board : Board) (shadow : Shadow) (order : Order) (explains : Explains 
   mine = joining_on board q
 
   abbrev pub theirs : Footprint
-  theirs = joining_on (shadow_of board shadow) q
+  theirs = joining_on (shadow_of board shadow) r
 
   abbrev pub now : Board
   now = joined_on board number client q mine
@@ -73,14 +76,14 @@ module _ (board : Board) (shadow : Shadow) (order : Order) (explains : Explains 
   flight = flight_for board.memory mine q
 
   abbrev pub other_flight_for : InFlight
-  other_flight_for = flight_for (shadow_of board shadow).memory theirs q
+  other_flight_for = flight_for (shadow_of board shadow).memory theirs r
 
   abbrev pub now_shadow : Shadow
   now_shadow =
       record {
         clients = set (map (client_beside theirs) shadow.clients) number (with_accepted other_flight_for (client_beside theirs other_client));
-        bytes = carry faults regions q shadow.bytes;
-        indeterminate = after_joining shadow.indeterminate (footprints_of shadow.clients) theirs q.bytes;
+        bytes = carry faults regions r shadow.bytes;
+        indeterminate = after_joining shadow.indeterminate (footprints_of shadow.clients) theirs r.bytes;
         finals = shadow.finals;
       }
 
@@ -89,16 +92,54 @@ module _ (board : Board) (shadow : Shadow) (order : Order) (explains : Explains 
 
   -- ---- the footprints of both
 
+  abbrev failed : Bool
+  failed = fails board.errors board.memory q
+
+  -- the request's, beside all
+  abbrev beginning : Footprint
+  beginning = beginning_on board q
+
+  well_there : IsWell r
+  well_there = well_as board.errors number q r may well
+
+  mine_acts : mine ≡ record (alone_of (λ x. false) (place_on board q) q) { failed = mine.failed; determined = mine.determined }
+  mine_acts = fails_keeps failed beginning
+
+  pub mine_failed : (joining_on board q).failed ≡ fails board.errors board.memory q
+  mine_failed = fails_flag failed beginning refl
+
+  -- where it hasn't failed it becomes what it is
+  is_same : failed ≡ false → r ≡ q
+  is_same sound = may.same refl (sound_spoils board.errors board.memory q sound)
+
+  its_place : failed ≡ false → place_on board q ≡ place_in board.memory q
+  its_place sound = ap (place_in board.memory) (acting_same board.errors q (sound_spoils board.errors board.memory q sound))
+
+  same_source : q.source ≡ r.source
+  same_source = sym (ap (λ (x : WholeRequest). x.source) may.fields)
+
+  acts_there : (theirs.reads || theirs.writes) ≡ true → mine ≡ record theirs { failed = mine.failed; determined = mine.determined }
+  acts_there does = mine_acts ∙ same_acting faults regions board.errors q r may.fields may.corrupt mine.failed mine.determined does
+
   within : IsWithin theirs mine
-  within = record { writes = λ does. does; address = λ does. refl; size = λ does. refl }
+  within =
+      record {
+        writes = λ does. ap (λ (f : Footprint). f.writes) (acts_there (writes_acts does)) ∙ does;
+        address = λ does. ap (λ (f : Footprint). f.address) (acts_there (writes_acts does));
+        size = λ does. ap (λ (f : Footprint). f.size) (acts_there (writes_acts does));
+      }
+    where
+      writes_acts : theirs.writes ≡ true → (theirs.reads || theirs.writes) ≡ true
+      writes_acts does = or_right theirs.reads theirs.writes does
 
   are : AreAll (footprint_at shadow.clients) (footprints_of shadow.clients)
   are = are_all shadow.clients explains.sources explains.nothing
 
   alone : (x : ℕ) → mine.determined x ≡ true → list_any (λ r. may_write r x) (footprints_of board.clients) ≡ false
   alone x determined =
-      not-true (list_any (λ r. may_write r x) (footprints_of board.clients))
-      (and_parts ((alone_of board.indeterminate (place_in board.memory q) q).determined x) (not (list_any (λ r. may_write r x) (footprints_of board.clients))) determined).1
+      not-true (list_any (λ f. may_write f x) (footprints_of board.clients))
+      (and_parts ((alone_of board.indeterminate (place_on board q) q).determined x) (not (list_any (λ f. may_write f x) (footprints_of board.clients)))
+      (fails_less failed beginning x determined).0).1
 
   -- what has begun gives nothing where nobody may write
   nothing_coming : (x : ℕ) → list_any (λ r. may_write r x) (footprints_of board.clients) ≡ false → (c : ℕ) → comes board.clients c ≡ true
@@ -109,27 +150,56 @@ module _ (board : Board) (shadow : Shadow) (order : Order) (explains : Explains 
 
   -- what it reads and is determined both know
   read_same : (x : ℕ) → mine.reads ≡ true → mine.determined x ≡ true → IsSame board shadow x
-  read_same x reads determined = ahead.known x (was_certain (nat_le mine.address x) (nat_lt x (mine.address + 2 ^ q.size)) (is_some (place_in board.memory q)) (reply_has_data q.operation)
-      (board.indeterminate x) (list_any (λ r. may_write r x) (footprints_of board.clients)) reads determined) (nothing_coming x (alone x determined))
+  read_same x reads determined =
+      ahead.known x (was_certain (nat_le beginning.address x) (nat_lt x (beginning.address + 2 ^ q.size)) (is_some (place_on board q)) (reply_has_data q.operation)
+      (board.indeterminate x) (list_any (λ f. may_write f x) (footprints_of board.clients)) (sym (ap (λ (f : Footprint). f.reads) mine_acts) ∙ reads)
+      (fails_less failed beginning x determined).0) (nothing_coming x (alone x determined))
 
   less : (x : ℕ) → mine.determined x ≡ true → theirs.determined x ≡ true
   less x determined =
-      still_determined (nat_le mine.address x) (nat_lt x (mine.address + 2 ^ q.size)) (is_some (place_in board.memory q)) (reply_has_data q.operation)
-      (board.indeterminate x) (shadow.indeterminate x) (list_any (λ r. may_write r x) (footprints_of board.clients)) (list_any (λ r. may_write r x) (footprints_of shadow.clients))
-      determined (λ reads. (read_same x reads determined).certain) (are.none (λ r. may_write r x) (shadow_writes board shadow ahead x (alone x determined)))
+      let parts = fails_less failed beginning x determined in
+      subst (λ (y : WholeRequest). (joining_on (shadow_of board shadow) y).determined x ≡ true) (sym (is_same parts.1))
+      (subst (λ (place : Option ℕ). (joining shadow.indeterminate (footprints_of shadow.clients) place q).determined x ≡ true) (its_place parts.1)
+      (still_determined (nat_le beginning.address x) (nat_lt x (beginning.address + 2 ^ q.size)) (is_some (place_on board q)) (reply_has_data q.operation)
+      (board.indeterminate x) (shadow.indeterminate x) (list_any (λ f. may_write f x) (footprints_of board.clients)) (list_any (λ f. may_write f x) (footprints_of shadow.clients))
+      parts.0 (λ reads. (read_same x (ap (λ (f : Footprint). f.reads) mine_acts ∙ reads) determined).certain)
+      (are.none (λ f. may_write f x) (shadow_writes board shadow ahead x (alone x determined)))))
+
+  -- it acts as it is, where it hasn't failed
+  mine_sound : mine.failed ≡ false → mine ≡ record (own faults regions q) { determined = mine.determined }
+  mine_sound sound =
+      mine_acts
+      ∙ ap (λ (b : Bool). record (alone_of (λ x. false) (place_on board q) q) { failed = b; determined = mine.determined }) sound
+      ∙ ap (λ (place : Option ℕ). record (alone_of (λ x. false) place q) { determined = mine.determined }) (its_place (sym mine_failed ∙ sound))
+
+  shapes : map shape_of flight.beats ≡ map shape_of other_flight_for.beats
+  shapes = same_shapes q r (meaning faults regions q board.memory.bytes).reply (meaning faults regions r shadow.bytes).reply may.fields
 
   behind : IsBehind flight other_flight_for
   behind =
       record {
-        source = refl;
-        acts = refl;
+        source = same_source;
+        acts = acts_there;
+        sound = λ sound.
+            mine_sound sound ∙ ap (λ (y : WholeRequest). record (own faults regions y) { determined = mine.determined }) (sym (is_same (sym mine_failed ∙ sound)));
         less = λ x reads. less x;
-        long = length-shown q (meaning faults regions q board.memory.bytes).reply ∙ sym (length-shown q (meaning faults regions q shadow.bytes).reply);
-        alike = λ n below.
-            left_alike faults regions q mine n board.memory.bytes shadow.bytes
-            (subst (λ (k : ℕ). n < k) (length-shown q (meaning faults regions q shadow.bytes).reply) below) refl ahead.small explains.small
-            (λ x reads determined. sym (read_same x reads determined).byte);
+        long = sym (length-map flight.beats shape_of) ∙ ap length shapes ∙ length-map other_flight_for.beats shape_of;
+        shapes = shapes;
+        alike = alike;
       }
+    where
+      -- of the request as it is
+      as_it_is : mine.failed ≡ false → (n : ℕ) → n < length (shown q (meaning faults regions q shadow.bytes).reply)
+          → LeftAlike mine (drop n flight.beats) (drop n (shown q (meaning faults regions q shadow.bytes).reply))
+      as_it_is sound n below =
+          left_alike faults regions q mine n board.memory.bytes shadow.bytes
+          (subst (λ (k : ℕ). n < k) (length-shown q (meaning faults regions q shadow.bytes).reply) below) (mine_sound sound) ahead.small explains.small
+          (λ x reads determined. sym (read_same x (ap (λ (f : Footprint). f.reads) (mine_sound sound) ∙ reads) determined).byte)
+
+      alike : mine.failed ≡ false → (n : ℕ) → n < length other_flight_for.beats → LeftAlike mine (drop n flight.beats) (drop n other_flight_for.beats)
+      alike sound =
+          subst (λ (y : WholeRequest). (n : ℕ) → n < length (shown y (meaning faults regions y shadow.bytes).reply)
+          → LeftAlike mine (drop n flight.beats) (drop n (shown y (meaning faults regions y shadow.bytes).reply))) (sym (is_same (sym mine_failed ∙ sound))) (as_it_is sound)
 
   -- ---- what is in flight, and coming
 
@@ -140,10 +210,10 @@ module _ (board : Board) (shadow : Shadow) (order : Order) (explains : Explains 
   changed = with_accepted flight (client_beside mine client)
 
   pub own_here : flight_at now.clients own_place ≡ Some flight
-  own_here = own_flight board number client q there free
+  own_here = own_flight board number client q mine there free
 
   pub others_here : (i : Place) → (i ≡ own_place → ⊥) → flight_at now.clients i ≡ option_map (flight_beside mine) (flight_at board.clients i)
-  others_here i differ = other_flight board number client q there free i differ
+  others_here i differ = other_flight board number client q mine there free i differ
 
   pub none_before : comes board.clients number ≡ false
   none_before = nothing_begun board shadow ahead number q.source client there front free
@@ -167,14 +237,20 @@ module _ (board : Board) (shadow : Shadow) (order : Order) (explains : Explains 
   none_yet : flight_at shadow.clients own_place ≡ None
   none_yet = none_there board shadow ahead number q.source client there front free
 
-  free_too : list_any (is_of_source q.source) other_client.flights.due ≡ false
-  free_too = free_there board shadow ahead number q.source client there front free other_client there_too
+  free_too : list_any (is_of_source r.source) other_client.flights.due ≡ false
+  free_too =
+      subst (λ source. list_any (is_of_source source) other_client.flights.due ≡ false) same_source
+      (free_there board shadow ahead number q.source client there front free other_client there_too)
+
+  own_is : own_place ≡ due_at number r.source
+  own_is = ap (due_at number) same_source
 
   own_there : flight_at now_shadow.clients own_place ≡ Some other_flight_for
-  own_there = own_flight (shadow_of board shadow) number other_client q there_too free_too
+  own_there = ap (flight_at now_shadow.clients) own_is ∙ own_flight (shadow_of board shadow) number other_client r theirs there_too free_too
 
   others_there : (i : Place) → (i ≡ own_place → ⊥) → flight_at now_shadow.clients i ≡ option_map (flight_beside theirs) (flight_at shadow.clients i)
-  others_there i differ = other_flight (shadow_of board shadow) number other_client q there_too free_too i differ
+  others_there i differ =
+      other_flight (shadow_of board shadow) number other_client r theirs there_too free_too i (λ same. differ (same ∙ sym own_is))
 
   -- ---- the shadow is ahead
 
@@ -219,43 +295,67 @@ module _ (board : Board) (shadow : Shadow) (order : Order) (explains : Explains 
 
   known : (x : ℕ) → now.indeterminate x ≡ false → ((c : ℕ) → comes now.clients c ≡ true → will_give faults regions (shadow.finals c) x ≡ false)
       → IsSame now now_shadow x
-  known x certain none = by_given (will_give faults regions q x) refl
+  known x certain none = by_given (gives mine q.bytes x) refl
     where
+      -- what isn't given is given neither here nor there
+      given_none : gives mine q.bytes x ≡ false → will_give faults regions r x ≡ false
+      given_none not_given =
+          false_from_ne_true (will_give faults regions r x) (λ gives_it.
+          both_ways (gives mine q.bytes x) not_given
+          (gives_there faults regions board.errors q r may.fields may.corrupt mine mine_acts (gives_less board.errors number q r may) x gives_it))
+
+      own_none : gives mine q.bytes x ≡ false → will_give faults regions q x ≡ false
+      own_none not_given =
+          false_from_ne_true (will_give faults regions q x) (λ gives_it.
+          both_ways (gives mine q.bytes x) not_given
+          (gives_there faults regions board.errors q q refl (λ sound is. is) mine mine_acts (λ a y given. given) x gives_it))
+
       parts : (after_given board.indeterminate mine q.bytes x ≡ false) × (list_any (touches mine x) (footprints_of board.clients) ≡ false)
       parts = or_parts (after_given board.indeterminate mine q.bytes x) (list_any (touches mine x) (footprints_of board.clients)) certain
 
       none_before_it : (c : ℕ) → comes board.clients c ≡ true → will_give faults regions (shadow.finals c) x ≡ false
       none_before_it c begun = none c (comes_others c (apart_before c begun) ∙ begun)
 
-      same_with : carry faults regions q shadow.bytes x ≡ carry faults regions q board.memory.bytes x
-          → after_given shadow.indeterminate theirs q.bytes x ≡ false → IsSame now now_shadow x
+      same_with : carry faults regions r shadow.bytes x ≡ carry faults regions q board.memory.bytes x
+          → after_given shadow.indeterminate theirs r.bytes x ≡ false → IsSame now now_shadow x
       same_with byte own_certain =
           record {
             byte = byte;
-            certain = certain_there board shadow order explains q well x own_certain (shadow_touches board shadow ahead theirs mine x within parts.1);
+            certain = certain_there board shadow order explains r well_there x own_certain (shadow_touches board shadow ahead theirs mine x within parts.1);
           }
 
-      by_given : (b : Bool) → will_give faults regions q x ≡ b → IsSame now now_shadow x
+      by_given : (b : Bool) → gives mine q.bytes x ≡ b → IsSame now now_shadow x
       by_given false not_given =
           let same = ahead.known x (rw not_given at parts.0) none_before_it in
           same_with
-          (bytes_kept board shadow order explains q well x not_given ∙ same.byte ∙ sym ((acts faults regions q well).keeps board.memory.bytes x not_given))
-          (still_certain board shadow order explains q well x not_given same.certain)
+          (bytes_kept board shadow order explains r well_there x (given_none not_given) ∙ same.byte
+          ∙ sym ((acts faults regions q well).keeps board.memory.bytes x (own_none not_given)))
+          (still_certain board shadow order explains r well_there x (given_none not_given) same.certain)
       by_given true gives_it =
           let doubt : not (mine.determined x && is_fixed mine) ≡ false = rw gives_it at parts.0 in
           let both = and_parts (mine.determined x) (is_fixed mine) (not-false (mine.determined x && is_fixed mine) doubt) in
+          let sound = (fails_less failed beginning x both.0).1 in
+          let as_own = mine_sound (mine_failed ∙ sound) in
+          let gives_so : will_give faults regions q x ≡ true = sym (ap (λ (f : Footprint). gives f q.bytes x) as_own) ∙ gives_it in
+          let gives_too : will_give faults regions r x ≡ true = ap (λ (y : WholeRequest). will_give faults regions y x) (is_same sound) ∙ gives_so in
           let all_read : mine.reads ≡ true → (y : ℕ) → covers mine y ≡ true → mine.determined y ≡ true =
           λ reads y covered. fixed_determined mine y both.1 reads covered in
           same_with
-          ((acts faults regions q well).same shadow.bytes board.memory.bytes x gives_it (λ reads y covered. (read_same y reads (all_read reads y covered)).byte))
-          (rw gives_it (ap not (fixed_there (less x both.0) (fixed_less all_read))))
+          (ap (λ (y : WholeRequest). carry faults regions y shadow.bytes x) (is_same sound)
+          ∙ (acts faults regions q well).same shadow.bytes board.memory.bytes x gives_so (λ reads y covered.
+          let does = ap (λ (f : Footprint). f.reads) as_own ∙ reads in
+          (read_same y does (all_read does y (ap (λ (f : Footprint). covers f y) as_own ∙ covered))).byte))
+          (rw gives_too (ap not (fixed_there (less x both.0) (fixed_less (behind.sound (mine_failed ∙ sound)) all_read))))
         where
-          fixed_less : (mine.reads ≡ true → (y : ℕ) → covers mine y ≡ true → mine.determined y ≡ true) → is_fixed theirs ≡ true
-          fixed_less all_read = by_reads mine.reads refl
+          fixed_less : mine ≡ record theirs { determined = mine.determined } → (mine.reads ≡ true → (y : ℕ) → covers mine y ≡ true → mine.determined y ≡ true)
+              → is_fixed theirs ≡ true
+          fixed_less same all_read = by_reads mine.reads refl
             where
               by_reads : (b : Bool) → mine.reads ≡ b → is_fixed theirs ≡ true
-              by_reads false reads = rw reads refl
-              by_reads true reads = determined_fixed theirs (λ y covered. less y (all_read reads y covered))
+              by_reads false reads =
+                  let none : theirs.reads ≡ false = sym (ap (λ (f : Footprint). f.reads) same) ∙ reads in
+                  ap (λ (b : Bool). not b || list_all (λ i. theirs.determined (theirs.address + i)) (range_with_len 0 (2 ^ theirs.size))) none
+              by_reads true reads = determined_fixed theirs (λ y covered. less y (all_read reads y (ap (λ (f : Footprint). covers f y) same ∙ covered)))
 
           fixed_there : theirs.determined x ≡ true → is_fixed theirs ≡ true → (theirs.determined x && is_fixed theirs) ≡ true
           fixed_there here fixed = rw (here, fixed) refl
@@ -267,7 +367,7 @@ module _ (board : Board) (shadow : Shadow) (order : Order) (explains : Explains 
       let before = sym (comes_others c differ) ∙ some in
       let both = and_parts ((coming_at board.clients c).determined x) (not (may_write mine x))
       (sym (ap (λ (r : Footprint). r.determined x) (coming_others c differ)) ∙ determined) in
-      given_kept board shadow order explains q well (coming_at board.clients c) c (shadow.finals c) x (ahead.begun c before) both.0 gives_it
+      given_kept board shadow order explains r well_there (coming_at board.clients c) c (shadow.finals c) x (ahead.begun c before) both.0 gives_it
       (ahead.given c x before both.0 gives_it) (within_writes theirs mine x within (not-true (may_write mine x) both.1))
 
   sources : HaveAllSources now.clients

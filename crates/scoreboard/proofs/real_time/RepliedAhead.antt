@@ -2,7 +2,7 @@
 use Rattle.std.proofs.Common.{◌≡◌, ℕ, ◌+◌, ◌-◌, ◌==◌, Bool, true, false, List, [], ◌∷◌, set, length, drop, Option, Some, None, ◌⊎◌, inl, inr, refl, sym, ◌∙◌, ap, subst, arith}
 use Rattle.std.specs.Prelude.{is_some, slice_get}
 use Rattle.std.proofs.lemmas.Bool.{cases_eq}
-use Rattle.std.proofs.lemmas.List.{drop-drop, length-drop, length-set}
+use Rattle.std.proofs.lemmas.List.{drop-drop, drop-map, length-drop, length-set}
 use Rattle.tl_messages.specs.declared.DBeat.{DBeat}
 use Rattle.scoreboard.specs.Boards.{Board, ClientBoard, with_client}
 use Rattle.scoreboard.specs.Flights.{Footprint, InFlight, begun_after, flights_after, with_left}
@@ -10,6 +10,7 @@ use Rattle.scoreboard.proofs.real_time.Ahead.{HasBecome, HasBeside, IsAhead, IsB
 use Rattle.scoreboard.proofs.real_time.AlikeBeats.{LeftAlike}
 use Rattle.scoreboard.proofs.real_time.Comings.{comes_other, comes_same}
 use Rattle.scoreboard.proofs.real_time.Explained.{sources_with}
+use Rattle.scoreboard.proofs.real_time.Failures.{shape_of}
 use Rattle.scoreboard.proofs.real_time.FlightPlaces.{coming_other, coming_same}
 use Rattle.scoreboard.proofs.real_time.Places.{HaveSources, Place, begun_at, cases_place, coming_at, coming_in, due_at, flight_at}
 use Rattle.scoreboard.proofs.real_time.ReplyMoves.{AreMoved}
@@ -23,12 +24,14 @@ behind_next mine theirs is =
     record {
       source = is.source;
       acts = is.acts;
+      sound = is.sound;
       less = is.less;
       long = length-drop 1 mine.beats ∙ ap (λ (n : ℕ). n - 1) is.long ∙ sym (length-drop 1 theirs.beats);
-      alike = λ n below.
+      shapes = sym (drop-map shape_of 1 mine.beats) ∙ ap (λ (beats : List DBeat). drop 1 beats) is.shapes ∙ drop-map shape_of 1 theirs.beats;
+      alike = λ sound n below.
           subst (λ (beats : List DBeat). LeftAlike mine.footprint beats (drop n (drop 1 theirs.beats))) (sym (drop-drop n 1 mine.beats))
           (subst (λ (beats : List DBeat). LeftAlike mine.footprint (drop (1 + n) mine.beats) beats) (sym (drop-drop n 1 theirs.beats))
-          (is.alike (1 + n) (omega (arith, below, length-drop 1 theirs.beats))));
+          (is.alike sound (1 + n) (omega (arith, below, length-drop 1 theirs.beats))));
     }
 
 -- what is left of one where something is left of the other

@@ -94,11 +94,3 @@ module _ (board : Board) (order : Order) (number source : ℕ) (explains : Expla
         by_begun : (o : Option InFlight) → client.flights.begun ≡ o → Kept
         by_begun (Some flight) is = by_source flight is (flight.source == source) refl
         by_begun None is = moved (λ next at. grind (arith, nat_tests, is, at, find-passes (is_of_source source) client.flights.due next))
-
-pub explains_reply : (board : Board) (order : Order) (number : ℕ) (beat : DBeat) → Explains board order
-    → Explains (after_d board number (slice_get board.clients number) beat) (after_beat order number beat.source)
-explains_reply board order number beat explains = by_client (slice_get board.clients number) refl
-  where
-    by_client : (o : Option ClientBoard) → slice_get board.clients number ≡ o → Explains (after_d board number o beat) (after_beat order number beat.source)
-    by_client None none = nobody board order number beat.source explains none
-    by_client (Some client) there = explains_own board order number beat.source explains client there

@@ -87,7 +87,7 @@ module _ (begun : Bool) (number source : ℕ) where
   own_client : (entry : Entry) → counts entry ≡ true → entry.client ≡ number
   own_client entry counted = grind (arith, nat_tests, counted)
 
-  place_next : (entry : Entry) → counts entry ≡ true → place_of (step entry) ≡ begun_at number
+  pub place_next : (entry : Entry) → counts entry ≡ true → place_of (step entry) ≡ begun_at number
   place_next entry counted = rw (goes_on entry counted) (grind (arith, nat_tests, own_client entry counted))
 
   -- ---- what is in flight at the places

@@ -11,9 +11,10 @@ use Rattle.tl_checker.specs.declared.Progress.{Progress}
 use Rattle.tl_checker.specs.declared.Progress.TheVariants.{More, Whole}
 use Rattle.tl_checker.specs.declared.TlRule.{TlRule}
 use Rattle.setups.specs.Setups.{SetupLists}
-use Rattle.scoreboard.specs.Boards.{Board, ClientBoard, after_seen, answer_to, opening_board, wrong_at}
+use Rattle.scoreboard.specs.Boards.{Board, ClientBoard, after_seen, answer_to, opening_with, wrong_at}
 use Rattle.scoreboard.specs.Orders.{Entry, IsWrongAs, Order, after_beat, board_after, byte_left, has_ended}
-use Rattle.scoreboard.specs.RealTime.{MayBecome, entry_of, is_awaited}
+use Rattle.scoreboard.specs.RealTime.{MayBecome, asked_on, entry_of, is_awaited, is_spoiled}
+use Rattle.scoreboard.specs.declared.Errors.{Errors}
 use Rattle.scoreboard.specs.declared.Policy.TheVariants.{RealTime}
 use Rattle.scoreboard.specs.declared.ObservedBeat.{ObservedBeat}
 use Rattle.scoreboard.specs.declared.ObservedBeat.TheVariants.{A, D, Axi as OnAxi, Drained}
@@ -31,32 +32,33 @@ abbrev pub is_coming : ℕ → Entry → Bool
 is_coming client entry = entry.client == client && not entry.whole
 
 -- it is whole with its last beat
-abbrev pub finished : ℕ → Entry → Entry
-finished client entry = if is_coming client entry then record entry { whole = true } else entry
+abbrev pub finished : Errors → ℕ → WholeRequest → Entry → Entry
+finished errors client q entry = if is_coming client entry then record entry { whole = true; spoiled = is_spoiled errors q } else entry
 
 -- with a beat that a port takes, by what had begun there: a request is put in with its first beat; and with the last one of several it is what it became
-abbrev pub GoesOnTaken : ℕ → Option HeldMessage → WholeRequest → Progress → Order → Order → Type 0
-GoesOnTaken client None q More old new =
-    (becomes : WholeRequest) × MayBecome (entry_of client q false) becomes × IsPutIn (entry_of client becomes false) old new
-GoesOnTaken client None q Whole old new = IsPutIn (entry_of client q true) old new
-GoesOnTaken client (Some held) q More old new = new ≡ old
-GoesOnTaken client (Some held) q Whole old new =
-    (new ≡ map (finished client) old) × AllByRecursion (λ entry. is_coming client entry ≡ true → entry.request ≡ q) old
+abbrev pub GoesOnTaken : Errors → ℕ → Option HeldMessage → WholeRequest → Progress → Order → Order → Type 0
+GoesOnTaken errors client None q More old new =
+    (becomes : WholeRequest) × MayBecome (entry_of errors client q false) becomes × IsPutIn (record (entry_of errors client q false) { request = becomes }) old new
+GoesOnTaken errors client None q Whole old new =
+    (becomes : WholeRequest) × MayBecome (entry_of errors client q true) becomes × IsPutIn (record (entry_of errors client q true) { request = becomes }) old new
+GoesOnTaken errors client (Some held) q More old new = new ≡ old
+GoesOnTaken errors client (Some held) q Whole old new =
+    (new ≡ map (finished errors client q) old) × AllByRecursion (λ entry. is_coming client entry ≡ true → MayBecome (entry_of errors client q true) entry.request) old
 
 -- with a port's answer
-abbrev pub GoesOnAnswered : ℕ → Option HeldMessage → HeldMessage → Result Progress TlRule → Order → Order → Type 0
-GoesOnAnswered client front message (Err broken) old new = new ≡ old
-GoesOnAnswered client front message (Ok progress) old new = GoesOnTaken client front (request_of message) progress old new
+abbrev pub GoesOnAnswered : Errors → ℕ → Option HeldMessage → HeldMessage → Result Progress TlRule → Order → Order → Type 0
+GoesOnAnswered errors client front message (Err broken) old new = new ≡ old
+GoesOnAnswered errors client front message (Ok progress) old new = GoesOnTaken errors client front (request_of message) progress old new
 
 -- with a beat on channel A
-abbrev pub GoesOnRequest : ℕ → Option ClientBoard → ABeat → Order → Order → Type 0
-GoesOnRequest number None beat old new = new ≡ old
-GoesOnRequest number (Some client) beat old new =
-    GoesOnAnswered number client.front (joined client.limits client.front beat) (answer_to RealTime client beat) old new
+abbrev pub GoesOnRequest : Errors → ℕ → Option ClientBoard → ABeat → Order → Order → Type 0
+GoesOnRequest errors number None beat old new = new ≡ old
+GoesOnRequest errors number (Some client) beat old new =
+    GoesOnAnswered errors number client.front (joined client.limits client.front beat) (answer_to RealTime client beat) old new
 
 -- how an order goes on with a beat, on a board on which it comes
 abbrev pub GoesOn : Board → ObservedBeat → Order → Order → Type 0
-GoesOn board (A client beat) old new = GoesOnRequest client (slice_get board.clients client) beat old new
+GoesOn board (A client beat) old new = GoesOnRequest board.errors client (slice_get board.clients client) beat old new
 GoesOn board (D client beat) old new = new ≡ after_beat old client beat.source
 GoesOn board (OnAxi beat) old new = new ≡ old
 GoesOn board Drained old new = new ≡ old
@@ -67,24 +69,24 @@ IsOrderFrom board now [] order = order ≡ now
 IsOrderFrom board now (seen ∷ rest) order = (next : Order) × GoesOn board seen now next × IsOrderFrom (after_seen RealTime board seen) next rest order
 
 -- the orders of what begins in all beats since the start
-abbrev pub IsOrderOf : SetupLists → List ObservedBeat → Order → Type 0
-IsOrderOf setup beats order = IsOrderFrom (opening_board setup) [] beats order
+abbrev pub IsOrderOf : Errors → SetupLists → List ObservedBeat → Order → Type 0
+IsOrderOf errors setup beats order = IsOrderFrom (opening_with errors setup) [] beats order
 
 -- ---- what is blamed, by these orders
 
 -- a beat on channel D that a board blames, be it the first that is wrong or a later one, is wrong by that rule in each of them
 abbrev pub BlamesByRule : Type 0
 BlamesByRule =
-    (setup : SetupLists) (before : List ObservedBeat) (order : Order) (client : ℕ) (beat : DBeat) (wrong : Wrong)
-    → IsOrderOf setup before order
-    → wrong_at RealTime (board_after setup before) (D client beat) ≡ Some wrong
-    → IsWrongAs setup order client beat wrong
+    (errors : Errors) (setup : SetupLists) (before : List ObservedBeat) (order : Order) (client : ℕ) (beat : DBeat) (wrong : Wrong)
+    → IsOrderOf errors setup before order
+    → wrong_at RealTime (board_after errors setup before) (D client beat) ≡ Some wrong
+    → IsWrongAs setup order (asked_on (board_after errors setup before) client beat) wrong
 
 -- a byte that isn't indeterminate, and that nothing that has begun may write, is what every order leaves
 abbrev pub KnowsBytes : Type 0
 KnowsBytes =
-    (setup : SetupLists) (before : List ObservedBeat) (order : Order) (x : ℕ)
-    → IsOrderOf setup before order
-    → (board_after setup before).indeterminate x ≡ false
-    → is_awaited (board_after setup before) x ≡ false
-    → byte_left setup order x ≡ (board_after setup before).memory.bytes x
+    (errors : Errors) (setup : SetupLists) (before : List ObservedBeat) (order : Order) (x : ℕ)
+    → IsOrderOf errors setup before order
+    → (board_after errors setup before).indeterminate x ≡ false
+    → is_awaited (board_after errors setup before) x ≡ false
+    → byte_left setup order x ≡ (board_after errors setup before).memory.bytes x

@@ -1,5 +1,5 @@
 -- A beat that is blamed by a rule breaks the same rule against a beat that is alike.
-use Rattle.std.proofs.Common.{◌≡◌, ℕ, zero, suc, ◌+◌, ◌-◌, ◌<◌, ◌==◌, Bool, true, false, not, List, [], ◌∷◌, ◌++◌, length, take, Option, Some, None, refl, sym, ◌∙◌, ap, subst, arith}
+use Rattle.std.proofs.Common.{◌≡◌, ℕ, zero, suc, ◌+◌, ◌-◌, ◌<◌, ◌==◌, Bool, true, false, not, List, [], ◌∷◌, ◌++◌, length, map, take, Option, Some, None, refl, sym, ◌∙◌, ap, subst, arith}
 use Rattle.std.specs.List.{list_any, range_with_len}
 use Rattle.tl_messages.specs.Operations.{beats_of}
 use Rattle.std.proofs.lemmas.Bool.Decides.{nat_tests}
@@ -8,10 +8,26 @@ use Rattle.bus_words.proofs.Ranges.{none_passes}
 use Rattle.tl_messages.specs.declared.DBeat.{DBeat}
 use Rattle.scoreboard.specs.declared.ReplyRule.{ReplyRule}
 use Rattle.scoreboard.specs.declared.ReplyRule.TheVariants as rule
+use Rattle.scoreboard.specs.declared.Wrong.{Wrong}
 use Rattle.scoreboard.specs.declared.Wrong.TheVariants as wrong
-use Rattle.scoreboard.specs.Boards.{differs_in, reply_rules, tells_otherwise, unless_indeterminate, wrong_beat, wrong_by, wrong_told}
+use Rattle.scoreboard.specs.Boards.{differs_in, due_beat, failed_beat, reply_rules, tells_otherwise, unless_indeterminate, wrong_beat, wrong_by, wrong_told}
 use Rattle.scoreboard.specs.Flights.{Footprint}
 use Rattle.scoreboard.proofs.real_time.AlikeBeats.{Alike, LeftAlike, Same, Words}
+use Rattle.scoreboard.proofs.real_time.Failures.{shape_of}
+
+-- what is wrong with a beat of the reply to a request that hasn't failed
+abbrev pub wrong_sure : Footprint → List DBeat → DBeat → Option Wrong
+wrong_sure footprint [] beat = Some (wrong.Reply rule.Unasked None)
+wrong_sure footprint (due ∷ rest) beat =
+    wrong_by due (unless_indeterminate (tells_otherwise footprint (beats_of footprint.size true - length (due ∷ rest)) due beat) (first_broken (reply_rules due beat)))
+
+pub sure_told : (footprint : Footprint) (told : Option Bool) (beats : List DBeat) (beat : DBeat) → footprint.failed ≡ false
+    → wrong_told footprint told beats beat ≡ wrong_sure footprint beats beat
+sure_told footprint told [] beat sound = refl
+sure_told footprint told (due ∷ rest) beat sound =
+    ap (λ (failed : Bool). wrong_by (due_beat failed told due beat)
+    (unless_indeterminate (tells_otherwise footprint (beats_of footprint.size true - length (due ∷ rest)) due beat)
+    (first_broken (reply_rules (due_beat failed told due beat) beat)))) sound
 
 -- where a payload differs it tells of nothing that is determined
 tells_nothing : (footprint : Footprint) (k : ℕ) (due other beat : DBeat) → Alike footprint k due other → beat.payload ≡ other.payload
@@ -73,19 +89,19 @@ still_blamed due otherwise (Some r) broken is tells = by_rule r broken is tells
 
 -- beats that are blamed by a rule are blamed by it too, where they are beside others that are alike, as many are left
 pub left_told : (footprint : Footprint) (mine theirs : List DBeat) (beat : DBeat) (broken : ReplyRule) (told : Option DBeat) → LeftAlike footprint mine theirs
-    → length mine ≡ length theirs → wrong_told footprint mine beat ≡ Some (wrong.Reply broken told)
-    → (other : Option DBeat) × (wrong_told footprint theirs beat ≡ Some (wrong.Reply broken other))
-left_told footprint mine theirs beat broken told (Same same) long is = (told, sym (ap (λ (beats : List DBeat). wrong_told footprint beats beat) same) ∙ is)
+    → length mine ≡ length theirs → wrong_sure footprint mine beat ≡ Some (wrong.Reply broken told)
+    → (other : Option DBeat) × (wrong_sure footprint theirs beat ≡ Some (wrong.Reply broken other))
+left_told footprint mine theirs beat broken told (Same same) long is = (told, sym (ap (λ (beats : List DBeat). wrong_sure footprint beats beat) same) ∙ is)
 left_told footprint mine theirs beat broken told (Words k due other rest others is_mine is_theirs alike place) long is =
     let blamed =
     sym (ap (λ (n : ℕ). wrong_by due (unless_indeterminate (tells_otherwise footprint n due beat) (first_broken (reply_rules due beat)))) place)
-    ∙ sym (ap (λ (beats : List DBeat). wrong_told footprint beats beat) is_mine) ∙ is in
+    ∙ sym (ap (λ (beats : List DBeat). wrong_sure footprint beats beat) is_mine) ∙ is in
     let its = is_blamed due (tells_otherwise footprint k due beat) (first_broken (reply_rules due beat)) broken told blamed in
     let first = same_rule footprint k due other beat broken told alike blamed in
     let as_many : length (other ∷ others) ≡ length (due ∷ rest) = sym (ap length is_theirs) ∙ sym long ∙ ap length is_mine in
     let number : beats_of footprint.size true - length (other ∷ others) ≡ k = ap (λ (n : ℕ). beats_of footprint.size true - n) as_many ∙ place in (
       Some other,
-      ap (λ (beats : List DBeat). wrong_told footprint beats beat) is_theirs
+      ap (λ (beats : List DBeat). wrong_sure footprint beats beat) is_theirs
           ∙ ap (λ (n : ℕ). wrong_by other (unless_indeterminate (tells_otherwise footprint n other beat) (first_broken (reply_rules other beat)))) number
           ∙ still_blamed other (tells_otherwise footprint k other beat) (first_broken (reply_rules other beat)) broken first
           (λ payload. otherwise_same footprint k due other beat alike ∙ its.1 payload),
@@ -96,17 +112,43 @@ abbrev pub IsBroken : List DBeat → DBeat → ReplyRule → Type 0
 IsBroken beats beat broken = (other : Option DBeat) × (wrong_beat beats beat ≡ Some (wrong.Reply broken other))
 
 same_broken : (footprint : Footprint) (beats : List DBeat) (beat : DBeat) (broken : ReplyRule) (told : Option DBeat)
-    → wrong_told footprint beats beat ≡ Some (wrong.Reply broken told) → IsBroken beats beat broken
+    → wrong_sure footprint beats beat ≡ Some (wrong.Reply broken told) → IsBroken beats beat broken
 same_broken footprint [] beat broken told is = (None, cc (is))
 same_broken footprint (due ∷ rest) beat broken told is = (Some due, ap (wrong_by due) (is_blamed due _ (first_broken (reply_rules due beat)) broken told is).0)
 
 -- beats that are blamed break the rule against those that are left of the same reply, made of other bytes
 pub left_broken : (footprint : Footprint) (mine theirs : List DBeat) (beat : DBeat) (broken : ReplyRule) (told : Option DBeat) → LeftAlike footprint mine theirs
-    → wrong_told footprint mine beat ≡ Some (wrong.Reply broken told) → IsBroken theirs beat broken
+    → wrong_sure footprint mine beat ≡ Some (wrong.Reply broken told) → IsBroken theirs beat broken
 left_broken footprint mine theirs beat broken told (Same same) is =
-    same_broken footprint theirs beat broken told (sym (ap (λ (beats : List DBeat). wrong_told footprint beats beat) same) ∙ is)
+    same_broken footprint theirs beat broken told (sym (ap (λ (beats : List DBeat). wrong_sure footprint beats beat) same) ∙ is)
 left_broken footprint mine theirs beat broken told (Words k due other rest others is_mine is_theirs alike place) is =
     let blamed =
     sym (ap (λ (n : ℕ). wrong_by due (unless_indeterminate (tells_otherwise footprint n due beat) (first_broken (reply_rules due beat)))) place)
-    ∙ sym (ap (λ (beats : List DBeat). wrong_told footprint beats beat) is_mine) ∙ is in
+    ∙ sym (ap (λ (beats : List DBeat). wrong_sure footprint beats beat) is_mine) ∙ is in
     (Some other, rw is_theirs (ap (wrong_by other) (same_rule footprint k due other beat broken told alike blamed)))
+
+-- what is due of a request that hasn't failed is as it is
+pub sure_shown : (failed : Bool) (told : Option Bool) (beats : List DBeat) (beat : DBeat) → failed ≡ false
+    → wrong_beat (map (λ due. due_beat failed told due beat) beats) beat ≡ wrong_beat beats beat
+sure_shown failed told [] beat sound = refl
+sure_shown failed told (due ∷ rest) beat sound = ap (λ (b : Bool). wrong_by (due_beat b told due beat) (first_broken (reply_rules (due_beat b told due beat) beat))) sound
+
+-- beats of a request that has failed are blamed as any others of the same shape are
+pub failed_broken : (footprint : Footprint) (failed : Bool) (told : Option Bool) (mine theirs : List DBeat) (beat : DBeat) (broken : ReplyRule) (x : Option DBeat)
+    → footprint.failed ≡ true → failed ≡ true → map shape_of mine ≡ map shape_of theirs → wrong_told footprint told mine beat ≡ Some (wrong.Reply broken x)
+    → IsBroken (map (λ due. due_beat failed told due beat) theirs) beat broken
+failed_broken footprint failed told [] [] beat broken x has has_too shapes is = (None, cc (is))
+failed_broken footprint failed told [] (other ∷ others) beat broken x has has_too shapes is = absurd (cc (shapes))
+failed_broken footprint failed told (due ∷ rest) [] beat broken x has has_too shapes is = absurd (cc (shapes))
+failed_broken footprint failed told (due ∷ rest) (other ∷ others) beat broken x has has_too shapes is =
+    let same : shape_of due ≡ shape_of other = cc (shapes) in
+    let otherwise = tells_otherwise footprint (beats_of footprint.size true - length (due ∷ rest)) due beat in
+    let blamed : wrong_by (failed_beat told due beat) (unless_indeterminate otherwise (first_broken (reply_rules (failed_beat told due beat) beat))) ≡ Some (wrong.Reply broken x) =
+    sym (ap (λ (b : Bool). wrong_by (due_beat b told due beat) (unless_indeterminate otherwise (first_broken (reply_rules (due_beat b told due beat) beat)))) has) ∙ is in
+    let first = (is_blamed (failed_beat told due beat) otherwise (first_broken (reply_rules (failed_beat told due beat) beat)) broken x blamed).0 in
+    let here : first_broken (reply_rules (failed_beat told other beat) beat) ≡ Some broken =
+    sym (ap (λ (d : DBeat). first_broken (reply_rules (failed_beat told d beat) beat)) same) ∙ first in (
+      Some (due_beat failed told other beat),
+      ap (wrong_by (due_beat failed told other beat))
+          (ap (λ (b : Bool). first_broken (reply_rules (due_beat b told other beat) beat)) has_too ∙ here),
+    )

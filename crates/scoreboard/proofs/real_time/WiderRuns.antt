@@ -1,10 +1,11 @@
 -- Boards of both policies that get the same beats hold the same, but for what is known of requests that race, until one is of a busy source or a W
 -- beat without a write; so nothing is found wrong in real time with beats that are right.
-use Rattle.std.proofs.Common.{◌≡◌, ℕ, Bool, true, false, List, [], ◌∷◌, Option, Some, None, Result, Ok, Err, refl, sym, ◌∙◌, ap, subst, arith}
-use Rattle.std.specs.Prelude.{is_some, slice_get}
+use Rattle.std.proofs.Common.{◌≡◌, ℕ, Bool, true, false, List, [], ◌∷◌, Option, Some, None, Result, Ok, Err, refl, sym, ◌∙◌, ap, ap₂, subst, arith}
+use Rattle.std.specs.Prelude.{is_some, slice_get, unwrap_or}
 use Rattle.std.specs.Option.{option_map}
 use Rattle.std.proofs.lemmas.Option.{slice_get-map}
-use Rattle.tl_messages.specs.Requests.{HeldMessage, request_of}
+use Rattle.setups.specs.Setups.{SetupLists}
+use Rattle.tl_messages.specs.Requests.{HeldMessage, WholeRequest, request_of}
 use Rattle.tl_messages.specs.declared.ABeat.{ABeat}
 use Rattle.tl_messages.specs.declared.DBeat.{DBeat}
 use Rattle.tl_checker.specs.Ports.{joined}
@@ -13,16 +14,22 @@ use Rattle.tl_checker.specs.declared.Progress.TheVariants.{More, Whole}
 use Rattle.tl_checker.specs.declared.TlRule.{TlRule}
 use Rattle.axi_checker.specs.declared.AxiBeat.{AxiBeat}
 use Rattle.scoreboard.specs.AxiPorts.{PortBoard, after_in_order, after_with_early, tells_no_write, wrong_in_order}
-use Rattle.scoreboard.specs.Boards.{Board, ClientBoard, IsReached, a_wrong, after_a, after_all, after_d, after_seen, answer_to, answered_on, coming_on, joining_on, more_on, opening_board, whole_on, with_client, with_taken, wrong_at}
+use Rattle.scoreboard.specs.Boards.{Board, ClientBoard, IsReached, a_wrong, after_a, after_all, after_d, after_seen, answer_to, answered_on, beginning_on, coming_on, fails, joining_on, more_on, opening_board, place_on, told_to, whole_on, with_client, with_taken, wrong_at}
 use Rattle.scoreboard.specs.Flights.{Flights, flights_after, no_footprint}
+use Rattle.scoreboard.specs.Races.{alone}
+use Rattle.scoreboard.specs.declared.Errors.TheVariants.{Strict}
 use Rattle.scoreboard.specs.Wider.{AreTogether, IsWiderAlong, LetsRightPass, TellsNoMore, board_alone, client_alone, tells_apart, tells_busy}
 use Rattle.scoreboard.specs.declared.Policy.TheVariants.{AcceptanceOrder, RealTime}
 use Rattle.scoreboard.specs.declared.ObservedBeat.{ObservedBeat}
 use Rattle.scoreboard.specs.declared.ObservedBeat.TheVariants.{A, D, Axi as OnAxi, Drained}
 use Rattle.scoreboard.proofs.acceptance_order.Reached.{right_exactly, right_front, right_reached}
 use Rattle.scoreboard.proofs.held.EarlyBeats.{after_as}
-use Rattle.scoreboard.proofs.real_time.FlightsAlone.{begun_alone, client_changed_alone, flights_alone, given_alone, joined_alone, opens_alone}
-use Rattle.scoreboard.proofs.real_time.WiderVerdicts.{none_told, nothing_early, same_answer, tells_no_more}
+use Rattle.scoreboard.proofs.real_time.Becoming.{errors_kept}
+use Rattle.scoreboard.proofs.real_time.EachFlight.{AreOfEach, IsOfEach, seen_each}
+use Rattle.scoreboard.proofs.real_time.Explained.{opening_at}
+use Rattle.scoreboard.proofs.real_time.Failures.{fails_flag}
+use Rattle.scoreboard.proofs.real_time.FlightsAlone.{begun_alone, client_changed_alone, flights_alone, given_alone, joined_alone, opens_alone, told_alone}
+use Rattle.scoreboard.proofs.real_time.WiderVerdicts.{IsUnfailed, none_told, nothing_early, same_answer, tells_no_more}
 
 -- a board of real time holds what one of acceptance order does, and nothing is early
 record IsOn (compared board : Board) : Type 0 where
@@ -45,7 +52,7 @@ request_on old number (Some client) beat none free = rw (same_answer client beat
 
     more : (begun : Bool) → IsOn (with_client number (client_alone changed) (board_alone old)) (more_on (with_client number changed old) number changed (request_of message) begun)
     more true = record { holds = client_changed_alone old number changed; early = none }
-    more false = record { holds = begun_alone old number changed (joining_on (with_client number changed old) (request_of message)); early = none }
+    more false = record { holds = begun_alone old number changed (beginning_on (with_client number changed old) (request_of message)); early = none }
 
     whole : (begun : Bool) → IsOn (with_taken (board_alone old) number (client_alone client) (request_of message) no_footprint) (whole_on old number client (request_of message) begun)
     whole true = record { holds = given_alone old number client (request_of message) (coming_on old (request_of message) client.coming); early = none }
@@ -62,8 +69,9 @@ reply_on : (old : Board) (number : ℕ) (found : Option ClientBoard) (beat : DBe
 reply_on old number None beat none = record { holds = refl; early = none }
 reply_on old number (Some client) beat none =
     record {
-      holds = client_changed_alone old number (record client { flights = flights_after client.flights beat.source })
-          ∙ ap (λ (flights : Flights). with_client number (record (client_alone client) { flights = flights }) (board_alone old)) (flights_alone client.flights beat.source);
+      holds = client_changed_alone old number (record client { flights = flights_after client.flights beat.source; told = unwrap_or (told_to client) beat.denied })
+          ∙ ap₂ (λ (flights : Flights) (told : Bool). with_client number (record (client_alone client) { flights = flights; told = told }) (board_alone old))
+          (flights_alone client.flights beat.source) (ap (λ (o : Option Bool). unwrap_or o beat.denied) (told_alone client));
       early = none;
     }
 
@@ -84,6 +92,36 @@ after_on old (OnAxi beat) none free =
     record { holds = ap (λ (port : PortBoard). record (board_alone old) { axi = port }) same; early = ap (λ (port : PortBoard). port.early) same ∙ none }
 after_on old Drained none free = record { holds = refl; early = refl }
 
+-- ---- no request in flight has failed, where errors are told as this project's bridge tells them
+
+record IsStrict (board : Board) : Type 0 where
+  errors : board.errors ≡ Strict
+  unfailed : AreOfEach IsUnfailed board.clients
+
+strict_next : (board : Board) (seen : ObservedBeat) → IsStrict board → IsStrict (after_seen RealTime board seen)
+strict_next board seen strict =
+    record {
+      errors = errors_kept board seen ∙ strict.errors;
+      unfailed = seen_each IsUnfailed (λ footprint flight sound. sound) (λ flight sound. sound) board strict.unfailed
+          (λ q. fails_flag (fails board.errors board.memory q) (beginning_on board q) refl ∙ sound q)
+          (λ coming q. fails_flag (fails board.errors board.memory q) (alone board.indeterminate (place_on board q) q) refl ∙ sound q) seen;
+    }
+  where
+    sound : (q : WholeRequest) → fails board.errors board.memory q ≡ false
+    sound q = ap (λ errors. fails errors board.memory q) strict.errors
+
+strict_opens : (setup : SetupLists) → IsStrict (opening_board setup)
+strict_opens setup =
+    record {
+      errors = refl;
+      unfailed = λ number client is.
+          let found = opening_at setup.config 0 setup.config.clients number client is in subst (IsOfEach IsUnfailed) (sym found.1) (tt, tt);
+    }
+
+strict_all : (beats : List ObservedBeat) (board : Board) → IsStrict board → IsStrict (after_all RealTime board beats)
+strict_all [] board strict = strict
+strict_all (seen ∷ beats) board strict = strict_all beats (after_seen RealTime board seen) (strict_next board seen strict)
+
 -- ---- lists of beats
 
 followed_on : (compared board : Board) (beats : List ObservedBeat) → IsOn compared board → AreTogether compared beats → IsOn (after_all AcceptanceOrder compared beats) (after_all RealTime board beats)
@@ -99,7 +137,8 @@ is_wider board seen setup before is told =
     (followed_on (opening_board setup) (opening_board setup) before (record { holds = opens_alone setup; early = refl }) told) in
     record {
       holds = on.holds;
-      tells = subst (λ (compared : Board). TellsNoMore (wrong_at AcceptanceOrder compared seen) (wrong_at RealTime board seen)) on.holds (tells_no_more board seen on.early);
+      tells = subst (λ (compared : Board). TellsNoMore (wrong_at AcceptanceOrder compared seen) (wrong_at RealTime board seen)) on.holds
+          (tells_no_more board seen (subst IsStrict (sym is) (strict_all before (opening_board setup) (strict_opens setup))).unfailed on.early);
     }
 
 -- ---- beats that are right

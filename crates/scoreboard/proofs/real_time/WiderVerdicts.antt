@@ -1,10 +1,11 @@
 -- What a board of real time says of a beat, beside one of acceptance order that holds the same: no more, and less only of a busy source, of a W
 -- beat without a write and of another payload.
-use Rattle.std.proofs.Common.{◌≡◌, Bool, true, false, ◌&&◌, ◌||◌, not, if◌then◌else◌, List, [], ◌∷◌, ◌++◌, take, Option, Some, None, Result, Err}
-use Rattle.std.proofs.Common.{◌⊎◌, inl, inr, refl, ◌∙◌, ap, arith}
+use Rattle.std.proofs.Common.{◌≡◌, ℕ, Bool, true, false, ◌&&◌, ◌||◌, not, if◌then◌else◌, List, [], ◌∷◌, ◌++◌, take, Option, Some, None, Result, Err}
+use Rattle.std.proofs.Common.{◌⊎◌, inl, inr, refl, sym, ◌∙◌, ap, subst, arith}
 use Rattle.std.specs.Prelude.{slice_get}
-use Rattle.std.specs.List.{list_any}
-use Rattle.std.specs.Option.{option_map}
+use Rattle.std.specs.List.{AllByRecursion, find, list_any}
+use Rattle.std.specs.Option.{option_map, option_or, option_to_list}
+use Rattle.bus_words.proofs.PlaceChanges.{all-find}
 use Rattle.std.proofs.lemmas.Bool.{or_right}
 use Rattle.std.proofs.lemmas.Option.{slice_get-map}
 use Rattle.bus_words.specs.Tables.{first_broken}
@@ -20,7 +21,7 @@ use Rattle.axi_checker.specs.declared.AxiBeat.{AxiBeat}
 use Rattle.axi_checker.specs.declared.AxiBeat.TheVariants.{Ar as OnAr, Aw as OnAw, B as OnB, R as OnR, W as OnW}
 use Rattle.axi_checker.specs.Rules.{axi_fault}
 use Rattle.scoreboard.specs.AxiPorts.{PortBoard, none_early, tells_no_write, wrong_in_order, wrong_with_early}
-use Rattle.scoreboard.specs.Boards.{Board, ClientBoard, a_wrong, answer_to, d_wrong, is_payload, reply_rules, unless_indeterminate, wrong_at, wrong_beat, wrong_by, wrong_reply, wrong_request, wrong_told}
+use Rattle.scoreboard.specs.Boards.{Board, ClientBoard, a_wrong, answer_to, d_wrong, is_payload, reply_rules, told_to, unless_indeterminate, wrong_at, wrong_beat, wrong_by, wrong_reply, wrong_request}
 use Rattle.scoreboard.specs.Flights.{Footprint, InFlight, begun_is_of, is_of_source, next_reply}
 use Rattle.scoreboard.specs.Wider.{TellsNoMore, board_alone, client_alone, flight_alone, tells_apart, tells_busy, tells_payload}
 use Rattle.scoreboard.specs.declared.Policy.TheVariants.{AcceptanceOrder, RealTime}
@@ -30,7 +31,9 @@ use Rattle.scoreboard.specs.declared.ObservedBeat.TheVariants.{A, D, Axi as OnAx
 use Rattle.scoreboard.specs.declared.Wrong.{Wrong}
 use Rattle.scoreboard.specs.declared.Wrong.TheVariants.{Reply}
 use Rattle.scoreboard.proofs.held.EarlyBeats.{aw_wrong}
+use Rattle.scoreboard.proofs.real_time.EachFlight.{AreOfEach, IsOfEach}
 use Rattle.scoreboard.proofs.real_time.FlightsAlone.{busy_alone, next_alone}
+use Rattle.scoreboard.proofs.real_time.Verdicts.{sure_told, wrong_sure}
 
 -- where nothing is wrong in order of acceptance, nothing is in real time
 pub none_told : (compared verdict : Option Wrong) → TellsNoMore compared verdict → compared ≡ None → verdict ≡ None
@@ -103,17 +106,39 @@ rule_told otherwise due (Some rule) = by_tests (is_payload rule) otherwise refl
     by_tests true false is = inr (inr (is_told rule due is), refl)
     by_tests false tells is = inl refl
 
-told_less : (footprint : Footprint) (dues : List DBeat) (beat : DBeat) → TellsNoMore (wrong_beat dues beat) (wrong_told footprint dues beat)
+told_less : (footprint : Footprint) (dues : List DBeat) (beat : DBeat) → TellsNoMore (wrong_beat dues beat) (wrong_sure footprint dues beat)
 told_less footprint [] beat = inl refl
 told_less footprint (due ∷ rest) beat = rule_told _ due (first_broken (reply_rules due beat))
 
-reply_told : (next : Option InFlight) (beat : DBeat) → TellsNoMore (wrong_reply AcceptanceOrder (option_map flight_alone next) beat) (wrong_reply RealTime next beat)
-reply_told None beat = inl refl
-reply_told (Some flight) beat = told_less flight.footprint flight.beats beat
+-- a request in flight hasn't failed
+abbrev pub IsUnfailed : InFlight → Type 0
+IsUnfailed flight = flight.footprint.failed ≡ false
 
-d_told : (found : Option ClientBoard) (beat : DBeat) → TellsNoMore (d_wrong AcceptanceOrder (option_map client_alone found) beat) (d_wrong RealTime found beat)
-d_told None beat = inl refl
-d_told (Some client) beat = rw (next_alone client.flights beat.source) (reply_told (next_reply client.flights beat.source) beat)
+reply_told : (before told : Option Bool) (next : Option InFlight) (beat : DBeat) → AllByRecursion IsUnfailed (option_to_list next)
+    → TellsNoMore (wrong_reply AcceptanceOrder before (option_map flight_alone next) beat) (wrong_reply RealTime told next beat)
+reply_told before told None beat unfailed = inl refl
+reply_told before told (Some flight) beat unfailed =
+    subst (TellsNoMore (wrong_beat flight.beats beat)) (sym (sure_told flight.footprint told flight.beats beat unfailed.0)) (told_less flight.footprint flight.beats beat)
+
+-- the one whose reply has its next beat there is one of those in flight
+next_of_each : (client : ClientBoard) (source : ℕ) → IsOfEach IsUnfailed client → AllByRecursion IsUnfailed (option_to_list (next_reply client.flights source))
+next_of_each client source all = by_begun client.flights.begun all.1
+  where
+    found : (o : Option InFlight) → find (is_of_source source) client.flights.due ≡ o → AllByRecursion IsUnfailed (option_to_list o)
+    found None is = tt
+    found (Some flight) is = (all-find IsUnfailed (is_of_source source) client.flights.due flight all.0 is, tt)
+
+    by_begun : (begun : Option InFlight) → AllByRecursion IsUnfailed (option_to_list begun)
+        → AllByRecursion IsUnfailed (option_to_list (option_or begun (find (is_of_source source) client.flights.due)))
+    by_begun (Some flight) some = some
+    by_begun None none = found (find (is_of_source source) client.flights.due) refl
+
+d_told : (found : Option ClientBoard) (beat : DBeat) → ((client : ClientBoard) → found ≡ Some client → IsOfEach IsUnfailed client)
+    → TellsNoMore (d_wrong AcceptanceOrder (option_map client_alone found) beat) (d_wrong RealTime found beat)
+d_told None beat unfailed = inl refl
+d_told (Some client) beat unfailed =
+    rw (next_alone client.flights beat.source)
+    (reply_told (told_to (client_alone client)) (told_to client) (next_reply client.flights beat.source) beat (next_of_each client beat.source (unfailed client refl)))
 
 -- ---- the AXI4 port
 
@@ -140,8 +165,10 @@ axi_told port (OnR beat) none = inl refl
 
 -- ---- any beat
 
-pub tells_no_more : (board : Board) (seen : ObservedBeat) → board.axi.early ≡ [] → TellsNoMore (wrong_at AcceptanceOrder (board_alone board) seen) (wrong_at RealTime board seen)
-tells_no_more board (A client beat) none = rw (slice_get-map client_alone board.clients client) (a_told (slice_get board.clients client) beat)
-tells_no_more board (D client beat) none = rw (slice_get-map client_alone board.clients client) (d_told (slice_get board.clients client) beat)
-tells_no_more board (OnAxi beat) none = axi_told board.axi beat none
-tells_no_more board Drained none = inl refl
+pub tells_no_more : (board : Board) (seen : ObservedBeat) → AreOfEach IsUnfailed board.clients → board.axi.early ≡ []
+    → TellsNoMore (wrong_at AcceptanceOrder (board_alone board) seen) (wrong_at RealTime board seen)
+tells_no_more board (A client beat) unfailed none = rw (slice_get-map client_alone board.clients client) (a_told (slice_get board.clients client) beat)
+tells_no_more board (D client beat) unfailed none =
+    rw (slice_get-map client_alone board.clients client) (d_told (slice_get board.clients client) beat (λ found there. unfailed client found there))
+tells_no_more board (OnAxi beat) unfailed none = axi_told board.axi beat none
+tells_no_more board Drained unfailed none = inl refl

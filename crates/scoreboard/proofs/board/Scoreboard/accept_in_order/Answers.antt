@@ -1,18 +1,23 @@
 -- It keeps no footprint.
-use Rattle.std.proofs.Common.{◌≡◌, Some, ap, subst, sym, ◌∙◌}
+use Rattle.std.proofs.Common.{ap, subst, sym, ◌∙◌}
 use Rattle.std.specs.Prelude.{slice_get}
-use Rattle.tl_messages.specs.Requests.{request_of}
-use Rattle.scoreboard.specs.Boards.{ClientBoard, with_taken}
-use Rattle.scoreboard.specs.Flights.{Footprint}
-use Rattle.scoreboard.specs.InsideBoards.{BoardState, IsFreeOf, board_of, footprint_of}
+use Rattle.scoreboard.specs.Flights.{InFlight, no_footprint}
+use Rattle.scoreboard.specs.InsideBoards.{BoardState, IsOnGoodPage, board_of}
+use Rattle.scoreboard.proofs.held.BoardSteps.{taken, with_changes}
 use Rattle.scoreboard.proofs.board.Scoreboard.accept_in_order.Goals as goal
 
-pub take_in-requires-clause-free : goal.take_in-requires-clause-free
-take_in-requires-clause-free c =
-    subst (λ (b : BoardState). (found : ClientBoard) → slice_get (board_of b).clients c.args.client ≡ Some found → IsFreeOf b.request.source found) (sym c.self.view_is) c.requires.free
+pub put_in-requires-clause-free : goal.put_in-requires-clause-free
+put_in-requires-clause-free c found there =
+    rw (ap (λ (f : InFlight). f.source) c.carry_out.ensures.flight) (c.requires.free found (ap (λ (b : BoardState). slice_get (board_of b).clients c.args.client) (sym c.carry_out.ensures.rest) ∙ there))
+
+pub put_in-requires-clause-good : goal.put_in-requires-clause-good
+put_in-requires-clause-good c = subst (IsOnGoodPage c.carry_out.new.self.memory.pages.faults) (sym c.carry_out.ensures.footprint) (λ writes. absurd (cc (writes)))
 
 pub returns-clause-state : goal.returns-clause-state
 returns-clause-state c found is =
-    c.take_in.ensures.state found (ap (λ (b : BoardState). slice_get (board_of b).clients c.args.client) c.self.view_is ∙ is)
-    ∙ ap (λ (b : BoardState). with_taken (board_of b) c.args.client found (request_of b.request) (footprint_of c.clear_footprint.new.self.footprint)) c.self.view_is
-    ∙ ap (λ (f : Footprint). with_taken (board_of c.args.self.now) c.args.client found (request_of c.args.self.now.request) f) c.clear_footprint.ensures.footprint
+    let old = c.args.self.now in
+    let now = c.carry_out.new.self in
+    c.put_in.ensures.state found (ap (λ (b : BoardState). slice_get (board_of b).clients c.args.client) c.carry_out.ensures.rest ∙ is)
+    ∙ taken old now c.args.client found no_footprint
+    (record { rest = ap (with_changes now) c.carry_out.ensures.rest; memory = c.carry_out.ensures.memory; flight = c.carry_out.ensures.flight })
+    c.carry_out.ensures.rest c.carry_out.ensures.footprint

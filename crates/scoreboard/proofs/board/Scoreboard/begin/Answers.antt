@@ -6,25 +6,24 @@ use Rattle.std.proofs.lemmas.List.{places, with_items_is}
 use Rattle.bus_words.proofs.PlaceChanges.{all-got}
 use Rattle.subordinate.specs.Faults.{is_good, standing_at}
 use Rattle.tl_messages.specs.Requests.{HeldMessage, begun, request_of}
-use Rattle.scoreboard.specs.Boards.{Board, ClientBoard, begun_on, client_beside, client_footprints, footprints_of, joining_on}
+use Rattle.scoreboard.specs.Boards.{Board, ClientBoard, beginning_on, begun_on, client_beside, client_footprints, footprints_of, place_on}
 use Rattle.scoreboard.specs.Flights.{Footprint}
 use Rattle.scoreboard.specs.InsideBoards.{AreOnGoodPages, BoardState, ClientState, ClientsHaveRoom, FootprintState, IsOnGoodPage, board_of, client_of, footprint_of, is_marked, room_by}
 use Rattle.scoreboard.specs.InsideSerial.{IsMemoryRange}
 use Rattle.scoreboard.specs.Races.{alone, beside_all, beside_dependent}
-use Rattle.scoreboard.specs.SerialMemory.{memory_of, place_in}
 use Rattle.scoreboard.specs.contracts.board.Scoreboard.{the_view}
-use Rattle.scoreboard.proofs.held.BoardSteps.{AreKept, begun_behind, beside_kept, client_is, client_kept, is_there, there_at}
+use Rattle.scoreboard.proofs.held.BoardSteps.{AreKept, beginning_same, begun_behind, beside_kept, client_is, client_kept, is_there, there_at}
 use Rattle.scoreboard.proofs.held.ClientFootprints.{good_coming, good_joining}
 use Rattle.scoreboard.proofs.held.FootprintBytes.{few_bytes}
 use Rattle.scoreboard.proofs.memory_words.RequestWords.{placed_range}
 use Rattle.scoreboard.proofs.board.Scoreboard.begin.Goals.{After-index_mut}
 use Rattle.scoreboard.proofs.board.Scoreboard.begin.Goals as goal
 
-own : (c : goal.After-place) → IsMemoryRange c.begin.new.self.address c.begin.new.self.size
+own : (c : goal.After-start_footprint-arg-1) → IsMemoryRange c.begin.new.self.address c.begin.new.self.size
 own c = subst (λ (held : HeldMessage). IsMemoryRange held.address held.size) (sym c.begin.ensures) c.requires.first.range
 
 pub start_footprint-requires-clause-range : goal.start_footprint-requires-clause-range
-start_footprint-requires-clause-range c = placed_range c.begin.new.self.address c.begin.new.self.size c.place.result (own c) c.place.ensures.same_byte
+start_footprint-requires-clause-range c = placed_range c.begin.new.self.address c.begin.new.self.size c.place_of-place.result (own c) c.place_of-place.ensures.same_byte
 
 pub start_footprint-requires-clause-room : goal.start_footprint-requires-clause-room
 start_footprint-requires-clause-room c =
@@ -62,11 +61,11 @@ begin-requires-2 c =
     record { room = c.limit.ensures.room ∙ c.start_footprint.ensures.room ∙ c.self.invariant.2 ∙ sym own_room }
 
 -- its footprint, on the board as it is held
-joined : (c : goal.After-self-1) → footprint_of c.limit.new.joined.footprint ≡ joining_on (board_of (the_view c.self.inside)) (request_of c.begin.new.self)
+joined : (c : goal.After-self-1) → footprint_of c.limit.new.joined.footprint ≡ beginning_on (board_of (the_view c.self.inside)) (request_of c.begin.new.self)
 joined c =
     c.limit.ensures.footprint
     ∙ ap₂ (λ (f : Footprint) (cs : List ClientState). beside_all f (footprints_of (map client_of cs)))
-    (c.start_footprint.ensures.footprint ∙ ap (λ place. alone (is_marked c.self.inside.indeterminate) place (request_of c.begin.new.self)) c.place.ensures.place)
+    (c.start_footprint.ensures.footprint ∙ ap (λ place. alone (is_marked c.self.inside.indeterminate) place (request_of c.begin.new.self)) c.place_of-place.ensures.place)
     c.deref.ensures.value
 
 pub invariant_of-self : goal.invariant_of-self
@@ -76,8 +75,8 @@ invariant_of-self c =
     let one = c.index_mut.result.now in
     let at = (goal.at.invariant_of-self c).After-index_mut in
     let own_good = subst (IsOnGoodPage faults) (sym (joined c))
-    (good_joining faults (is_marked c.self.inside.indeterminate) (footprints_of (map client_of c.self.inside.clients.items)) (place_in (memory_of c.self.inside.serial) (request_of c.begin.new.self)) (request_of c.begin.new.self)
-    (subst (λ place. IfSome place (λ address. is_good (standing_at faults address) ≡ true)) c.place.ensures.place c.place.ensures.good)) in
+    (good_joining faults (is_marked c.self.inside.indeterminate) (footprints_of (map client_of c.self.inside.clients.items)) (place_on (board_of (the_view c.self.inside)) (request_of c.begin.new.self)) (request_of c.begin.new.self)
+    (subst (λ place. IfSome place (λ address. is_good (standing_at faults address) ≡ true)) c.place_of-place.ensures.place c.place_of-place.ensures.good)) in
     let all = client_kept room faults c.give_way.new.clients c.from.result one c.begin-2.new.self (there at) (ap (λ (client : ClientState). client.flights.room) c.begin-2.ensures.client)
     (λ good. subst (λ (client : ClientState). AreOnGoodPages faults (client_footprints (client_of client))) (sym c.begin-2.ensures.client)
     (good_coming faults (footprint_of c.limit.new.joined.footprint) (client_of one) good own_good)) (kept at) in
@@ -108,5 +107,6 @@ returns-clause-state c found is =
     ∙ begun_behind old c.give_way.new.clients c.mark_beside.new.marks c.begin.new.self c.begin-2.new.flight number found c.begin-2.new.self footprint (given at) marked
     (ap client_of c.begin-2.ensures.client ∙ ap {B = ClientBoard} (λ (client : ClientBoard). record client { coming = footprint }) same)
     ∙ ap (begun_on (board_of old) number found) (joined c)
-    ∙ ap (λ (held : HeldMessage). begun_on (board_of old) number found (joining_on (board_of old) (request_of held))) c.begin.ensures
-    ∙ ap₂ (λ (b : BoardState) (n : ℕ). begun_on (board_of b) n found (joining_on (board_of b) (request_of (begun c.args.client beat)))) c.self.view_is c.from.ensures
+    ∙ ap (λ (held : HeldMessage). begun_on (board_of old) number found (beginning_on (board_of old) (request_of held))) c.begin.ensures
+    ∙ ap₂ (λ (b : BoardState) (n : ℕ). begun_on (board_of b) n found (beginning_on (board_of b) (request_of (begun c.args.client beat)))) c.self.view_is c.from.ensures
+    ∙ ap (begun_on (board_of c.args.self.now) c.args.client found) (beginning_same (board_of c.args.self.now) c.args.client found.limits.client beat)

@@ -2,22 +2,24 @@
 use Rattle.std.proofs.Common.{ap, ap₂, arith, rules, subst, sym, ◌∙◌}
 use Rattle.std.specs.Prelude.{slice_get}
 use Rattle.tl_messages.specs.Requests.{request_of}
-use Rattle.scoreboard.specs.Boards.{ClientBoard, coming_on, kept_from}
+use Rattle.scoreboard.specs.Boards.{ClientBoard, coming_on, fails, flight_for, kept_from, place_on}
 use Rattle.scoreboard.specs.Flights.{Footprint}
-use Rattle.scoreboard.specs.InsideBoards.{BoardState, board_of, is_marked, room_by}
-use Rattle.scoreboard.specs.Races.{alone}
-use Rattle.scoreboard.specs.SerialMemory.{IsCheckedRequest}
+use Rattle.scoreboard.specs.InsideBoards.{BoardState, board_of, footprint_of, is_marked, room_by}
+use Rattle.scoreboard.specs.Races.{alone, unless_failed}
+use Rattle.scoreboard.specs.SerialMemory.{IsCheckedRequest, memory_of}
+use Rattle.scoreboard.specs.contracts.board.Scoreboard.{the_view}
 use Rattle.scoreboard.proofs.held.BoardSteps.{client_is, there_at}
+use Rattle.scoreboard.proofs.held.Failed.{failed_by, failed_kept, flight_failed}
 use Rattle.scoreboard.proofs.held.FootprintBytes.{few_bytes}
 use Rattle.scoreboard.proofs.memory_words.RequestWords.{own_range, placed_range}
 use Rattle.scoreboard.proofs.board.Scoreboard.give.Goals as goal
 
-checked : (c : goal.After-place) → IsCheckedRequest c.self.inside.request
+checked : (c : goal.After-start_footprint-arg-1) → IsCheckedRequest c.self.inside.request
 checked c = subst IsCheckedRequest (sym (ap (λ (b : BoardState). b.request) c.self.view_is)) c.requires.checked
 
 pub start_footprint-requires-clause-range : goal.start_footprint-requires-clause-range
 start_footprint-requires-clause-range c =
-    placed_range c.self.inside.request.address c.self.inside.request.size c.place.result (own_range c.self.inside.request (checked c)) c.place.ensures.same_byte
+    placed_range c.self.inside.request.address c.self.inside.request.size c.place_of-place.result (own_range c.self.inside.request (checked c)) c.place_of-place.ensures.same_byte
 
 pub start_footprint-requires-clause-room : goal.start_footprint-requires-clause-room
 start_footprint-requires-clause-room c =
@@ -31,7 +33,16 @@ returns-clause-footprint c found is =
     let one = c.index.result.now in
     let there = there_at clients c.args.client one (search rules) c.index.ensures in
     let same = client_is clients c.args.client one found there (ap (λ (b : BoardState). slice_get (board_of b).clients c.args.client) c.self.view_is ∙ is) in
-    let start = c.start_footprint.ensures.footprint ∙ ap (λ place. alone (is_marked c.self.inside.indeterminate) place (request_of c.self.inside.request)) c.place.ensures.place in
-    c.keep.ensures.footprint
-    ∙ ap₂ (λ (coming footprint : Footprint). kept_from coming footprint) (ap (λ (client : ClientBoard). client.coming) same) start
+    let start = c.start_footprint.ensures.footprint ∙ ap (λ place. alone (is_marked c.self.inside.indeterminate) place (request_of c.self.inside.request)) c.place_of-place.ensures.place in
+    let kept = c.keep.ensures.footprint ∙ ap₂ (λ (coming footprint : Footprint). kept_from coming footprint) (ap (λ (client : ClientBoard). client.coming) same) start in
+    let memory = memory_of c.self.inside.serial in
+    let failed = fails c.self.inside.errors memory (request_of c.self.inside.request) in
+    failed_by c.self.inside.errors memory c.self.inside.request c.keep.new.flight.footprint c.carry_out.new.self c.fail_by.new.self c.carry_out.ensures.flight c.fail_by.ensures.footprint
+    ∙ ap (unless_failed failed) kept
+    ∙ failed_kept failed found.coming (alone (is_marked c.self.inside.indeterminate) (place_on (board_of (the_view c.self.inside)) (request_of c.self.inside.request)) (request_of c.self.inside.request))
     ∙ ap (λ (b : BoardState). coming_on (board_of b) (request_of b.request) found.coming) c.self.view_is
+
+pub returns-clause-flight : goal.returns-clause-flight
+returns-clause-flight c =
+    flight_failed (memory_of c.self.inside.serial) c.self.inside.request c.keep.new.flight.footprint c.carry_out.new.self c.fail_by.new.self c.carry_out.ensures.flight c.fail_by.ensures.rest
+    ∙ ap (λ (b : BoardState). flight_for (memory_of b.memory) (footprint_of c.fail_by.new.self.footprint) (request_of b.request)) c.self.view_is

@@ -1,7 +1,7 @@
 -- With its first beat it begins.
 use Rattle.std.proofs.Common.{◌≡◌, Bool, ap, ap₂, false, rules, sym, ◌∙◌}
 use Rattle.tl_messages.specs.Requests.{HeldMessage, request_of}
-use Rattle.scoreboard.specs.Boards.{begun_on, continued_on, joining_on}
+use Rattle.scoreboard.specs.Boards.{beginning_on, begun_on, continued_on}
 use Rattle.scoreboard.specs.InsideBoards.{board_of}
 use Rattle.scoreboard.specs.declared.Policy.{Policy}
 use Rattle.scoreboard.specs.declared.Policy.TheVariants.{RealTime}
@@ -13,5 +13,5 @@ returns-then-not-begun-clause-state c found message is same =
     let policy : c.args.self.now.policy ≡ RealTime = search rules in
     let first : c.args.begun ≡ false = c.if-not-begun.true in
     c.begin.ensures.state found is
-    ∙ ap (λ (m : HeldMessage). begun_on board c.args.client found (joining_on board (request_of m))) (sym (same first))
+    ∙ ap (λ (m : HeldMessage). begun_on board c.args.client found (beginning_on board (request_of m))) (sym (same first))
     ∙ ap₂ (λ (p : Policy) (b : Bool). continued_on p board c.args.client found message b) (sym policy) (sym first)

@@ -1,24 +1,26 @@
 -- It joins by its parts.
-use Rattle.std.proofs.Common.{◌≡◌, List, ap, ap₂, arith, map, rules, subst, sym, ◌∙◌}
+use Rattle.std.proofs.Common.{◌≡◌, List, ap, ap₂, arith, length, map, rules, subst, sym, ◌∙◌}
 use Rattle.std.specs.Vec.{with_items}
 use Rattle.std.proofs.lemmas.List.{places, with_items_is}
 use Rattle.tl_messages.specs.Requests.{bytes_given, request_of}
-use Rattle.scoreboard.specs.Boards.{client_beside, footprints_of, joining_on}
+use Rattle.scoreboard.specs.Boards.{beginning_on, client_beside, fails, flight_for, footprints_of, joining_on}
 use Rattle.scoreboard.specs.Flights.{Footprint}
-use Rattle.scoreboard.specs.InsideBoards.{BoardState, ClientState, ClientsHaveRoom, FootprintState, board_of, client_of, footprint_of, is_marked, room_by}
-use Rattle.scoreboard.specs.Races.{after_joining, alone, beside_all}
-use Rattle.scoreboard.specs.SerialMemory.{IsCheckedRequest, memory_of, place_in}
+use Rattle.scoreboard.specs.InsideBoards.{BoardState, ClientState, ClientsHaveRoom, FlightState, FootprintState, board_of, client_of, footprint_of, is_marked, room_by}
+use Rattle.scoreboard.specs.Races.{after_joining, alone, beside_all, unless_failed}
+use Rattle.scoreboard.specs.SerialMemory.{IsCheckedRequest, Memory, memory_of}
+use Rattle.scoreboard.specs.contracts.board.Scoreboard.{the_view}
 use Rattle.scoreboard.proofs.held.BoardSteps.{beside_kept}
+use Rattle.scoreboard.proofs.held.Failed.{failed_by, flight_failed}
 use Rattle.scoreboard.proofs.held.FootprintBytes.{few_bytes}
 use Rattle.scoreboard.proofs.memory_words.RequestWords.{own_range, placed_range}
 use Rattle.scoreboard.proofs.board.Scoreboard.join.Goals as goal
 
-checked : (c : goal.After-place) → IsCheckedRequest c.self.inside.request
+checked : (c : goal.After-start_footprint-arg-1) → IsCheckedRequest c.self.inside.request
 checked c = subst IsCheckedRequest (sym (ap (λ (b : BoardState). b.request) c.self.view_is)) c.requires.checked
 
 pub start_footprint-requires-clause-range : goal.start_footprint-requires-clause-range
 start_footprint-requires-clause-range c =
-    placed_range c.self.inside.request.address c.self.inside.request.size c.place.result (own_range c.self.inside.request (checked c)) c.place.ensures.same_byte
+    placed_range c.self.inside.request.address c.self.inside.request.size c.place_of-place.result (own_range c.self.inside.request (checked c)) c.place_of-place.ensures.same_byte
 
 pub start_footprint-requires-clause-room : goal.start_footprint-requires-clause-room
 start_footprint-requires-clause-room c =
@@ -30,7 +32,7 @@ held : (c : goal.After-self-1) → (with_items c.self.inside.clients c.give_way.
 held c = with_items_is c.self.inside.clients c.give_way.new.clients (search (rules, places))
 
 -- the clients that give way are all of them
-given : (c : goal.After-self-1) → map client_of c.give_way.new.clients ≡ map (client_beside (footprint_of c.limit.new.joined.footprint)) (map client_of c.self.inside.clients.items)
+given : (c : goal.After-self-1) → map client_of c.give_way.new.clients ≡ map (client_beside (footprint_of c.fail_by.new.self.footprint)) (map client_of c.self.inside.clients.items)
 given c =
     c.give_way.ensures.clients
     ∙ ap₂ (λ (f : FootprintState) (cs : List ClientState). map (client_beside (footprint_of f)) (map client_of cs)) c.footprint-footprint.ensures c.deref_mut.ensures.value
@@ -40,36 +42,46 @@ invariant_of-self c =
     let clients = c.self.inside.clients.items in
     let room = room_by c.self.inside.policy in
     let faults = c.self.inside.serial.pages.faults in
-    let kept = beside_kept room faults clients c.give_way.new.clients (footprint_of c.limit.new.joined.footprint) (given c)
+    let same : c.carry_out.new.serial.pages.faults ≡ faults = ap (λ (m : Memory). m.faults) c.carry_out.ensures.memory in
+    let room_is = ap (λ (f : FlightState). length f.footprint.determined) c.carry_out.ensures.flight in
+    let kept = beside_kept room faults clients c.give_way.new.clients (footprint_of c.fail_by.new.self.footprint) (given c)
     (λ have. c.give_way.ensures.room room (subst (ClientsHaveRoom room) (sym c.deref_mut.ensures.value) have)) (c.self.invariant.0, c.self.invariant.1, c.self.invariant.4) in (
       rw (held c) kept.0,
       rw (held c) kept.1,
-      c.limit.ensures.room ∙ c.start_footprint.ensures.room ∙ c.self.invariant.2,
-      c.mark_written.ensures.faults ∙ c.self.invariant.3,
-      rw (held c) kept.2,
+      c.fail_by.ensures.room ∙ room_is ∙ c.limit.ensures.room ∙ c.start_footprint.ensures.room ∙ c.self.invariant.2,
+      c.mark_written.ensures.faults ∙ c.self.invariant.3 ∙ sym same,
+      rw (held c, same) kept.2,
     )
 
 -- its footprint, on the board as it is held
 joined : (c : goal.After-self-1) → footprint_of c.limit.new.joined.footprint
-    ≡ beside_all (alone (is_marked c.self.inside.indeterminate) (place_in (memory_of c.self.inside.serial) (request_of c.self.inside.request)) (request_of c.self.inside.request))
-    (footprints_of (map client_of c.self.inside.clients.items))
+    ≡ beginning_on (board_of (the_view c.self.inside)) (request_of c.self.inside.request)
 joined c =
     c.limit.ensures.footprint
     ∙ ap₂ (λ (f : Footprint) (cs : List ClientState). beside_all f (footprints_of (map client_of cs)))
-    (c.start_footprint.ensures.footprint ∙ ap (λ place. alone (is_marked c.self.inside.indeterminate) place (request_of c.self.inside.request)) c.place.ensures.place)
+    (c.start_footprint.ensures.footprint ∙ ap (λ place. alone (is_marked c.self.inside.indeterminate) place (request_of c.self.inside.request)) c.place_of-place.ensures.place)
     c.deref.ensures.value
 
 pub returns-clause-footprint : goal.returns-clause-footprint
-returns-clause-footprint c = joined c ∙ ap (λ (b : BoardState). joining_on (board_of b) (request_of b.request)) c.self.view_is
+returns-clause-footprint c =
+    let memory = memory_of c.self.inside.serial in
+    failed_by c.self.inside.errors memory c.self.inside.request c.limit.new.joined.footprint c.carry_out.new.self c.fail_by.new.self c.carry_out.ensures.flight c.fail_by.ensures.footprint
+    ∙ ap (unless_failed (fails c.self.inside.errors memory (request_of c.self.inside.request))) (joined c)
+    ∙ ap (λ (b : BoardState). joining_on (board_of b) (request_of b.request)) c.self.view_is
 
 pub returns-clause-bytes : goal.returns-clause-bytes
 returns-clause-bytes c =
     c.mark_written.ensures.bytes
     ∙ ap₂ (λ (f : FootprintState) (cs : List ClientState). after_joining (is_marked c.self.inside.indeterminate) (footprints_of (map client_of cs)) (footprint_of f) (bytes_given c.self.inside.request))
     c.footprint-footprint.ensures c.deref-2.ensures.value
-    ∙ ap (λ (b : BoardState). after_joining (is_marked b.indeterminate) (footprints_of (map client_of b.clients)) (footprint_of c.limit.new.joined.footprint) (bytes_given b.request)) c.self.view_is
+    ∙ ap (λ (b : BoardState). after_joining (is_marked b.indeterminate) (footprints_of (map client_of b.clients)) (footprint_of c.fail_by.new.self.footprint) (bytes_given b.request)) c.self.view_is
 
 pub returns-clause-clients : goal.returns-clause-clients
 returns-clause-clients c =
     ap (map client_of) (held c) ∙ given c
-    ∙ ap (λ (b : BoardState). map (client_beside (footprint_of c.limit.new.joined.footprint)) (board_of b).clients) c.self.view_is
+    ∙ ap (λ (b : BoardState). map (client_beside (footprint_of c.fail_by.new.self.footprint)) (board_of b).clients) c.self.view_is
+
+pub returns-clause-flight : goal.returns-clause-flight
+returns-clause-flight c =
+    flight_failed (memory_of c.self.inside.serial) c.self.inside.request c.limit.new.joined.footprint c.carry_out.new.self c.fail_by.new.self c.carry_out.ensures.flight c.fail_by.ensures.rest
+    ∙ ap (λ (b : BoardState). flight_for (memory_of b.memory) (footprint_of c.fail_by.new.self.footprint) (request_of b.request)) c.self.view_is

@@ -5,8 +5,10 @@ use Rattle.subordinate.specs.InsidePages.{PagesState}
 use Rattle.config.specs.Configs.{is_valid}
 use Rattle.setups.specs.Setups.{lists_of}
 use Rattle.setups.proofs.SetupFaults.{valid_of}
+use Rattle.scoreboard.specs.Boards.{Board}
 use Rattle.scoreboard.specs.InsideBoards.{client_of}
 use Rattle.scoreboard.specs.SerialMemory.{MemoryState, opening_memory_state}
+use Rattle.scoreboard.specs.declared.Errors.TheVariants.{Strict}
 use Rattle.scoreboard.proofs.acceptance_order.BoardClients.{board_opens, device_fine, few_clients, nothing_written}
 use Rattle.scoreboard.proofs.board.Scoreboard.opening.Goals as goal
 
@@ -42,9 +44,11 @@ invariant_of-result c =
 
 pub returns : goal.returns
 returns c = (
-  board_opens (lists_of c.args.setup.now)
+  ap {B = Board} (λ (b : Board). record b { errors = c.args.errors })
+      (board_opens (lists_of c.args.setup.now)
       (record {
         policy = c.args.policy;
+        errors = Strict;
         clients = c.in_ok-clients.clients.items;
         memory = c.in_ok-serial.serial;
         indeterminate = c.in_ok-indeterminate.indeterminate;
@@ -52,6 +56,6 @@ returns c = (
         request = c.in_ok-request.request;
         joining = c.in_ok-joining.joining;
       })
-      c.in_ok-clients.ensures.0 (serial c) (marks c) (cc c.in_ok-axi.ensures),
+      c.in_ok-clients.ensures.0 (serial c) (marks c) (cc c.in_ok-axi.ensures)),
   refl,
 )

@@ -1,0 +1,148 @@
+-- What holds of each request in flight as it joins the others, and stays where others join and beats of its reply come, holds along beats.
+use Rattle.std.proofs.Common.{◌≡◌, ℕ, ◌==◌, Bool, true, false, List, [], ◌∷◌, map, drop, Option, Some, None, Result, Ok, Err, if◌then◌else◌, refl, ap, subst}
+use Rattle.std.specs.Prelude.{is_some, slice_get, unwrap_or}
+use Rattle.std.specs.List.{AllByRecursion, find}
+use Rattle.std.specs.Option.{option_map, option_to_list}
+use Rattle.std.proofs.lemmas.Option.{slice_get_within}
+use Rattle.bus_words.proofs.PlaceChanges.{all-append, all-find, all-without_first}
+use Rattle.bus_words.proofs.StoredPlaces.{get_set}
+use Rattle.tl_messages.specs.Requests.{HeldMessage, WholeRequest, request_of}
+use Rattle.tl_messages.specs.declared.ABeat.{ABeat}
+use Rattle.tl_messages.specs.declared.DBeat.{DBeat}
+use Rattle.tl_checker.specs.Ports.{joined}
+use Rattle.tl_checker.specs.declared.Progress.{Progress}
+use Rattle.tl_checker.specs.declared.Progress.TheVariants.{More, Whole}
+use Rattle.tl_checker.specs.declared.TlRule.{TlRule}
+use Rattle.scoreboard.specs.Boards.{Board, ClientBoard, after_a, after_d, after_seen, answer_to, answered_on, beginning_on, client_beside, coming_on, flight_for, joining_on, more_on, told_to, whole_on, with_accepted, with_client}
+use Rattle.scoreboard.specs.Flights.{Flights, Footprint, InFlight, begun_after, flights_after, is_of_source, with_left}
+use Rattle.scoreboard.specs.Races.{flight_beside}
+use Rattle.scoreboard.specs.declared.ObservedBeat.{ObservedBeat}
+use Rattle.scoreboard.specs.declared.ObservedBeat.TheVariants.{A, D, Axi as OnAxi, Drained}
+use Rattle.scoreboard.specs.declared.Policy.TheVariants.{RealTime}
+use Rattle.scoreboard.proofs.real_time.Explained.{each_client}
+use Rattle.scoreboard.proofs.real_time.FlightLists.{client_was}
+use Rattle.scoreboard.proofs.real_time.Fronts.{beside_at}
+
+-- of a client
+abbrev pub IsOfEach : (InFlight → Type 0) → ClientBoard → Type 0
+IsOfEach P client = AllByRecursion P client.flights.due × AllByRecursion P (option_to_list client.flights.begun)
+
+-- of some clients
+abbrev pub AreOfEach : (InFlight → Type 0) → List ClientBoard → Type 0
+AreOfEach P clients = (number : ℕ) (client : ClientBoard) → slice_get clients number ≡ Some client → IsOfEach P client
+
+module _ (P : InFlight → Type 0) (beside_kept : (footprint : Footprint) (flight : InFlight) → P flight → P (flight_beside footprint flight))
+    (left_kept : (flight : InFlight) → P flight → P (record flight { beats = drop 1 flight.beats })) where
+  -- ---- one client
+
+  due_beside : (footprint : Footprint) (due : List InFlight) → AllByRecursion P due → AllByRecursion P (map (flight_beside footprint) due)
+  due_beside footprint [] all = tt
+  due_beside footprint (flight ∷ due) all = (beside_kept footprint flight all.0, due_beside footprint due all.1)
+
+  begun_beside : (footprint : Footprint) (begun : Option InFlight) → AllByRecursion P (option_to_list begun)
+      → AllByRecursion P (option_to_list (option_map (flight_beside footprint) begun))
+  begun_beside footprint None all = tt
+  begun_beside footprint (Some flight) all = (beside_kept footprint flight all.0, tt)
+
+  each_beside : (footprint : Footprint) (client : ClientBoard) → IsOfEach P client → IsOfEach P (client_beside footprint client)
+  each_beside footprint client all = (due_beside footprint client.flights.due all.0, begun_beside footprint client.flights.begun all.1)
+
+  begun_left : (begun : Option InFlight) (source : ℕ) → AllByRecursion P (option_to_list begun) → AllByRecursion P (option_to_list (begun_after begun source))
+  begun_left None source all = tt
+  begun_left (Some flight) source all = by_source (flight.source == source)
+    where
+      left : (beats : List DBeat) → P (record flight { beats = beats }) → AllByRecursion P (option_to_list (with_left flight beats))
+      left [] own = tt
+      left (beat ∷ beats) own = (own, tt)
+
+      by_source : (b : Bool) → AllByRecursion P (option_to_list (if b then with_left flight (drop 1 flight.beats) else Some flight))
+      by_source true = left (drop 1 flight.beats) (left_kept flight all.0)
+      by_source false = all
+
+  each_replied : (client : ClientBoard) (source : ℕ) (told : Bool) → IsOfEach P client
+      → IsOfEach P (record client { flights = flights_after client.flights source; told = told })
+  each_replied client source told all = by_begun client.flights.begun all.1
+    where
+      due : List InFlight
+      due = client.flights.due
+
+      found : (o : Option InFlight) → find (is_of_source source) due ≡ o → AllByRecursion P (option_to_list o)
+      found None is = tt
+      found (Some flight) is = (all-find P (is_of_source source) due flight all.0 is, tt)
+
+      by_begun : (begun : Option InFlight) → AllByRecursion P (option_to_list begun)
+          → IsOfEach P (record client { flights = flights_after (record { due = due; begun = begun }) source; told = told })
+      by_begun None none =
+          (all-without_first P (is_of_source source) due all.0, begun_left (find (is_of_source source) due) source (found (find (is_of_source source) due) refl))
+      by_begun (Some flight) some = (all.0, begun_left (Some flight) source some)
+
+  -- ---- all clients
+
+  all_beside : (footprint : Footprint) (clients : List ClientBoard) → AreOfEach P clients → AreOfEach P (map (client_beside footprint) clients)
+  all_beside footprint clients are number client is =
+      let was = client_was footprint clients number client is in
+      subst (IsOfEach P) was.2 (each_beside footprint was.0 (are number was.0 was.1))
+
+  module _ (board : Board) (are : AreOfEach P board.clients)
+      (joins : (q : WholeRequest) → P (flight_for board.memory (joining_on board q) q))
+      (comes : (coming : Footprint) (q : WholeRequest) → P (flight_for board.memory (coming_on board q coming) q)) where
+    more_each : (number : ℕ) (client : ClientBoard) (q : WholeRequest) (begun : Bool) (old : Board) → slice_get old.clients number ≡ Some client
+        → AreOfEach P old.clients → AreOfEach P (more_on old number client q begun).clients
+    more_each number client q true old there all = all
+    more_each number client q false old there all =
+        let footprint = beginning_on old q in
+        let beside = all_beside footprint old.clients all in
+        each_client (IsOfEach P) (map (client_beside footprint) old.clients) number (client_beside footprint client)
+        (record (client_beside footprint client) { coming = footprint }) (beside_at footprint old.clients number client there) beside
+        (beside number (client_beside footprint client) (beside_at footprint old.clients number client there))
+
+    whole_each : (number : ℕ) (client : ClientBoard) (q : WholeRequest) (begun : Bool) → slice_get board.clients number ≡ Some client
+        → AreOfEach P (whole_on board number client q begun).clients
+    whole_each number client q true there =
+        let flight = flight_for board.memory (coming_on board q client.coming) q in
+        let all = are number client there in
+        each_client (IsOfEach P) board.clients number client (with_accepted flight client) there are
+        (all-append P client.flights.due flight all.0 (comes client.coming q), all.1)
+    whole_each number client q false there =
+        let footprint = joining_on board q in
+        let flight = flight_for board.memory footprint q in
+        let beside = all_beside footprint board.clients are in
+        let its = beside number (client_beside footprint client) (beside_at footprint board.clients number client there) in
+        each_client (IsOfEach P) (map (client_beside footprint) board.clients) number (client_beside footprint client)
+        (with_accepted flight (client_beside footprint client)) (beside_at footprint board.clients number client there) beside
+        (all-append P (client_beside footprint client).flights.due flight its.0 (joins q), its.1)
+
+    request_each : (number : ℕ) (beat : ABeat) → AreOfEach P (after_a RealTime board number (slice_get board.clients number) beat).clients
+    request_each number beat = by_client (slice_get board.clients number) refl
+      where
+        by_answer : (client : ClientBoard) (answer : Result Progress TlRule) → slice_get board.clients number ≡ Some client
+            → AreOfEach P (answered_on RealTime board number client (joined client.limits client.front beat) answer).clients
+        by_answer client (Err broken) there = are
+        by_answer client (Ok More) there =
+            let message = joined client.limits client.front beat in
+            let heard = record client { front = Some message } in
+            more_each number heard (request_of message) (is_some client.front) (with_client number heard board)
+            (get_set board.clients number heard (slice_get_within board.clients number client there))
+            (each_client (IsOfEach P) board.clients number client heard there are (are number client there))
+        by_answer client (Ok Whole) there = whole_each number client (request_of (joined client.limits client.front beat)) (is_some client.front) there
+
+        by_client : (o : Option ClientBoard) → slice_get board.clients number ≡ o → AreOfEach P (after_a RealTime board number o beat).clients
+        by_client None there = are
+        by_client (Some client) there = by_answer client (answer_to RealTime client beat) there
+
+    reply_each : (number : ℕ) (beat : DBeat) → AreOfEach P (after_d board number (slice_get board.clients number) beat).clients
+    reply_each number beat = by_client (slice_get board.clients number) refl
+      where
+        by_client : (o : Option ClientBoard) → slice_get board.clients number ≡ o → AreOfEach P (after_d board number o beat).clients
+        by_client None there = are
+        by_client (Some client) there =
+            let told = unwrap_or (told_to client) beat.denied in
+            each_client (IsOfEach P) board.clients number client (record client { flights = flights_after client.flights beat.source; told = told }) there are
+            (each_replied client beat.source told (are number client there))
+
+    -- with any beat
+    pub seen_each : (seen : ObservedBeat) → AreOfEach P (after_seen RealTime board seen).clients
+    seen_each (A number beat) = request_each number beat
+    seen_each (D number beat) = reply_each number beat
+    seen_each (OnAxi beat) = are
+    seen_each Drained = are
