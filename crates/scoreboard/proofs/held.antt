@@ -2,6 +2,7 @@ pub mod BoardSteps
 pub mod Changed
 pub mod ClientFootprints
 pub mod EarlyBeats
+pub mod EarlyReplies
 pub mod Failed
 pub mod FootprintBytes
 pub mod FreeFronts

@@ -19,6 +19,7 @@ pub mod FlightLists
 pub mod FlightPlaces
 pub mod FlightsAlone
 pub mod Follows
+pub mod FollowsEnded
 pub mod FollowsReplies
 pub mod FollowsRequests
 pub mod Fronts
@@ -28,6 +29,7 @@ pub mod JudgedRightly
 pub mod Lengths
 pub mod OnceAhead
 pub mod Places
+pub mod Removed
 pub mod RepliedAhead
 pub mod ReplyBeats
 pub mod ReplyBytes

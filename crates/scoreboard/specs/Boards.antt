@@ -3,7 +3,7 @@
 -- tells a determined byte, so that the board keeps which bytes are determined, a request that writes races from its first beat on, and W beats may
 -- come before their AW. Where errors are told in any way a request that fails may be denied or corrupt as TileLink allows, and what it may have written
 -- is in doubt.
-use Rattle.std.specs.Prelude.{ℕ, ◌≡◌, ◌+◌, ◌-◌, ◌*◌, ◌==◌, Bool, true, false, ◌&&◌, ◌||◌, not, List, [], ◌∷◌, ◌++◌, map, length, sum_by, Option, Some, None, is_some, Result, Ok, Err, if◌then◌else◌, option_map, slice_get, slice_set, unwrap_or}
+use Rattle.std.specs.Prelude.{ℕ, ◌≡◌, ◌+◌, ◌-◌, ◌*◌, ◌==◌, Bool, true, false, ◌&&◌, ◌||◌, not, List, [], ◌∷◌, ◌++◌, map, length, sum_by, Option, Some, None, is_none, is_some, Result, Ok, Err, if◌then◌else◌, option_map, slice_get, slice_set, unwrap_or}
 use Rattle.std.specs.Bool.{beq}
 use Rattle.std.specs.List.{flat_map, list_any, range_with_len}
 use Rattle.bus_words.specs.Lanes.{lane_byte, word_address}
@@ -18,11 +18,12 @@ use Rattle.tl_checker.specs.declared.Progress.{Progress}
 use Rattle.tl_checker.specs.declared.Progress.TheVariants.{More, Whole}
 use Rattle.tl_checker.specs.declared.TlRule.{TlRule}
 use Rattle.axi_checker.specs.OpenBursts.{nothing_open}
-use Rattle.responses.specs.Shown.{shown}
+use Rattle.responses.specs.Shown.{beat_without_data, shown}
 use Rattle.config.specs.Configs.{axi_port_of, port_of}
 use Rattle.config.specs.declared.Config.{Config}
 use Rattle.setups.specs.Setups.{SetupLists, faults_of}
-use Rattle.meaning.specs.Meaning.{zeros}
+use Rattle.meaning.specs.Meaning.{acknowledged, zeros}
+use Rattle.std.specs.Option.{option_or}
 use Rattle.scoreboard.specs.AxiPorts.{PortBoard, drained, none_early, port_after, port_wrong}
 use Rattle.scoreboard.specs.Flights.{Flights, Footprint, InFlight, each_flight, flights_after, in_flight, is_busy, next_reply, no_flights, no_footprint, replies_left, with_flight}
 use Rattle.scoreboard.specs.Races.{after_given, after_joining, alone, beside, flight_beside, joining, unless_failed}
@@ -40,12 +41,14 @@ use Rattle.scoreboard.specs.declared.Wrong.{Wrong}
 use Rattle.scoreboard.specs.declared.Wrong.TheVariants.{NoClient, Request, Reply}
 
 -- a client: its port's limits, the message that has begun on channel A, its requests in flight, the footprint of the message that has begun, which is kept
--- where requests take effect in real time, and whether the first beat of the reply that began last was denied
+-- where requests take effect in real time, the beat of its reply that may come already, before it is whole, where errors are told in any way, and whether
+-- the first beat of the reply that began last was denied
 pub record ClientBoard : Type 0 where
   pub limits : TlPortLimits
   pub front : Option HeldMessage
   pub flights : Flights
   pub coming : Footprint
+  pub early : Option DBeat
   pub told : Bool
 
 -- each client by its number; the memory as the accepted requests leave it in order of acceptance; which of its bytes they may not leave the same in every
@@ -147,9 +150,19 @@ abbrev pub a_wrong : Policy → Option ClientBoard → ABeat → Option Wrong
 a_wrong policy None beat = Some NoClient
 a_wrong policy (Some client) beat = wrong_request (answer_to policy client beat)
 
+-- the message that has begun, where its reply may have its beat in one of a source before it is whole
+abbrev pub early_flight : ClientBoard → Option DBeat → ℕ → Option InFlight
+early_flight client None source = None
+early_flight client (Some due) source = if due.source == source then Some (record { source = source; beats = due ∷ []; footprint = client.coming }) else None
+
+-- the request whose reply has its next beat in one of a source: in real time that may be the message that has begun, where none in flight has
+abbrev pub next_to : Policy → ClientBoard → ℕ → Option InFlight
+next_to AcceptanceOrder client source = next_reply client.flights source
+next_to RealTime client source = option_or (next_reply client.flights source) (early_flight client client.early source)
+
 abbrev pub d_wrong : Policy → Option ClientBoard → DBeat → Option Wrong
 d_wrong policy None beat = Some NoClient
-d_wrong policy (Some client) beat = wrong_reply policy (told_to client) (next_reply client.flights beat.source) beat
+d_wrong policy (Some client) beat = wrong_reply policy (told_to client) (next_to policy client beat.source) beat
 
 -- what is wrong with a beat, if anything is
 abbrev pub wrong_at : Policy → Board → ObservedBeat → Option Wrong
@@ -182,7 +195,7 @@ flight_for memory footprint q = record { source = q.source; beats = shown q (mea
 
 -- its client
 abbrev pub with_accepted : InFlight → ClientBoard → ClientBoard
-with_accepted flight client = record client { front = None; flights = with_flight flight client.flights; coming = no_footprint }
+with_accepted flight client = record client { front = None; flights = with_flight flight client.flights; coming = no_footprint; early = None }
 
 -- the board where a client's request is carried out, and in flight with a footprint
 abbrev pub with_taken : Board → ℕ → ClientBoard → WholeRequest → Footprint → Board
@@ -211,12 +224,14 @@ abbrev pub place_on : Board → WholeRequest → Option ℕ
 place_on board q = place_in board.memory (acting board.errors q)
 
 -- the footprint of a request that begins beside those in flight, and those that have begun
-abbrev pub beginning_on : Board → WholeRequest → Footprint
-beginning_on board q = joining board.indeterminate (footprints_of board.clients) (place_on board q) q
-
--- that of one that is whole with its first beat
 abbrev pub joining_on : Board → WholeRequest → Footprint
-joining_on board q = unless_failed (fails board.errors board.memory q) (beginning_on board q)
+joining_on board q =
+    unless_failed (fails board.errors board.memory q) (joining board.indeterminate (footprints_of board.clients) (place_on board q) q)
+
+-- whether a beat of a request was corrupt, where that may be told in any way
+abbrev pub is_spoiled : Errors → WholeRequest → Bool
+is_spoiled Strict q = false
+is_spoiled Any q = q.corrupt
 
 -- the board where all these are beside a request of this footprint, which gives these bytes
 abbrev pub beside_on : Board → Footprint → List (Option ℕ) → Board
@@ -235,6 +250,11 @@ abbrev pub begun_on : Board → ℕ → ClientBoard → Footprint → Board
 begun_on board number client footprint =
     with_client number (record (client_beside footprint client) { coming = footprint }) (beside_on board footprint [])
 
+-- the beat of its reply that may come before it is whole, where errors are told in any way: a request of several beats is a Put, whose reply is one
+abbrev pub early_due : Errors → WholeRequest → Option DBeat
+early_due Strict q = None
+early_due Any q = Some (beat_without_data q acknowledged)
+
 -- the footprint of a request that had begun, when it is whole: what was determined of it all the while
 abbrev pub kept_from : Footprint → Footprint → Footprint
 kept_from coming footprint = record footprint { determined = λ x. footprint.determined x && coming.determined x }
@@ -243,10 +263,24 @@ kept_from coming footprint = record footprint { determined = λ x. footprint.det
 abbrev pub coming_on : Board → WholeRequest → Footprint → Footprint
 coming_on board q coming = kept_from coming (unless_failed (fails board.errors board.memory q) (alone board.indeterminate (place_on board q) q))
 
+-- whether the reply to a message that has begun came before it is whole
+abbrev pub has_replied : Errors → ClientBoard → Bool
+has_replied Strict client = false
+has_replied Any client = is_none client.early
+
+-- a client whose message is whole: its request is in flight, or has ended, where its reply came before
+abbrev pub with_whole : Bool → InFlight → ClientBoard → ClientBoard
+with_whole true flight client = record client { front = None; coming = no_footprint; early = None }
+with_whole false flight client = with_accepted flight client
+
 -- the board where a request that had begun is whole: it is carried out, and what it gives is determined only where no other raced with it
 abbrev pub given_on : Board → ℕ → ClientBoard → WholeRequest → Footprint → Board
 given_on board number client q footprint =
-    record (with_taken board number client q footprint) { indeterminate = after_given board.indeterminate footprint q.bytes }
+    record board {
+      clients = slice_set board.clients number (with_whole (has_replied board.errors client) (flight_for board.memory footprint q) client);
+      memory = carried_out board.memory q;
+      indeterminate = after_given board.indeterminate footprint q.bytes;
+    }
 
 -- in real time, by whether it had begun: a request of one beat joins the others and is carried out at once, and one of more beats has joined them before
 abbrev pub whole_on : Board → ℕ → ClientBoard → WholeRequest → Bool → Board
@@ -258,10 +292,11 @@ abbrev pub accepted_on : Policy → Board → ℕ → ClientBoard → HeldMessag
 accepted_on AcceptanceOrder board number client message begun = with_taken board number client (request_of message) no_footprint
 accepted_on RealTime board number client message begun = whole_on board number client (request_of message) begun
 
--- in real time, by whether it had begun: with its first beat a request joins the others, a later one changes nothing
+-- in real time, by whether it had begun: with its first beat a request joins the others, and its reply may come early; a later one changes nothing, but
+-- that the request may have failed with it
 abbrev pub more_on : Board → ℕ → ClientBoard → WholeRequest → Bool → Board
-more_on board number client q false = begun_on board number client (beginning_on board q)
-more_on board number client q true = board
+more_on board number client q false = begun_on board number (record client { early = early_due board.errors q }) (joining_on board q)
+more_on board number client q true = with_client number (record client { coming = unless_failed (is_spoiled board.errors q) client.coming }) board
 
 -- the board where beats of a client's message are still to come, by whether it had begun before
 abbrev pub continued_on : Policy → Board → ℕ → ClientBoard → HeldMessage → Bool → Board
@@ -283,11 +318,23 @@ abbrev pub after_a : Policy → Board → ℕ → Option ClientBoard → ABeat �
 after_a policy old number None beat = old
 after_a policy old number (Some client) beat = answered_on policy old number client (joined client.limits client.front beat) (answer_to policy client beat)
 
+-- what may come early to a client after a beat of a source on channel D: nothing, if this was it
+abbrev pub early_left : Option DBeat → ℕ → Option DBeat
+early_left None source = None
+early_left (Some due) source = if due.source == source then None else Some due
+
+abbrev pub early_after : ClientBoard → ℕ → Option DBeat
+early_after client source = if is_some (next_reply client.flights source) then client.early else early_left client.early source
+
 -- after a beat on channel D
 abbrev pub after_d : Board → ℕ → Option ClientBoard → DBeat → Board
 after_d old number None beat = old
 after_d old number (Some client) beat =
-    with_client number (record client { flights = flights_after client.flights beat.source; told = unwrap_or (told_to client) beat.denied }) old
+    with_client number (record client {
+      flights = flights_after client.flights beat.source;
+      early = early_after client beat.source;
+      told = unwrap_or (told_to client) beat.denied;
+    }) old
 
 -- the board after a beat
 abbrev pub after_seen : Policy → Board → ObservedBeat → Board
@@ -305,7 +352,7 @@ replies_open clients = sum_by (λ client. replies_left client.flights) clients
 -- ---- at the start
 
 abbrev pub opening_client : Config → ℕ → ClientBoard
-opening_client config client = record { limits = port_of config client; front = None; flights = no_flights; coming = no_footprint; told = false }
+opening_client config client = record { limits = port_of config client; front = None; flights = no_flights; coming = no_footprint; early = None; told = false }
 
 -- nothing was observed, all bytes are zero, and none is indeterminate; errors are told as this project's bridge tells them
 abbrev pub opening_board : SetupLists → Board

@@ -1,10 +1,10 @@
 -- A board as it is held: of each request in flight a list of flags, of which those of its bytes count; and the memory's pages again, whose bytes aren't
 -- zero where they are indeterminate.
-use Rattle.std.specs.Prelude.{ℕ, ◌≡◌, ◌+◌, ◌-◌, ◌^◌, ◌<◌, ◌==◌, ⊤, Bool, true, false, ◌&&◌, not, List, length, map, Option, Some, None, Result, Ok, Err, IsSome, nat_le, nat_lt, slice_index_or}
+use Rattle.std.specs.Prelude.{ℕ, ◌≡◌, ◌+◌, ◌-◌, ◌^◌, ◌<◌, ◌==◌, ⊤, Bool, true, false, ◌&&◌, not, List, length, map, Option, Some, None, Result, Ok, Err, IsSome, if◌then◌else◌, nat_le, nat_lt, slice_index_or}
 use Rattle.std.specs.List.{AllByRecursion, list_any}
 use Rattle.std.specs.Option.{option_map}
 use Rattle.bus_words.specs.Places.{AreDistinct}
-use Rattle.tl_messages.specs.Operations.{named_operation}
+use Rattle.tl_messages.specs.Operations.{has_data, named_operation, operation_of, reply_has_data}
 use Rattle.tl_messages.specs.Requests.{HeldMessage}
 use Rattle.tl_messages.specs.declared.ABeat.{ABeat}
 use Rattle.tl_messages.specs.declared.DBeat.{DBeat}
@@ -51,6 +51,7 @@ pub record ClientState : Type 0 where
   pub front : Option HeldMessage
   pub flights : FlightsState
   pub coming : FootprintState
+  pub early : Option DBeat
   pub told : Bool
 
 -- a board, which has one policy throughout, and one way for errors; with room for a request that came whole, and for its flight
@@ -80,7 +81,7 @@ abbrev pub flights_of : FlightsState → Flights
 flights_of flights = record { due = map flight_of flights.due; begun = option_map flight_of flights.begun }
 
 abbrev pub client_of : ClientState → ClientBoard
-client_of client = record { limits = client.limits; front = client.front; flights = flights_of client.flights; coming = footprint_of client.coming; told = client.told }
+client_of client = record { limits = client.limits; front = client.front; flights = flights_of client.flights; coming = footprint_of client.coming; early = client.early; told = client.told }
 
 -- whether a byte is indeterminate
 abbrev pub is_marked : PagesState → ℕ → Bool
@@ -98,6 +99,11 @@ front_after front message (Err broken) = front
 front_after front message (Ok More) = Some message
 front_after front message (Ok Whole) = None
 
+-- whether a beat of the message that has begun was corrupt
+abbrev pub front_corrupt : Option HeldMessage → Bool
+front_corrupt None = false
+front_corrupt (Some message) = message.corrupt
+
 -- a message that has begun is of a source to which no reply is due
 abbrev pub IsFrontFree : Option HeldMessage → Flights → Type 0
 IsFrontFree None flights = ⊤
@@ -107,6 +113,13 @@ IsFrontFree (Some message) flights = list_any (is_of_source message.source) flig
 pub record IsFreeOf (source : ℕ) (client : ClientBoard) : Type 0 where
   pub front : client.front ≡ None
   pub free : list_any (is_of_source source) client.flights.due ≡ false
+
+-- ---- channel D
+
+-- the beat that may come early, where it is of a source
+abbrev pub early_of : Option DBeat → ℕ → Option DBeat
+early_of None source = None
+early_of (Some due) source = if due.source == source then Some due else None
 
 -- ---- a request that has failed
 
@@ -136,10 +149,12 @@ pub record AreDue (room : ℕ) (due : List FlightState) : Type 0 where
 abbrev pub ClientsHaveRoom : ℕ → List ClientState → Type 0
 ClientsHaveRoom room clients = AllByRecursion (λ client. client.flights.room ≡ room) clients
 
--- a first beat that a port took, of several: it names an operation, and has an aligned range of bytes
+-- a first beat that a port took, of several: it names an operation, which is a Put, and has an aligned range of bytes
 pub record IsFirstBeat (beat : ABeat) : Type 0 where
   pub named : IsSome (named_operation beat.opcode beat.param)
   pub range : IsMemoryRange beat.address beat.size
+  pub carries : has_data (operation_of beat.opcode beat.param) ≡ true
+  pub silent : reply_has_data (operation_of beat.opcode beat.param) ≡ false
 
 -- a request that may write acts on a good page
 abbrev pub IsOnGoodPage : Faults → Footprint → Type 0

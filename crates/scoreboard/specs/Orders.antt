@@ -17,13 +17,15 @@ use Rattle.scoreboard.specs.declared.Wrong.TheVariants.{NoClient, Request, Reply
 
 -- ---- requests that have begun
 
--- a request of a client, of which at least one beat came; whether it is whole; whether a beat of it was corrupt, where that may be told in any way; and how
--- many beats of its reply came up to now
+-- a request of a client, of which at least one beat came; whether it is whole; whether a beat of it was corrupt, where that may be told in any way; whether
+-- its reply may come though it isn't whole, and whether it came so; and how many beats of its reply came since it is whole, all if it came before
 pub record Entry : Type 0 where
   pub client : ℕ
   pub request : WholeRequest
   pub whole : Bool
   pub spoiled : Bool
+  pub early : Bool
+  pub replied : Bool
   pub came : ℕ
 
 -- all that have begun, in an order in which they may take effect
@@ -48,20 +50,25 @@ has_begun entry = nat_lt 0 entry.came && not (has_ended entry)
 abbrev pub begun_to : ℕ → Entry → Bool
 begun_to client entry = entry.client == client && has_begun entry
 
--- whether a client's next beat of a source is due to a request: to that whose reply has begun, if one has, else to a whole one of that source of whose
--- reply no beat came
+-- whether a client's next beat of a source is due to a request: to that whose reply has begun, if one has, else to one of that source of whose reply no beat
+-- came, which is whole or may be replied to before
 abbrev pub is_due : Bool → ℕ → ℕ → Entry → Bool
 is_due begun client source entry =
-    entry.client == client && (if begun then has_begun entry else (entry.request.source == source && entry.came == 0 && entry.whole))
+    entry.client == client && (if begun then has_begun entry else (entry.request.source == source && entry.came == 0 && (entry.whole || entry.early)))
 
 -- the same, where an order says whether one has begun
 abbrev pub is_due_in : Order → ℕ → ℕ → Entry → Bool
 is_due_in order client source = is_due (list_any (begun_to client) order) client source
 
+-- one more beat came of its reply, which is the only one where the request isn't whole
+abbrev pub counted : Bool → Entry → Entry
+counted true entry = record entry { came = entry.came + 1 }
+counted false entry = record entry { early = false; replied = true }
+
 -- with a beat on channel D: one more beat came of the reply that it is due to, if it is of the source of that
 abbrev pub with_beat : Bool → ℕ → ℕ → Entry → Entry
 with_beat begun client source entry =
-    if is_due begun client source entry && entry.request.source == source then record entry { came = entry.came + 1 } else entry
+    if is_due begun client source entry && entry.request.source == source then counted entry.whole entry else entry
 
 -- an order with a beat of a client and source on channel D: the requests stand as they stood
 abbrev pub after_beat : Order → ℕ → ℕ → Order
@@ -90,11 +97,16 @@ pub record Asked : Type 0 where
   pub client : ℕ
   pub beat : DBeat
 
+-- a request as far as it is known: what beats that are still to come make of it its reply doesn't tell
+abbrev pub known_request : Bool → WholeRequest → WholeRequest
+known_request true q = q
+known_request false q = record q { corrupt = false }
+
 -- the beats that are left of the reply to a request that is carried out on some bytes, as it may show them to the beat that came
 abbrev pub shown_to : SetupLists → Asked → Entry → Bytes → List DBeat
 shown_to setup asked entry m =
     map (λ due. due_beat (has_failed asked.errors setup entry) asked.told due asked.beat)
-    (drop entry.came (shown entry.request (meaning_on setup entry.request m).reply))
+    (drop entry.came (shown entry.request (meaning_on setup (known_request entry.whole entry.request) m).reply))
 
 -- those of the reply to the first request that passes a test, where each is carried out on the bytes that those before it leave
 abbrev pub left_of : SetupLists → Asked → (Entry → Bool) → Bytes → Order → List DBeat

@@ -1,7 +1,7 @@
 -- The orders in which requests may have taken effect. A request begins with its first beat on channel A, and takes effect between that and the last beat
 -- of its reply; so one whose whole reply was seen before another began comes before it. Nothing else is asked of an order: this is real time. Requests are
 -- numbered as they begin, and an order is a list of all numbers.
-use Rattle.std.specs.Prelude.{ℕ, ◌≡◌, ◌^◌, ◌<◌, ◌≤◌, ◌==◌, ⊤, Bool, true, false, ◌&&◌, not, List, [], ◌∷◌, ◌++◌, map, filter, length, Option, Some, None, Result, Ok, Err, if◌then◌else◌, is_some, nat_lt, option_map, slice_get, slice_index_or}
+use Rattle.std.specs.Prelude.{ℕ, ◌≡◌, ◌^◌, ◌<◌, ◌≤◌, ◌==◌, ⊤, Bool, true, false, ◌&&◌, ◌||◌, not, List, [], ◌∷◌, ◌++◌, map, filter, length, Option, Some, None, Result, Ok, Err, if◌then◌else◌, is_some, nat_lt, option_map, slice_get, slice_index_or}
 use Rattle.std.specs.Option.{option_flatten}
 use Rattle.std.specs.List.{AllByRecursion, list_any, range_with_len}
 use Rattle.tl_messages.specs.Requests.{HeldMessage, WholeRequest, no_message, request_of}
@@ -14,9 +14,9 @@ use Rattle.tl_checker.specs.declared.Progress.{Progress}
 use Rattle.tl_checker.specs.declared.Progress.TheVariants.{More, Whole}
 use Rattle.tl_checker.specs.declared.TlRule.{TlRule}
 use Rattle.setups.specs.Setups.{SetupLists}
-use Rattle.scoreboard.specs.Boards.{Board, ClientBoard, IsReached, after_seen, answer_to, opening_with, told_to}
+use Rattle.scoreboard.specs.Boards.{Board, ClientBoard, IsReached, after_seen, answer_to, is_spoiled, opening_with, told_to}
 use Rattle.scoreboard.specs.Races.{may_write}
-use Rattle.scoreboard.specs.Orders.{Asked, Entry, IsWrongAs, IsWrongIn, Order, after_beat, board_after, byte_left, has_ended}
+use Rattle.scoreboard.specs.Orders.{Asked, Entry, IsWrongAs, IsWrongIn, Order, after_beat, board_after, byte_left, has_ended, reply_beats}
 use Rattle.scoreboard.specs.declared.Errors.{Errors}
 use Rattle.scoreboard.specs.declared.Errors.TheVariants.{Any, Strict}
 use Rattle.scoreboard.specs.declared.Policy.TheVariants as policy
@@ -26,26 +26,52 @@ use Rattle.scoreboard.specs.declared.Wrong.{Wrong}
 
 -- ---- what has begun, in the order of first beats
 
--- whether a beat of a request was corrupt, where that may be told in any way
-abbrev pub is_spoiled : Errors → WholeRequest → Bool
-is_spoiled Strict q = false
-is_spoiled Any q = q.corrupt
+-- whether the reply to a request that isn't whole may come: where errors are told in any way
+abbrev pub may_reply : Errors → Bool → Bool
+may_reply errors true = false
+may_reply Strict false = false
+may_reply Any false = true
 
 -- a request that has just begun, by what came of it, and whether that is the whole
 abbrev pub entry_of : Errors → ℕ → WholeRequest → Bool → Entry
-entry_of errors client q whole = record { client = client; request = q; whole = whole; spoiled = is_spoiled errors q; came = 0 }
+entry_of errors client q whole =
+    record {
+      client = client;
+      request = q;
+      whole = whole;
+      spoiled = is_spoiled errors q;
+      early = may_reply errors whole;
+      replied = false;
+      came = 0;
+    }
 
--- where a client's request wasn't whole, it is now, and is this one
+-- whether an entry is a client's, and not whole
+abbrev pub is_open : ℕ → Entry → Bool
+is_open client entry = entry.client == client && not entry.whole
+
+-- with a beat between its first and its last, by what came of it so far: it may be spoiled
+abbrev pub heard : Errors → ℕ → WholeRequest → Entry → Entry
+heard errors client q entry = if is_open client entry then record entry { spoiled = entry.spoiled || is_spoiled errors q } else entry
+
+-- where a client's request wasn't whole, it is now, and is this one; and it has ended if its reply came before
 abbrev pub completed : Errors → ℕ → WholeRequest → Entry → Entry
 completed errors client q entry =
-    if entry.client == client && not entry.whole then record entry { request = q; whole = true; spoiled = is_spoiled errors q } else entry
+    if is_open client entry
+    then record entry {
+      request = q;
+      whole = true;
+      spoiled = is_spoiled errors q;
+      early = false;
+      came = if entry.replied then reply_beats q else entry.came;
+    }
+    else entry
 
 -- with a beat that a port takes, by what had begun there: a first beat begins a request, which is the last; the last beat makes the one that has begun
--- whole; and one between them changes nothing
+-- whole; and with one between them it may be spoiled
 abbrev pub with_progress : Errors → ℕ → Option HeldMessage → WholeRequest → Progress → Order → Order
 with_progress errors client None q More old = old ++ entry_of errors client q false ∷ []
 with_progress errors client None q Whole old = old ++ entry_of errors client q true ∷ []
-with_progress errors client (Some held) q More old = old
+with_progress errors client (Some held) q More old = map (heard errors client q) old
 with_progress errors client (Some held) q Whole old = map (completed errors client q) old
 
 -- with a port's answer to a beat on channel A, by the message with this beat

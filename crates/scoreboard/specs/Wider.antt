@@ -19,7 +19,7 @@ abbrev pub flight_alone : InFlight → InFlight
 flight_alone flight = record flight { footprint = no_footprint }
 
 abbrev pub client_alone : ClientBoard → ClientBoard
-client_alone client = record client { flights = each_flight flight_alone client.flights; coming = no_footprint }
+client_alone client = record client { flights = each_flight flight_alone client.flights; coming = no_footprint; early = None }
 
 abbrev pub board_alone : Board → Board
 board_alone board = record board { clients = map client_alone board.clients; indeterminate = λ x. false }

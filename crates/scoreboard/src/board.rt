@@ -1,14 +1,14 @@
 //! The scoreboard.
 ghost use Rattle.std.specs.Prelude.{◌≡◌, ◌<◌, ◌≤◌, ◌%◌, ◌⊎◌, ◌↔◌, ℕ, List, [], ◌∷◌, ◌++◌, true, false, length, map, None, Some, Err, Ok, IfErr, IfOk, IfSome, IsTrue, slice_get};
 ghost use Rattle.std.specs.List.{range_with_len};
-ghost use Rattle.tl_messages.specs.Operations.{has_data};
+ghost use Rattle.tl_messages.specs.Operations.{has_data, reply_has_data};
 ghost use Rattle.tl_messages.specs.Requests.{bytes_given, request_of};
 ghost use Rattle.config.specs.Configs.{is_valid};
 ghost use Rattle.meaning.specs.InTurn.{bytes_of_all};
 ghost use Rattle.setups.specs.Setups.{SetupLists, lists_of, setup_fault};
 ghost use Rattle.setups.specs.declared.SetupFault.TheVariants.{NoMemory};
 ghost use Rattle.subordinate.specs.Faults.{is_good, standing_at};
-ghost use Rattle.scoreboard.specs.Boards.{acting, client_beside, footprints_of, opening_client, replies_open};
+ghost use Rattle.scoreboard.specs.Boards.{acting, client_beside, early_due, fails, footprints_of, opening_client, replies_open};
 ghost use Rattle.scoreboard.specs.InsideBoards.{AreOnGoodPages, ClientsHaveRoom, IsOnGoodPage, client_of, footprint_of, is_marked, room_by};
 ghost use Rattle.scoreboard.specs.Races.{after_given, after_joining, beside_all, beside_dependent};
 ghost use Rattle.scoreboard.specs.SerialMemory.{IsCheckedRequest, byte_at, carried_out, memory_of, place_in};
@@ -33,7 +33,7 @@ use tl_messages::{ABeat, DBeat, Request};
 /// beats keep their rules, and that the replies are those of the accepted requests, carried out whole, one at a time, in an order
 /// that its policy allows: in order of acceptance, or in any in which a request whose whole reply was seen before another began comes
 /// before it. Where requests take effect in real time, errors may be told as this project's bridge tells them, or in any way that
-/// TileLink allows.
+/// TileLink allows; by this a reply is due from its request's first beat on.
 ///
 /// A beat that breaks a rule changes nothing, but a beat of a due reply counts as come whatever it shows, and an AW that is wrong
 /// for the data before it alone opens its burst. All room is taken by `new`; no other call takes memory.
@@ -127,6 +127,36 @@ fn place_of(serial: &SerialMemory, errors: Errors, request: &Request) -> Option<
     }
 }
 
+/// Whether a Put fails by the beats of it that came, where errors may be told in any way.
+fn fails_by_now(serial: &SerialMemory, errors: Errors, request: &Request) -> bool
+    requires carries { has_data request.now.operation ≡ true }
+    requires silent { reply_has_data request.now.operation ≡ false }
+    ensures { result ≡ fails errors (memory_of serial.now) (request_of request.now) }
+{
+    match errors {
+        Errors::Strict => false,
+        Errors::Any => serial.place(request).is_none(),
+    }
+}
+
+/// The beat of its reply that may come before a Put is whole, where errors may be told in any way.
+fn early_due(errors: Errors, request: &Request) -> Option<DBeat>
+    ensures { result ≡ early_due errors (request_of request.now) }
+{
+    if errors == Errors::Strict {
+        return None;
+    }
+    Some(DBeat {
+        opcode: request.operation().reply_opcode(),
+        param: 0,
+        size: request.size(),
+        source: request.source(),
+        denied: false,
+        payload: 0,
+        corrupt: false,
+    })
+}
+
 /// What the requests of some clients may write, in flight or begun, isn't determined of another request.
 fn limit(joined: &mut InFlight, clients: &[Client])
     ensures footprint { footprint_of joined.new.footprint ≡ beside_all (footprint_of joined.old.footprint) (footprints_of (map client_of clients.now)) }
@@ -192,8 +222,9 @@ fn give_way(clients: &mut [Client], other: &Footprint)
 }
 
 impl Scoreboard {
-    ghost use Rattle.scoreboard.specs.Boards.{ClientBoard, IsReached, a_wrong, accepted_on, after_a, after_d, after_seen, answer_to, beginning_on, begun_on, coming_on, continued_on, d_wrong, flight_for, given_on, joined_on, joining_on, opening_board, opening_with, with_accepted, with_client, with_taken, wrong_at};
+    ghost use Rattle.scoreboard.specs.Boards.{ClientBoard, IsReached, a_wrong, accepted_on, after_a, after_d, after_seen, answer_to, begun_on, coming_on, continued_on, d_wrong, flight_for, given_on, has_replied, is_spoiled, joined_on, joining_on, opening_board, opening_with, with_client, with_taken, with_whole, wrong_at};
     ghost use Rattle.scoreboard.specs.Flights.{no_footprint};
+    ghost use Rattle.scoreboard.specs.Races.{unless_failed};
     ghost use Rattle.scoreboard.specs.InsideBoards.{IsFirstBeat, IsFreeOf, board_of, flight_of, front_after};
     ghost use Rattle.tl_messages.specs.Requests.{HeldMessage};
     ghost use Rattle.tl_checker.specs.Ports.{joined};
@@ -343,18 +374,36 @@ impl Scoreboard {
         clients[client].take_beat(*policy, beat, request)
     }
 
-    /// A beat of a message came that isn't its last: where requests take effect in real time, its first beat has it begin.
+    /// A beat of a message came that isn't its last: where requests take effect in real time, its first beat has it begin, and with a later
+    /// one it may have failed.
     fn go_on(&mut self, client: u8, beat: &ABeat, begun: bool)
         requires client { client < length self.old.clients }
         requires first { begun ≡ false → IsFirstBeat beat.now }
         ensures state { (found : ClientBoard) (message : HeldMessage) → slice_get (board_of self.old).clients client ≡ Some found
-            → (begun ≡ false → message ≡ joined found.limits None beat.now)
+            → (begun ≡ false → message ≡ joined found.limits None beat.now) → found.front ≡ Some message
             → board_of self.new ≡ continued_on self.old.policy (board_of self.old) client found message begun }
         ensures policy { self.new.policy ≡ self.old.policy }
     {
-        if self.policy == Policy::RealTime && !begun {
-            self.begin(client, beat);
+        match self.policy {
+            Policy::AcceptanceOrder => {}
+            Policy::RealTime if begun => self.fail_if_corrupt(usize::from(client)),
+            Policy::RealTime => self.begin(client, beat),
         }
+    }
+
+    /// A request that has begun has failed where a beat of it was corrupt, and errors may be told in any way.
+    fn fail_if_corrupt(&mut self, client: usize)
+        requires client { client < length self.old.clients }
+        ensures state { (found : ClientBoard) (message : HeldMessage) → slice_get (board_of self.old).clients client ≡ Some found → found.front ≡ Some message
+            → board_of self.new ≡ with_client client (record found { coming = unless_failed (is_spoiled self.old.errors (request_of message)) found.coming }) (board_of self.old) }
+        ensures policy { self.new.policy ≡ self.old.policy }
+    {
+        let Scoreboard {
+            errors,
+            clients,
+            ..
+        } = self;
+        clients[client].go_on(*errors);
     }
 
     /// A request begins with its first beat, and races from then on with those in flight and those that have begun.
@@ -363,7 +412,9 @@ impl Scoreboard {
         requires client { client < length self.old.clients }
         requires first { IsFirstBeat beat.now }
         ensures state { (found : ClientBoard) → slice_get (board_of self.old).clients client ≡ Some found
-            → board_of self.new ≡ begun_on (board_of self.old) client found (beginning_on (board_of self.old) (request_of (joined found.limits None beat.now))) }
+            → board_of self.new
+            ≡ begun_on (board_of self.old) client (record found { early = early_due self.old.errors (request_of (joined found.limits None beat.now)) })
+            (joining_on (board_of self.old) (request_of (joined found.limits None beat.now))) }
         ensures policy { self.new.policy ≡ self.old.policy }
     {
         let Scoreboard {
@@ -379,10 +430,11 @@ impl Scoreboard {
         let place = place_of(serial, *errors, request);
         joining.start_footprint(indeterminate, place, request);
         limit(joining, clients);
+        joining.fail_if(fails_by_now(serial, *errors, request));
         let footprint = joining.footprint();
         mark_beside(indeterminate, clients, footprint);
         give_way(clients, footprint);
-        clients[usize::from(client)].begin(joining);
+        clients[usize::from(client)].begin(joining, early_due(*errors, request));
     }
 
     /// The request that came whole is accepted: it is carried out, its reply is due to its client, and it is in flight beside the others.
@@ -411,7 +463,7 @@ impl Scoreboard {
         ensures policy { self.new.policy ≡ self.old.policy }
     {
         self.carry_out();
-        self.put_in(client);
+        self.put_in(client, false);
     }
 
     /// The same where they take effect in real time, of a request that had begun before.
@@ -425,8 +477,9 @@ impl Scoreboard {
             ≡ given_on (board_of self.old) client found (request_of self.old.request) (coming_on (board_of self.old) (request_of self.old.request) found.coming) }
         ensures policy { self.new.policy ≡ self.old.policy }
     {
+        let replied = self.has_replied(client);
         self.give(client);
-        self.put_in(client);
+        self.put_in(client, replied);
     }
 
     /// The same where they take effect in real time, of a request of one beat.
@@ -441,7 +494,7 @@ impl Scoreboard {
         ensures policy { self.new.policy ≡ self.old.policy }
     {
         self.join();
-        self.put_in(client);
+        self.put_in(client, false);
     }
 
     /// The request that came whole is carried out, without a footprint.
@@ -462,13 +515,21 @@ impl Scoreboard {
         joining.carry_out(serial, request);
     }
 
-    /// The request that was carried out is in flight, with its footprint.
-    fn put_in(&mut self, client: usize)
+    /// Whether the reply to the request that has begun came already.
+    fn has_replied(&self, client: usize) -> bool
+        requires { client < length self.now.clients }
+        ensures { (found : ClientBoard) → slice_get (board_of self.now).clients client ≡ Some found → result ≡ has_replied self.now.errors found }
+    {
+        self.clients[client].has_replied(self.errors)
+    }
+
+    /// The request that was carried out is in flight, with its footprint, or has ended if its reply came before.
+    fn put_in(&mut self, client: usize, replied: bool)
         requires client { client < length self.old.clients }
         requires good { IsOnGoodPage self.old.memory.pages.faults (footprint_of self.old.joining.footprint) }
         requires free { (found : ClientBoard) → slice_get (board_of self.old).clients client ≡ Some found → IsFreeOf self.old.joining.source found }
         ensures state { (found : ClientBoard) → slice_get (board_of self.old).clients client ≡ Some found
-            → board_of self.new ≡ with_client client (with_accepted (flight_of self.old.joining) found) (board_of self.old) }
+            → board_of self.new ≡ with_client client (with_whole replied (flight_of self.old.joining) found) (board_of self.old) }
         ensures policy { self.new.policy ≡ self.old.policy }
     {
         let Scoreboard {
@@ -476,7 +537,7 @@ impl Scoreboard {
             joining,
             ..
         } = self;
-        clients[client].join(joining);
+        clients[client].join(joining, replied);
     }
 
     /// The request that came whole, and had begun before, is carried out, and gives its bytes. Determined of it is what stayed so all

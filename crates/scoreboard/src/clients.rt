@@ -1,21 +1,21 @@
 //! A client as a scoreboard sees it: what it has begun to ask, and its requests in flight.
-ghost use Rattle.std.specs.Prelude.{◌≡◌, ◌≤◌, ◌++◌, [], ◌∷◌, None, Ok, IfOk, false, is_some, length, true, unwrap_or};
+ghost use Rattle.std.specs.Prelude.{◌≡◌, ◌≤◌, None, Ok, Some, IfOk, false, is_some, length, true, unwrap_or};
 ghost use Rattle.std.specs.List.{list_any};
-ghost use Rattle.tl_messages.specs.Requests.{request_of};
+ghost use Rattle.tl_messages.specs.Requests.{HeldMessage, request_of};
 ghost use Rattle.tl_checker.specs.Ports.{joined};
 ghost use Rattle.tl_checker.specs.declared.Progress.TheVariants.{More, Whole};
 ghost use Rattle.config.specs.Configs.{is_valid};
-ghost use Rattle.scoreboard.specs.Boards.{answer_to, client_beside, client_footprints, kept_from, opening_client, told_to, with_accepted, wrong_reply};
+ghost use Rattle.scoreboard.specs.Boards.{answer_to, client_beside, client_footprints, early_after, early_left, has_replied, is_spoiled, kept_from, next_to, opening_client, told_to, with_whole, wrong_reply};
 ghost use Rattle.scoreboard.specs.Flights.{flights_after, is_of_source, next_reply, replies_left};
-ghost use Rattle.scoreboard.specs.InsideBoards.{AreOnGoodPages, IsFirstBeat, client_of, flight_of, flights_of, footprint_of, front_after, is_marked};
-ghost use Rattle.scoreboard.specs.Races.{beside_all, beside_dependent};
+ghost use Rattle.scoreboard.specs.InsideBoards.{AreOnGoodPages, IsFirstBeat, client_of, early_of, flight_of, flights_of, footprint_of, front_after, is_marked};
+ghost use Rattle.scoreboard.specs.Races.{beside_all, beside_dependent, unless_failed};
 ghost use Rattle.scoreboard.specs.SerialMemory.{IsCheckedRequest};
 
 use crate::flights::Flights;
 use crate::footprint::Footprint;
-use crate::in_flight::InFlight;
+use crate::in_flight::{InFlight, wrong_told};
 use crate::marks::mark_dependent;
-use crate::{Policy, Wrong};
+use crate::{Errors, Policy, ReplyRule, Wrong};
 use config::Config;
 use std::alloc::{AllocError, Global};
 use std::marker::Model;
@@ -23,27 +23,30 @@ use subordinate::Pages;
 use tl_checker::{Port, Progress, TlRule};
 use tl_messages::{ABeat, DBeat, Request};
 
-/// A client: its port, its requests in flight, whether a message has begun, the footprint of that message, which is kept where
-/// requests take effect in real time, and whether the first beat of the reply that began last was denied.
+/// A client: its port, its requests in flight, whether a message has begun, and a beat of it was corrupt; the footprint of that
+/// message, which is kept where requests take effect in real time, and the beat of its reply that may come before it is whole, where
+/// errors may be told in any way; and whether the first beat of the reply that began last was denied.
 pub(crate) struct Client {
     port: Port,
     flights: Flights,
     has_begun: bool,
+    corrupt: bool,
     coming: Footprint,
+    early: Option<DBeat>,
     told: bool,
 }
 
 impl Model for Client {
     ghost use Rattle.std.specs.Prelude.{◌≡◌, ◌≤◌, None, is_some, length};
-    ghost use Rattle.scoreboard.specs.InsideBoards.{ClientState, IsFrontFree, flights_of};
+    ghost use Rattle.scoreboard.specs.InsideBoards.{ClientState, IsFrontFree, flights_of, front_corrupt};
 
     ghost Value = { ClientState };
 
-    ghost view = { λ c. record { limits = c.port.limits; front = c.port.front; flights = c.flights; coming = c.coming; told = c.told } };
+    ghost view = { λ c. record { limits = c.port.limits; front = c.port.front; flights = c.flights; coming = c.coming; early = c.early; told = c.told } };
 
     // No whole request stands, so that the next beat may come, and a message that has begun is of a free source.
     ghost invariant = { λ c. (c.port.whole ≡ None) × (c.port.limits.max_size ≤ 12) × IsFrontFree c.port.front (flights_of c.flights)
-        × (c.has_begun ≡ is_some c.port.front) × (length c.coming.determined ≡ c.flights.room) };
+        × (c.has_begun ≡ is_some c.port.front) × (length c.coming.determined ≡ c.flights.room) × (c.corrupt ≡ front_corrupt c.port.front) };
 }
 
 // Written out, so that what lets go of one calls this, and proves nothing of its parts.
@@ -53,7 +56,9 @@ impl Drop for Client {
             port: _,
             flights: _,
             has_begun: _,
+            corrupt: _,
             coming: _,
+            early: _,
             told: _,
         } = self;
     }
@@ -80,7 +85,9 @@ impl Client {
             port,
             flights,
             has_begun: false,
+            corrupt: false,
             coming,
+            early: None,
             told: false,
         })
     }
@@ -118,35 +125,61 @@ impl Client {
         let answer = self.port.take_beat(beat, busy);
         match answer {
             Err(_) => {}
-            Ok(Progress::More) => self.has_begun = true,
+            Ok(Progress::More) => {
+                self.has_begun = true;
+                self.corrupt |= beat.corrupt;
+            }
             Ok(Progress::Whole) => {
                 self.has_begun = false;
+                self.corrupt = false;
                 self.port.take_whole(request);
             }
         }
         answer
     }
 
-    /// A request of a source to which no reply is due is in flight, and none has begun any more; a box takes its place.
-    pub(crate) fn join(&mut self, flight: &mut InFlight)
+    /// A request of a source to which no reply is due is in flight, and none has begun any more; a box takes its place. One whose reply
+    /// came before has ended.
+    pub(crate) fn join(&mut self, flight: &mut InFlight, replied: bool)
         requires free { list_any (is_of_source flight.old.source) (flights_of self.old.flights).due ≡ false }
         requires room { length flight.old.footprint.determined ≡ self.old.flights.room }
         requires front { self.old.front ≡ None }
-        ensures client { client_of self.new ≡ with_accepted (flight_of flight.old) (client_of self.old) }
-        ensures state { self.new ≡ record self.old { flights = record self.old.flights { due = self.old.flights.due ++ flight.old ∷ [] }; coming = self.new.coming } }
+        ensures client { client_of self.new ≡ with_whole replied (flight_of flight.old) (client_of self.old) }
+        ensures own_room { self.new.flights.room ≡ self.old.flights.room }
         ensures room { length flight.new.footprint.determined ≡ self.old.flights.room }
     {
-        self.flights.join(flight);
         self.coming.clear();
+        self.early = None;
+        if replied {
+            return;
+        }
+        self.flights.join(flight);
     }
 
-    /// A request begins with this footprint; that of another one takes its place.
-    pub(crate) fn begin(&mut self, flight: &mut InFlight)
+    /// A request begins with this footprint, and this beat of its reply may come early; the footprint of another one takes its place.
+    pub(crate) fn begin(&mut self, flight: &mut InFlight, early: Option<DBeat>)
         requires room { length flight.old.footprint.determined ≡ self.old.flights.room }
-        ensures client { self.new ≡ record self.old { coming = flight.old.footprint } }
+        ensures client { self.new ≡ record self.old { coming = flight.old.footprint; early = early } }
         ensures room { length flight.new.footprint.determined ≡ self.old.flights.room }
     {
         flight.swap_footprint(&mut self.coming);
+        self.early = early;
+    }
+
+    /// The request that has begun has failed where a beat of it was corrupt, and errors may be told in any way.
+    pub(crate) fn go_on(&mut self, errors: Errors)
+        ensures client { (message : HeldMessage) → self.old.front ≡ Some message
+            → client_of self.new ≡ record (client_of self.old) { coming = unless_failed (is_spoiled errors (request_of message)) (footprint_of self.old.coming) } }
+        ensures rest { self.new ≡ record self.old { coming = record self.old.coming { failed = self.new.coming.failed; determined = self.new.coming.determined } } }
+    {
+        self.coming.fail_if(errors == Errors::Any && self.corrupt);
+    }
+
+    /// Whether the reply to the request that has begun came already.
+    pub(crate) fn has_replied(&self, errors: Errors) -> bool
+        ensures { result ≡ has_replied errors (client_of self.now) }
+    {
+        errors == Errors::Any && self.early.is_none()
     }
 
     /// Of the request that had begun and is whole now, only those bytes stay determined that were so all the while.
@@ -167,17 +200,46 @@ impl Client {
         Some(self.told)
     }
 
+    /// The beat that may come early, if it is of a source: it has come now.
+    fn take_early(&mut self, source: u8) -> Option<DBeat>
+        ensures due { result ≡ early_of self.old.early source }
+        ensures left { self.new ≡ record self.old { early = early_left self.old.early source } }
+    {
+        let due = self.early?;
+        if due.source != source {
+            return None;
+        }
+        self.early = None;
+        Some(due)
+    }
+
+    /// Judges a beat that is no next one of a reply in flight: it may come early.
+    fn judge_early(&mut self, policy: Policy, told: Option<bool>, beat: &DBeat) -> Option<Wrong>
+        requires { next_reply (flights_of self.old.flights) beat.now.source ≡ None }
+        ensures wrong { result ≡ wrong_reply policy told (next_to policy (client_of self.old) beat.now.source) beat.now }
+        ensures left { self.new ≡ record self.old { early = early_left self.old.early beat.now.source } }
+    {
+        match (policy, self.take_early(beat.source)) {
+            (Policy::RealTime, Some(due)) => wrong_told(&self.coming, told, 1, &due, beat),
+            _ => Some(Wrong::Reply(ReplyRule::Unasked, None)),
+        }
+    }
+
     /// Judges a beat on channel D.
     pub(crate) fn judge_reply(&mut self, policy: Policy, beat: &DBeat) -> Option<Wrong>
-        ensures wrong { result ≡ wrong_reply policy (told_to (client_of self.old)) (next_reply (flights_of self.old.flights) beat.now.source) beat.now }
+        ensures wrong { result ≡ wrong_reply policy (told_to (client_of self.old)) (next_to policy (client_of self.old) beat.now.source) beat.now }
         ensures state { client_of self.new ≡ record (client_of self.old) {
           flights = flights_after (flights_of self.old.flights) beat.now.source;
+          early = early_after (client_of self.old) beat.now.source;
           told = unwrap_or (told_to (client_of self.old)) beat.now.denied;
         } }
         ensures room { self.new.flights.room ≡ self.old.flights.room }
     {
         let told = self.told();
         self.told = told.unwrap_or(beat.denied);
+        if !self.flights.has_next(beat.source) {
+            return self.judge_early(policy, told, beat);
+        }
         self.flights.judge(policy, told, beat)
     }
 

@@ -150,6 +150,13 @@ impl Flights {
         self.begun.is_some()
     }
 
+    /// Whether the reply that has begun, or one that is due, has its next beat in one of a source.
+    pub(crate) fn has_next(&self, source: u8) -> bool
+        ensures { result ≡ is_some (next_reply (flights_of self.now) source) }
+    {
+        self.has_begun() || self.is_due(source)
+    }
+
     /// How many replies aren't whole.
     pub(crate) fn outstanding(&self) -> u16
         ensures count { result ≡ replies_left (flights_of self.now) }

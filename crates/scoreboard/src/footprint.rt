@@ -250,7 +250,7 @@ impl Footprint {
     }
 
     /// It has failed: none of its bytes is determined.
-    pub(crate) fn fail(&mut self)
+    fn fail(&mut self)
         ensures footprint { footprint_of self.new ≡ unless_failed true (footprint_of self.old) }
         ensures room { length self.new.determined ≡ length self.old.determined }
         ensures rest { self.new ≡ record self.old { failed = true; determined = self.new.determined } }
@@ -259,6 +259,17 @@ impl Footprint {
             self.put(i, false);
         }
         self.failed = true;
+    }
+
+    /// It has failed, if that is so.
+    pub(crate) fn fail_if(&mut self, failed: bool)
+        ensures footprint { footprint_of self.new ≡ unless_failed failed (footprint_of self.old) }
+        ensures room { length self.new.determined ≡ length self.old.determined }
+        ensures rest { self.new ≡ record self.old { failed = self.new.failed; determined = self.new.determined } }
+    {
+        if failed {
+            self.fail();
+        }
     }
 
     /// Whether it leaves its bytes the same in every order, where they are determined.

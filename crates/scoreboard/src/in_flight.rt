@@ -142,6 +142,28 @@ fn beat_number(footprint: &Footprint, left: u16) -> u16
     beats_of(footprint.size(), true).saturating_sub(left)
 }
 
+/// What is wrong with a beat where another is due of the reply to a request with this footprint, of which so many are left, and requests
+/// take effect in real time.
+pub(crate) fn wrong_told(
+    footprint: &Footprint,
+    told: Option<bool>,
+    left: u16,
+    due: &DBeat,
+    beat: &DBeat,
+) -> Option<Wrong>
+    ensures { result ≡ wrong_by (due_beat footprint.now.failed told due.now beat.now)
+        (unless_indeterminate (tells_otherwise (footprint_of footprint.now) (beats_of footprint.now.size true - left) due.now beat.now)
+        (first_broken (reply_rules (due_beat footprint.now.failed told due.now beat.now) beat.now))) }
+{
+    let shown = due_beat(footprint.failed(), told, due, beat);
+    let rule = difference(&shown, beat)?;
+    let number = beat_number(footprint, left);
+    if is_payload(rule) && !tells_otherwise(footprint, number, due, beat) {
+        return None;
+    }
+    Some(Wrong::Reply(rule, Some(shown)))
+}
+
 impl InFlight {
     /// A box for a request, whose footprint has room for so many flags. The one error is that memory was refused.
     pub(crate) fn new(alloc: Global, room: usize) -> Result<Self, AllocError>
@@ -256,15 +278,22 @@ impl InFlight {
         tells_error(&self.reply.as_slice()[usize::from(self.came)..])
     }
 
+    /// It has failed, if that is so.
+    pub(crate) fn fail_if(&mut self, failed: bool)
+        ensures footprint { footprint_of self.new.footprint ≡ unless_failed failed (footprint_of self.old.footprint) }
+        ensures room { length self.new.footprint.determined ≡ length self.old.footprint.determined }
+        ensures rest { self.new ≡ record self.old { footprint = record self.old.footprint { failed = self.new.footprint.failed; determined = self.new.footprint.determined } } }
+    {
+        self.footprint.fail_if(failed);
+    }
+
     /// Where errors may be told in any way it has failed if its reply tells one.
     pub(crate) fn fail_by(&mut self, errors: Errors)
         ensures footprint { footprint_of self.new.footprint ≡ unless_failed (fails_by errors self.old.beats) (footprint_of self.old.footprint) }
         ensures room { length self.new.footprint.determined ≡ length self.old.footprint.determined }
         ensures rest { self.new ≡ record self.old { footprint = record self.old.footprint { failed = self.new.footprint.failed; determined = self.new.footprint.determined } } }
     {
-        if errors == Errors::Any && self.tells_error() {
-            self.footprint.fail();
-        }
+        self.fail_if(errors == Errors::Any && self.tells_error());
     }
 
     /// What is wrong with a beat on channel D, whose next it may be, by whether the reply that has begun was denied.
@@ -280,32 +309,10 @@ impl InFlight {
             return Some(Wrong::Reply(ReplyRule::Unasked, None));
         };
         if policy == Policy::RealTime {
-            return self.wrong_told(told, &due, beat);
+            return wrong_told(&self.footprint, told, self.left(), &due, beat);
         }
         let rule = difference(&due, beat)?;
         Some(Wrong::Reply(rule, Some(due)))
-    }
-
-    /// What is wrong with a beat where another is due, and requests take effect in real time.
-    fn wrong_told(&self, told: Option<bool>, due: &DBeat, beat: &DBeat) -> Option<Wrong>
-        ensures { result ≡ wrong_by (due_beat self.now.footprint.failed told due.now beat.now)
-            (unless_indeterminate (tells_otherwise (footprint_of self.now.footprint) (beats_of self.now.footprint.size true - length self.now.beats) due.now beat.now)
-            (first_broken (reply_rules (due_beat self.now.footprint.failed told due.now beat.now) beat.now))) }
-    {
-        let shown = due_beat(self.footprint.failed(), told, due, beat);
-        let rule = difference(&shown, beat)?;
-        if is_payload(rule) && !self.tells_otherwise(due, beat) {
-            return None;
-        }
-        Some(Wrong::Reply(rule, Some(shown)))
-    }
-
-    /// Whether a beat, as the next of its reply, tells of a determined byte something else than the one that is due.
-    fn tells_otherwise(&self, due: &DBeat, beat: &DBeat) -> bool
-        ensures { result ≡ tells_otherwise (footprint_of self.now.footprint) (beats_of self.now.footprint.size true - length self.now.beats) due.now beat.now }
-    {
-        let number = beat_number(&self.footprint, self.left());
-        tells_otherwise(&self.footprint, number, due, beat)
     }
 
     /// What another request may write isn't determined.

@@ -27,8 +27,8 @@ pub enum Policy {
     /// beat comes before its W beats.
     AcceptanceOrder,
     /// In each in which a request whose whole reply was seen before another began comes before it. A request begins with its
-    /// first beat, and its reply is due from its last on. A source is free from its reply's first beat on, and W beats may come
-    /// before their AW.
+    /// first beat, and its reply is due from its last on, or by `Errors::Any` from its first. A source is free from its reply's first
+    /// beat on, and W beats may come before their AW.
     RealTime,
 }
 
@@ -39,7 +39,8 @@ pub enum Errors {
     /// word, writes nothing, and each beat of its reply is denied and corrupt as this project's profile says.
     Strict,
     /// In any way that TileLink allows: a request of which a beat was corrupt, or whose access fails by the page map or a bad word,
-    /// may be denied or not, its data may be corrupt or not, and what it may have written is in doubt.
+    /// may be denied or not, its data may be corrupt or not, and what it may have written is in doubt. A reply is due from its
+    /// request's first beat on.
     Any,
 }
 

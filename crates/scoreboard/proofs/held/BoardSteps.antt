@@ -1,5 +1,5 @@
 -- What a board holds after a beat, client by client, and that it stays held so.
-use Rattle.std.proofs.Common.{◌≡◌, ℕ, ◌<◌, ◌≤◌, Bool, List, map, set, length, get_or, Some, refl, sym, subst, ◌∙◌, ap, ap₂}
+use Rattle.std.proofs.Common.{◌≡◌, ℕ, ◌<◌, ◌≤◌, Bool, false, List, map, set, length, get_or, Some, refl, sym, subst, ◌∙◌, ap, ap₂}
 use Rattle.std.specs.Prelude.{slice_get, unwrap_or}
 use Rattle.std.specs.Option.{option_map}
 use Rattle.std.proofs.lemmas.List.{length-map, length-set, map-set}
@@ -8,13 +8,13 @@ use Rattle.bus_words.proofs.MappedPlaces.{map_some}
 use Rattle.bus_words.proofs.PlaceChanges.{all-got, all-set}
 use Rattle.subordinate.specs.Faults.{Faults}
 use Rattle.subordinate.specs.InsidePages.{PagesState}
-use Rattle.tl_messages.specs.Requests.{HeldMessage, begun, bytes_given, request_of}
+use Rattle.tl_messages.specs.Requests.{HeldMessage, WholeRequest, begun, bytes_given, request_of}
 use Rattle.tl_messages.specs.declared.ABeat.{ABeat}
 use Rattle.tl_messages.specs.declared.DBeat.{DBeat}
-use Rattle.scoreboard.specs.Boards.{Board, ClientBoard, acting, after_d, beginning_on, begun_on, client_beside, client_footprints, coming_on, flight_for, footprints_of, given_on, joined_on, joining_on, told_to, with_accepted, with_client, with_taken}
+use Rattle.scoreboard.specs.Boards.{Board, ClientBoard, acting, after_d, begun_on, client_beside, client_footprints, coming_on, early_after, early_due, fails, flight_for, footprints_of, given_on, has_replied, joined_on, joining_on, told_to, with_accepted, with_client, with_taken, with_whole}
 use Rattle.scoreboard.specs.Flights.{Footprint, InFlight, flights_after, is_of_source}
 use Rattle.scoreboard.specs.InsideBoards.{AreOnGoodPages, BoardState, ClientState, ClientsHaveRoom, FlightState, IsFreeOf, board_of, client_of, flight_of, flights_of, footprint_of, is_marked}
-use Rattle.scoreboard.specs.Races.{after_given, after_joining, beside_dependent, flight_beside, joining}
+use Rattle.scoreboard.specs.Races.{after_given, after_joining, beside_dependent, flight_beside, joining, unless_failed}
 use Rattle.scoreboard.specs.SerialMemory.{Memory, carried_out, memory_of, place_in}
 use Rattle.scoreboard.specs.declared.Errors.{Errors}
 use Rattle.scoreboard.specs.declared.Errors.TheVariants.{Any, Strict}
@@ -39,7 +39,7 @@ client_is clients number one found there is = same_Some _ _ (sym (client_there c
 -- ---- a beat on channel D
 
 pub replied : (state : BoardState) (number : ℕ) (found new : ClientState) (beat : DBeat) → slice_get state.clients number ≡ Some found
-    → client_of new ≡ record (client_of found) { flights = flights_after (flights_of found.flights) beat.source; told = unwrap_or (told_to (client_of found)) beat.denied }
+    → client_of new ≡ record (client_of found) { flights = flights_after (flights_of found.flights) beat.source; early = early_after (client_of found) beat.source; told = unwrap_or (told_to (client_of found)) beat.denied }
     → board_of (record state { clients = set state.clients number new }) ≡ after_d (board_of state) number (slice_get (board_of state).clients number) beat
 replied state number found new beat there is =
     rw (client_there state.clients number found there)
@@ -73,9 +73,9 @@ beside_kept room faults clients given footprint is rooms held =
 
 -- ---- a request that is taken in
 
-pub put_there : (state : BoardState) (number : ℕ) (found new : ClientState) (joining : FlightState) → client_of new ≡ with_accepted (flight_of state.joining) (client_of found)
-    → board_of (record state { clients = set state.clients number new; joining = joining }) ≡ with_client number (with_accepted (flight_of state.joining) (client_of found)) (board_of state)
-put_there state number found new joining is =
+pub put_there : (state : BoardState) (number : ℕ) (found new : ClientState) (joining : FlightState) (replied : Bool) → client_of new ≡ with_whole replied (flight_of state.joining) (client_of found)
+    → board_of (record state { clients = set state.clients number new; joining = joining }) ≡ with_client number (with_whole replied (flight_of state.joining) (client_of found)) (board_of state)
+put_there state number found new joining replied is =
     ap {B = Board} (λ (clients : List ClientBoard). record (board_of state) { clients = clients }) (map-set client_of state.clients number new ∙ ap (set (map client_of state.clients) number) is)
 
 -- a board with what a request changes that is carried out
@@ -88,36 +88,46 @@ pub record IsCarriedOut (old now : BoardState) : Type 0 where
   pub memory : memory_of now.memory ≡ carried_out (memory_of old.memory) (request_of old.request)
   pub flight : flight_of now.joining ≡ flight_for (memory_of old.memory) (footprint_of now.joining.footprint) (request_of old.request)
 
-put_taken : (old now : BoardState) (number : ℕ) (found : ClientBoard) → IsCarriedOut old now
-    → with_client number (with_accepted (flight_of now.joining) found) (board_of now)
-    ≡ with_taken (record (board_of old) { clients = map client_of now.clients; indeterminate = is_marked now.indeterminate }) number found (request_of old.request) (footprint_of now.joining.footprint)
-put_taken old now number found is =
+-- the board where a client's request is carried out, and in flight with a footprint, or has ended where its reply came before
+abbrev pub taken_as : Bool → Board → ℕ → ClientBoard → WholeRequest → Footprint → Board
+taken_as replied board number client q footprint =
+    record board {
+      clients = set board.clients number (with_whole replied (flight_for board.memory footprint q) client);
+      memory = carried_out board.memory q;
+    }
+
+put_taken : (old now : BoardState) (number : ℕ) (found : ClientBoard) (replied : Bool) → IsCarriedOut old now
+    → with_client number (with_whole replied (flight_of now.joining) found) (board_of now)
+    ≡ taken_as replied (record (board_of old) { clients = map client_of now.clients; indeterminate = is_marked now.indeterminate }) number found (request_of old.request) (footprint_of now.joining.footprint)
+put_taken old now number found replied is =
     ap {B = Board} (λ (b : BoardState). put (flight_of now.joining) (record (board_of b) { clients = map client_of now.clients; memory = memory_of now.memory; indeterminate = is_marked now.indeterminate })) is.rest
     ∙ ap₂ {C = Board} (λ (flight : InFlight) (memory : Memory). put flight (record (board_of old) { clients = map client_of now.clients; memory = memory; indeterminate = is_marked now.indeterminate })) is.flight is.memory
   where
     put : InFlight → Board → Board
-    put flight board = with_client number (with_accepted flight found) board
+    put flight board = with_client number (with_whole replied flight found) board
 
 -- without a footprint
 pub taken : (old now : BoardState) (number : ℕ) (found : ClientBoard) (footprint : Footprint) → IsCarriedOut old now
     → now ≡ record old { memory = now.memory; joining = now.joining } → footprint_of now.joining.footprint ≡ footprint
     → with_client number (with_accepted (flight_of now.joining) found) (board_of now) ≡ with_taken (board_of old) number found (request_of old.request) footprint
 taken old now number found footprint is rest own =
-    put_taken old now number found is
+    put_taken old now number found false is
     ∙ ap (λ (b : BoardState). with_taken (record (board_of old) { clients = map client_of b.clients; indeterminate = is_marked b.indeterminate }) number found (request_of old.request) (footprint_of now.joining.footprint)) rest
     ∙ ap (with_taken (board_of old) number found (request_of old.request)) own
 
 -- of one that had begun the bytes are given besides
-pub given_taken : (old now : BoardState) (number : ℕ) (found : ClientBoard) → IsCarriedOut old now
+pub given_taken : (old now : BoardState) (number : ℕ) (found : ClientBoard) (replied : Bool) → replied ≡ has_replied old.errors found → IsCarriedOut old now
     → now ≡ record old { memory = now.memory; indeterminate = now.indeterminate; joining = now.joining }
     → footprint_of now.joining.footprint ≡ coming_on (board_of old) (request_of old.request) found.coming
     → is_marked now.indeterminate ≡ after_given (is_marked old.indeterminate) (footprint_of now.joining.footprint) (bytes_given old.request)
-    → with_client number (with_accepted (flight_of now.joining) found) (board_of now)
+    → with_client number (with_whole replied (flight_of now.joining) found) (board_of now)
     ≡ given_on (board_of old) number found (request_of old.request) (coming_on (board_of old) (request_of old.request) found.coming)
-given_taken old now number found is rest footprint marked =
-    put_taken old now number found is
-    ∙ ap (λ (b : BoardState). with_taken (record (board_of old) { clients = map client_of b.clients; indeterminate = is_marked now.indeterminate }) number found (request_of old.request) own_footprint) rest
-    ∙ ap {B = Board} (λ (indeterminate : ℕ → Bool). with_taken (record (board_of old) { indeterminate = indeterminate }) number found (request_of old.request) own_footprint) marked
+given_taken old now number found replied told is rest footprint marked =
+    put_taken old now number found replied is
+    ∙ ap (λ (b : BoardState). taken_as replied (record (board_of old) { clients = map client_of b.clients; indeterminate = is_marked now.indeterminate }) number found (request_of old.request) own_footprint) rest
+    ∙ ap {B = Board} (λ (indeterminate : ℕ → Bool). taken_as replied (record (board_of old) { indeterminate = indeterminate }) number found (request_of old.request) own_footprint) marked
+    ∙ ap {B = Board}
+    (λ (b : Bool). taken_as b (record (board_of old) { indeterminate = after_given (is_marked old.indeterminate) own_footprint (bytes_given old.request) }) number found (request_of old.request) own_footprint) told
     ∙ ap (given_on (board_of old) number found (request_of old.request)) footprint
   where
     own_footprint : Footprint
@@ -146,7 +156,7 @@ pub joined_taken : (old now : BoardState) (number : ℕ) (found : ClientBoard) �
     → with_client number (with_accepted (flight_of now.joining) (client_beside (footprint_of now.joining.footprint) found)) (board_of now)
     ≡ joined_on (board_of old) number found (request_of old.request) (joining_on (board_of old) (request_of old.request))
 joined_taken old now number found is footprint given marked =
-    put_taken old now number (client_beside own_footprint found) is
+    put_taken old now number (client_beside own_footprint found) false is
     ∙ ap₂ {C = Board} (λ (clients : List ClientBoard) (indeterminate : ℕ → Bool). with_taken (record (board_of old) { clients = clients; indeterminate = indeterminate }) number (client_beside own_footprint found) (request_of old.request) own_footprint) given marked
     ∙ ap (joined_on (board_of old) number found (request_of old.request)) footprint
   where
@@ -159,9 +169,21 @@ place_same : (errors : Errors) (memory : Memory) (one other : ℕ) (beat : ABeat
 place_same Strict memory one other beat = refl
 place_same Any memory one other beat = refl
 
-pub beginning_same : (board : Board) (one other : ℕ) (beat : ABeat) → beginning_on board (request_of (begun one beat)) ≡ beginning_on board (request_of (begun other beat))
-beginning_same board one other beat =
-    ap (λ place. joining board.indeterminate (footprints_of board.clients) place (request_of (begun other beat))) (place_same board.errors board.memory one other beat)
+-- nor whether it fails
+fails_same : (errors : Errors) (memory : Memory) (one other : ℕ) (beat : ABeat)
+    → fails errors memory (request_of (begun one beat)) ≡ fails errors memory (request_of (begun other beat))
+fails_same Strict memory one other beat = refl
+fails_same Any memory one other beat = refl
+
+pub joining_same : (board : Board) (one other : ℕ) (beat : ABeat) → joining_on board (request_of (begun one beat)) ≡ joining_on board (request_of (begun other beat))
+joining_same board one other beat =
+    ap₂ (λ failed place. unless_failed failed (joining board.indeterminate (footprints_of board.clients) place (request_of (begun other beat))))
+    (fails_same board.errors board.memory one other beat) (place_same board.errors board.memory one other beat)
+
+-- nor what may come early
+pub early_same : (errors : Errors) (one other : ℕ) (beat : ABeat) → early_due errors (request_of (begun one beat)) ≡ early_due errors (request_of (begun other beat))
+early_same Strict one other beat = refl
+early_same Any one other beat = refl
 
 -- behind those that have given way, a request has begun
 pub begun_behind : (old : BoardState) (given : List ClientState) (marks : PagesState) (request : HeldMessage) (joining : FlightState) (number : ℕ) (found : ClientBoard) (new : ClientState) (footprint : Footprint)

@@ -9,10 +9,10 @@ use Rattle.bus_words.proofs.PlaceChanges.{all-append, all-find, all-map, all-set
 use Rattle.subordinate.specs.Faults.{Faults, is_good, standing_at}
 use Rattle.tl_messages.specs.Requests.{WholeRequest}
 use Rattle.tl_messages.specs.declared.DBeat.{DBeat}
-use Rattle.scoreboard.specs.Boards.{ClientBoard, client_beside, client_footprints, footprints_of, with_accepted}
+use Rattle.scoreboard.specs.Boards.{ClientBoard, client_beside, client_footprints, footprints_of, with_accepted, with_whole}
 use Rattle.scoreboard.specs.Flights.{Footprint, InFlight, begun_after, flights_after, in_flight, is_of_source, with_left}
 use Rattle.scoreboard.specs.InsideBoards.{AreOnGoodPages, ClientState, IsOnGoodPage, client_of}
-use Rattle.scoreboard.specs.Races.{flight_beside, joining}
+use Rattle.scoreboard.specs.Races.{flight_beside, joining, unless_failed}
 
 -- one client more
 pub footprints_more : (clients : List ClientState) (i : ℕ) (client : ClientState) → i < length clients → client ≡ get_or clients i client
@@ -139,10 +139,28 @@ module _ (faults : Faults) where
       let parts = good_parts client good in
       good_whole (with_accepted flight client) (all-append Good client.flights.due flight parts.0 here, parts.1, λ writes. absurd (cc (writes)))
 
+  -- or where that one has ended already
+  pub good_with_whole : (replied : Bool) (flight : InFlight) (client : ClientBoard) → AreOnGoodPages faults (client_footprints client) → IsOnGoodPage faults flight.footprint
+      → AreOnGoodPages faults (client_footprints (with_whole replied flight client))
+  good_with_whole true flight client good here =
+      let parts = good_parts client good in good_whole (with_whole true flight client) (parts.0, parts.1, λ writes. absurd (cc (writes)))
+  good_with_whole false flight client good here = good_accepted flight client good here
+
   -- with another coming
   pub good_coming : (footprint : Footprint) (client : ClientBoard) → AreOnGoodPages faults (client_footprints client) → IsOnGoodPage faults footprint
       → AreOnGoodPages faults (client_footprints (record client { coming = footprint }))
   good_coming footprint client good here = let parts = good_parts client good in good_whole (record client { coming = footprint }) (parts.0, parts.1, here)
+
+  -- where the one that is coming has failed, or has not, and other bytes of it are determined
+  pub good_told : (failed : Bool) (determined : ℕ → Bool) (client : ClientBoard) → AreOnGoodPages faults (client_footprints client)
+      → AreOnGoodPages faults (client_footprints (record client { coming = record client.coming { failed = failed; determined = determined } }))
+  good_told failed determined client good =
+      let parts = good_parts client good in
+      good_whole (record client { coming = record client.coming { failed = failed; determined = determined } }) (parts.0, parts.1, parts.2)
+
+  pub good_unless_failed : (failed : Bool) (footprint : Footprint) → IsOnGoodPage faults footprint → IsOnGoodPage faults (unless_failed failed footprint)
+  good_unless_failed true footprint good = good
+  good_unless_failed false footprint good = good
 
 -- one that has joined others acts on a good page, if on any
 pub good_joining : (faults : Faults) (indeterminate : ℕ → Bool) (others : List Footprint) (place : Option ℕ) (q : WholeRequest) → IfSome place (λ address. is_good (standing_at faults address) ≡ true)

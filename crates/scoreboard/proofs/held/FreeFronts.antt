@@ -1,6 +1,6 @@
 -- A message that has begun is of a source to which no reply is due, and stays so.
 use Rattle.std.proofs.Common.{◌≡◌, ℕ, ◌≤◌, Bool, true, false, List, [], ◌∷◌, Option, Some, None, Result, Ok, refl, sym, ◌∙◌, ap, arith}
-use Rattle.std.specs.Prelude.{is_some}
+use Rattle.std.specs.Prelude.{◌||◌, is_some}
 use Rattle.std.specs.List.{list_any}
 use Rattle.std.proofs.lemmas.Bool.{or_parts}
 use Rattle.bus_words.specs.Places.{without_first}
@@ -14,11 +14,12 @@ use Rattle.tl_checker.specs.declared.TlRule.{TlRule}
 use Rattle.tl_checker.proofs.BeatRules.{first_none, right_named}
 use Rattle.tl_checker.proofs.Taking.{answered_parts}
 use Rattle.scoreboard.specs.Flights.{Flights, Footprint, InFlight, begun_is_of, due_after, each_flight, flights_after, is_busy, is_of_source}
-use Rattle.scoreboard.specs.InsideBoards.{IsFirstBeat, IsFrontFree}
+use Rattle.scoreboard.specs.InsideBoards.{IsFirstBeat, IsFrontFree, front_corrupt}
 use Rattle.scoreboard.specs.Races.{flight_beside}
 use Rattle.scoreboard.specs.declared.Policy.{Policy}
 use Rattle.scoreboard.specs.declared.Policy.TheVariants.{AcceptanceOrder, RealTime}
 use Rattle.scoreboard.proofs.MappedLists.{any_map}
+use Rattle.scoreboard.proofs.real_time.FirstBeats.{more_beats, more_no_data_back}
 
 -- ---- lists
 
@@ -39,21 +40,33 @@ joined_free policy limits None beat flights told free is =
     not_busy policy flights beat.source (first_none limits beat (is_busy policy flights beat.source) (answered_parts _ _ told is).0).1
 joined_free policy limits (Some held) beat flights told free is = free
 
--- a port that has taken a beat, of a message of which more are to come
-pub more_right : (policy : Policy) (port taken : PortState) (beat : ABeat) (flights : Flights) (answer : Result Progress TlRule) → port.whole ≡ None → port.limits.max_size ≤ 12
-    → IsFrontFree port.front flights → answer ≡ judged port.limits port.front beat (is_busy policy flights beat.source) → taken ≡ port_after port beat answer
-    → answer ≡ Ok More → (taken.whole ≡ None) × (taken.limits.max_size ≤ 12) × IsFrontFree taken.front flights × (true ≡ is_some taken.front)
-more_right policy port taken beat flights answer none small free is becomes more =
-    let after = becomes ∙ ap (port_after port beat) more in
-    rw after (none, small, joined_free policy port.limits port.front beat flights More free (sym is ∙ more), refl)
+-- a message is corrupt if a beat of it is
+corrupt_joined : (limits : TlPortLimits) (front : Option HeldMessage) (beat : ABeat) → (front_corrupt front || beat.corrupt) ≡ (joined limits front beat).corrupt
+corrupt_joined limits None beat = refl
+corrupt_joined limits (Some held) beat = refl
 
--- a first beat that is taken names an operation, and has an aligned range
-pub first_taken : (limits : TlPortLimits) (front : Option HeldMessage) (beat : ABeat) (busy : Bool) (told : Progress) → limits.max_size ≤ 12 → front ≡ None
-    → judged limits front beat busy ≡ Ok told → IsFirstBeat beat
-first_taken limits None beat busy told small none is =
-    let right = (first_none limits beat busy (answered_parts _ _ told is).0).0 in
-    record { named = (right_named limits beat right).some; range = record { small = omega (arith, right.size, small); aligned = right.aligned } }
-first_taken limits (Some held) beat busy told small begun is = absurd (cc (begun))
+-- a port that has taken a beat, of a message of which more are to come
+pub more_right : (policy : Policy) (port taken : PortState) (beat : ABeat) (flights : Flights) (answer : Result Progress TlRule) (corrupt : Bool) → port.whole ≡ None → port.limits.max_size ≤ 12
+    → IsFrontFree port.front flights → corrupt ≡ front_corrupt port.front → answer ≡ judged port.limits port.front beat (is_busy policy flights beat.source) → taken ≡ port_after port beat answer
+    → answer ≡ Ok More → (taken.whole ≡ None) × (taken.limits.max_size ≤ 12) × IsFrontFree taken.front flights × (true ≡ is_some taken.front)
+    × ((corrupt || beat.corrupt) ≡ front_corrupt taken.front)
+more_right policy port taken beat flights answer corrupt none small free told is becomes more =
+    let after = becomes ∙ ap (port_after port beat) more in
+    let marked = ap (λ b. b || beat.corrupt) told ∙ corrupt_joined port.limits port.front beat in
+    rw after (none, small, joined_free policy port.limits port.front beat flights More free (sym is ∙ more), refl, marked)
+
+-- a first beat that is taken, of several, names a Put, and has an aligned range
+pub first_taken : (limits : TlPortLimits) (front : Option HeldMessage) (beat : ABeat) (busy : Bool) → limits.max_size ≤ 12 → front ≡ None
+    → judged limits front beat busy ≡ Ok More → IsFirstBeat beat
+first_taken limits None beat busy small none is =
+    let right = (first_none limits beat busy (answered_parts _ _ More is).0).0 in
+    record {
+      named = (right_named limits beat right).some;
+      range = record { small = omega (arith, right.size, small); aligned = right.aligned };
+      carries = (more_beats limits beat busy is).0;
+      silent = more_no_data_back limits beat busy is;
+    }
+first_taken limits (Some held) beat busy small begun is = absurd (cc (begun))
 
 -- the request that stands whole is the message with the beat
 pub whole_joined : (port taken : PortState) (beat : ABeat) (answer : Result Progress TlRule) (request : HeldMessage) → taken ≡ port_after port beat answer

@@ -1,6 +1,6 @@
 -- A board whose client has answered a beat on channel A.
 use Rattle.std.proofs.Common.{◌≡◌, ℕ, zero, suc, false, List, [], ◌∷◌, ◌++◌, map, set, Some, None, Result, Ok, Err, refl, sym, ◌∙◌, ap, subst}
-use Rattle.std.specs.Prelude.{Bool, is_some, slice_get, true}
+use Rattle.std.specs.Prelude.{Bool, is_none, is_some, slice_get, true}
 use Rattle.std.specs.List.{list_any}
 use Rattle.std.proofs.lemmas.List.{map-set, set-set}
 use Rattle.bus_words.proofs.StoredPlaces.{set_back}
@@ -10,11 +10,13 @@ use Rattle.tl_checker.specs.Ports.{joined}
 use Rattle.tl_checker.specs.declared.Progress.{Progress}
 use Rattle.tl_checker.specs.declared.Progress.TheVariants.{More, Whole}
 use Rattle.tl_checker.specs.declared.TlRule.{TlRule}
-use Rattle.scoreboard.specs.Boards.{Board, ClientBoard, a_wrong, accepted_on, after_a, answer_to, answered_on, client_beside, client_footprints, coming_on, continued_on, fails, flight_for, footprints_of, joining_on, place_on, with_accepted, with_client, wrong_request}
+use Rattle.scoreboard.specs.Boards.{Board, ClientBoard, a_wrong, accepted_on, after_a, answer_to, answered_on, client_beside, client_footprints, coming_on, continued_on, fails, flight_for, footprints_of, has_replied, joining_on, place_on, with_accepted, with_client, with_whole, wrong_request}
 use Rattle.scoreboard.specs.Flights.{Footprint, InFlight, is_of_source, no_footprint}
 use Rattle.scoreboard.specs.InsideBoards.{ClientState, IsFreeOf, client_of, flights_of, front_after}
 use Rattle.scoreboard.specs.Races.{after_given, after_joining, joining, unless_failed}
 use Rattle.scoreboard.specs.SerialMemory.{carried_out}
+use Rattle.scoreboard.specs.declared.Errors.{Errors}
+use Rattle.scoreboard.specs.declared.Errors.TheVariants.{Any, Strict}
 use Rattle.scoreboard.specs.declared.Policy.{Policy}
 use Rattle.scoreboard.specs.declared.Policy.TheVariants.{AcceptanceOrder, RealTime}
 
@@ -26,6 +28,16 @@ same_footprints [] number client there = refl
 same_footprints (first ∷ clients) zero client there = let same : first ≡ client = cc (there) in ap (λ (c : ClientBoard). client_footprints c ++ footprints_of clients) (sym same)
 same_footprints (first ∷ clients) (suc number) client there = ap (λ rest. client_footprints first ++ rest) (same_footprints clients number client there)
 
+-- whether its reply came is the same, and what the client is when it is whole
+whole_same : (errors : Errors) (flight : InFlight) (client : ClientBoard)
+    → with_whole (has_replied errors (record client { front = None })) flight (record client { front = None }) ≡ with_whole (has_replied errors client) flight client
+whole_same Strict flight client = refl
+whole_same Any flight client = by_told (is_none client.early)
+  where
+    by_told : (replied : Bool) → with_whole replied flight (record client { front = None }) ≡ with_whole replied flight client
+    by_told true = refl
+    by_told false = refl
+
 -- that its client has let go of it before is nothing to the request
 accepted_same : (policy : Policy) (board : Board) (number : ℕ) (client : ClientBoard) (message : HeldMessage) (begun : Bool) → slice_get board.clients number ≡ Some client
     → accepted_on policy (with_client number (record client { front = None }) board) number (record client { front = None }) message begun
@@ -35,12 +47,14 @@ accepted_same AcceptanceOrder board number client message begun there =
     (set-set board.clients number (record client { front = None }) (with_accepted (flight_for board.memory no_footprint (request_of message)) client))
 accepted_same RealTime board number client message true there =
     let footprint = coming_on board (request_of message) client.coming in
+    let changed : ClientBoard = record client { front = None } in
+    let flight = flight_for board.memory footprint (request_of message) in
     ap {B = Board} (λ (clients : List ClientBoard). record board {
       clients = clients;
       memory = carried_out board.memory (request_of message);
       indeterminate = after_given board.indeterminate footprint (request_of message).bytes;
     })
-    (set-set board.clients number (record client { front = None }) (with_accepted (flight_for board.memory footprint (request_of message)) client))
+    (set-set board.clients number changed (with_whole (has_replied board.errors changed) flight changed) ∙ ap (set board.clients number) (whole_same board.errors flight client))
 accepted_same RealTime board number client message false there =
     ap (λ (footprints : List Footprint). joined_beside (set board.clients number changed) changed footprints) (same_footprints board.clients number client there)
     ∙ ap {B = Board} (λ (clients : List ClientBoard). record board {

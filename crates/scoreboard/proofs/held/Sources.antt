@@ -2,7 +2,7 @@
 use Rattle.std.proofs.Common.{◌≡◌, ◌≢◌, ◌<◌, ◌≤◌, ◌==◌, ℕ, zero, suc, Bool, true, false, List, [], ◌∷◌, ◌++◌, map, length, get_or, refl, sym, subst, arith, ◌∙◌, ap}
 use Rattle.std.specs.Prelude.{if◌then◌else◌, Option, Some, None, is_some}
 use Rattle.std.specs.List.{AllByRecursion, find, list_any, position, remove}
-use Rattle.std.specs.Option.{option_len}
+use Rattle.std.specs.Option.{option_len, option_map, option_or}
 use Rattle.std.proofs.lemmas.Bool.{eqb-false, eqb-true, or_parts}
 use Rattle.std.proofs.lemmas.List.{get_or-map, length-append, length-map, map-append}
 use Rattle.std.proofs.lemmas.Simd.{map-map}
@@ -11,7 +11,7 @@ use Rattle.bus_words.proofs.DistinctPlaces.{distinct-append, distinct-remove, di
 use Rattle.bus_words.proofs.FirstPlaces.{find-first, find-none, position_is_first, without_first-first}
 use Rattle.bus_words.proofs.MappedPlaces.{map-remove, position_map}
 use Rattle.bus_words.proofs.PlaceChanges.{all-append, all-remove}
-use Rattle.scoreboard.specs.Flights.{Flights, Footprint, InFlight, is_of_source}
+use Rattle.scoreboard.specs.Flights.{Flights, Footprint, InFlight, flights_after, is_of_source}
 use Rattle.scoreboard.specs.InsideBoards.{AreDue, FlightState, FlightsState, HaveRoom, flight_of}
 use Rattle.scoreboard.specs.Races.{flight_beside}
 
@@ -130,3 +130,25 @@ module _ (source : ℕ) (due : List FlightState) where
   begins_none missing =
       let none = placed ∙ missing in
       rw (none_out (is_of_source source) (map flight_of due) none, find-none (is_of_source source) (map flight_of due) none) refl
+
+-- ---- the one whose reply has its next beat in one of a source
+
+any_found : {X : Type 0} (p : X → Bool) (xs : List X) → list_any p xs ≡ is_some (find p xs)
+any_found p [] = refl
+any_found p (x ∷ xs) = grind (arith, any_found p xs)
+
+-- where no reply has begun there is one if one is due
+pub next_due : (due : List InFlight) (begun : Option FlightState) (source : ℕ) → is_some begun ≡ false
+    → list_any (is_of_source source) due ≡ is_some (option_or (option_map flight_of begun) (find (is_of_source source) due))
+next_due due None source none = any_found (is_of_source source) due
+next_due due (Some flight) source none = absurd (cc (none))
+
+not_found_out : {X : Type 0} (p : X → Bool) (xs : List X) → find p xs ≡ None → without_first p xs ≡ xs
+not_found_out p [] none = refl
+not_found_out p (x ∷ xs) none = grind (arith, not_found_out p xs)
+
+-- where there is none all stay as they were
+pub none_after : (due : List InFlight) (begun : Option InFlight) (source : ℕ) → option_or begun (find (is_of_source source) due) ≡ None
+    → flights_after (flights_with due begun) source ≡ flights_with due begun
+none_after due None source none = rw none (ap (λ left. flights_with left None) (not_found_out (is_of_source source) due none))
+none_after due (Some flight) source none = absurd (cc (none))

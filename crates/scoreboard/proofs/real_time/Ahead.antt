@@ -41,7 +41,7 @@ pub record IsComing (faults : Faults) (regions : List Region) (coming : Footprin
   pub source : theirs.source ≡ q.source
   pub well : IsWell q
   pub silent : reply_has_data q.operation ≡ false
-  pub same : (own faults regions q).writes ≡ true → coming ≡ record (own faults regions q) { determined = coming.determined }
+  pub same : (own faults regions q).writes ≡ true → coming ≡ record (own faults regions q) { failed = coming.failed; determined = coming.determined }
   pub acts : theirs.footprint ≡ record (own faults regions q) { determined = theirs.footprint.determined }
   pub less : (x : ℕ) → (own faults regions q).writes ≡ true → coming.determined x ≡ true → theirs.footprint.determined x ≡ true
   pub beats : (m : Bytes) → theirs.beats ≡ shown q (meaning faults regions q m).reply

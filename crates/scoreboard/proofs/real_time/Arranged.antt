@@ -16,13 +16,13 @@ use Rattle.tl_checker.specs.declared.Progress.{Progress}
 use Rattle.tl_checker.specs.declared.Progress.TheVariants.{More, Whole}
 use Rattle.tl_checker.specs.declared.TlRule.{TlRule}
 use Rattle.setups.specs.Setups.{SetupLists}
-use Rattle.scoreboard.specs.Boards.{Board, ClientBoard, after_all, after_seen, answer_to, opening_with}
+use Rattle.scoreboard.specs.Boards.{Board, ClientBoard, after_all, after_seen, answer_to, is_spoiled, opening_with}
 use Rattle.scoreboard.specs.declared.Errors.{Errors}
 use Rattle.scoreboard.specs.declared.Policy.TheVariants as policy
 use Rattle.scoreboard.specs.declared.ObservedBeat.{ObservedBeat}
 use Rattle.scoreboard.specs.declared.ObservedBeat.TheVariants.{A, D, Axi as OnAxi, Drained}
-use Rattle.scoreboard.specs.Orders.{Entry, Order, after_beat, begun_to, board_after, has_ended, is_due, with_beat}
-use Rattle.scoreboard.specs.RealTime.{EndedBefore, IsOrderOf, KeepsRealTime, MayBecome, MayBecomeAll, arranged, as_begun, becoming, begun_from, begun_in, begun_next, completed, entry_of, is_spoiled, numbered, with_answered, with_progress, with_request}
+use Rattle.scoreboard.specs.Orders.{Entry, Order, after_beat, begun_to, board_after, counted, has_ended, is_due, reply_beats, with_beat}
+use Rattle.scoreboard.specs.RealTime.{EndedBefore, IsOrderOf, KeepsRealTime, MayBecome, MayBecomeAll, arranged, as_begun, becoming, begun_from, begun_in, begun_next, completed, entry_of, heard, numbered, with_answered, with_progress, with_request}
 use Rattle.scoreboard.proofs.real_time.RequestActs.{well_bytes}
 use Rattle.scoreboard.proofs.real_time.StepOrders as steps
 use Rattle.scoreboard.proofs.real_time.StepOrders.{GoesOn, GoesOnAnswered, GoesOnRequest, GoesOnTaken, IsOrderFrom, IsPutIn, finished, is_coming}
@@ -144,7 +144,7 @@ beat_kept : (begun : Bool) (client source : ℕ) (entry : Entry) (q : WholeReque
     → with_beat begun client source (record entry { request = q }) ≡ record (with_beat begun client source entry) { request = q }
 beat_kept begun client source entry q may =
     elim (cases_Bool (is_due begun client source entry && entry.request.source == source)) [
-      | inl is ↦ let other = same ∙ is in rw (is, other) refl
+      | inl is ↦ let other = same ∙ is in rw (is, other) (by_whole entry.whole)
       | inr is ↦ let other = same ∙ is in rw (is, other) refl
     ]
   where
@@ -152,12 +152,16 @@ beat_kept begun client source entry q may =
         ≡ (is_due begun client source entry && entry.request.source == source)
     same = ap (λ (r : WholeRequest). is_due begun client source (record entry { request = r }) && r.source == source) may.fields
 
+    by_whole : (whole : Bool) → counted whole (record entry { request = q }) ≡ record (counted whole entry) { request = q }
+    by_whole true = refl
+    by_whole false = refl
+
 -- its last beat
-finish_kept : (errors : Errors) (client : ℕ) (q r : WholeRequest) (entry : Entry)
+finish_kept : (errors : Errors) (client : ℕ) (q r : WholeRequest) (entry : Entry) → (is_coming client entry ≡ true → reply_beats q ≡ reply_beats r)
     → record (completed errors client q entry) { request = r } ≡ finished errors client q (record entry { request = r })
-finish_kept errors client q r entry =
+finish_kept errors client q r entry beats =
     elim (cases_Bool (is_coming client entry)) [
-      | inl is ↦ rw is refl
+      | inl is ↦ let long = beats is in rw (is, long) refl
       | inr is ↦ rw is refl
     ]
 
@@ -168,7 +172,7 @@ no_fewer_taken : (errors : Errors) (client : ℕ) (front : Option HeldMessage) (
     → length now ≤ length (with_progress errors client front q progress now)
 no_fewer_taken errors client None q More now = omega (arith, length-append now (entry_of errors client q false ∷ []))
 no_fewer_taken errors client None q Whole now = omega (arith, length-append now (entry_of errors client q true ∷ []))
-no_fewer_taken errors client (Some held) q More now = omega arith
+no_fewer_taken errors client (Some held) q More now = omega (arith, length-map now (heard errors client q))
 no_fewer_taken errors client (Some held) q Whole now = omega (arith, length-map now (completed errors client q))
 
 no_fewer : (board : Board) (seen : ObservedBeat) (now : Order) → length now ≤ length (begun_next board seen now)
@@ -311,6 +315,29 @@ module _ (errors : Errors) (setup : SetupLists) (beats : List ObservedBeat) (req
     abbrev errors_now : Errors
     errors_now = (board_after errors setup done).errors
 
+    -- a beat between the first and the last of a request
+    hear : (client : ℕ) (q : WholeRequest) → now ≡ map (heard errors_now client q) (begun done) → longer ≡ map (heard errors_now client q) (so_far done)
+    hear client q same =
+        ap entries_of (is_next ∙ same)
+        ∙ ap (λ n. map (becoming (map change (begun done)) requests) (below n numbers)) (length-map (begun done) change)
+        ∙ same_below (becoming (map change (begun done)) requests) (λ k. change (becoming (begun done) requests k)) (length (begun done)) numbers each
+        ∙ sym (map-map change (becoming (begun done) requests) (below (length (begun done)) numbers))
+      where
+        change : Entry → Entry
+        change = heard errors_now client q
+
+        by_open : (entry : Entry) (r : WholeRequest) → record (change entry) { request = r } ≡ change (record entry { request = r })
+        by_open entry r =
+            elim (cases_Bool (is_coming client entry)) [
+              | inl is ↦ rw is refl
+              | inr is ↦ rw is refl
+            ]
+
+        each : (k : ℕ) → k < length (begun done) → becoming (map change (begun done)) requests k ≡ change (becoming (begun done) requests k)
+        each k small =
+            ap (λ (entry : Entry). record entry { request = requests k }) (numbered_map change (begun done) k small)
+            ∙ by_open (numbered (begun done) k) (requests k)
+
     -- the last beat of a request
     finish : (client : ℕ) (q : WholeRequest) → now ≡ map (completed errors_now client q) (begun done)
         → (longer ≡ map (finished errors_now client q) (so_far done))
@@ -327,19 +354,22 @@ module _ (errors : Errors) (setup : SetupLists) (beats : List ObservedBeat) (req
         change : Entry → Entry
         change = completed errors_now client q
 
+        own : (k : ℕ) → k < length (begun done) → is_coming client (becoming (begun done) requests k) ≡ true → MayBecome (entry_of errors_now client q true) (requests k)
+        own k small coming =
+            let entry = numbered (begun done) k in
+            let whole : change entry
+            ≡ record entry { request = q; whole = true; spoiled = is_spoiled errors_now q; early = false; came = if entry.replied then reply_beats q else entry.came } = rw coming refl in
+            let is : numbered now k
+            ≡ record entry { request = q; whole = true; spoiled = is_spoiled errors_now q; early = false; came = if entry.replied then reply_beats q else entry.came } =
+            ap (λ (o : Order). numbered o k) same ∙ numbered_map change (begun done) k small ∙ whole in
+            let may_then = subst (λ (e : Entry). MayBecome e (requests k)) is (may_now k (omega (arith, small, ap (λ (o : Order). length o) same, length-map (begun done) change))) in
+            record { same = may_then.same; fields = may_then.fields; corrupt = may_then.corrupt; bytes = may_then.bytes; left = may_then.left }
+
         each : (k : ℕ) → k < length (begun done) → becoming (map change (begun done)) requests k ≡ finished errors_now client q (becoming (begun done) requests k)
         each k small =
             ap (λ (entry : Entry). record entry { request = requests k }) (numbered_map change (begun done) k small)
             ∙ finish_kept errors_now client q (requests k) (numbered (begun done) k)
-
-        own : (k : ℕ) → k < length (begun done) → is_coming client (becoming (begun done) requests k) ≡ true → MayBecome (entry_of errors_now client q true) (requests k)
-        own k small coming =
-            let entry = numbered (begun done) k in
-            let whole : change entry ≡ record entry { request = q; whole = true; spoiled = is_spoiled errors_now q } = rw coming refl in
-            let is : numbered now k ≡ record entry { request = q; whole = true; spoiled = is_spoiled errors_now q } =
-            ap (λ (o : Order). numbered o k) same ∙ numbered_map change (begun done) k small ∙ whole in
-            let may_then = subst (λ (e : Entry). MayBecome e (requests k)) is (may_now k (omega (arith, small, ap (λ (o : Order). length o) same, length-map (begun done) change))) in
-            record { same = may_then.same; fields = may_then.fields; corrupt = may_then.corrupt; bytes = may_then.bytes; left = may_then.left }
+            (λ coming. sym (ap (λ (x : WholeRequest). reply_beats x) (own k small coming).fields))
 
     -- a request begins, as what it becomes
     put : (Goes : Order → Type 0) (entry : Entry) → now ≡ begun done ++ entry ∷ []
@@ -432,7 +462,7 @@ module _ (errors : Errors) (setup : SetupLists) (beats : List ObservedBeat) (req
     taken client None q Whole same =
         put (GoesOnTaken errors_now client None q Whole (so_far done)) (entry_of errors_now client q true) same
         (λ new becomes is. (requests (length (begun done)), becomes, is))
-    taken client (Some held) q More same = quiet same
+    taken client (Some held) q More same = hear client q same
     taken client (Some held) q Whole same = finish client q same
 
     answered : (client : ℕ) (front : Option HeldMessage) (message : HeldMessage) (answer : Result Progress TlRule)
@@ -506,7 +536,7 @@ first_beats errors setup beats =
 -- each may be what came of it
 pub nothing_more : (errors : Errors) (setup : SetupLists) (beats : List ObservedBeat) → MayBecomeAll (begun_in errors setup beats) (as_begun errors setup beats)
 nothing_more errors setup beats number small =
-    let well = ((followed errors setup beats).held number small).2 in
+    let well = ((followed errors setup beats).held number small).1 in
     record {
       same = λ whole sound. refl;
       fields = refl;

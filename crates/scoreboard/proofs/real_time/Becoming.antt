@@ -1,9 +1,9 @@
 -- What has begun and isn't whole, along lists of beats: its client's port holds its beats so far. So what a request may become after a beat, it may have
 -- become before.
-use Rattle.std.proofs.Common.{◌≡◌, ℕ, ◌<◌, ◌==◌, Bool, true, false, ◌&&◌, not, List, [], ◌∷◌, ◌++◌, map, length, Option, Some, None, Result, Ok, Err, inl, inr, if◌then◌else◌, refl, sym, ◌∙◌, ap, subst, arith}
+use Rattle.std.proofs.Common.{◌≡◌, ℕ, ◌<◌, ◌==◌, Bool, true, false, ◌&&◌, ◌||◌, not, List, [], ◌∷◌, ◌++◌, map, length, Option, Some, None, Result, Ok, Err, inl, inr, if◌then◌else◌, refl, sym, ◌∙◌, ap, subst, arith}
 use Rattle.std.specs.Prelude.{slice_get}
 use Rattle.std.specs.List.{list_any}
-use Rattle.std.proofs.lemmas.Bool.{and_parts, cases_eq, cases_Bool, eq-eqb, eqb-true, ne_eqb, not-true}
+use Rattle.std.proofs.lemmas.Bool.{and_parts, cases_eq, cases_Bool, eq-eqb, eqb-true, ne_eqb, not-true, or_right}
 use Rattle.std.proofs.lemmas.List.{get_or-map, get_or_append_left, get_or_at, length-append, length-map}
 use Rattle.tl_messages.specs.Requests.{HeldMessage, WholeRequest, begun, bytes_given, no_message, request_of, with_beat as with_more}
 use Rattle.tl_messages.specs.declared.ABeat.{ABeat}
@@ -13,11 +13,11 @@ use Rattle.tl_checker.specs.declared.Progress.{Progress}
 use Rattle.tl_checker.specs.declared.Progress.TheVariants.{More, Whole}
 use Rattle.tl_checker.specs.declared.TlRule.{TlRule}
 use Rattle.setups.specs.Setups.{SetupLists}
-use Rattle.scoreboard.specs.Boards.{Board, ClientBoard, after_a, after_all, after_seen, answer_to, answered_on, opening_with}
+use Rattle.scoreboard.specs.Boards.{Board, ClientBoard, after_a, after_all, after_seen, answer_to, answered_on, is_spoiled, opening_with}
 use Rattle.scoreboard.specs.Flights.{is_busy}
 use Rattle.scoreboard.specs.InsideBoards.{front_after}
-use Rattle.scoreboard.specs.Orders.{Entry, Order, begun_to, board_after, is_due, with_beat}
-use Rattle.scoreboard.specs.RealTime.{MayBecome, MayBecomeAll, begun_from, begun_in, begun_next, completed, entry_of, is_spoiled, numbered, with_answered, with_progress, with_request}
+use Rattle.scoreboard.specs.Orders.{Entry, Order, begun_to, board_after, counted, is_due, reply_beats, with_beat}
+use Rattle.scoreboard.specs.RealTime.{MayBecome, MayBecomeAll, begun_from, begun_in, begun_next, completed, entry_of, heard, numbered, with_answered, with_progress, with_request}
 use Rattle.scoreboard.specs.declared.Errors.{Errors}
 use Rattle.scoreboard.specs.declared.Errors.TheVariants.{Any, Strict}
 use Rattle.scoreboard.specs.declared.ObservedBeat.{ObservedBeat}
@@ -31,19 +31,21 @@ use Rattle.scoreboard.proofs.real_time.RequestActs.{IsWell, well_bytes}
 -- ---- what is held of a request
 
 -- a front holds the beats so far of a request that isn't whole
-pub record IsHeld (front : Option HeldMessage) (request : WholeRequest) : Type 0 where
+pub record IsHeld (errors : Errors) (front : Option HeldMessage) (request : WholeRequest) (spoiled : Bool) : Type 0 where
   pub held : HeldMessage
+  pub told : is_spoiled errors (request_of held) ≡ true → spoiled ≡ true
   pub is : front ≡ Some held
   pub fields : request_of held ≡ record request { bytes = bytes_given held; corrupt = held.corrupt }
   pub corrupt : request.corrupt ≡ true → held.corrupt ≡ true
   pub well : IsWell request
 
 -- with one more beat
-abbrev held_more : (front : Option HeldMessage) (request : WholeRequest) (beat : ABeat) (h : IsHeld front request)
-    → IsHeld (Some (with_more h.held beat)) request
-held_more front request beat h =
+abbrev held_more : (errors : Errors) (front : Option HeldMessage) (request : WholeRequest) (spoiled : Bool) (beat : ABeat) (h : IsHeld errors front request spoiled)
+    → IsHeld errors (Some (with_more h.held beat)) request (spoiled || is_spoiled errors (request_of (with_more h.held beat)))
+held_more errors front request spoiled beat h =
     record {
       held = with_more h.held beat;
+      told = λ is. or_right spoiled (is_spoiled errors (request_of (with_more h.held beat))) is;
       is = refl;
       fields = ap (λ (q : WholeRequest). record q { bytes = bytes_given (with_more h.held beat); corrupt = (with_more h.held beat).corrupt }) h.fields;
       corrupt = λ is. let was = h.corrupt is in rw was refl;
@@ -51,21 +53,22 @@ held_more front request beat h =
     }
 
 -- what it may become once it is whole, as what is held, it may become before
-held_becomes : (errors : Errors) (front : Option HeldMessage) (entry : Entry) (q r : WholeRequest) (h : IsHeld front entry.request) → entry.whole ≡ false
-    → entry.spoiled ≡ is_spoiled errors entry.request → q ≡ request_of h.held → IsWell q → MayBecome (entry_of errors entry.client q true) r → MayBecome entry r
-held_becomes errors front entry q r h unwhole spoiled is well may =
+held_becomes : (errors : Errors) (front next : Option HeldMessage) (entry : Entry) (q r : WholeRequest) (spoiled : Bool)
+    (was : IsHeld errors front entry.request entry.spoiled) (h : IsHeld errors next entry.request spoiled) → entry.whole ≡ false
+    → q ≡ request_of h.held → IsWell q → MayBecome (entry_of errors entry.client q true) r → MayBecome entry r
+held_becomes errors front next entry q r spoiled was h unwhole is well may =
     record {
       same = λ whole. absurd (cc (unwhole, whole));
       fields = may.fields ∙ ap (λ (x : WholeRequest). record x { bytes = r.bytes; corrupt = r.corrupt }) (is ∙ h.fields);
-      corrupt = by_errors errors spoiled may;
+      corrupt = by_errors errors was may;
       bytes = λ not_whole. well_bytes r (well_as errors entry.client q r may well);
       left = λ whole. absurd (cc (unwhole, whole));
     }
   where
-    by_errors : (e : Errors) → entry.spoiled ≡ is_spoiled e entry.request → MayBecome (entry_of e entry.client q true) r
+    by_errors : (e : Errors) → IsHeld e front entry.request entry.spoiled → MayBecome (entry_of e entry.client q true) r
         → entry.spoiled ≡ false → entry.request.corrupt ≡ true → r.corrupt ≡ true
-    by_errors Any told becomes sound corrupt = absurd (cc (sym sound ∙ told ∙ corrupt))
-    by_errors Strict told becomes sound corrupt =
+    by_errors Any before becomes sound corrupt = absurd (cc (sym sound ∙ before.told (before.corrupt corrupt)))
+    by_errors Strict before becomes sound corrupt =
         ap (λ (x : WholeRequest). x.corrupt) (becomes.same refl refl ∙ is) ∙ h.corrupt corrupt
 
 -- ---- each entry of an order, by its number
@@ -102,10 +105,10 @@ each_last P now entry all last number small =
 
 -- ---- what is held of those that have begun
 
--- a request that isn't whole is held by its client's front; each is known by what came of it to be spoiled, and is well
+-- a request that isn't whole is held by its client's front, and each is well
 abbrev pub IsHeldBy : Errors → (ℕ → Option HeldMessage) → Entry → Type 0
 IsHeldBy errors fronts entry =
-    (entry.whole ≡ false → IsHeld (fronts entry.client) entry.request) × (entry.spoiled ≡ is_spoiled errors entry.request) × IsWell entry.request
+    (entry.whole ≡ false → IsHeld errors (fronts entry.client) entry.request entry.spoiled) × IsWell entry.request
 
 abbrev pub AreHeld : Errors → (ℕ → Option HeldMessage) → Order → Type 0
 AreHeld errors fronts now = EachIn (IsHeldBy errors fronts) now
@@ -114,9 +117,8 @@ AreHeld errors fronts now = EachIn (IsHeldBy errors fronts) now
 held_still : (errors : Errors) (fronts next : ℕ → Option HeldMessage) (entry : Entry) → (entry.whole ≡ false → next entry.client ≡ fronts entry.client)
     → IsHeldBy errors fronts entry → IsHeldBy errors next entry
 held_still errors fronts next entry same held = (
-  λ unwhole. subst (λ (front : Option HeldMessage). IsHeld front entry.request) (sym (same unwhole)) (held.0 unwhole),
+  λ unwhole. subst (λ (front : Option HeldMessage). IsHeld errors front entry.request entry.spoiled) (sym (same unwhole)) (held.0 unwhole),
   held.1,
-  held.2,
 )
 
 -- of a client that has begun nothing, nothing is held
@@ -158,40 +160,45 @@ module _ (errors : Errors) (limits : TlPortLimits) (beat : ABeat) (busy : Bool) 
       (
         λ unwhole. record {
           held = begun limits.client beat;
+          told = λ is. is;
           is = next_own None More come;
           fields = refl;
           corrupt = λ is. is;
           well = first_well limits beat busy answer;
         },
-        refl,
         first_well limits beat busy answer,
       )
   held_progress None Whole answer own come well are =
       each_last (IsHeldBy errors next) now (entry_of errors number (request_of (begun limits.client beat)) true) (others_held Whole come own are)
-      (λ unwhole. absurd (cc (unwhole)), refl, well refl)
-  held_progress (Some held) More answer own come well are = λ k small. by_client (numbered now k) (are k small)
+      (λ unwhole. absurd (cc (unwhole)), well refl)
+  held_progress (Some held) More answer own come well are =
+      each_map (IsHeldBy errors fronts) (IsHeldBy errors next) (heard errors number (request_of (with_more held beat))) now by_test are
     where
-      by_front : (entry : Entry) → IsHeldBy errors fronts entry → entry.whole ≡ false → IsHeld (next entry.client) entry.request
-      by_front entry was unwhole =
-          let h = was.0 unwhole in
-          elim (cases_eq entry.client number) [
-            | inl same ↦
+      by_test : (entry : Entry) → IsHeldBy errors fronts entry → IsHeldBy errors next (heard errors number (request_of (with_more held beat)) entry)
+      by_test entry was =
+          elim (cases_Bool (entry.client == number && not entry.whole)) [
+            | inl is ↦
+                let parts = and_parts (entry.client == number) (not entry.whole) is in
+                let h = was.0 (not-true entry.whole parts.1) in
+                let same = eqb-true entry.client number parts.0 in
                 let this : held ≡ h.held = cc (sym own ∙ sym (ap fronts same) ∙ h.is) in
-                subst (λ (front : Option HeldMessage). IsHeld front entry.request)
-                (ap (λ (m : HeldMessage). Some (with_more m beat)) (sym this) ∙ sym (next_own (Some held) More come) ∙ sym (ap next same))
-                (held_more (fronts entry.client) entry.request beat h)
-            | inr differ ↦ (held_still errors fronts next entry (λ again. next_other (Some held) More come entry.client differ) was).0 unwhole
+                rw is (
+                  λ unwhole. subst (λ (m : HeldMessage). IsHeld errors (next entry.client) entry.request (entry.spoiled || is_spoiled errors (request_of (with_more m beat)))) (sym this)
+                      (subst (λ (front : Option HeldMessage). IsHeld errors front entry.request (entry.spoiled || is_spoiled errors (request_of (with_more h.held beat))))
+                      (ap (λ (m : HeldMessage). Some (with_more m beat)) (sym this) ∙ sym (next_own (Some held) More come) ∙ sym (ap next same))
+                      (held_more errors (fronts entry.client) entry.request entry.spoiled beat h)),
+                  was.1,
+                )
+            | inr is ↦
+                rw is (held_still errors fronts next entry (λ unwhole. next_other (Some held) More come entry.client (still_others entry number is unwhole)) was)
           ]
-
-      by_client : (entry : Entry) → IsHeldBy errors fronts entry → IsHeldBy errors next entry
-      by_client entry was = (by_front entry was, was.1, was.2)
   held_progress (Some held) Whole answer own come well are =
       each_map (IsHeldBy errors fronts) (IsHeldBy errors next) (completed errors number (request_of (with_more held beat))) now by_test are
     where
       by_test : (entry : Entry) → IsHeldBy errors fronts entry → IsHeldBy errors next (completed errors number (request_of (with_more held beat)) entry)
       by_test entry was =
           elim (cases_Bool (entry.client == number && not entry.whole)) [
-            | inl is ↦ rw is (λ unwhole. absurd (cc (unwhole)), refl, well refl)
+            | inl is ↦ rw is (λ unwhole. absurd (cc (unwhole)), well refl)
             | inr is ↦
                 rw is (held_still errors fronts next entry (λ unwhole. next_other (Some held) Whole come entry.client (still_others entry number is unwhole)) was)
           ]
@@ -209,7 +216,38 @@ module _ (errors : Errors) (limits : TlPortLimits) (beat : ABeat) (busy : Bool) 
   may_progress None Whole requests own well are may k small =
       subst (λ (entry : Entry). MayBecome entry (requests k)) (numbered_first now (entry_of errors number (request_of (begun limits.client beat)) true) k small)
       (may k (omega (arith, small, length-append now (entry_of errors number (request_of (begun limits.client beat)) true ∷ []))))
-  may_progress (Some held) More requests own well are may k small = may k small
+  may_progress (Some held) More requests own well are may k small =
+      by_test (numbered now k) (are k small)
+      (subst (λ (entry : Entry). MayBecome entry (requests k)) (numbered_map change now k small) (may k (omega (arith, small, length-map now change))))
+    where
+      change : Entry → Entry
+      change = heard errors number (request_of (with_more held beat))
+
+      by_test : (entry : Entry) → IsHeldBy errors fronts entry → MayBecome (change entry) (requests k) → MayBecome entry (requests k)
+      by_test entry was becomes =
+          elim (cases_Bool (entry.client == number && not entry.whole)) [
+            | inl is ↦ own_request is
+            | inr is ↦ let still : change entry ≡ entry = rw is refl in subst (λ (e : Entry). MayBecome e (requests k)) still becomes
+          ]
+        where
+          own_request : (entry.client == number && not entry.whole) ≡ true → MayBecome entry (requests k)
+          own_request is =
+              let unwhole = not-true entry.whole (and_parts (entry.client == number) (not entry.whole) is).1 in
+              let done : change entry ≡ record entry { spoiled = entry.spoiled || is_spoiled errors (request_of (with_more held beat)) } = rw is refl in
+              let may_then = subst (λ (e : Entry). MayBecome e (requests k)) done becomes in
+              record {
+                same = λ whole. absurd (cc (unwhole, whole));
+                fields = may_then.fields;
+                corrupt = by_errors errors (was.0 unwhole) may_then.corrupt;
+                bytes = may_then.bytes;
+                left = λ whole. absurd (cc (unwhole, whole));
+              }
+            where
+              by_errors : (e : Errors) → IsHeld e (fronts entry.client) entry.request entry.spoiled
+                  → ((entry.spoiled || is_spoiled e (request_of (with_more held beat))) ≡ false → entry.request.corrupt ≡ true → (requests k).corrupt ≡ true)
+                  → entry.spoiled ≡ false → entry.request.corrupt ≡ true → (requests k).corrupt ≡ true
+              by_errors Any before keeps sound corrupt = absurd (cc (sym sound ∙ before.told (before.corrupt corrupt)))
+              by_errors Strict before keeps sound corrupt = keeps (ap (λ (b : Bool). b || false) sound) corrupt
   may_progress (Some held) Whole requests own well are may k small =
       by_test (numbered now k) (are k small)
       (subst (λ (entry : Entry). MayBecome entry (requests k)) (numbered_map change now k small) (may k (omega (arith, small, length-map now change))))
@@ -231,9 +269,12 @@ module _ (errors : Errors) (limits : TlPortLimits) (beat : ABeat) (busy : Bool) 
               let h = was.0 unwhole in
               let q = request_of (with_more held beat) in
               let this : held ≡ h.held = cc (sym own ∙ sym (ap fronts (eqb-true entry.client number parts.0)) ∙ h.is) in
-              let done : change entry ≡ record entry { request = q; whole = true; spoiled = is_spoiled errors q } = rw is refl in
+              let done : change entry
+              ≡ record entry { request = q; whole = true; spoiled = is_spoiled errors q; early = false; came = if entry.replied then reply_beats q else entry.came } = rw is refl in
               let may_then = subst (λ (e : Entry). MayBecome e (requests k)) done becomes in
-              held_becomes errors (Some (with_more h.held beat)) entry q (requests k) (held_more (fronts entry.client) entry.request beat h) unwhole was.1
+              held_becomes errors (fronts entry.client) (Some (with_more h.held beat)) entry q (requests k)
+              (entry.spoiled || is_spoiled errors (request_of (with_more h.held beat))) h
+              (held_more errors (fronts entry.client) entry.request entry.spoiled beat h) unwhole
               (ap (λ (m : HeldMessage). request_of (with_more m beat)) this) (well held refl refl)
               (record { same = may_then.same; fields = may_then.fields; corrupt = may_then.corrupt; bytes = may_then.bytes; left = may_then.left })
 
@@ -250,9 +291,13 @@ held_beat : (errors : Errors) (fronts next : ℕ → Option HeldMessage) (begun 
     → IsHeldBy errors fronts entry → IsHeldBy errors next (with_beat begun client source entry)
 held_beat errors fronts next begun client source entry same was =
     elim (cases_Bool (is_due begun client source entry && entry.request.source == source)) [
-      | inl is ↦ rw is (held_still errors fronts next entry (λ unwhole. same entry.client) was)
+      | inl is ↦ rw is (by_whole entry.whole (held_still errors fronts next entry (λ unwhole. same entry.client) was))
       | inr is ↦ rw is (held_still errors fronts next entry (λ unwhole. same entry.client) was)
     ]
+  where
+    by_whole : (whole : Bool) → IsHeldBy errors next entry → IsHeldBy errors next (counted whole entry)
+    by_whole true held = held
+    by_whole false held = held
 
 held_request : (board : Board) (number : ℕ) (beat : ABeat) (now : Order) → AreFronts board.clients → AreHeld board.errors (front_at board.clients) now
     → AreHeld board.errors (front_at (after_a RealTime board number (slice_get board.clients number) beat).clients)
@@ -321,9 +366,13 @@ followed errors setup beats = followed_from beats (opening_with errors setup) []
 may_beat : (begun : Bool) (client source : ℕ) (entry : Entry) (q : WholeRequest) → MayBecome (with_beat begun client source entry) q → MayBecome entry q
 may_beat begun client source entry q =
     elim (cases_Bool (is_due begun client source entry && entry.request.source == source)) [
-      | inl is ↦ rw is (λ may. record { same = may.same; fields = may.fields; corrupt = may.corrupt; bytes = may.bytes; left = may.left })
+      | inl is ↦ rw is (by_whole entry.whole)
       | inr is ↦ rw is (λ may. may)
     ]
+  where
+    by_whole : (whole : Bool) → MayBecome (counted whole entry) q → MayBecome entry q
+    by_whole true may = record { same = may.same; fields = may.fields; corrupt = may.corrupt; bytes = may.bytes; left = may.left }
+    by_whole false may = record { same = may.same; fields = may.fields; corrupt = may.corrupt; bytes = may.bytes; left = may.left }
 
 may_request : (board : Board) (number : ℕ) (beat : ABeat) (now : Order) (requests : ℕ → WholeRequest) → IsFollowed board now
     → MayBecomeAll (with_request board.errors number (slice_get board.clients number) beat now) requests → MayBecomeAll now requests

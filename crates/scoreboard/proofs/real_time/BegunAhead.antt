@@ -2,7 +2,7 @@
 use Rattle.std.proofs.Common.{◌≡◌, ℕ, Bool, true, false, ◌&&◌, not, List, [], map, set, length, Option, Some, None, ◌⊎◌, inl, inr, refl, sym, ◌∙◌, ap, subst, arith}
 use Rattle.std.specs.Prelude.{is_some, option_map, slice_get, unwrap_or}
 use Rattle.std.specs.List.{list_any}
-use Rattle.std.proofs.lemmas.Bool.{and_parts, cases_Bool, cases_eq, or_parts}
+use Rattle.std.proofs.lemmas.Bool.{and_parts, cases_eq, or_parts, or_right}
 use Rattle.std.proofs.lemmas.List.{length-map, length-set}
 use Rattle.std.proofs.lemmas.Option.{slice_get-map, slice_get_within}
 use Rattle.bus_words.proofs.StoredPlaces.{get_set}
@@ -12,20 +12,20 @@ use Rattle.burst_plan.specs.declared.Region.{Region}
 use Rattle.burst_plan.specs.PageMap.{address_of}
 use Rattle.responses.specs.Shown.{shown}
 use Rattle.subordinate.specs.Faults.{Faults}
-use Rattle.scoreboard.specs.Boards.{Board, ClientBoard, beginning_on, begun_on, client_beside, flight_for, footprints_of, joining_on, place_on, with_accepted, with_client}
+use Rattle.scoreboard.specs.Boards.{Board, ClientBoard, begun_on, client_beside, early_due, fails, flight_for, footprints_of, joining_on, place_on, with_accepted, with_client}
 use Rattle.scoreboard.specs.Flights.{Flights, Footprint, InFlight, is_of_source}
 use Rattle.scoreboard.specs.Orders.{Order}
-use Rattle.scoreboard.specs.Races.{after_given, after_joining, beside, flight_beside, may_write}
+use Rattle.scoreboard.specs.Races.{after_given, after_joining, alone, beside, flight_beside, joining, may_write}
 use Rattle.scoreboard.specs.RealTime.{MayBecome, entry_of}
 use Rattle.scoreboard.specs.SerialMemory.{on_good_page}
 use Rattle.scoreboard.proofs.real_time.Acceptance.{other_flight, own_flight, sources_beside}
 use Rattle.scoreboard.proofs.real_time.Ahead.{HasBecome, HasBeside, IsAhead, IsBehind, IsComing, IsFinal, IsGiven, IsSame, IsWithin, Shadow, comes, shadow_of, shadow_touches, shadow_writes, touches, will_give, within_writes}
 use Rattle.scoreboard.proofs.real_time.AheadBeside.{behind_beside, coming_beside_it, none_beside, was_beside}
 use Rattle.scoreboard.proofs.real_time.Apart.{AreAll}
-use Rattle.scoreboard.proofs.real_time.Comings.{comes_beside, comes_other, comes_same, footprints_front}
+use Rattle.scoreboard.proofs.real_time.Comings.{comes_beside, comes_other, comes_same, early_at, early_beside, early_other, early_same, footprints_front}
 use Rattle.scoreboard.proofs.real_time.Entries.{carry}
 use Rattle.scoreboard.proofs.real_time.Explained.{Explains, sources_with}
-use Rattle.scoreboard.proofs.real_time.Failures.{same_place}
+use Rattle.scoreboard.proofs.real_time.Failures.{fails_flag, fails_keeps, fails_less, same_acting, same_place}
 use Rattle.scoreboard.proofs.real_time.FlightLists.{HaveAllSources, are_all, sources_kept}
 use Rattle.scoreboard.proofs.real_time.FlightPlaces.{at_beside, coming_beside, coming_other, coming_same}
 use Rattle.scoreboard.proofs.real_time.Places.{Place, cases_place, coming_at, due_at, flight_at, flight_in, flights_kept, footprint_at}
@@ -59,13 +59,13 @@ module _ (board : Board) (shadow : Shadow) (order : Order) (explains : Explains 
   q = record (request_of message) { bytes = bytes; corrupt = spoiled }
 
   abbrev pub mine : Footprint
-  mine = beginning_on hearing first
+  mine = joining_on hearing first
 
   abbrev pub theirs : Footprint
   theirs = joining_on (shadow_of board shadow) q
 
   abbrev pub now : Board
-  now = begun_on hearing number heard mine
+  now = begun_on hearing number (record heard { early = early_due board.errors first }) mine
 
   abbrev pub flight : InFlight
   flight = flight_for (shadow_of board shadow).memory theirs q
@@ -84,16 +84,30 @@ module _ (board : Board) (shadow : Shadow) (order : Order) (explains : Explains 
 
   -- ---- the footprints of both
 
-  its_place : (own faults regions q).writes ≡ true → on_good_page faults (address_of regions q) ≡ place_on board first
-  its_place writes =
-      sym (same_place faults regions board.errors first q may.fields may.corrupt (grind (arith, writes)))
+  abbrev failed : Bool
+  failed = fails board.errors board.memory first
+
+  -- the request's, beside all
+  abbrev beginning : Footprint
+  beginning = joining board.indeterminate (footprints_of hearing.clients) (place_on board first) first
+
+  mine_acts : mine ≡ record (alone (λ x. false) (place_on board first) first) { failed = mine.failed; determined = mine.determined }
+  mine_acts = fails_keeps failed beginning
+
+  pub mine_failed : (joining_on (with_client number (record client { front = Some message }) board) (request_of message)).failed ≡ fails board.errors board.memory (request_of message)
+  mine_failed = fails_flag failed beginning refl
+
+  acts_there : (own faults regions q).writes ≡ true → mine ≡ record (own faults regions q) { failed = mine.failed; determined = mine.determined }
+  acts_there does =
+      mine_acts ∙ same_acting faults regions board.errors first q may.fields may.corrupt mine.failed mine.determined
+      (or_right (own faults regions q).reads (own faults regions q).writes does)
 
   within : IsWithin theirs mine
   within =
       record {
-        writes = λ does. ap (λ (o : Option ℕ). is_some o && has_data message.operation) (sym (its_place does)) ∙ does;
-        address = λ does. ap (λ (o : Option ℕ). unwrap_or o 0) (sym (its_place does));
-        size = λ does. refl;
+        writes = λ does. ap (λ (f : Footprint). f.writes) (acts_there does) ∙ does;
+        address = λ does. ap (λ (f : Footprint). f.address) (acts_there does);
+        size = λ does. ap (λ (f : Footprint). f.size) (acts_there does);
       }
 
   same_footprints : footprints_of hearing.clients ≡ footprints_of board.clients
@@ -103,18 +117,20 @@ module _ (board : Board) (shadow : Shadow) (order : Order) (explains : Explains 
   are = are_all shadow.clients explains.sources explains.nothing
 
   -- where it is determined nobody may write
-  alone : (x : ℕ) → mine.determined x ≡ true → list_any (λ r. may_write r x) (footprints_of board.clients) ≡ false
-  alone x determined =
-      ap (list_any (λ r. may_write r x)) (sym same_footprints) ∙ grind (arith, determined)
+  nobody : (x : ℕ) → mine.determined x ≡ true → list_any (λ r. may_write r x) (footprints_of board.clients) ≡ false
+  nobody x determined =
+      let beside_all = (fails_less failed beginning x determined).0 in
+      ap (list_any (λ r. may_write r x)) (sym same_footprints) ∙ grind (arith, beside_all)
 
   nobody_there : (x : ℕ) → mine.determined x ≡ true → (i : Place) → may_write (footprint_at shadow.clients i) x ≡ false
-  nobody_there x determined = shadow_writes board shadow ahead x (alone x determined)
+  nobody_there x determined = shadow_writes board shadow ahead x (nobody x determined)
 
   less : (x : ℕ) → (own faults regions q).writes ≡ true → mine.determined x ≡ true → theirs.determined x ≡ true
   less x writes determined =
       let none : list_any (λ r. may_write r x) (footprints_of shadow.clients) ≡ false = are.none (λ r. may_write r x) (nobody_there x determined) in
-      let place = its_place writes in
-      grind (arith, determined, none, place, silent)
+      let beside_all = (fails_less failed beginning x determined).0 in
+      let place = same_place faults regions board.errors first q may.fields may.corrupt (or_right (own faults regions q).reads (own faults regions q).writes writes) in
+      grind (arith, beside_all, none, place, silent)
 
   becomes : IsComing faults regions mine q flight
   becomes =
@@ -122,15 +138,7 @@ module _ (board : Board) (shadow : Shadow) (order : Order) (explains : Explains 
         source = refl;
         well = well;
         silent = silent;
-        same = λ writes.
-            ap (λ (o : Option ℕ). record {
-              reads = is_some o && reply_has_data message.operation;
-              writes = is_some o && has_data message.operation;
-              address = unwrap_or o 0;
-              size = message.size;
-              failed = false;
-              determined = mine.determined;
-            }) (sym (its_place writes));
+        same = acts_there;
         acts = refl;
         less = less;
         beats = λ m. ap (shown q) (reply_same faults regions q shadow.bytes m silent);
@@ -145,7 +153,7 @@ module _ (board : Board) (shadow : Shadow) (order : Order) (explains : Explains 
   there_given = slice_get-map (client_beside mine) hearing.clients number ∙ ap (option_map (client_beside mine)) there_heard
 
   abbrev pub changed : ClientBoard
-  changed = record (client_beside mine heard) { coming = mine }
+  changed = record (client_beside mine (record heard { early = early_due board.errors first })) { coming = mine }
 
   pub now_flight : (i : Place) → flight_at now.clients i ≡ option_map (flight_beside mine) (flight_at board.clients i)
   now_flight i =
@@ -154,13 +162,21 @@ module _ (board : Board) (shadow : Shadow) (order : Order) (explains : Explains 
       ∙ at_beside mine hearing.clients i
       ∙ ap (λ (f : Flights). option_map (flight_beside mine) (flight_in f i.source)) (flights_kept board.clients number client heard there refl i.client)
 
-  coming_own : coming_at now.clients number ≡ mine
+  pub coming_own : coming_at now.clients number ≡ mine
   coming_own = coming_same (map (client_beside mine) hearing.clients) number (client_beside mine heard) changed there_given
 
-  coming_others : (c : ℕ) → (c ≡ number → ⊥) → coming_at now.clients c ≡ beside (coming_at board.clients c) mine
+  pub coming_others : (c : ℕ) → (c ≡ number → ⊥) → coming_at now.clients c ≡ beside (coming_at board.clients c) mine
   coming_others c differ =
       coming_other (map (client_beside mine) hearing.clients) number c changed differ ∙ coming_beside mine hearing.clients c
       ∙ ap (λ (r : Footprint). beside r mine) (coming_other board.clients number c heard differ)
+
+  pub early_own : early_at now.clients number ≡ early_due board.errors first
+  early_own = early_same (map (client_beside mine) hearing.clients) number (client_beside mine heard) changed there_given
+
+  pub early_others : (c : ℕ) → (c ≡ number → ⊥) → early_at now.clients c ≡ early_at board.clients c
+  early_others c differ =
+      early_other (map (client_beside mine) hearing.clients) number c changed differ ∙ early_beside mine hearing.clients c
+      ∙ early_other board.clients number c heard differ
 
   pub comes_own : comes now.clients number ≡ true
   comes_own = comes_same (map (client_beside mine) hearing.clients) number (client_beside mine heard) changed there_given
@@ -323,8 +339,9 @@ module _ (board : Board) (shadow : Shadow) (order : Order) (explains : Explains 
           ∙ ap (option_map (flight_beside mine)) (ahead.waits c (sym (comes_others c differ) ∙ some))
 
   pub begun_ahead : IsAhead
-      (begun_on (with_client number (record client { front = Some message }) board) number (record client { front = Some message })
-      (beginning_on (with_client number (record client { front = Some message }) board) (request_of message))) now_shadow
+      (begun_on (with_client number (record client { front = Some message }) board) number
+      (record client { front = Some message; early = early_due board.errors (request_of message) })
+      (joining_on (with_client number (record client { front = Some message }) board) (request_of message))) now_shadow
   begun_ahead =
       record {
         sources = sources;

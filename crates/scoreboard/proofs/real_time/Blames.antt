@@ -1,22 +1,23 @@
 -- A board blames rightly: a beat on channel D that it blames is wrong in every order of what was accepted.
-use Rattle.std.proofs.Common.{◌≡◌, ℕ, zero, suc, ◌<◌, Bool, true, false, List, [], ◌∷◌, drop, length, map, Option, Some, None, ◌⊎◌, inl, inr, refl, sym, ◌∙◌, ap, ap₂, subst, subst₂, arith}
+use Rattle.std.proofs.Common.{◌≡◌, ℕ, zero, suc, ◌<◌, ◌==◌, Bool, true, false, List, [], ◌∷◌, drop, length, map, Option, Some, None, ◌⊎◌, inl, inr, refl, sym, ◌∙◌, ap, ap₂, subst, subst₂, arith}
 use Rattle.std.specs.Prelude.{is_some, option_map, slice_get}
-use Rattle.std.specs.Option.{option_flatten}
+use Rattle.std.specs.Option.{option_flatten, option_or}
 use Rattle.std.proofs.lemmas.List.{drop-map}
 use Rattle.std.specs.List.{AllByRecursion, list_any}
-use Rattle.std.proofs.lemmas.Bool.{both_ways, leb-false}
+use Rattle.std.proofs.lemmas.Bool.{both_ways, leb-false, or_parts}
 use Rattle.bus_words.proofs.PlaceChanges.{all-map}
-use Rattle.tl_messages.specs.Requests.{no_message, request_of}
+use Rattle.tl_messages.specs.Requests.{WholeRequest, no_message, request_of}
 use Rattle.tl_messages.specs.declared.DBeat.{DBeat}
 use Rattle.burst_plan.specs.declared.Region.{Region}
-use Rattle.responses.specs.Shown.{shown}
+use Rattle.responses.specs.Shown.{Reply as ReplyTold, beat_without_data, shown}
+use Rattle.tl_messages.specs.Operations.{reply_has_data}
 use Rattle.subordinate.specs.Faults.{Faults}
-use Rattle.meaning.specs.Meaning.{Bytes, bytes_after_all, meaning, zeros}
+use Rattle.meaning.specs.Meaning.{Bytes, acknowledged, bytes_after_all, meaning, zeros}
 use Rattle.setups.specs.Setups.{SetupLists, faults_of}
 use Rattle.scoreboard.specs.AxiPorts.{PortBoard}
-use Rattle.scoreboard.specs.Boards.{Board, ClientBoard, IsReached, after_all, after_seen, d_wrong, due_beat, opening_board, opening_with, told_to, wrong_at, wrong_beat, wrong_by, wrong_reply, wrong_told}
+use Rattle.scoreboard.specs.Boards.{Board, ClientBoard, IsReached, after_all, after_seen, d_wrong, due_beat, early_flight, failed_beat, next_to, opening_board, opening_with, told_to, wrong_at, wrong_beat, wrong_by, wrong_reply, wrong_told}
 use Rattle.scoreboard.specs.Flights.{Footprint, InFlight, next_reply}
-use Rattle.scoreboard.specs.Orders.{Asked, Entry, IsWrongAs, IsWrongIn, Order, begun_to, board_after, due_beats, has_failed, is_due, is_due_in, left_of, meaning_on, reply_beats, shown_to}
+use Rattle.scoreboard.specs.Orders.{Asked, Entry, access_fails, known_request, IsWrongAs, IsWrongIn, Order, begun_to, board_after, due_beats, has_failed, is_due, is_due_in, left_of, meaning_on, reply_beats, shown_to}
 use Rattle.scoreboard.specs.RealTime.{asked_on}
 use Rattle.scoreboard.specs.declared.Errors.{Errors}
 use Rattle.scoreboard.specs.declared.Errors.TheVariants.{Any, Strict}
@@ -32,17 +33,18 @@ use Rattle.scoreboard.proofs.real_time.Ahead.{HasBeside, Shadow, comes, front_in
 use Rattle.scoreboard.proofs.real_time.AlikeBeats.{left_alike}
 use Rattle.scoreboard.proofs.real_time.Entries.{Each, IsLive, Stands, carry, run}
 use Rattle.scoreboard.proofs.real_time.Explained.{Explains, explains_as, explains_opening, opening_at, opening_flights}
-use Rattle.scoreboard.proofs.real_time.Failures.{failed_at, same_shapes, shape_of}
-use Rattle.scoreboard.proofs.real_time.Follows.{Follows, IsFailing, IsMarked, IsOpen, begun_here, begun_settled, follows_as, run_settled, settle, settled}
-use Rattle.scoreboard.proofs.real_time.FollowsReplies.{due_settled, due_whole, follows_reply, nobody_due}
-use Rattle.scoreboard.proofs.real_time.FollowsRequests.{IsFollowed, follows_request}
+use Rattle.scoreboard.proofs.real_time.Failures.{failed_at, fails_at, same_shapes, shape_of, silent_known, silent_shown}
+use Rattle.scoreboard.proofs.real_time.Follows.{Follows, IsFailing, IsFollowed, IsMarked, IsOpen, begun_here, begun_settled, follows_as, run_settled, settle, settled}
+use Rattle.scoreboard.proofs.real_time.FollowsReplies.{EarlyDue, WholeDue, due_cases, due_settled, due_whole, early_due_in, early_there, follows_reply, nobody_due}
+use Rattle.scoreboard.proofs.real_time.Comings.{early_at, early_in}
+use Rattle.scoreboard.proofs.real_time.FollowsRequests.{follows_request}
 use Rattle.scoreboard.proofs.real_time.Fronts.{AreFronts, fronts_next, fronts_opening}
-use Rattle.scoreboard.proofs.real_time.Places.{Place, coming_at, flight_at, none_in}
+use Rattle.scoreboard.proofs.real_time.Places.{Place, coming_at, coming_in, flight_at, none_in}
 use Rattle.scoreboard.proofs.real_time.ReplySeen.{next_is}
 use Rattle.scoreboard.proofs.real_time.ReplySteps.{IsAt, due_known, due_place, next_at, none_due}
 use Rattle.scoreboard.proofs.real_time.RequestActs.{AreBytes, acts, own}
 use Rattle.scoreboard.proofs.real_time.StepOrders.{BlamesByRule, GoesOn, IsOrderFrom, IsOrderOf, KnowsBytes}
-use Rattle.scoreboard.proofs.real_time.Verdicts.{IsBroken, failed_broken, left_broken, left_told, sure_shown, sure_told, wrong_sure}
+use Rattle.scoreboard.proofs.real_time.Verdicts.{IsBroken, failed_broken, first_blamed, left_broken, left_told, sure_shown, sure_told, wrong_sure}
 
 -- ---- the reply that is due in an order
 
@@ -154,9 +156,10 @@ module _ (setup : SetupLists) (board : Board) (shadow : Shadow) (order : Order) 
       looked setup asked flights Known test order zeros (record { at = λ x. omega arith })
       (subst₂ (λ (f : Faults) (r : List Region). Each f r (Stands f r flights) zeros (settle order)) faults regions follows.explains.entries) all_known
 
-  -- where nothing is due on the board
-  nothing_left : flight_at board.clients place ≡ None → due_beats setup order asked ≡ []
-  nothing_left nothing = left_none setup asked test order zeros (nobody_due board shadow order follows number beat.source nothing)
+  -- where nothing is due on the board, nor early
+  nothing_left : flight_at board.clients place ≡ None → ((due : DBeat) → early_at board.clients number ≡ Some due → (due.source == beat.source) ≡ false)
+      → due_beats setup order asked ≡ []
+  nothing_left nothing no_early = left_none setup asked test order zeros (nobody_due board shadow order follows number beat.source nothing no_early)
 
   -- where something is due
   module _ (due : InFlight) (here : flight_at board.clients place ≡ Some due) where
@@ -166,8 +169,8 @@ module _ (setup : SetupLists) (board : Board) (shadow : Shadow) (order : Order) 
     -- it is due in the order
     some_due : list_any test order ≡ true
     some_due =
-        sym (any_settled test order (all-map (IsMarked board.clients) (λ entry. test (settled entry) ≡ test entry) order
-        (due_settled board shadow order follows number beat.source due here) follows.marked))
+        sym (any_settled test order (all-map Known (λ entry. test (settled entry) ≡ test entry) order
+        (λ entry known. due_settled board shadow order follows number beat.source due here entry known.marked known.opened) all_known))
         ∙ ap (λ (b : Bool). list_any (is_due b number beat.source) (settle order)) (sym (begun_settled board shadow order follows number))
         ∙ due_known (shadow_of board shadow) (settle order) follows.explains number beat.source
         (ap (λ (b : Bool). is_some (flight_at shadow.clients (next_at b number beat.source))) (begun_settled board shadow order follows number)
@@ -178,7 +181,7 @@ module _ (setup : SetupLists) (board : Board) (shadow : Shadow) (order : Order) 
       at = due_place begun number beat.source found.entry found.passes
 
       whole : found.entry.whole ≡ true
-      whole = (due_whole board shadow order follows number beat.source found.entry found.holds.marked found.holds.opened found.passes).0
+      whole = due_whole board shadow order follows number beat.source due here found.entry found.holds.marked found.holds.opened found.passes
 
       live : IsLive (faults_of setup) setup.regions flights (settled found.entry) found.before
       live = found.stands.live at.live
@@ -194,6 +197,12 @@ module _ (setup : SetupLists) (board : Board) (shadow : Shadow) (order : Order) 
       -- the beats that are left there
       abbrev raw : List DBeat
       raw = drop found.entry.came (shown found.entry.request (meaning_on setup found.entry.request found.before).reply)
+
+      -- as the order has it
+      shown_whole : shown_to setup asked found.entry found.before ≡ map (λ d. due_beat (has_failed board.errors setup found.entry) asked.told d beat) raw
+      shown_whole =
+          ap (λ (b : Bool). map (λ d. due_beat (has_failed board.errors setup found.entry) asked.told d beat)
+          (drop found.entry.came (shown found.entry.request (meaning_on setup (known_request b found.entry.request) found.before).reply))) whole
 
       abbrev left_there : List DBeat
       left_there = drop found.entry.came (shown found.entry.request (meaning (faults_of setup) setup.regions found.entry.request live.made_of).reply)
@@ -239,9 +248,10 @@ module _ (setup : SetupLists) (board : Board) (shadow : Shadow) (order : Order) 
 
       found_broken : (broken : ReplyRule) (told : Option DBeat) → wrong_told due.footprint asked.told due.beats beat ≡ Some (Reply broken told)
           → IsBroken (due_beats setup order asked) beat broken
-      found_broken broken told is = subst (λ left. IsBroken left beat broken) (sym found.is) (by_failed due.footprint.failed refl)
+      found_broken broken told is = subst (λ left. IsBroken left beat broken) (sym (found.is ∙ shown_whole)) (by_failed due.footprint.failed refl)
         where
-          by_failed : (b : Bool) → due.footprint.failed ≡ b → IsBroken (shown_to setup asked found.entry found.before) beat broken
+          by_failed : (b : Bool) → due.footprint.failed ≡ b
+              → IsBroken (map (λ d. due_beat (has_failed board.errors setup found.entry) asked.told d beat) raw) beat broken
           by_failed true has =
               failed_broken due.footprint (has_failed board.errors setup found.entry) asked.told due.beats raw beat broken told has (sym failed ∙ has) shapes is
           by_failed false sound =
@@ -257,10 +267,106 @@ module _ (setup : SetupLists) (board : Board) (shadow : Shadow) (order : Order) 
         by_look (inl nowhere) = absurd (both_ways (list_any test order) nowhere.0 some_due)
         by_look (inr found) = found_broken found broken told is
 
+  -- ---- the message that has begun has it, before it is whole
+
+  module _ (client : ClientBoard) (there : slice_get board.clients number ≡ Some client) (nothing : flight_at board.clients place ≡ None) (due : DBeat)
+      (early : client.early ≡ Some due) (own_source : (due.source == beat.source) ≡ true) where
+    early_is : early_at board.clients number ≡ Some due
+    early_is = ap early_in there ∙ early
+
+    -- one that may be told in the order is that message
+    module _ (found : Found setup asked flights Known test (due_beats setup order asked)) where
+      record IsEarly : Type 0 where
+        unwhole : found.entry.whole ≡ false
+        may_come : found.entry.early ≡ true
+        client_is : found.entry.client ≡ number
+
+      is_early : IsEarly
+      is_early =
+          elim (due_cases board shadow order follows number beat.source found.entry found.holds.marked found.holds.opened found.passes) [
+            | WholeDue whole some ↦ absurd (cc (sym (ap (λ (o : Option InFlight). is_some o) nothing) ∙ some))
+            | EarlyDue unwhole may_come has client_is its_source ↦ record { unwhole = unwhole; may_come = may_come; client_is = client_is }
+          ]
+
+      it : IsOpen board shadow found.entry
+      it = found.holds.opened is_early.unwhole
+
+      due_is : due ≡ beat_without_data found.entry.request acknowledged
+      due_is =
+          let one : Some due ≡ Some (beat_without_data found.entry.request acknowledged) =
+          sym early_is ∙ early_there board shadow order follows number beat.source found.entry it is_early.may_come is_early.client_is in
+          cc (one)
+
+      silent : reply_has_data found.entry.request.operation ≡ false
+      silent =
+          ap (λ (x : WholeRequest). reply_has_data x.operation) it.final
+          ∙ (follows.ahead.begun found.entry.client it.begun).becomes.silent
+
+      failed_early : client.coming.failed ≡ has_failed board.errors setup found.entry
+      failed_early =
+          sym (ap (λ (o : Option ClientBoard). (coming_in o).failed) there)
+          ∙ ap (λ c. (coming_at board.clients c).failed) (sym is_early.client_is) ∙ it.failed
+          ∙ ap₂ (λ (f : Faults) (r : List Region). failed_at board.errors f r found.entry) faults regions ∙ failed_as board.errors setup found.entry
+
+      abbrev raw_early : List DBeat
+      raw_early = shown found.entry.request (meaning_on setup (record found.entry.request { corrupt = false }) found.before).reply
+
+      shown_early : shown_to setup asked found.entry found.before ≡ map (λ d. due_beat (has_failed board.errors setup found.entry) asked.told d beat) raw_early
+      shown_early =
+          ap (λ (b : Bool). map (λ d. due_beat (has_failed board.errors setup found.entry) asked.told d beat)
+          (drop found.entry.came (shown found.entry.request (meaning_on setup (known_request b found.entry.request) found.before).reply))) is_early.unwhole
+          ∙ ap (λ n. map (λ d. due_beat (has_failed board.errors setup found.entry) asked.told d beat) (drop n raw_early)) it.none_came
+
+      -- the beat that is due there, as it may show it
+      same_due : due_beat client.coming.failed asked.told due beat ∷ [] ≡ map (λ d. due_beat (has_failed board.errors setup found.entry) asked.told d beat) raw_early
+      same_due = by_failed (has_failed board.errors setup found.entry) refl
+        where
+          reply : ReplyTold
+          reply = (meaning_on setup (record found.entry.request { corrupt = false }) found.before).reply
+
+          one_beat : raw_early ≡ beat_without_data found.entry.request reply ∷ []
+          one_beat = silent_shown found.entry.request reply silent
+
+          by_failed : (b : Bool) → has_failed board.errors setup found.entry ≡ b
+              → due_beat client.coming.failed asked.told due beat ∷ [] ≡ map (λ d. due_beat (has_failed board.errors setup found.entry) asked.told d beat) raw_early
+          by_failed true has =
+              ap (λ (b : Bool). due_beat b asked.told due beat ∷ []) (failed_early ∙ has)
+              ∙ ap (λ (d : DBeat). failed_beat asked.told d beat ∷ []) due_is
+              ∙ ap (λ (b : Bool). due_beat b asked.told (beat_without_data found.entry.request reply) beat ∷ []) (sym has)
+              ∙ ap (map (λ d. due_beat (has_failed board.errors setup found.entry) asked.told d beat)) (sym one_beat)
+          by_failed false none =
+              ap (λ (b : Bool). due_beat b asked.told due beat ∷ []) (failed_early ∙ none)
+              ∙ ap (λ (d : DBeat). d ∷ []) due_is
+              ∙ ap (λ (b : Bool). due_beat b asked.told (beat_without_data found.entry.request acknowledged) beat ∷ []) (sym none)
+              ∙ ap (map (λ d. due_beat (has_failed board.errors setup found.entry) asked.told d beat))
+              (sym (silent_known (faults_of setup) setup.regions found.entry.request found.before silent (sound_early (early_any is_early.may_come) none)))
+            where
+              early_any : found.entry.early ≡ true → board.errors ≡ Any
+              early_any = it.any
+
+              sound_early : board.errors ≡ Any → has_failed board.errors setup found.entry ≡ false → fails_at (faults_of setup) setup.regions found.entry.request ≡ false
+              sound_early any sound =
+                  (or_parts found.entry.spoiled (access_fails setup found.entry.request) (sym (ap (λ (e : Errors). has_failed e setup found.entry) any) ∙ sound)).1
+
+      early_broken : (broken : ReplyRule) (told : Option DBeat) → wrong_told client.coming asked.told (due ∷ []) beat ≡ Some (Reply broken told)
+          → IsBroken (due_beats setup order asked) beat broken
+      early_broken broken told is =
+          subst (λ left. IsBroken left beat broken) (same_due ∙ sym (found.is ∙ shown_early)) (first_blamed client.coming asked.told due [] beat broken told is)
+
+    some_early : list_any test order ≡ true
+    some_early = early_due_in board shadow order follows number beat.source nothing due early_is own_source
+
+    broken_early : (broken : ReplyRule) (told : Option DBeat) → wrong_told client.coming asked.told (due ∷ []) beat ≡ Some (Reply broken told)
+        → IsBroken (due_beats setup order asked) beat broken
+    broken_early broken told is = by_look search_order
+      where
+        by_look : Searched → IsBroken (due_beats setup order asked) beat broken
+        by_look (inl nowhere) = absurd (both_ways (list_any test order) nowhere.0 some_early)
+        by_look (inr found) = early_broken found broken told is
+
   blamed_of : (client : ClientBoard) → slice_get board.clients number ≡ Some client → (broken : ReplyRule) (told : Option DBeat)
-      → wrong_reply RealTime (told_to client) (next_reply client.flights beat.source) beat ≡ Some (Reply broken told) → IsBroken (due_beats setup order asked) beat broken
-  blamed_of client there broken told is =
-      by_flight (flight_at board.clients place) refl (ap (λ (o : Option InFlight). wrong_reply RealTime (told_to client) o beat) next ∙ is)
+      → wrong_reply RealTime (told_to client) (next_to RealTime client beat.source) beat ≡ Some (Reply broken told) → IsBroken (due_beats setup order asked) beat broken
+  blamed_of client there broken told is = by_flight (next_reply client.flights beat.source) refl
     where
       next : flight_at board.clients place ≡ next_reply client.flights beat.source
       next = next_is board.clients number beat.source client there begun (begun_here board shadow order follows number)
@@ -268,13 +374,38 @@ module _ (setup : SetupLists) (board : Board) (shadow : Shadow) (order : Order) 
       told_is : told_to client ≡ asked.told
       told_is = sym (ap (λ (o : Option ClientBoard). option_flatten (option_map told_to o)) there)
 
-      by_flight : (o : Option InFlight) → flight_at board.clients place ≡ o
-          → wrong_reply RealTime (told_to client) (flight_at board.clients place) beat ≡ Some (Reply broken told) → IsBroken (due_beats setup order asked) beat broken
-      by_flight None nothing blamed = (None, rw (nothing_left nothing) (grind (arith, blamed, nothing)))
-      by_flight (Some due) here blamed =
-          broken_due due here broken told
-          (sym (ap (λ (o : Option Bool). wrong_told due.footprint o due.beats beat) told_is)
-          ∙ sym (ap (λ (o : Option InFlight). wrong_reply RealTime (told_to client) o beat) here) ∙ blamed)
+      blamed_as_next : (o : Option InFlight) → next_to RealTime client beat.source ≡ o → wrong_reply RealTime asked.told o beat ≡ Some (Reply broken told)
+      blamed_as_next o same = ap₂ (λ (t : Option Bool) (f : Option InFlight). wrong_reply RealTime t f beat) (sym told_is) (sym same) ∙ is
+
+      nothing_due : flight_at board.clients place ≡ None → ((due : DBeat) → early_at board.clients number ≡ Some due → (due.source == beat.source) ≡ false)
+          → next_to RealTime client beat.source ≡ None → IsBroken (due_beats setup order asked) beat broken
+      nothing_due nothing no_early none =
+          let unasked : Some (Reply Unasked None) ≡ Some (Reply broken told) = blamed_as_next None none in
+          (None, rw (nothing_left nothing no_early) (grind (arith, unasked)))
+
+      by_early : next_reply client.flights beat.source ≡ None → (o : Option DBeat) → client.early ≡ o → IsBroken (due_beats setup order asked) beat broken
+      by_early nothing None none =
+          nothing_due (next ∙ nothing) (λ due its. absurd (cc (sym none ∙ sym (ap early_in there) ∙ its)))
+          (ap₂ (λ (f : Option InFlight) (e : Option DBeat). option_or f (early_flight client e beat.source)) nothing none)
+      by_early nothing (Some due) early = by_source (due.source == beat.source) refl
+        where
+          by_source : (b : Bool) → (due.source == beat.source) ≡ b → IsBroken (due_beats setup order asked) beat broken
+          by_source true own_source =
+              let flight : next_to RealTime client beat.source ≡ Some (record { source = beat.source; beats = due ∷ []; footprint = client.coming }) =
+              ap₂ (λ (f : Option InFlight) (e : Option DBeat). option_or f (early_flight client e beat.source)) nothing early ∙ rw own_source refl in
+              broken_early client there (next ∙ nothing) due early own_source broken told (blamed_as_next (Some (record { source = beat.source; beats = due ∷ []; footprint = client.coming })) flight)
+          by_source false other =
+              let none : next_to RealTime client beat.source ≡ None =
+              ap₂ (λ (f : Option InFlight) (e : Option DBeat). option_or f (early_flight client e beat.source)) nothing early ∙ rw other refl in
+              nothing_due (next ∙ nothing)
+              (λ its its_is. let one : Some due ≡ Some its = sym early ∙ sym (ap early_in there) ∙ its_is in
+              let same : due ≡ its = cc (one) in sym (ap (λ (d : DBeat). d.source == beat.source) same) ∙ other) none
+
+      by_flight : (o : Option InFlight) → next_reply client.flights beat.source ≡ o → IsBroken (due_beats setup order asked) beat broken
+      by_flight None nothing = by_early nothing client.early refl
+      by_flight (Some due) here =
+          broken_due due (next ∙ here) broken told
+          (blamed_as_next (Some due) (ap (λ (f : Option InFlight). option_or f (early_flight client client.early beat.source)) here))
 
   pub blamed_as : (wrong : Wrong) → wrong_at RealTime board (D number beat) ≡ Some wrong → IsWrongAs setup order (asked_on board number beat) wrong
   blamed_as wrong is = by_client (slice_get board.clients number) refl
@@ -282,10 +413,10 @@ module _ (setup : SetupLists) (board : Board) (shadow : Shadow) (order : Order) 
       by_client : (o : Option ClientBoard) → slice_get board.clients number ≡ o → IsWrongAs setup order asked wrong
       by_client None none =
           let same : NoClient ≡ wrong = grind (arith, none, is) in
-          subst (IsWrongAs setup order asked) same (nothing_left (none_due board.clients begun number beat.source none))
+          subst (IsWrongAs setup order asked) same (nothing_left (none_due board.clients begun number beat.source none) (λ due its. absurd (cc (sym (ap early_in none) ∙ its))))
       by_client (Some client) there =
           let blamed = sym (ap (λ (o : Option ClientBoard). d_wrong RealTime o beat) there) ∙ is in
-          let reply = blamed_reply (told_to client) (next_reply client.flights beat.source) beat wrong blamed in
+          let reply = blamed_reply (told_to client) (next_to RealTime client beat.source) beat wrong blamed in
           subst (IsWrongAs setup order asked) (sym reply.2)
           (blamed_of client there reply.0 reply.1 (blamed ∙ ap (λ (w : Wrong). Some w) reply.2))
 
@@ -295,7 +426,7 @@ module _ (setup : SetupLists) (board : Board) (shadow : Shadow) (order : Order) 
 follows_port : (board : Board) (port : PortBoard) (order : Order) → IsFollowed board order → IsFollowed (record board { axi = port }) order
 follows_port board port order (shadow, follows) = (
   shadow,
-  follows_as board shadow board.clients port follows.ahead.sources refl (λ place. refl) (λ client. refl) (λ client. refl) order
+  follows_as board shadow board.clients port follows.ahead.sources refl (λ place. refl) (λ client. refl) (λ client. refl) (λ client. refl) order
       (explains_as (shadow_of board shadow) (settle order) shadow.clients port refl follows.explains.sources follows.explains.nothing follows.explains) follows,
 )
 
@@ -337,11 +468,19 @@ follows_opening errors setup = (
     failing = tt;
     open_ones = tt;
     known = λ client some. absurd (cc (sym (none_begun client) ∙ some));
+    early = λ client due is. absurd (cc (sym (none_early client) ∙ is));
   },
 )
   where
     nothing : (place : Place) → flight_at (opening_board setup).clients place ≡ None
     nothing place = none_in (opening_board setup).clients place (opening_flights setup.config 0 setup.config.clients place.client)
+
+    none_early : (client : ℕ) → early_at (opening_board setup).clients client ≡ None
+    none_early client = by_found (slice_get (opening_board setup).clients client) refl
+      where
+        by_found : (o : Option ClientBoard) → slice_get (opening_board setup).clients client ≡ o → early_in o ≡ None
+        by_found None is = refl
+        by_found (Some found) is = ap (λ (c : ClientBoard). c.early) (opening_at setup.config 0 setup.config.clients client found is).1
 
     none_begun : (client : ℕ) → comes (opening_board setup).clients client ≡ false
     none_begun client = by_client (slice_get (opening_board setup).clients client) refl

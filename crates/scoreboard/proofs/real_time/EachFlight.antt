@@ -13,9 +13,9 @@ use Rattle.tl_checker.specs.Ports.{joined}
 use Rattle.tl_checker.specs.declared.Progress.{Progress}
 use Rattle.tl_checker.specs.declared.Progress.TheVariants.{More, Whole}
 use Rattle.tl_checker.specs.declared.TlRule.{TlRule}
-use Rattle.scoreboard.specs.Boards.{Board, ClientBoard, after_a, after_d, after_seen, answer_to, answered_on, beginning_on, client_beside, coming_on, flight_for, joining_on, more_on, told_to, whole_on, with_accepted, with_client}
+use Rattle.scoreboard.specs.Boards.{Board, ClientBoard, after_a, after_d, after_seen, answer_to, answered_on, client_beside, coming_on, early_after, early_due, flight_for, has_replied, is_spoiled, joining_on, more_on, told_to, whole_on, with_accepted, with_client, with_whole}
 use Rattle.scoreboard.specs.Flights.{Flights, Footprint, InFlight, begun_after, flights_after, is_of_source, with_left}
-use Rattle.scoreboard.specs.Races.{flight_beside}
+use Rattle.scoreboard.specs.Races.{flight_beside, unless_failed}
 use Rattle.scoreboard.specs.declared.ObservedBeat.{ObservedBeat}
 use Rattle.scoreboard.specs.declared.ObservedBeat.TheVariants.{A, D, Axi as OnAxi, Drained}
 use Rattle.scoreboard.specs.declared.Policy.TheVariants.{RealTime}
@@ -60,7 +60,7 @@ module _ (P : InFlight → Type 0) (beside_kept : (footprint : Footprint) (fligh
       by_source false = all
 
   each_replied : (client : ClientBoard) (source : ℕ) (told : Bool) → IsOfEach P client
-      → IsOfEach P (record client { flights = flights_after client.flights source; told = told })
+      → IsOfEach P (record client { flights = flights_after client.flights source; early = early_after client source; told = told })
   each_replied client source told all = by_begun client.flights.begun all.1
     where
       due : List InFlight
@@ -71,7 +71,7 @@ module _ (P : InFlight → Type 0) (beside_kept : (footprint : Footprint) (fligh
       found (Some flight) is = (all-find P (is_of_source source) due flight all.0 is, tt)
 
       by_begun : (begun : Option InFlight) → AllByRecursion P (option_to_list begun)
-          → IsOfEach P (record client { flights = flights_after (record { due = due; begun = begun }) source; told = told })
+          → IsOfEach P (record client { flights = flights_after (record { due = due; begun = begun }) source; early = early_after client source; told = told })
       by_begun None none =
           (all-without_first P (is_of_source source) due all.0, begun_left (find (is_of_source source) due) source (found (find (is_of_source source) due) refl))
       by_begun (Some flight) some = (all.0, begun_left (Some flight) source some)
@@ -88,12 +88,13 @@ module _ (P : InFlight → Type 0) (beside_kept : (footprint : Footprint) (fligh
       (comes : (coming : Footprint) (q : WholeRequest) → P (flight_for board.memory (coming_on board q coming) q)) where
     more_each : (number : ℕ) (client : ClientBoard) (q : WholeRequest) (begun : Bool) (old : Board) → slice_get old.clients number ≡ Some client
         → AreOfEach P old.clients → AreOfEach P (more_on old number client q begun).clients
-    more_each number client q true old there all = all
+    more_each number client q true old there all =
+        each_client (IsOfEach P) old.clients number client (record client { coming = unless_failed (is_spoiled old.errors q) client.coming }) there all (all number client there)
     more_each number client q false old there all =
-        let footprint = beginning_on old q in
+        let footprint = joining_on old q in
         let beside = all_beside footprint old.clients all in
         each_client (IsOfEach P) (map (client_beside footprint) old.clients) number (client_beside footprint client)
-        (record (client_beside footprint client) { coming = footprint }) (beside_at footprint old.clients number client there) beside
+        (record (client_beside footprint client) { coming = footprint; early = early_due old.errors q }) (beside_at footprint old.clients number client there) beside
         (beside number (client_beside footprint client) (beside_at footprint old.clients number client there))
 
     whole_each : (number : ℕ) (client : ClientBoard) (q : WholeRequest) (begun : Bool) → slice_get board.clients number ≡ Some client
@@ -101,8 +102,12 @@ module _ (P : InFlight → Type 0) (beside_kept : (footprint : Footprint) (fligh
     whole_each number client q true there =
         let flight = flight_for board.memory (coming_on board q client.coming) q in
         let all = are number client there in
-        each_client (IsOfEach P) board.clients number client (with_accepted flight client) there are
-        (all-append P client.flights.due flight all.0 (comes client.coming q), all.1)
+        each_client (IsOfEach P) board.clients number client (with_whole (has_replied board.errors client) flight client) there are
+        (by_replied (has_replied board.errors client) flight (comes client.coming q) all)
+      where
+        by_replied : (replied : Bool) (flight : InFlight) → P flight → IsOfEach P client → IsOfEach P (with_whole replied flight client)
+        by_replied true flight own all = all
+        by_replied false flight own all = (all-append P client.flights.due flight all.0 own, all.1)
     whole_each number client q false there =
         let footprint = joining_on board q in
         let flight = flight_for board.memory footprint q in
@@ -137,7 +142,7 @@ module _ (P : InFlight → Type 0) (beside_kept : (footprint : Footprint) (fligh
         by_client None there = are
         by_client (Some client) there =
             let told = unwrap_or (told_to client) beat.denied in
-            each_client (IsOfEach P) board.clients number client (record client { flights = flights_after client.flights beat.source; told = told }) there are
+            each_client (IsOfEach P) board.clients number client (record client { flights = flights_after client.flights beat.source; early = early_after client beat.source; told = told }) there are
             (each_replied client beat.source told (are number client there))
 
     -- with any beat

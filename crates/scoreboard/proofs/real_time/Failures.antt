@@ -12,22 +12,23 @@ use Rattle.tl_messages.specs.Operations.{beats_of, reply_has_data, reply_opcode}
 use Rattle.tl_messages.specs.Requests.{WholeRequest}
 use Rattle.tl_messages.specs.declared.AtomicOp.{AtomicOp}
 use Rattle.tl_messages.specs.declared.DBeat.{DBeat}
-use Rattle.tl_messages.specs.declared.Operation.TheVariants.{Atomic}
+use Rattle.tl_messages.specs.declared.Operation.{Operation}
+use Rattle.tl_messages.specs.declared.Operation.TheVariants.{Atomic, Get, Intent, PutFull, PutPartial}
 use Rattle.burst_plan.specs.PageMap.{address_of}
 use Rattle.burst_plan.specs.declared.Region.{Region}
 use Rattle.responses.specs.Shown.{Reply, address_in_word, beat_of_word, beat_without_data, lacks_a_byte, shown}
-use Rattle.subordinate.specs.Faults.{Faults}
-use Rattle.meaning.specs.Meaning.{Bytes, Effect, denied, meaning, zeros}
-use Rattle.scoreboard.specs.Boards.{acting, fails, tells_error}
+use Rattle.subordinate.specs.Faults.{Faults, IsAbsent, IsGood, IsSlaveError, Standing, is_bad, standing_at}
+use Rattle.meaning.specs.Meaning.{Bytes, Effect, acknowledged, denied, effect, meaning, zeros}
+use Rattle.scoreboard.specs.Boards.{acting, fails, is_spoiled, tells_error}
 use Rattle.scoreboard.specs.Flights.{Footprint}
 use Rattle.scoreboard.specs.Orders.{Entry}
 use Rattle.scoreboard.specs.Races.{alone, unless_failed}
-use Rattle.scoreboard.specs.RealTime.{MayBecome, entry_of, is_spoiled}
+use Rattle.scoreboard.specs.RealTime.{MayBecome, entry_of}
 use Rattle.scoreboard.specs.SerialMemory.{Memory, on_good_page}
 use Rattle.scoreboard.specs.declared.Errors.{Errors}
 use Rattle.scoreboard.specs.declared.Errors.TheVariants.{Any, Strict}
 use Rattle.scoreboard.proofs.MappedLists.{any_map}
-use Rattle.scoreboard.proofs.acceptance_order.Meanings.{meaning_none}
+use Rattle.scoreboard.proofs.acceptance_order.Meanings.{meaning_none, meaning_some}
 use Rattle.scoreboard.proofs.real_time.AlikeBeats.{lacks_same, reply_of}
 use Rattle.scoreboard.proofs.real_time.ReplyBytes.{Fixed, Kind, Told, Tells, kind}
 use Rattle.scoreboard.proofs.real_time.RequestActs.{IsWell, gives, own}
@@ -266,3 +267,87 @@ pub failed_by : (errors : Errors) (faults : Faults) (regions : List Region) (one
 failed_by Strict faults regions one other spoiled same = refl
 failed_by Any faults regions one other spoiled same =
     ap (λ (b : Bool). b || fails_at faults regions one.request) spoiled ∙ ap (λ (x : WholeRequest). other.spoiled || fails_at faults regions x) same
+
+-- ---- a request whose reply has no data
+
+-- its reply is one beat, which tells no more than whether it is denied
+pub silent_shown : (q : WholeRequest) (reply : Reply) → reply_has_data q.operation ≡ false → shown q reply ≡ beat_without_data q reply ∷ []
+silent_shown q reply silent = rw silent refl
+
+silent_tells : (q : WholeRequest) (reply : Reply) → reply_has_data q.operation ≡ false → tells_error (shown q reply) ≡ reply.denied
+silent_tells q reply silent = ap tells_error (silent_shown q reply silent) ∙ by_denied reply.denied
+  where
+    by_denied : (b : Bool) → ((b || false) || false) ≡ b
+    by_denied true = refl
+    by_denied false = refl
+
+-- whatever it gives
+effect_reply : (faults : Faults) (q r : WholeRequest) (m n : Bytes) (a : ℕ) (op : Operation) (standing : Standing) (bad : Bool) → reply_has_data op ≡ false
+    → (effect faults q m a op standing bad).reply ≡ (effect faults r n a op standing bad).reply
+effect_reply faults q r m n a PutFull IsGood bad silent = refl
+effect_reply faults q r m n a PutFull IsSlaveError bad silent = refl
+effect_reply faults q r m n a PutFull IsAbsent bad silent = refl
+effect_reply faults q r m n a PutPartial IsGood bad silent = refl
+effect_reply faults q r m n a PutPartial IsSlaveError bad silent = refl
+effect_reply faults q r m n a PutPartial IsAbsent bad silent = refl
+effect_reply faults q r m n a (Intent write) standing bad silent = refl
+effect_reply faults q r m n a (Atomic op) standing bad silent = absurd (cc (silent))
+effect_reply faults q r m n a Get standing bad silent = absurd (cc (silent))
+
+silent_reply : (faults : Faults) (regions : List Region) (q r : WholeRequest) (m n : Bytes) → reply_has_data q.operation ≡ false → r ≡ record q { bytes = r.bytes; corrupt = r.corrupt }
+    → q.corrupt ≡ r.corrupt → (meaning faults regions q m).reply ≡ (meaning faults regions r n).reply
+silent_reply faults regions q r m n silent fields corrupt = by_address (address_of regions q) refl
+  where
+    same_address : address_of regions q ≡ address_of regions r
+    same_address = ap (λ (c : Bool). address_of regions (record q { corrupt = c })) corrupt ∙ ap (address_of regions) (sym fields)
+
+    operation : r.operation ≡ q.operation
+    operation = ap (λ (x : WholeRequest). x.operation) fields
+
+    by_address : (o : Option ℕ) → address_of regions q ≡ o → (meaning faults regions q m).reply ≡ (meaning faults regions r n).reply
+    by_address None is =
+        ap (λ (e : Effect). e.reply) (meaning_none faults regions q m is) ∙ sym (ap (λ (e : Effect). e.reply) (meaning_none faults regions r n (sym same_address ∙ is)))
+    by_address (Some a) is =
+        ap (λ (e : Effect). e.reply) (meaning_some faults regions q m a is)
+        ∙ effect_reply faults q r m n a q.operation (standing_at faults a) (is_bad faults a) silent
+        ∙ ap (λ (op : Operation). (effect faults r n a op (standing_at faults a) (is_bad faults a)).reply) (sym operation)
+        ∙ sym (ap (λ (e : Effect). e.reply) (meaning_some faults regions r n a (sym same_address ∙ is)))
+
+-- one that has begun fails as what it becomes
+pub fails_begun : (errors : Errors) (client : ℕ) (memory : Memory) (q r : WholeRequest) → MayBecome (entry_of errors client q false) r → reply_has_data q.operation ≡ false
+    → fails errors memory q ≡ failed_at errors memory.faults memory.regions (record (entry_of errors client q false) { request = r })
+fails_begun Strict client memory q r may silent = refl
+fails_begun Any client memory q r may silent = by_corrupt (cases_Bool q.corrupt)
+  where
+    its_silent : reply_has_data r.operation ≡ false
+    its_silent = ap (λ (x : WholeRequest). reply_has_data x.operation) may.fields ∙ silent
+
+    by_corrupt : (q.corrupt ≡ true) ⊎ (q.corrupt ≡ false)
+        → tells_error (shown q (meaning memory.faults memory.regions q memory.bytes).reply) ≡ (q.corrupt || fails_at memory.faults memory.regions r)
+    by_corrupt (inl is) =
+        let none : address_of memory.regions q ≡ None = rw is refl in
+        ap (λ (e : Effect). tells_error (shown q e.reply)) (meaning_none memory.faults memory.regions q memory.bytes none) ∙ tells_denied q
+        ∙ sym (ap (λ (c : Bool). c || fails_at memory.faults memory.regions r) is)
+    by_corrupt (inr is) =
+        silent_tells q (meaning memory.faults memory.regions q memory.bytes).reply silent
+        ∙ ap (λ (reply : Reply). reply.denied)
+        (silent_reply memory.faults memory.regions q (record r { corrupt = false }) memory.bytes zeros silent
+        (ap (λ (x : WholeRequest). record x { corrupt = false }) may.fields) is)
+        ∙ sym (silent_tells (record r { corrupt = false }) (meaning memory.faults memory.regions (record r { corrupt = false }) zeros).reply its_silent)
+        ∙ sym (ap (λ (c : Bool). c || fails_at memory.faults memory.regions r) is)
+
+-- where the access of such a request doesn't fail its reply is an acknowledgement, on any bytes
+pub silent_known : (faults : Faults) (regions : List Region) (r : WholeRequest) (m : Bytes) → reply_has_data r.operation ≡ false → fails_at faults regions r ≡ false
+    → shown r (meaning faults regions (record r { corrupt = false }) m).reply ≡ beat_without_data r acknowledged ∷ []
+silent_known faults regions r m silent sound =
+    let q : WholeRequest = record r { corrupt = false } in
+    let granted : (meaning faults regions q m).reply.denied ≡ false =
+    ap (λ (reply : Reply). reply.denied) (silent_reply faults regions q q m zeros silent refl refl)
+    ∙ sym (silent_tells q (meaning faults regions q zeros).reply silent) ∙ sound in
+    silent_shown r (meaning faults regions q m).reply silent
+    ∙ ap (λ (b : Bool). record { opcode = reply_opcode r.operation; param = 0; size = r.size; source = r.source; denied = b; payload = 0; corrupt = false } ∷ []) granted
+
+-- one that is spoiled has failed, where that may be told in any way
+pub failed_any : (errors : Errors) (faults : Faults) (regions : List Region) (entry : Entry) → errors ≡ Any → entry.spoiled ≡ true → failed_at errors faults regions entry ≡ true
+failed_any Any faults regions entry any spoiled = ap (λ (b : Bool). b || fails_at faults regions entry.request) spoiled
+failed_any Strict faults regions entry any spoiled = absurd (cc (any))

@@ -1,6 +1,7 @@
 -- Boards without their footprints: requests in flight are found, join and end as with them.
-use Rattle.std.proofs.Common.{◌≡◌, ℕ, List, [], ◌∷◌, map, Option, None, Some, refl, ◌∙◌, ap, ap₂, arith}
-use Rattle.std.specs.Prelude.{slice_set}
+use Rattle.std.proofs.Common.{◌≡◌, ℕ, Bool, true, false, List, [], ◌∷◌, map, Option, None, Some, if◌then◌else◌, refl, ◌∙◌, ap, ap₂, arith}
+use Rattle.std.specs.Prelude.{is_some, slice_set}
+use Rattle.tl_messages.specs.declared.DBeat.{DBeat}
 use Rattle.std.specs.List.{range_with_len}
 use Rattle.std.specs.Option.{option_map}
 use Rattle.std.proofs.lemmas.List.{map-append, map-set, set-set}
@@ -8,7 +9,7 @@ use Rattle.std.proofs.lemmas.Simd.{map-map}
 use Rattle.bus_words.proofs.MappedPlaces.{map_same}
 use Rattle.tl_messages.specs.Requests.{WholeRequest}
 use Rattle.setups.specs.Setups.{SetupLists}
-use Rattle.scoreboard.specs.Boards.{Board, ClientBoard, begun_on, client_beside, flight_for, given_on, joined_on, opening_board, opening_client, told_to, with_accepted, with_client, with_taken}
+use Rattle.scoreboard.specs.Boards.{Board, ClientBoard, begun_on, client_beside, early_after, early_left, flight_for, given_on, has_replied, joined_on, opening_board, opening_client, told_to, with_accepted, with_client, with_taken, with_whole}
 use Rattle.scoreboard.specs.Flights.{Flights, Footprint, InFlight, each_flight, flights_after, is_busy, is_of_source, next_reply, no_footprint}
 use Rattle.scoreboard.specs.Races.{flight_beside}
 use Rattle.scoreboard.specs.Wider.{board_alone, client_alone, flight_alone}
@@ -43,12 +44,12 @@ told_alone client = by_begun client.flights.begun
 
 beside_alone : (footprint : Footprint) (client : ClientBoard) → client_alone (client_beside footprint client) ≡ client_alone client
 beside_alone footprint client =
-    ap₂ {C = ClientBoard} (λ (due : List InFlight) (begun : Option InFlight). record client { flights = record { due = due; begun = begun }; coming = no_footprint })
+    ap₂ {C = ClientBoard} (λ (due : List InFlight) (begun : Option InFlight). record client { flights = record { due = due; begun = begun }; coming = no_footprint; early = None })
     (map-map flight_alone (flight_beside footprint) client.flights.due) (grind arith)
 
 accepted_alone : (flight : InFlight) (client : ClientBoard) → client_alone (with_accepted flight client) ≡ with_accepted (flight_alone flight) (client_alone client)
 accepted_alone flight client =
-    ap {B = ClientBoard} (λ (due : List InFlight). record client { front = None; flights = record (each_flight flight_alone client.flights) { due = due }; coming = no_footprint })
+    ap {B = ClientBoard} (λ (due : List InFlight). record client { front = None; flights = record (each_flight flight_alone client.flights) { due = due }; coming = no_footprint; early = None })
     (map-append flight_alone client.flights.due (flight ∷ []))
 
 -- ---- a board
@@ -77,22 +78,40 @@ joined_alone board number client q footprint =
 
 -- that had begun before
 pub given_alone : (board : Board) (number : ℕ) (client : ClientBoard) (q : WholeRequest) (footprint : Footprint)
+    → has_replied board.errors client ≡ false
     → board_alone (given_on board number client q footprint) ≡ with_taken (board_alone board) number (client_alone client) q no_footprint
-given_alone board number client q footprint =
+given_alone board number client q footprint none =
     let flight : InFlight = flight_for board.memory footprint q in
     ap (with_clients (given_on board number client q footprint))
-    (map-set client_alone board.clients number (with_accepted flight client) ∙ ap (slice_set (map client_alone board.clients) number) (accepted_alone flight client))
+    (ap (λ (replied : Bool). map client_alone (slice_set board.clients number (with_whole replied flight client))) none
+    ∙ map-set client_alone board.clients number (with_accepted flight client) ∙ ap (slice_set (map client_alone board.clients) number) (accepted_alone flight client))
 
 -- with a message of one client that has begun
-pub begun_alone : (board : Board) (number : ℕ) (client : ClientBoard) (footprint : Footprint)
-    → board_alone (begun_on (with_client number client board) number client footprint) ≡ with_client number (client_alone client) (board_alone board)
-begun_alone board number client footprint =
+pub begun_alone : (board : Board) (number : ℕ) (client : ClientBoard) (early : Option DBeat) (footprint : Footprint)
+    → board_alone (begun_on (with_client number client board) number (record client { early = early }) footprint) ≡ with_client number (client_alone client) (board_alone board)
+begun_alone board number client early footprint =
     ap (with_clients board)
-    (map-set client_alone (map (client_beside footprint) (slice_set board.clients number client)) number (record (client_beside footprint client) { coming = footprint })
+    (map-set client_alone (map (client_beside footprint) (slice_set board.clients number client)) number (record (client_beside footprint client) { coming = footprint; early = early })
     ∙ ap₂ (λ (clients : List ClientBoard) (changed : ClientBoard). slice_set clients number changed) (clients_beside footprint (slice_set board.clients number client))
     (beside_alone footprint client)
     ∙ ap (λ (clients : List ClientBoard). slice_set clients number (client_alone client)) (map-set client_alone board.clients number client)
     ∙ set-set (map client_alone board.clients) number (client_alone client) (client_alone client))
+
+-- and goes on
+pub further_alone : (board : Board) (number : ℕ) (client : ClientBoard) (coming : Footprint)
+    → board_alone (with_client number (record client { coming = coming }) (with_client number client board)) ≡ with_client number (client_alone client) (board_alone board)
+further_alone board number client coming =
+    ap (with_clients board)
+    (ap (map client_alone) (set-set board.clients number client (record client { coming = coming })) ∙ map-set client_alone board.clients number (record client { coming = coming }))
+
+-- where nothing may come early nothing may then
+pub none_left : (b : Bool) (source : ℕ) → (if b then None else early_left None source) ≡ None
+none_left true source = refl
+none_left false source = refl
+
+-- nothing may come early there
+pub early_alone : (client : ClientBoard) (source : ℕ) → early_after (client_alone client) source ≡ None
+early_alone client source = none_left (is_some (next_reply (client_alone client).flights source)) source
 
 -- nothing is in flight at the start
 pub opens_alone : (setup : SetupLists) → board_alone (opening_board setup) ≡ opening_board setup

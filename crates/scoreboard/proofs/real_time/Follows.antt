@@ -1,10 +1,14 @@
 -- A board, its shadow, and an order of what has begun: the shadow explains the order, in which it takes each request to be whole, and the board knows which
 -- of them are.
-use Rattle.std.proofs.Common.{◌≡◌, ℕ, Bool, true, false, List, [], ◌∷◌, map, length, Option, Some, None, inl, inr, refl, sym, ◌∙◌, ap, subst}
-use Rattle.std.specs.Prelude.{is_some}
+use Rattle.std.proofs.Common.{◌≡◌, ℕ, Bool, true, false, List, [], ◌∷◌, map, length, Option, Some, None, if◌then◌else◌, inl, inr, refl, sym, ◌∙◌, ap, subst}
+use Rattle.std.specs.Prelude.{is_none, is_some}
 use Rattle.std.specs.List.{AllByRecursion, list_any}
 use Rattle.std.proofs.lemmas.Bool.{or_cases}
-use Rattle.meaning.specs.Meaning.{Bytes}
+use Rattle.tl_messages.specs.declared.DBeat.{DBeat}
+use Rattle.responses.specs.Shown.{beat_without_data}
+use Rattle.meaning.specs.Meaning.{Bytes, acknowledged}
+use Rattle.scoreboard.specs.declared.Errors.{Errors}
+use Rattle.scoreboard.specs.declared.Errors.TheVariants.{Any, Strict}
 use Rattle.burst_plan.specs.declared.Region.{Region}
 use Rattle.subordinate.specs.Faults.{Faults}
 use Rattle.scoreboard.specs.AxiPorts.{PortBoard}
@@ -13,6 +17,7 @@ use Rattle.scoreboard.specs.Flights.{Footprint, InFlight}
 use Rattle.scoreboard.specs.Orders.{Entry, Order, begun_to, has_ended}
 use Rattle.scoreboard.proofs.MappedLists.{any_map}
 use Rattle.scoreboard.proofs.real_time.Ahead.{IsAhead, IsComing, Shadow, comes, shadow_of}
+use Rattle.scoreboard.proofs.real_time.Comings.{early_at}
 use Rattle.scoreboard.proofs.real_time.Entries.{carry, place_of, run}
 use Rattle.scoreboard.proofs.real_time.Explained.{Explains}
 use Rattle.scoreboard.proofs.real_time.Failures.{failed_at}
@@ -23,7 +28,7 @@ use Rattle.scoreboard.proofs.real_time.StepOrders.{is_coming}
 
 -- an entry as the shadow has it
 abbrev pub settled : Entry → Entry
-settled entry = record entry { whole = true; spoiled = false }
+settled entry = record entry { whole = true; spoiled = false; early = false; replied = false }
 
 abbrev pub settle : Order → Order
 settle order = map settled order
@@ -38,11 +43,20 @@ IsFailing board entry =
     entry.whole ≡ true → has_ended entry ≡ false → (flight : InFlight) → flight_at board.clients (place_of entry) ≡ Some flight
     → flight.footprint.failed ≡ failed_at board.errors board.memory.faults board.memory.regions entry
 
--- one that isn't whole is what a message becomes that has begun
+-- whether the reply to what has begun came, by whether it may come
+abbrev pub replied_by : Errors → Option DBeat → Bool
+replied_by Strict early = false
+replied_by Any early = is_none early
+
+-- one that isn't whole is what a message becomes that has begun: the board knows whether it has failed, and whether its reply may come, or came
 pub record IsOpen (board : Board) (shadow : Shadow) (entry : Entry) : Type 0 where
   pub begun : comes board.clients entry.client ≡ true
   pub final : entry.request ≡ shadow.finals entry.client
   pub none_came : entry.came ≡ 0
+  pub any : entry.early ≡ true → board.errors ≡ Any
+  pub early : early_at board.clients entry.client ≡ (if entry.early then Some (beat_without_data entry.request acknowledged) else None)
+  pub replied : entry.replied ≡ replied_by board.errors (early_at board.clients entry.client)
+  pub failed : (coming_at board.clients entry.client).failed ≡ failed_at board.errors board.memory.faults board.memory.regions entry
 
 pub record Follows (board : Board) (shadow : Shadow) (order : Order) : Type 0 where
   pub explains : Explains (shadow_of board shadow) (settle order)
@@ -51,6 +65,11 @@ pub record Follows (board : Board) (shadow : Shadow) (order : Order) : Type 0 wh
   pub failing : AllByRecursion (IsFailing board) order
   pub open_ones : AllByRecursion (λ entry. entry.whole ≡ false → IsOpen board shadow entry) order
   pub known : (client : ℕ) → comes board.clients client ≡ true → list_any (is_coming client) order ≡ true
+  pub early : (client : ℕ) (due : DBeat) → early_at board.clients client ≡ Some due → comes board.clients client ≡ true
+
+-- a board that is followed, with some shadow
+abbrev pub IsFollowed : Board → Order → Type 0
+IsFollowed board order = (shadow : Shadow) × Follows board shadow order
 
 -- ---- orders
 
@@ -103,9 +122,9 @@ module _ (board : Board) (shadow : Shadow) (clients : List ClientBoard) (port : 
             ahead.given client x (sym (same client) ∙ some) (sym (ap (λ (r : Footprint). r.determined x) (coming client)) ∙ determined) gives_it;
       }
 
-  pub follows_as : (order : Order) → Explains (shadow_of (record board { clients = clients; axi = port }) shadow) (settle order) → Follows board shadow order
+  pub follows_as : ((client : ℕ) → early_at clients client ≡ early_at board.clients client) → (order : Order) → Explains (shadow_of (record board { clients = clients; axi = port }) shadow) (settle order) → Follows board shadow order
       → Follows (record board { clients = clients; axi = port }) shadow order
-  follows_as order explains old =
+  follows_as early order explains old =
       record {
         explains = explains;
         ahead = ahead_as old.ahead;
@@ -119,8 +138,17 @@ module _ (board : Board) (shadow : Shadow) (clients : List ClientBoard) (port : 
             all_both (λ entry. entry.whole ≡ false → IsOpen board shadow entry) (λ entry. entry.whole ≡ false → IsOpen board shadow entry)
             (λ entry. entry.whole ≡ false → IsOpen same_board shadow entry) order
             (λ entry was again unwhole.
-            let it = was unwhole in record { begun = same entry.client ∙ it.begun; final = it.final; none_came = it.none_came }) old.open_ones old.open_ones;
+            let it = was unwhole in record {
+              begun = same entry.client ∙ it.begun;
+              final = it.final;
+              none_came = it.none_came;
+              any = it.any;
+              early = early entry.client ∙ it.early;
+              replied = it.replied ∙ ap (replied_by board.errors) (sym (early entry.client));
+              failed = ap (λ (f : Footprint). f.failed) (coming entry.client) ∙ it.failed;
+            }) old.open_ones old.open_ones;
         known = λ client some. old.known client (sym (same client) ∙ some);
+        early = λ client due is. same client ∙ old.early client due (sym (early client) ∙ is);
       }
 
 -- ---- a reply that has begun

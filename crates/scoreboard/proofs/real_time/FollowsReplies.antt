@@ -1,30 +1,34 @@
 -- A beat on channel D: the board, its shadow and an order go on together.
-use Rattle.std.proofs.Common.{◌≡◌, ℕ, ◌==◌, Bool, true, false, ◌&&◌, List, [], ◌∷◌, drop, map, set, Option, Some, None, ◌⊎◌, inl, inr, refl, sym, ◌∙◌, ap, subst, arith}
-use Rattle.std.specs.Prelude.{is_some, slice_get, unwrap_or}
+use Rattle.std.proofs.Common.{◌≡◌, ℕ, ◌==◌, Bool, true, false, ◌&&◌, List, [], ◌∷◌, drop, map, set, Option, Some, None, ◌⊎◌, inl, inr, if◌then◌else◌, refl, sym, ◌∙◌, ap, ap₂, subst, arith}
+use Rattle.std.specs.Prelude.{is_none, is_some, slice_get, unwrap_or}
+use Rattle.tl_messages.specs.Requests.{WholeRequest}
+use Rattle.responses.specs.Shown.{beat_without_data}
+use Rattle.scoreboard.specs.declared.Errors.{Errors}
 use Rattle.std.specs.List.{AllByRecursion, find, list_any}
 use Rattle.std.proofs.Math.Path.{fun_ext}
-use Rattle.std.proofs.lemmas.Bool.{and_parts, false_from_ne_true}
+use Rattle.std.proofs.lemmas.Bool.{and_parts, cases_eq, eq-eqb, false_from_ne_true, or_cases, or_right}
 use Rattle.std.proofs.lemmas.List.{set-set}
 use Rattle.std.proofs.lemmas.Option.{slice_get_within}
 use Rattle.std.proofs.lemmas.Bool.Decides.{nat_tests}
 use Rattle.bus_words.specs.Places.{without_first}
 use Rattle.bus_words.proofs.StoredPlaces.{get_set, set_back}
 use Rattle.tl_messages.specs.declared.DBeat.{DBeat}
-use Rattle.meaning.specs.Meaning.{Bytes, zeros}
-use Rattle.scoreboard.specs.Boards.{Board, ClientBoard, after_d, told_to, with_client}
+use Rattle.meaning.specs.Meaning.{Bytes, acknowledged, zeros}
+use Rattle.scoreboard.specs.Boards.{Board, ClientBoard, after_d, early_after, early_left, told_to, with_client}
 use Rattle.scoreboard.specs.Flights.{Flights, Footprint, InFlight, begun_after, flights_after, is_of_source, next_reply, with_left}
-use Rattle.scoreboard.specs.Orders.{Entry, Order, after_beat, begun_to, has_ended, is_due, with_beat}
+use Rattle.scoreboard.specs.Orders.{Entry, Order, after_beat, begun_to, counted, has_ended, is_due, with_beat}
 use Rattle.scoreboard.proofs.MappedLists.{any_map}
 use Rattle.scoreboard.proofs.real_time.Ahead.{IsAhead, Shadow, comes, shadow_of}
 use Rattle.scoreboard.proofs.real_time.Entries.{Each, Stands, carry, place_of}
 use Rattle.scoreboard.proofs.real_time.Explained.{Explains}
-use Rattle.scoreboard.proofs.real_time.Follows.{Follows, IsFailing, IsMarked, IsOpen, all_both, begun_here, begun_settled, begun_there, settle, settled}
-use Rattle.scoreboard.proofs.real_time.FollowsRequests.{IsFollowed, client_follows, there_too}
-use Rattle.scoreboard.proofs.real_time.Places.{Place, begun_at, cases_place, due_at, flight_at}
+use Rattle.scoreboard.proofs.real_time.Follows.{Follows, IsFailing, IsFollowed, IsMarked, IsOpen, all_both, begun_here, begun_settled, begun_there, replied_by, settle, settled}
+use Rattle.scoreboard.proofs.real_time.FollowsRequests.{client_ahead, client_follows, coming_changed, comes_changed, early_changed, there_too}
+use Rattle.scoreboard.proofs.real_time.Comings.{early_at, early_in, early_other, early_same}
+use Rattle.scoreboard.proofs.real_time.Places.{Place, begun_at, cases_place, coming_at, due_at, flight_at, flight_in, flights_kept}
 use Rattle.scoreboard.proofs.real_time.RepliedAhead as replies
 use Rattle.scoreboard.proofs.real_time.ReplyBeats.{explains_own}
 use Rattle.scoreboard.proofs.real_time.ReplySeen.{are_moved, next_is}
-use Rattle.scoreboard.proofs.real_time.ReplyMoves.{AreMoved, place_next}
+use Rattle.scoreboard.proofs.real_time.ReplyMoves.{AreMoved, goes_on, place_next}
 use Rattle.scoreboard.proofs.real_time.Failures.{failed_at, failed_by}
 use Rattle.scoreboard.proofs.real_time.ReplySteps.{due_place, next_at, none_due as none_at, place_due}
 use Rattle.scoreboard.proofs.real_time.StepOrders.{is_coming}
@@ -62,37 +66,121 @@ module _ (board : Board) (shadow : Shadow) (order : Order) (follows : Follows bo
   abbrev from : Place
   from = next_at (list_any (begun_to number) order) number source
 
-  -- one to which the beat is due is whole, in flight on the board
-  pub due_whole : (entry : Entry) → IsMarked board.clients entry → (entry.whole ≡ false → IsOpen board shadow entry)
-      → is_due (list_any (begun_to number) order) number source entry ≡ true
-      → (entry.whole ≡ true) × (is_some (flight_at board.clients (next_at (list_any (begun_to number) order) number source)) ≡ true)
-  due_whole entry marked opened is =
-      let at = due_place begun number source entry is in
-      let whole : entry.whole ≡ true = by_whole entry.whole refl in
-      (whole, ap (λ (p : Place). is_some (flight_at board.clients p)) (sym at.there) ∙ sym (marked at.live) ∙ whole)
-    where
-      by_whole : (b : Bool) → entry.whole ≡ b → entry.whole ≡ true
-      by_whole true whole = whole
-      by_whole false unwhole = absurd (let none = (opened unwhole).none_came in grind (arith, nat_tests, is, unwhole, none))
+  -- one to which the beat is due is whole and in flight on the board, or its reply may come before it is whole
+  pub data IsDueTo (entry : Entry) : Type 0 where
+    WholeDue : entry.whole ≡ true → is_some (flight_at board.clients (next_at (list_any (begun_to number) order) number source)) ≡ true → IsDueTo entry
+    EarlyDue : entry.whole ≡ false → entry.early ≡ true → list_any (begun_to number) order ≡ false → entry.client ≡ number → entry.request.source ≡ source → IsDueTo entry
 
-  -- where nothing is due on the board nothing is due in the order
+  pub due_cases : (entry : Entry) → IsMarked board.clients entry → (entry.whole ≡ false → IsOpen board shadow entry)
+      → is_due (list_any (begun_to number) order) number source entry ≡ true → IsDueTo entry
+  due_cases entry marked opened is = by_whole entry.whole refl
+    where
+      by_begun : (b : Bool) → begun ≡ b → entry.whole ≡ false → entry.came ≡ 0 → IsDueTo entry
+      by_begun true has unwhole none = absurd (let due : is_due true number source entry ≡ true = ap (λ (b : Bool). is_due b number source entry) (sym has) ∙ is in
+          grind (arith, nat_tests, due, none))
+      by_begun false has unwhole none =
+          let due : is_due false number source entry ≡ true = ap (λ (b : Bool). is_due b number source entry) (sym has) ∙ is in
+          EarlyDue unwhole (grind (arith, nat_tests, due, unwhole)) has (grind (arith, nat_tests, due)) (grind (arith, nat_tests, due))
+
+      by_whole : (b : Bool) → entry.whole ≡ b → IsDueTo entry
+      by_whole true whole =
+          let at = due_place begun number source entry is in
+          WholeDue whole (ap (λ (p : Place). is_some (flight_at board.clients p)) (sym at.there) ∙ sym (marked at.live) ∙ whole)
+      by_whole false unwhole = by_begun begun refl unwhole (opened unwhole).none_came
+
+  -- what may come early to the client of one that isn't whole
+  pub early_there : (entry : Entry) → IsOpen board shadow entry → entry.early ≡ true → entry.client ≡ number
+      → early_at board.clients number ≡ Some (beat_without_data entry.request acknowledged)
+  early_there entry it early client =
+      ap (early_at board.clients) (sym client) ∙ it.early
+      ∙ ap (λ (b : Bool). if b then Some (beat_without_data entry.request acknowledged) else None) early
+
+  -- what may come early is due in the order, where nothing in flight has it
+  pub early_due_in : flight_at board.clients (next_at (list_any (begun_to number) order) number source) ≡ None → (due : DBeat)
+      → early_at board.clients number ≡ Some due → (due.source == source) ≡ true → list_any (is_due (list_any (begun_to number) order) number source) order ≡ true
+  early_due_in nothing due early own = any_due order follows.marked follows.open_ones (follows.known number (follows.early number due early))
+    where
+      none_begun : begun ≡ false
+      none_begun = by_begun begun refl
+        where
+          by_begun : (b : Bool) → begun ≡ b → begun ≡ false
+          by_begun false has = has
+          by_begun true has =
+              absurd (cc (sym (ap (λ (b : Bool). is_some (flight_at board.clients (next_at b number source))) (sym has) ∙ ap (λ (o : Option InFlight). is_some o) nothing)
+              ∙ sym (begun_here board shadow order follows number) ∙ has))
+
+      one_due : (one : Entry) → IsOpen board shadow one → one.whole ≡ false → one.client ≡ number → is_due begun number source one ≡ true
+      one_due one it unwhole client_is =
+          let here : Some due ≡ (if one.early then Some (beat_without_data one.request acknowledged) else None) = sym early ∙ ap (early_at board.clients) (sym client_is) ∙ it.early in
+          by_early one.early refl here
+        where
+          by_early : (b : Bool) → one.early ≡ b → Some due ≡ (if b then Some (beat_without_data one.request acknowledged) else None) → is_due begun number source one ≡ true
+          by_early false may none = absurd (cc (none))
+          by_early true may some =
+              let same : due ≡ beat_without_data one.request acknowledged = cc (some) in
+              let its_source : (one.request.source == source) ≡ true = sym (ap (λ (d : DBeat). d.source == source) same) ∙ own in
+              let none_came = it.none_came in
+              let not_begun = none_begun in
+              let client_test = eq-eqb one.client number client_is in
+              grind (arith, nat_tests, its_source, none_came, may, not_begun, client_test)
+
+      any_due : (some_order : Order) → AllByRecursion (IsMarked board.clients) some_order → AllByRecursion (λ one. one.whole ≡ false → IsOpen board shadow one) some_order
+          → list_any (is_coming number) some_order ≡ true → list_any (is_due begun number source) some_order ≡ true
+      any_due [] marked opens some = absurd (cc (some))
+      any_due (one ∷ rest) marked opens some =
+          elim (or_cases (is_coming number one) (list_any (is_coming number) rest) some) [
+            | inl its ↦
+                let unwhole : one.whole ≡ false = grind (arith, its) in
+                let client_is : one.client ≡ number = grind (arith, nat_tests, its) in
+                let due_one = one_due one (opens.0 unwhole) unwhole client_is in rw due_one refl
+            | inr later ↦ or_right (is_due begun number source one) (list_any (is_due begun number source) rest) (any_due rest marked.1 opens.1 later)
+          ]
+
+  -- where a request in flight has its next beat none has it early
+  not_early : (due : InFlight) → flight_at board.clients from ≡ Some due → (entry : Entry) → IsOpen board shadow entry → begun ≡ false → entry.client ≡ number
+      → entry.request.source ≡ source → ⊥
+  not_early due here entry it has client its_source =
+      let place : due_at entry.client (shadow.finals entry.client).source ≡ from =
+      ap₂ due_at client (sym (ap (λ (x : WholeRequest). x.source) it.final) ∙ its_source) ∙ ap (λ (b : Bool). next_at b number source) (sym has) in
+      absurd (cc (sym (follows.ahead.waits entry.client it.begun) ∙ ap (flight_at board.clients) place ∙ here))
+
+  -- there it is whole
+  pub due_whole : (due : InFlight) → flight_at board.clients (next_at (list_any (begun_to number) order) number source) ≡ Some due → (entry : Entry)
+      → IsMarked board.clients entry → (entry.whole ≡ false → IsOpen board shadow entry)
+      → is_due (list_any (begun_to number) order) number source entry ≡ true → entry.whole ≡ true
+  due_whole due here entry marked opened is =
+      elim (due_cases entry marked opened is) [
+        | WholeDue whole some ↦ whole
+        | EarlyDue unwhole early has client its_source ↦ absurd (not_early due here entry (opened unwhole) has client its_source)
+      ]
+
+  -- nothing may come early that is of the source
+  abbrev pub NoneEarly : Type 0
+  NoneEarly = (due : DBeat) → early_at board.clients number ≡ Some due → (due.source == source) ≡ false
+
+  -- where nothing is due on the board, nor early, nothing is due in the order
   pub nobody_due : flight_at board.clients (next_at (list_any (begun_to number) order) number source) ≡ None
+      → ((due : DBeat) → early_at board.clients number ≡ Some due → (due.source == source) ≡ false)
       → AllByRecursion (λ entry. is_due (list_any (begun_to number) order) number source entry ≡ false) order
-  nobody_due nothing =
+  nobody_due nothing no_early =
       all_both (IsMarked board.clients) (λ entry. entry.whole ≡ false → IsOpen board shadow entry) (λ entry. is_due begun number source entry ≡ false) order
-      (λ entry marked opened. false_from_ne_true (is_due begun number source entry) (λ is.
-      let due = due_whole entry marked opened is in
-      absurd (cc (sym (ap (λ (o : Option InFlight). is_some o) nothing) ∙ due.1)))) follows.marked follows.open_ones
+      (λ entry marked opened. false_from_ne_true (is_due begun number source entry) (λ is. refuted entry opened (due_cases entry marked opened is))) follows.marked follows.open_ones
+    where
+      refuted : (entry : Entry) → (entry.whole ≡ false → IsOpen board shadow entry) → IsDueTo entry → ⊥
+      refuted entry opened (WholeDue whole some) = absurd (cc (sym (ap (λ (o : Option InFlight). is_some o) nothing) ∙ some))
+      refuted entry opened (EarlyDue unwhole early has client its_source) =
+          let none = no_early (beat_without_data entry.request acknowledged) (early_there entry (opened unwhole) early client) in
+          absurd (cc (sym none ∙ eq-eqb entry.request.source source its_source))
 
   -- and the beat counts for none
-  none_due : flight_at board.clients from ≡ None → after_beat order number source ≡ order
-  none_due nothing = none_counted begun number source order (nobody_due nothing)
+  none_due : flight_at board.clients from ≡ None → NoneEarly → after_beat order number source ≡ order
+  none_due nothing no_early = none_counted begun number source order (nobody_due nothing no_early)
 
   -- where something is due it is due on the shadow to the same
   pub due_settled : (due : InFlight) → flight_at board.clients (next_at (list_any (begun_to number) order) number source) ≡ Some due
-      → (entry : Entry) → IsMarked board.clients entry
+      → (entry : Entry) → IsMarked board.clients entry → (entry.whole ≡ false → IsOpen board shadow entry)
       → is_due (list_any (begun_to number) order) number source (settled entry) ≡ is_due (list_any (begun_to number) order) number source entry
-  due_settled due here entry marked = by_due (is_due begun number source (settled entry)) refl
+  due_settled due here entry marked opened = by_due (is_due begun number source (settled entry)) refl
     where
       by_due : (b : Bool) → is_due begun number source (settled entry) ≡ b → is_due begun number source (settled entry) ≡ is_due begun number source entry
       by_due true is =
@@ -100,7 +188,11 @@ module _ (board : Board) (shadow : Shadow) (order : Order) (follows : Follows bo
           let whole : entry.whole ≡ true =
           marked at.live ∙ ap (λ (p : Place). is_some (flight_at board.clients p)) at.there ∙ ap (λ (o : Option InFlight). is_some o) here in
           grind (arith, whole)
-      by_due false is = grind (arith, is)
+      by_due false is =
+          sym (false_from_ne_true (is_due begun number source entry) (λ other.
+          let whole = due_whole due here entry marked opened other in
+          let same : is_due begun number source (settled entry) ≡ is_due begun number source entry = grind (arith, whole) in
+          absurd (cc (sym is ∙ same ∙ other))) ∙ sym is)
 
   -- ---- the client is there
 
@@ -115,14 +207,14 @@ module _ (board : Board) (shadow : Shadow) (order : Order) (follows : Follows bo
     next = next_is board.clients number source client there begun (begun_here board shadow order follows number)
 
     -- nothing is due
-    quiet : flight_at board.clients from ≡ None → IsFollowed now (after_beat order number source)
-    quiet nothing =
+    quiet : flight_at board.clients from ≡ None → NoneEarly → IsFollowed now (after_beat order number source)
+    quiet nothing no_early =
         let still = flights_none source client.flights (sym next ∙ nothing) in
         let back = set_back board.clients number client there in
         let same : board ≡ now =
         ap {B = Board} (λ clients. record board { clients = clients }) (sym back)
         ∙ ap {B = Board} (λ (flights : Flights). record board { clients = set board.clients number (record client { flights = flights }) }) (sym still) in
-        subst (λ b. IsFollowed b (after_beat order number source)) same (subst (IsFollowed board) (sym (none_due nothing)) (shadow, follows))
+        subst (λ b. IsFollowed b (after_beat order number source)) same (subst (IsFollowed board) (sym (none_due nothing no_early)) (shadow, follows))
 
     module _ (due : InFlight) (is_due_here : flight_at board.clients from ≡ Some due) where
       abbrev other : ClientBoard
@@ -144,22 +236,45 @@ module _ (board : Board) (shadow : Shadow) (order : Order) (follows : Follows bo
           replies.comes_now board shadow follows.ahead number source client other there other_there begun (begun_here board shadow order follows number)
           (begun_there board shadow order follows number) follows.explains.sources due is_due_here
 
+      early_now : (c : ℕ) → early_at now.clients c ≡ early_at board.clients c
+      early_now = early_changed board shadow order follows number client there changed refl
+
+      coming_now : (c : ℕ) → coming_at now.clients c ≡ coming_at board.clients c
+      coming_now = coming_changed board shadow order follows number client there changed refl
+
       -- on the shadow it counts for the same
-      beat_same : (entry : Entry) → IsMarked board.clients entry → settled (with_beat begun number source entry) ≡ with_beat begun number source (settled entry)
-      beat_same entry marked = let same = due_settled due is_due_here entry marked in grind (arith, same)
+      beat_same : (entry : Entry) → IsMarked board.clients entry → (entry.whole ≡ false → IsOpen board shadow entry)
+          → settled (with_beat begun number source entry) ≡ with_beat begun number source (settled entry)
+      beat_same entry marked opened = by_due (is_due begun number source entry && entry.request.source == source) refl
+        where
+          same : is_due begun number source (settled entry) ≡ is_due begun number source entry
+          same = due_settled due is_due_here entry marked opened
+
+          by_due : (b : Bool) → (is_due begun number source entry && entry.request.source == source) ≡ b
+              → settled (with_beat begun number source entry) ≡ with_beat begun number source (settled entry)
+          by_due true counts =
+              let whole = due_whole due is_due_here entry marked opened (and_parts (is_due begun number source entry) (entry.request.source == source) counts).0 in
+              let its : (is_due begun number source (settled entry) && entry.request.source == source) ≡ true =
+              ap (λ (b : Bool). b && entry.request.source == source) same ∙ counts in
+              ap settled (goes_on begun number source entry whole counts) ∙ sym (goes_on begun number source (settled entry) refl its)
+          by_due false none =
+              let its : (is_due begun number source (settled entry) && entry.request.source == source) ≡ false =
+              ap (λ (b : Bool). b && entry.request.source == source) same ∙ none in
+              rw (none, its) refl
 
       settle_beat : (some_order : Order) → AllByRecursion (IsMarked board.clients) some_order
+          → AllByRecursion (λ entry. entry.whole ≡ false → IsOpen board shadow entry) some_order
           → settle (map (with_beat begun number source) some_order) ≡ map (with_beat begun number source) (settle some_order)
-      settle_beat [] marked = refl
-      settle_beat (entry ∷ rest) marked =
-          let first = beat_same entry marked.0 in
-          let last = settle_beat rest marked.1 in
+      settle_beat [] marked opened = refl
+      settle_beat (entry ∷ rest) marked opened =
+          let first = beat_same entry marked.0 opened.0 in
+          let last = settle_beat rest marked.1 opened.1 in
           cc (first, last)
 
       now_explains : Explains (shadow_of now now_shadow) (settle (after_beat order number source))
       now_explains =
           subst (Explains (shadow_of now now_shadow))
-          (ap (λ (b : Bool). map (with_beat b number source) (settle order)) (begun_settled board shadow order follows number) ∙ sym (settle_beat order follows.marked))
+          (ap (λ (b : Bool). map (with_beat b number source) (settle order)) (begun_settled board shadow order follows number) ∙ sym (settle_beat order follows.marked follows.open_ones))
           (explains_own (shadow_of board shadow) (settle order) number source follows.explains other other_there)
 
       -- ---- entries with the beat
@@ -168,15 +283,25 @@ module _ (board : Board) (shadow : Shadow) (order : Order) (follows : Follows bo
       step entry = with_beat begun number source entry
 
       -- one that isn't whole gets none
+      step_whole : (entry : Entry) → (step entry).whole ≡ entry.whole
+      step_whole entry = by_due (is_due begun number source entry && entry.request.source == source) refl
+        where
+          by_whole : (b : Bool) → (counted b entry).whole ≡ entry.whole
+          by_whole true = refl
+          by_whole false = refl
+
+          by_due : (b : Bool) → (is_due begun number source entry && entry.request.source == source) ≡ b → (step entry).whole ≡ entry.whole
+          by_due false is = rw is refl
+          by_due true is = rw is (by_whole entry.whole)
+
       open_still : (entry : Entry) → IsMarked board.clients entry → (entry.whole ≡ false → IsOpen board shadow entry) → (step entry).whole ≡ false → step entry ≡ entry
       open_still entry marked opened unwhole = by_due (is_due begun number source entry) refl
         where
           by_due : (b : Bool) → is_due begun number source entry ≡ b → step entry ≡ entry
           by_due false is = rw is refl
           by_due true is =
-              let whole = (due_whole entry marked opened is).0 in
-              let still : (step entry).whole ≡ entry.whole = grind arith in
-              absurd (cc (sym unwhole ∙ still ∙ whole))
+              let whole = due_whole due is_due_here entry marked opened is in
+              absurd (cc (sym unwhole ∙ step_whole entry ∙ whole))
 
       now_open : (entry : Entry) → IsMarked board.clients entry → (entry.whole ≡ false → IsOpen board shadow entry) → (step entry).whole ≡ false
           → IsOpen now now_shadow (step entry)
@@ -184,7 +309,15 @@ module _ (board : Board) (shadow : Shadow) (order : Order) (follows : Follows bo
           let still = open_still entry marked opened unwhole in
           let it = opened (sym (ap (λ (e : Entry). e.whole) still) ∙ unwhole) in
           subst (IsOpen now now_shadow) (sym still)
-          (record { begun = comes_now entry.client ∙ it.begun; final = it.final; none_came = it.none_came })
+          (record {
+            begun = comes_now entry.client ∙ it.begun;
+            final = it.final;
+            none_came = it.none_came;
+            any = it.any;
+            early = early_now entry.client ∙ it.early;
+            replied = it.replied ∙ ap (replied_by board.errors) (sym (early_now entry.client));
+            failed = ap (λ (r : Footprint). r.failed) (coming_now entry.client) ∙ it.failed;
+          })
 
       -- a whole one is in flight on the board as on the shadow
       now_marked : (entry : Entry) (m : Bytes) → IsMarked board.clients entry → (entry.whole ≡ false → IsOpen board shadow entry)
@@ -192,7 +325,7 @@ module _ (board : Board) (shadow : Shadow) (order : Order) (follows : Follows bo
       now_marked entry m marked opened stands alive = by_whole (step entry).whole refl
         where
           whole_same : (step entry).whole ≡ entry.whole
-          whole_same = grind arith
+          whole_same = step_whole entry
 
           by_flight : (step entry).whole ≡ true → (o : Option InFlight) → flight_at now.clients (place_of (step entry)) ≡ o → is_some o ≡ true
           by_flight whole (Some flight) is = refl
@@ -204,7 +337,9 @@ module _ (board : Board) (shadow : Shadow) (order : Order) (follows : Follows bo
               by_due : comes board.clients (step entry).client ≡ true → place_of (step entry) ≡ due_at (step entry).client (shadow.finals (step entry).client).source
                   → (b : Bool) → (is_due begun number source entry && entry.request.source == source) ≡ b → ⊥
               by_due before place true counted =
-                  let source_is : (place_of (step entry)).source ≡ None = grind (arith, nat_tests, counted) in
+                  let is = (and_parts (is_due begun number source entry) (entry.request.source == source) counted).0 in
+                  let source_is : (place_of (step entry)).source ≡ None =
+                  ap (λ (p : Place). p.source) (place_next begun number source entry (due_whole due is_due_here entry marked opened is) counted) in
                   let other_is = ap (λ (p : Place). p.source) place in absurd (cc (sym source_is ∙ other_is))
               by_due before place false counted =
                   let still : step entry ≡ entry = rw counted refl in
@@ -260,18 +395,28 @@ module _ (board : Board) (shadow : Shadow) (order : Order) (follows : Follows bo
       now_failing entry marked opened was whole alive flight there_now = by_counted (is_due begun number source entry && entry.request.source == source) refl
         where
           same_failed : failed_at board.errors board.memory.faults board.memory.regions entry ≡ failed_at board.errors board.memory.faults board.memory.regions (step entry)
-          same_failed = failed_by board.errors board.memory.faults board.memory.regions entry (step entry) (grind arith) (grind arith)
+          same_failed = by_due (is_due begun number source entry && entry.request.source == source) refl
+            where
+              by_whole : (b : Bool) → failed_at board.errors board.memory.faults board.memory.regions entry ≡ failed_at board.errors board.memory.faults board.memory.regions (counted b entry)
+              by_whole true = failed_by board.errors board.memory.faults board.memory.regions entry (counted true entry) refl refl
+              by_whole false = failed_by board.errors board.memory.faults board.memory.regions entry (counted false entry) refl refl
+
+              by_due : (b : Bool) → (is_due begun number source entry && entry.request.source == source) ≡ b
+                  → failed_at board.errors board.memory.faults board.memory.regions entry ≡ failed_at board.errors board.memory.faults board.memory.regions (step entry)
+              by_due false is = rw is refl
+              by_due true is = rw is (by_whole entry.whole)
 
           by_counted : (b : Bool) → (is_due begun number source entry && entry.request.source == source) ≡ b
               → flight.footprint.failed ≡ failed_at board.errors board.memory.faults board.memory.regions (step entry)
           by_counted true counted =
               let is = (and_parts (is_due begun number source entry) (entry.request.source == source) counted).0 in
               let at = due_place begun number source entry is in
-              let place : place_of (step entry) ≡ begun_at number = place_next begun number source entry counted in
+              let whole_is = due_whole due is_due_here entry marked opened is in
+              let place : place_of (step entry) ≡ begun_at number = place_next begun number source entry whole_is counted in
               let after : begun_after (Some due) source ≡ Some flight =
               ap (λ (o : Option InFlight). begun_after o source) (sym is_due_here) ∙ sym are.next ∙ ap (flight_at now.clients) (sym place) ∙ there_now in
               ap (λ (f : Footprint). f.failed) (begun_kept due flight after)
-              ∙ was (due_whole entry marked opened is).0 at.live due (ap (flight_at board.clients) at.there ∙ is_due_here)
+              ∙ was whole_is at.live due (ap (flight_at board.clients) at.there ∙ is_due_here)
               ∙ same_failed
           by_counted false none =
               let still : step entry ≡ entry = rw none refl in
@@ -331,31 +476,295 @@ module _ (board : Board) (shadow : Shadow) (order : Order) (follows : Follows bo
           known = λ c some.
               any_map (is_coming c) step order ∙ ap (λ (test : Entry → Bool). list_any test order) (fun_ext (λ entry. coming_same c entry))
               ∙ follows.known c (sym (comes_now c) ∙ some);
+          early = λ c due_early is. comes_now c ∙ follows.early c due_early (sym (early_now c) ∙ is);
         },
       )
         where
           coming_same : (c : ℕ) (entry : Entry) → is_coming c (step entry) ≡ is_coming c entry
-          coming_same c entry = grind arith
+          coming_same c entry = by_due (is_due begun number source entry && entry.request.source == source) refl
+            where
+              by_whole : (b : Bool) → is_coming c (counted b entry) ≡ is_coming c entry
+              by_whole true = refl
+              by_whole false = refl
 
-    pub replied : IsFollowed (with_client number (record client { flights = flights_after client.flights source }) board) (after_beat order number source)
-    replied = by_flight (flight_at board.clients from) refl
-      where
-        by_flight : (o : Option InFlight) → flight_at board.clients from ≡ o → IsFollowed now (after_beat order number source)
-        by_flight None nothing = quiet nothing
-        by_flight (Some due) is = moved due is
+              by_due : (b : Bool) → (is_due begun number source entry && entry.request.source == source) ≡ b → is_coming c (step entry) ≡ is_coming c entry
+              by_due false is = rw is refl
+              by_due true is = rw is (by_whole entry.whole)
+
+    -- one in flight has it
+    pub replied : (due : InFlight) → next_reply client.flights source ≡ Some due
+        → IsFollowed (with_client number (record client { flights = flights_after client.flights source }) board) (after_beat order number source)
+    replied due is = moved due (next ∙ is)
+
+    -- none in flight has it, and none early
+    pub none_replied : next_reply client.flights source ≡ None → ((due : DBeat) → client.early ≡ Some due → (due.source == source) ≡ false)
+        → IsFollowed (with_client number (record client { flights = flights_after client.flights source }) board) (after_beat order number source)
+    none_replied nothing no_early = quiet (next ∙ nothing) (λ due is. no_early due (sym (ap early_in there) ∙ is))
+
+    -- the message that has begun has it, before it is whole
+    module _ (nothing : next_reply client.flights source ≡ None) (early : DBeat) (is_early : client.early ≡ Some early) (own : (early.source == source) ≡ true) where
+      abbrev told : ClientBoard
+      told = record client { early = None }
+
+      abbrev heard : Board
+      heard = with_client number told board
+
+      abbrev turn : Entry → Entry
+      turn entry = with_beat begun number source entry
+
+      nowhere : flight_at board.clients from ≡ None
+      nowhere = next ∙ nothing
+
+      early_is : early_at board.clients number ≡ Some early
+      early_is = ap early_in there ∙ is_early
+
+      none_begun : begun ≡ false
+      none_begun = begun_here board shadow order follows number ∙ by_begun begun refl
+        where
+          by_begun : (b : Bool) → begun ≡ b → is_some (flight_at board.clients (begun_at number)) ≡ false
+          by_begun true has = ap (λ (b : Bool). is_some (flight_at board.clients (next_at b number source))) (sym has) ∙ ap (λ (o : Option InFlight). is_some o) nowhere
+          by_begun false has = sym (begun_here board shadow order follows number) ∙ has
+
+      -- one that is whole hasn't it
+      whole_still : (entry : Entry) → IsMarked board.clients entry → (entry.whole ≡ false → IsOpen board shadow entry) → entry.whole ≡ true → turn entry ≡ entry
+      whole_still entry marked opened whole = by_due (is_due begun number source entry) refl
+        where
+          by_due : (b : Bool) → is_due begun number source entry ≡ b → turn entry ≡ entry
+          by_due false is = rw is refl
+          by_due true is =
+              elim (due_cases entry marked opened is) [
+                | WholeDue its some ↦ absurd (cc (sym (ap (λ (o : Option InFlight). is_some o) nowhere) ∙ some))
+                | EarlyDue unwhole its has its_client its_source ↦ absurd (cc (sym unwhole ∙ whole))
+              ]
+
+      -- of those that aren't, the client's has it
+      open_other : (entry : Entry) → (entry.client ≡ number → ⊥) → turn entry ≡ entry
+      open_other entry differ =
+          let none : is_due begun number source entry ≡ false =
+          false_from_ne_true (is_due begun number source entry) (λ is. differ (grind (arith, nat_tests, is))) in
+          rw none refl
+
+      open_own : (entry : Entry) → IsOpen board shadow entry → entry.whole ≡ false → entry.client ≡ number → (turn entry ≡ counted false entry) × (entry.early ≡ true)
+      open_own entry it unwhole client_is = (turned, may_come)
+        where
+          here : early_at board.clients number ≡ (if entry.early then Some (beat_without_data entry.request acknowledged) else None)
+          here = ap (early_at board.clients) (sym client_is) ∙ it.early
+
+          may_come : entry.early ≡ true
+          may_come = by_early entry.early refl
+            where
+              by_early : (b : Bool) → entry.early ≡ b → entry.early ≡ true
+              by_early true is = is
+              by_early false is =
+                  absurd (cc (sym early_is ∙ here ∙ ap (λ (b : Bool). if b then Some (beat_without_data entry.request acknowledged) else None) is))
+
+          its_source : (entry.request.source == source) ≡ true
+          its_source =
+              let one : Some early ≡ Some (beat_without_data entry.request acknowledged) = sym early_is ∙ early_there entry it may_come client_is in
+              let same : early ≡ beat_without_data entry.request acknowledged = cc (one) in
+              sym (ap (λ (d : DBeat). d.source == source) same) ∙ own
+
+          due : (is_due begun number source entry && entry.request.source == source) ≡ true
+          due =
+              let none_came = it.none_came in
+              let not_begun = none_begun in
+              let client_test = eq-eqb entry.client number client_is in
+              grind (arith, nat_tests, its_source, none_came, may_come, not_begun, client_test)
+
+          turned : turn entry ≡ counted false entry
+          turned = rw (due, unwhole) refl
+
+      settle_same : (some_order : Order) → AllByRecursion (IsMarked board.clients) some_order
+          → AllByRecursion (λ entry. entry.whole ≡ false → IsOpen board shadow entry) some_order → settle (map turn some_order) ≡ settle some_order
+      settle_same [] marked opened = refl
+      settle_same (entry ∷ rest) marked opened =
+          let first = one entry.whole refl in
+          let last = settle_same rest marked.1 opened.1 in
+          cc (first, last)
+        where
+          one : (b : Bool) → entry.whole ≡ b → settled (turn entry) ≡ settled entry
+          one true whole = ap settled (whole_still entry marked.0 opened.0 whole)
+          one false unwhole =
+              elim (cases_eq entry.client number) [
+                | inl client_is ↦ ap settled (open_own entry (opened.0 unwhole) unwhole client_is).0
+                | inr differ ↦ ap settled (open_other entry differ)
+              ]
+
+      ahead_heard : IsAhead heard shadow
+      ahead_heard = client_ahead board shadow order follows number client there told refl refl refl
+
+      flights_heard : (place : Place) → flight_at heard.clients place ≡ flight_at board.clients place
+      flights_heard place = ap (λ (f : Flights). flight_in f place.source) (flights_kept board.clients number client told there refl place.client)
+
+      comes_heard : (c : ℕ) → comes heard.clients c ≡ comes board.clients c
+      comes_heard = comes_changed board shadow order follows number client there told refl
+
+      coming_heard : (c : ℕ) → coming_at heard.clients c ≡ coming_at board.clients c
+      coming_heard = coming_changed board shadow order follows number client there told refl
+
+      -- what becomes of each
+      each_turned : (entry : Entry) → IsMarked board.clients entry → IsFailing board entry → (entry.whole ≡ false → IsOpen board shadow entry)
+          → IsMarked heard.clients (turn entry) × IsFailing heard (turn entry) × ((turn entry).whole ≡ false → IsOpen heard shadow (turn entry))
+      each_turned entry marked failing opened = by_whole entry.whole refl
+        where
+          still : turn entry ≡ entry → (entry.whole ≡ false → entry.client ≡ number → ⊥)
+              → IsMarked heard.clients (turn entry) × IsFailing heard (turn entry) × ((turn entry).whole ≡ false → IsOpen heard shadow (turn entry))
+          still same apart =
+              subst (λ (e : Entry). IsMarked heard.clients e × IsFailing heard e × (e.whole ≡ false → IsOpen heard shadow e)) (sym same) (
+                λ alive. marked alive ∙ sym (ap (λ (o : Option InFlight). is_some o) (flights_heard (place_of entry))),
+                λ whole alive flight there_now. failing whole alive flight (sym (flights_heard (place_of entry)) ∙ there_now),
+                λ unwhole.
+                    let it = opened unwhole in
+                    let early_other_is = early_other board.clients number entry.client told (apart unwhole) in
+                    record {
+                      begun = comes_heard entry.client ∙ it.begun;
+                      final = it.final;
+                      none_came = it.none_came;
+                      any = it.any;
+                      early = early_other_is ∙ it.early;
+                      replied = it.replied ∙ ap (replied_by board.errors) (sym early_other_is);
+                      failed = ap (λ (r : Footprint). r.failed) (coming_heard entry.client) ∙ it.failed;
+                    },
+              )
+
+          turned : entry.whole ≡ false → entry.client ≡ number
+              → IsMarked heard.clients (turn entry) × IsFailing heard (turn entry) × ((turn entry).whole ≡ false → IsOpen heard shadow (turn entry))
+          turned unwhole client_is =
+              let it = opened unwhole in
+              let its = open_own entry it unwhole client_is in
+              let early_none : early_at heard.clients entry.client ≡ None =
+              ap (early_at heard.clients) client_is ∙ early_same board.clients number client told there in
+              let any = it.any its.1 in
+              subst (λ (e : Entry). IsMarked heard.clients e × IsFailing heard e × (e.whole ≡ false → IsOpen heard shadow e)) (sym its.0) (
+                λ alive. marked alive ∙ sym (ap (λ (o : Option InFlight). is_some o) (flights_heard (place_of entry))),
+                λ whole. absurd (cc (sym unwhole ∙ whole)),
+                λ its_unwhole. record {
+                  begun = comes_heard entry.client ∙ it.begun;
+                  final = it.final;
+                  none_came = it.none_came;
+                  any = λ its_early. any;
+                  early = early_none;
+                  replied = sym (ap (λ (e : Errors). replied_by e (early_at heard.clients entry.client)) any ∙ ap (λ (o : Option DBeat). is_none o) early_none);
+                  failed = ap (λ (r : Footprint). r.failed) (coming_heard entry.client) ∙ it.failed
+                      ∙ failed_by board.errors board.memory.faults board.memory.regions entry (counted false entry) refl refl;
+                },
+              )
+
+          by_whole : (b : Bool) → entry.whole ≡ b
+              → IsMarked heard.clients (turn entry) × IsFailing heard (turn entry) × ((turn entry).whole ≡ false → IsOpen heard shadow (turn entry))
+          by_whole true whole = still (whole_still entry marked opened whole) (λ unwhole. absurd (cc (sym unwhole ∙ whole)))
+          by_whole false unwhole =
+              elim (cases_eq entry.client number) [
+                | inl client_is ↦ turned unwhole client_is
+                | inr differ ↦ still (open_other entry differ) (λ its client_is. differ client_is)
+              ]
+
+      all_turned : (P Q : Entry → Type 0) → ((entry : Entry) → IsMarked board.clients entry → IsFailing board entry → (entry.whole ≡ false → IsOpen board shadow entry) → Q (turn entry))
+          → (some_order : Order) → AllByRecursion (IsMarked board.clients) some_order → AllByRecursion (IsFailing board) some_order
+          → AllByRecursion (λ entry. entry.whole ≡ false → IsOpen board shadow entry) some_order → AllByRecursion Q (map turn some_order)
+      all_turned P Q one [] marked failing opened = tt
+      all_turned P Q one (entry ∷ rest) marked failing opened =
+          (one entry marked.0 failing.0 opened.0, all_turned P Q one rest marked.1 failing.1 opened.1)
+
+      pub early_replied : IsFollowed (with_client number (record client { early = None }) board) (after_beat order number source)
+      early_replied = (
+        shadow,
+        record {
+          explains = subst (Explains (shadow_of heard shadow)) (sym (settle_same order follows.marked follows.open_ones)) follows.explains;
+          ahead = ahead_heard;
+          marked = all_turned (IsMarked board.clients) (IsMarked heard.clients) (λ entry marked failing opened. (each_turned entry marked failing opened).0)
+              order follows.marked follows.failing follows.open_ones;
+          failing = all_turned (IsFailing board) (IsFailing heard) (λ entry marked failing opened. (each_turned entry marked failing opened).1)
+              order follows.marked follows.failing follows.open_ones;
+          open_ones = all_turned (IsFailing board) (λ entry. entry.whole ≡ false → IsOpen heard shadow entry)
+              (λ entry marked failing opened. (each_turned entry marked failing opened).2) order follows.marked follows.failing follows.open_ones;
+          known = λ c some.
+              any_map (is_coming c) turn order ∙ ap (λ (test : Entry → Bool). list_any test order) (fun_ext (λ entry. coming_same c entry))
+              ∙ follows.known c (sym (comes_heard c) ∙ some);
+          early = λ c due is. elim (cases_eq c number) [
+            | inl same ↦ absurd (cc (sym (ap (early_at heard.clients) same ∙ early_same board.clients number client told there) ∙ is))
+            | inr differ ↦ comes_heard c ∙ follows.early c due (sym (early_other board.clients number c told differ) ∙ is)
+          ];
+        },
+      )
+        where
+          coming_same : (c : ℕ) (entry : Entry) → is_coming c (turn entry) ≡ is_coming c entry
+          coming_same c entry = by_due (is_due begun number source entry && entry.request.source == source) refl
+            where
+              by_whole : (b : Bool) → is_coming c (counted b entry) ≡ is_coming c entry
+              by_whole true = refl
+              by_whole false = refl
+
+              by_due : (b : Bool) → (is_due begun number source entry && entry.request.source == source) ≡ b → is_coming c (turn entry) ≡ is_coming c entry
+              by_due false is = rw is refl
+              by_due true is = rw is (by_whole entry.whole)
 
 pub follows_reply : (board : Board) (order : Order) (number : ℕ) (beat : DBeat) → IsFollowed board order
     → IsFollowed (after_d board number (slice_get board.clients number) beat) (after_beat order number beat.source)
 follows_reply board order number beat followed = by_client (slice_get board.clients number) refl
   where
+    none_of : slice_get board.clients number ≡ None → (due : DBeat) → early_at board.clients number ≡ Some due → (due.source == beat.source) ≡ false
+    none_of none due is = absurd (cc (sym (ap early_in none) ∙ is))
+
+    -- what was told plays no part
+    module_told : (client : ClientBoard) → slice_get board.clients number ≡ Some client → (changed : ClientBoard) → slice_get (set board.clients number changed) number ≡ Some changed
+    module_told client there changed = get_set board.clients number changed (slice_get_within board.clients number client there)
+
     by_client : (o : Option ClientBoard) → slice_get board.clients number ≡ o → IsFollowed (after_d board number o beat) (after_beat order number beat.source)
     by_client None none =
         subst (IsFollowed board)
-        (sym (none_due board followed.0 order followed.1 number beat.source (none_at board.clients (list_any (begun_to number) order) number beat.source none))) followed
-    by_client (Some client) there =
-        let heard : ClientBoard = record client { told = unwrap_or (told_to client) beat.denied } in
-        let changed : ClientBoard = record heard { flights = flights_after client.flights beat.source } in
-        subst (λ (clients : List ClientBoard). IsFollowed (record board { clients = clients }) (after_beat order number beat.source))
-        (set-set board.clients number heard changed)
-        (replied (with_client number heard board) followed.0 order (client_follows board followed.0 order followed.1 number client there heard refl refl refl) number beat.source heard
-        (get_set board.clients number heard (slice_get_within board.clients number client there)))
+        (sym (none_due board followed.0 order followed.1 number beat.source (none_at board.clients (list_any (begun_to number) order) number beat.source none) (none_of none))) followed
+    by_client (Some client) there = by_next (next_reply client.flights beat.source) refl
+      where
+        told : Bool
+        told = unwrap_or (told_to client) beat.denied
+
+        heard : ClientBoard
+        heard = record client { told = told }
+
+        heard_follows : Follows (with_client number heard board) followed.0 order
+        heard_follows = client_follows board followed.0 order followed.1 number client there heard refl refl refl refl
+
+        heard_there : slice_get (set board.clients number heard) number ≡ Some heard
+        heard_there = module_told client there heard
+
+        -- the client as it is then
+        as_then : (early : Option DBeat) → early ≡ early_after client beat.source
+            → IsFollowed (record board { clients = set (set board.clients number heard) number (record heard { flights = flights_after client.flights beat.source; early = early }) })
+            (after_beat order number beat.source)
+            → IsFollowed (after_d board number (Some client) beat) (after_beat order number beat.source)
+        as_then early is after =
+            subst (λ (clients : List ClientBoard). IsFollowed (record board { clients = clients }) (after_beat order number beat.source))
+            (set-set board.clients number heard (record heard { flights = flights_after client.flights beat.source; early = early })
+            ∙ ap (λ (e : Option DBeat). set board.clients number (record heard { flights = flights_after client.flights beat.source; early = e })) is) after
+
+        by_next : (o : Option InFlight) → next_reply client.flights beat.source ≡ o → IsFollowed (after_d board number (Some client) beat) (after_beat order number beat.source)
+        by_next (Some due) is =
+            as_then client.early (sym (ap (λ (o : Option InFlight). if is_some o then client.early else early_left client.early beat.source) is))
+            (replied (with_client number heard board) followed.0 order heard_follows number beat.source heard heard_there due is)
+        by_next None nothing = by_early client.early refl
+          where
+            still : early_after client beat.source ≡ early_left client.early beat.source
+            still = ap (λ (o : Option InFlight). if is_some o then client.early else early_left client.early beat.source) nothing
+
+            none_has_it : early_left client.early beat.source ≡ client.early → ((due : DBeat) → client.early ≡ Some due → (due.source == beat.source) ≡ false)
+                → IsFollowed (after_d board number (Some client) beat) (after_beat order number beat.source)
+            none_has_it same no_early =
+                as_then client.early (sym (still ∙ same))
+                (none_replied (with_client number heard board) followed.0 order heard_follows number beat.source heard heard_there nothing no_early)
+
+            by_source : (due : DBeat) → client.early ≡ Some due → (b : Bool) → (due.source == beat.source) ≡ b
+                → IsFollowed (after_d board number (Some client) beat) (after_beat order number beat.source)
+            by_source due is false other =
+                none_has_it (ap (λ (o : Option DBeat). early_left o beat.source) is ∙ rw other (sym is))
+                (λ its its_is. let one : Some due ≡ Some its = sym is ∙ its_is in let same : due ≡ its = cc (one) in sym (ap (λ (d : DBeat). d.source == beat.source) same) ∙ other)
+            by_source due is true own =
+                as_then None (sym (still ∙ ap (λ (o : Option DBeat). early_left o beat.source) is ∙ rw own refl))
+                (subst (λ (flights : Flights). IsFollowed (record board { clients = set (set board.clients number heard) number (record heard { flights = flights; early = None }) })
+                (after_beat order number beat.source)) (sym (flights_none beat.source client.flights nothing))
+                (early_replied (with_client number heard board) followed.0 order heard_follows number beat.source heard heard_there nothing due is own))
+
+            by_early : (o : Option DBeat) → client.early ≡ o → IsFollowed (after_d board number (Some client) beat) (after_beat order number beat.source)
+            by_early None is =
+                none_has_it (ap (λ (o : Option DBeat). early_left o beat.source) is ∙ sym is) (λ due its. absurd (cc (sym is ∙ its)))
+            by_early (Some due) is = by_source due is (due.source == beat.source) refl

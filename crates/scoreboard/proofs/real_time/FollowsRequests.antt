@@ -1,45 +1,55 @@
 -- A beat on channel A: the board, its shadow and an order go on together.
-use Rattle.std.proofs.Common.{◌≡◌, ℕ, ◌<◌, Bool, true, false, List, [], ◌∷◌, ◌++◌, map, set, length, Option, Some, None, Result, Ok, Err, ◌⊎◌, inl, inr, refl, sym, ◌∙◌, ap, subst, subst₂, arith}
+use Rattle.std.proofs.Common.{◌≡◌, ℕ, ◌<◌, Bool, true, false, List, [], ◌∷◌, ◌++◌, map, set, length, Option, Some, None, if◌then◌else◌, ◌||◌, ◌&&◌, ◌==◌, Result, Ok, Err, ◌⊎◌, inl, inr, refl, sym, ◌∙◌, ap, subst, subst₂, arith}
 use Rattle.std.specs.Prelude.{is_some, slice_get}
 use Rattle.std.specs.List.{AllByRecursion, list_any}
 use Rattle.std.proofs.Math.Path.{fun_ext}
-use Rattle.std.proofs.lemmas.Bool.{cases_eq}
+use Rattle.std.proofs.lemmas.Bool.{cases_eq, false_from_ne_true, or_right}
 use Rattle.std.proofs.lemmas.Bool.Decides.{nat_tests}
-use Rattle.std.proofs.lemmas.List.{length-set, map-append}
+use Rattle.std.proofs.lemmas.List.{length-set, map-append, set-set}
 use Rattle.std.proofs.lemmas.Simd.{map-map}
 use Rattle.bus_words.proofs.MappedPlaces.{map_same}
 use Rattle.bus_words.proofs.PlaceChanges.{all-map}
-use Rattle.bus_words.proofs.StoredPlaces.{there_is}
+use Rattle.bus_words.proofs.StoredPlaces.{get_set, there_is}
 use Rattle.std.proofs.lemmas.Option.{slice_get_within}
 use Rattle.tl_messages.specs.Operations.{reply_has_data}
 use Rattle.tl_messages.specs.Requests.{HeldMessage, WholeRequest, request_of}
 use Rattle.tl_messages.specs.declared.ABeat.{ABeat}
+use Rattle.tl_messages.specs.declared.DBeat.{DBeat}
 use Rattle.tl_messages.specs.declared.AtomicOp.{AtomicOp}
 use Rattle.tl_messages.specs.declared.Operation.TheVariants.{Atomic}
 use Rattle.tl_checker.specs.Ports.{joined, judged}
 use Rattle.tl_checker.specs.declared.Progress.{Progress}
 use Rattle.tl_checker.specs.declared.Progress.TheVariants.{More, Whole}
 use Rattle.tl_checker.specs.declared.TlRule.{TlRule}
-use Rattle.scoreboard.specs.Boards.{Board, ClientBoard, after_a, answer_to, answered_on, beginning_on, begun_on, coming_on, continued_on, given_on, joined_on, joining_on, whole_on, with_client}
-use Rattle.scoreboard.specs.Flights.{Flights, InFlight, due_to, is_busy, is_of_source}
+use Rattle.scoreboard.specs.Boards.{Board, ClientBoard, after_a, answer_to, answered_on, begun_on, coming_on, continued_on, early_due, flight_for, given_on, has_replied, is_spoiled, joined_on, joining_on, more_on, whole_on, with_accepted, with_client, with_whole}
+use Rattle.scoreboard.specs.Flights.{Flights, Footprint, InFlight, no_footprint, due_to, is_busy, is_of_source}
 use Rattle.scoreboard.specs.Orders.{Entry, Order, has_ended}
-use Rattle.scoreboard.specs.RealTime.{GivesBytes, MayBecome, entry_of, is_spoiled}
+use Rattle.scoreboard.specs.RealTime.{GivesBytes, MayBecome, entry_of, heard, may_reply}
+use Rattle.scoreboard.specs.SerialMemory.{carried_out}
+use Rattle.scoreboard.specs.declared.Errors.TheVariants.{Any, Strict}
+use Rattle.scoreboard.specs.Races.{after_given, beside, unless_failed}
+use Rattle.responses.specs.Shown.{beat_without_data}
+use Rattle.meaning.specs.Meaning.{acknowledged}
+use Rattle.bus_words.specs.Places.{without_first}
 use Rattle.scoreboard.specs.declared.Errors.{Errors}
 use Rattle.scoreboard.specs.declared.Policy.TheVariants.{RealTime}
 use Rattle.scoreboard.proofs.MappedLists.{any_map}
 use Rattle.scoreboard.proofs.real_time.Acceptance.{explains_joined}
-use Rattle.scoreboard.proofs.real_time.Ahead.{Shadow, comes, front_in, shadow_of}
+use Rattle.scoreboard.proofs.real_time.Ahead.{IsAhead, IsComing, Shadow, comes, front_in, shadow_of}
 use Rattle.scoreboard.proofs.real_time.AheadBeside.{was_beside}
 use Rattle.scoreboard.proofs.real_time.BegunAhead as begins
 use Rattle.scoreboard.proofs.real_time.CheckedRequests.{joined_free, sound_well, whole_sound}
-use Rattle.scoreboard.proofs.real_time.Comings.{comes_other, comes_same}
+use Rattle.scoreboard.proofs.real_time.Comings.{comes_other, comes_same, early_at, early_in, early_other, early_same}
 use Rattle.scoreboard.proofs.real_time.Entries.{all_with, any_here, any_with, place_of}
 use Rattle.scoreboard.proofs.real_time.Explained.{Explains, sources_with}
-use Rattle.scoreboard.proofs.real_time.Failures.{failed_at, failed_by, fails_as, well_as}
+use Rattle.scoreboard.proofs.real_time.Failures.{failed_any, failed_at, failed_by, fails_as, fails_begun, well_as}
 use Rattle.scoreboard.proofs.real_time.FirstBeats.{more_no_data_back, more_put}
 use Rattle.scoreboard.proofs.real_time.FlightLists.{none_found}
 use Rattle.scoreboard.proofs.real_time.FlightPlaces.{coming_other, coming_same}
-use Rattle.scoreboard.proofs.real_time.Follows.{Follows, IsFailing, IsMarked, IsOpen, all_both, all_mapped, follows_as, settle, settled, some_passes}
+use Rattle.scoreboard.proofs.real_time.Follows.{Follows, IsFailing, IsFollowed, IsMarked, IsOpen, ahead_as, all_both, all_mapped, follows_as, replied_by, settle, settled, some_passes}
+use Rattle.scoreboard.proofs.real_time.FollowsEnded.{removed_follows}
+use Rattle.scoreboard.proofs.real_time.Removed.{ended, without}
+use Rattle.scoreboard.proofs.real_time.Lengths.{some_beats}
 use Rattle.scoreboard.proofs.real_time.Fronts.{AreFronts}
 use Rattle.scoreboard.proofs.real_time.GivenAhead as gives
 use Rattle.scoreboard.proofs.real_time.OnceAhead as joins
@@ -53,34 +63,83 @@ use Rattle.scoreboard.proofs.real_time.RequestActs.{IsWell, well_put}
 coming_parts : (client : ℕ) (entry : Entry) → is_coming client entry ≡ true → (entry.client ≡ client) × (entry.whole ≡ false)
 coming_parts client entry is = (grind (arith, nat_tests, is), grind (arith, is))
 
-finished_is : (errors : Errors) (client : ℕ) (q : WholeRequest) (entry : Entry) → is_coming client entry ≡ true
-    → finished errors client q entry ≡ record entry { whole = true; spoiled = is_spoiled errors q }
-finished_is errors client q entry is = rw is refl
+-- it is whole with its last beat, whether or not its reply came before
+abbrev pub made_whole : Errors → ℕ → WholeRequest → Entry → Entry
+made_whole errors client q entry = if is_coming client entry then record entry { whole = true; spoiled = is_spoiled errors q; early = false } else entry
 
-finished_not : (errors : Errors) (client : ℕ) (q : WholeRequest) (entry : Entry) → is_coming client entry ≡ false → finished errors client q entry ≡ entry
-finished_not errors client q entry is = rw is refl
+made_is : (errors : Errors) (client : ℕ) (q : WholeRequest) (entry : Entry) → is_coming client entry ≡ true
+    → made_whole errors client q entry ≡ record entry { whole = true; spoiled = is_spoiled errors q; early = false }
+made_is errors client q entry is = rw is refl
+
+made_not : (errors : Errors) (client : ℕ) (q : WholeRequest) (entry : Entry) → is_coming client entry ≡ false → made_whole errors client q entry ≡ entry
+made_not errors client q entry is = rw is refl
 
 -- on the shadow it is whole already
-settled_finished : (errors : Errors) (client : ℕ) (q : WholeRequest) (entry : Entry) → settled (finished errors client q entry) ≡ settled entry
-settled_finished errors client q entry = by_coming (is_coming client entry) refl
+settled_made : (errors : Errors) (client : ℕ) (q : WholeRequest) (entry : Entry) → settled (made_whole errors client q entry) ≡ settled entry
+settled_made errors client q entry = by_coming (is_coming client entry) refl
   where
-    by_coming : (b : Bool) → is_coming client entry ≡ b → settled (finished errors client q entry) ≡ settled entry
-    by_coming true is = ap settled (finished_is errors client q entry is)
-    by_coming false is = ap settled (finished_not errors client q entry is)
+    by_coming : (b : Bool) → is_coming client entry ≡ b → settled (made_whole errors client q entry) ≡ settled entry
+    by_coming true is = ap settled (made_is errors client q entry is)
+    by_coming false is = ap settled (made_not errors client q entry is)
 
-settle_finished : (errors : Errors) (client : ℕ) (q : WholeRequest) (order : Order) → settle (map (finished errors client q) order) ≡ settle order
-settle_finished errors client q order =
-    map-map settled (finished errors client q) order
-    ∙ map_same (λ entry. settled (finished errors client q entry)) settled order (settled_finished errors client q)
+settle_made : (errors : Errors) (client : ℕ) (q : WholeRequest) (order : Order) → settle (map (made_whole errors client q) order) ≡ settle order
+settle_made errors client q order =
+    map-map settled (made_whole errors client q) order
+    ∙ map_same (λ entry. settled (made_whole errors client q entry)) settled order (settled_made errors client q)
 
 -- others' are what they were
-coming_finished : (errors : Errors) (client other : ℕ) (q : WholeRequest) (entry : Entry) → (other ≡ client → ⊥)
-    → is_coming other (finished errors client q entry) ≡ is_coming other entry
-coming_finished errors client other q entry differ = grind (arith, nat_tests, differ)
+coming_made : (errors : Errors) (client other : ℕ) (q : WholeRequest) (entry : Entry) → (other ≡ client → ⊥)
+    → is_coming other (made_whole errors client q entry) ≡ is_coming other entry
+coming_made errors client other q entry differ = grind (arith, nat_tests, differ)
 
--- a board that is followed, with some shadow
-abbrev pub IsFollowed : Board → Order → Type 0
-IsFollowed board order = (shadow : Shadow) × Follows board shadow order
+-- ---- a beat between the first and the last
+
+-- where none of its beats was corrupt nothing changes
+or_none : (b : Bool) → (b || false) ≡ b
+or_none true = refl
+or_none false = refl
+
+heard_same : (errors : Errors) (client : ℕ) (q : WholeRequest) (order : Order) → is_spoiled errors q ≡ false → map (heard errors client q) order ≡ order
+heard_same errors client q [] sound = refl
+heard_same errors client q (entry ∷ order) sound =
+    let first = one (is_coming client entry) refl in
+    let rest = heard_same errors client q order sound in
+    cc (first, rest)
+  where
+    one : (b : Bool) → is_coming client entry ≡ b → heard errors client q entry ≡ entry
+    one false is = rw is refl
+    one true is =
+        let same : (entry.spoiled || is_spoiled errors q) ≡ entry.spoiled = ap (λ (b : Bool). entry.spoiled || b) sound ∙ or_none entry.spoiled in
+        rw is (ap (λ (b : Bool). record entry { spoiled = b }) same)
+
+-- one that is spoiled with it
+heard_is : (errors : Errors) (client : ℕ) (q : WholeRequest) (entry : Entry) → is_coming client entry ≡ true
+    → heard errors client q entry ≡ record entry { spoiled = entry.spoiled || is_spoiled errors q }
+heard_is errors client q entry is = rw is refl
+
+heard_not : (errors : Errors) (client : ℕ) (q : WholeRequest) (entry : Entry) → is_coming client entry ≡ false → heard errors client q entry ≡ entry
+heard_not errors client q entry is = rw is refl
+
+settle_heard : (errors : Errors) (client : ℕ) (q : WholeRequest) (order : Order) → settle (map (heard errors client q) order) ≡ settle order
+settle_heard errors client q order = map-map settled (heard errors client q) order ∙ map_same (λ entry. settled (heard errors client q entry)) settled order each
+  where
+    each : (entry : Entry) → settled (heard errors client q entry) ≡ settled entry
+    each entry = by_coming (is_coming client entry) refl
+      where
+        by_coming : (b : Bool) → is_coming client entry ≡ b → settled (heard errors client q entry) ≡ settled entry
+        by_coming true is = ap settled (heard_is errors client q entry is)
+        by_coming false is = ap settled (heard_not errors client q entry is)
+
+-- errors are told in any way where one is
+spoiled_any : (errors : Errors) (q : WholeRequest) → is_spoiled errors q ≡ true → errors ≡ Any
+spoiled_any Any q is = refl
+spoiled_any Strict q is = absurd (cc (is))
+
+-- one more at the end, of which no other is
+without_last : (source : ℕ) (due : List InFlight) (flight : InFlight) → list_any (is_of_source source) due ≡ false → flight.source ≡ source
+    → without_first (is_of_source source) (due ++ flight ∷ []) ≡ due
+without_last source [] flight none is = let own : (flight.source == source) ≡ true = grind (arith, nat_tests, is) in rw own refl
+without_last source (first ∷ due) flight none is = grind (arith, none, without_last source due flight)
 
 module _ (board : Board) (shadow : Shadow) (order : Order) (follows : Follows board shadow order) (number : ℕ) (client : ClientBoard)
     (there : slice_get board.clients number ≡ Some client) where
@@ -92,31 +151,201 @@ module _ (board : Board) (shadow : Shadow) (order : Order) (follows : Follows bo
 
   -- ---- the client changes in what plays no part
 
+  pub comes_changed : (changed : ClientBoard) → is_some changed.front ≡ is_some client.front → (c : ℕ) → comes (set board.clients number changed) c ≡ comes board.clients c
+  comes_changed changed front c = elim (cases_eq c number) [
+    | inl same ↦
+        ap (comes (set board.clients number changed)) same ∙ comes_same board.clients number client changed there
+        ∙ front ∙ sym (ap (λ (o : Option ClientBoard). is_some (front_in o)) there)
+        ∙ ap (comes board.clients) (sym same)
+    | inr differ ↦ comes_other board.clients number c changed differ
+  ]
+
+  pub coming_changed : (changed : ClientBoard) → changed.coming ≡ client.coming → (c : ℕ) → coming_at (set board.clients number changed) c ≡ coming_at board.clients c
+  coming_changed changed coming c = elim (cases_eq c number) [
+    | inl same ↦
+        ap (coming_at (set board.clients number changed)) same ∙ coming_same board.clients number client changed there ∙ coming ∙ sym (ap coming_in there)
+        ∙ ap (coming_at board.clients) (sym same)
+    | inr differ ↦ coming_other board.clients number c changed differ
+  ]
+
+  pub early_changed : (changed : ClientBoard) → changed.early ≡ client.early → (c : ℕ) → early_at (set board.clients number changed) c ≡ early_at board.clients c
+  early_changed changed early c = elim (cases_eq c number) [
+    | inl same ↦
+        ap (early_at (set board.clients number changed)) same ∙ early_same board.clients number client changed there ∙ early ∙ sym (ap early_in there)
+        ∙ ap (early_at board.clients) (sym same)
+    | inr differ ↦ early_other board.clients number c changed differ
+  ]
+
+  pub client_ahead : (changed : ClientBoard) → changed.flights ≡ client.flights → changed.coming ≡ client.coming → is_some changed.front ≡ is_some client.front
+      → IsAhead (with_client number changed board) shadow
+  client_ahead changed flights coming front =
+      ahead_as board shadow (set board.clients number changed) board.axi
+      (sources_with board.clients number client changed there follows.ahead.sources (subst HaveSources (sym flights) (follows.ahead.sources number client there)))
+      (sym (length-set board.clients number changed))
+      (λ place. ap (λ (f : Flights). flight_in f place.source) (flights_kept board.clients number client changed there flights place.client))
+      (comes_changed changed front) (coming_changed changed coming) follows.ahead
+
   pub client_follows : (heard : ClientBoard) → heard.flights ≡ client.flights → heard.coming ≡ client.coming → is_some heard.front ≡ is_some client.front
-      → Follows (with_client number heard board) shadow order
-  client_follows heard flights coming front =
+      → heard.early ≡ client.early → Follows (with_client number heard board) shadow order
+  client_follows heard flights coming front early =
       follows_as board shadow (set board.clients number heard) board.axi
       (sources_with board.clients number client heard there follows.ahead.sources (subst HaveSources (sym flights) (follows.ahead.sources number client there)))
       (sym (length-set board.clients number heard))
       (λ place. ap (λ (f : Flights). flight_in f place.source) (flights_kept board.clients number client heard there flights place.client))
-      (λ c. elim (cases_eq c number) [
-        | inl same ↦
-            ap (comes (set board.clients number heard)) same ∙ comes_same board.clients number client heard there
-            ∙ front ∙ sym (ap (λ (o : Option ClientBoard). is_some (front_in o)) there)
-            ∙ ap (comes board.clients) (sym same)
-        | inr differ ↦ comes_other board.clients number c heard differ
-      ])
-      (λ c. elim (cases_eq c number) [
-        | inl same ↦
-            ap (coming_at (set board.clients number heard)) same ∙ coming_same board.clients number client heard there ∙ coming ∙ sym (ap coming_in there)
-            ∙ ap (coming_at board.clients) (sym same)
-        | inr differ ↦ coming_other board.clients number c heard differ
-      ]) order follows.explains follows
+      (comes_changed heard front) (coming_changed heard coming) (early_changed heard early) order follows.explains follows
 
   -- a message goes on
-  pub goes_further : (held message : HeldMessage) → client.front ≡ Some held → Follows (with_client number (record client { front = Some message }) board) shadow order
-  goes_further held message front =
-      client_follows (record client { front = Some message }) refl refl (sym (ap (λ (o : Option HeldMessage). is_some o) front))
+  pub goes_further : (message : HeldMessage) → is_some client.front ≡ true → Follows (with_client number (record client { front = Some message }) board) shadow order
+  goes_further message front = client_follows (record client { front = Some message }) refl refl (sym front) refl
+
+  -- with a corrupt beat it fails, where that may be told in any way
+  pub spoils : (q : WholeRequest) → is_spoiled board.errors q ≡ true
+      → Follows (with_client number (record client { coming = unless_failed true client.coming }) board) shadow (map (heard board.errors number q) order)
+  spoils q is =
+      record {
+        explains = subst (Explains (shadow_of board shadow)) (sym (settle_heard board.errors number q order)) follows.explains;
+        ahead = record {
+          sources = sources_with board.clients number client changed there follows.ahead.sources (follows.ahead.sources number client there);
+          small = follows.ahead.small;
+          many = follows.ahead.many ∙ sym (length-set board.clients number changed);
+          placed = λ place flight its. follows.ahead.placed place flight (sym (flights place) ∙ its);
+          begun = λ c some.
+              let old = follows.ahead.begun c (sym (comes_now c) ∙ some) in
+              record { other = old.other; there = old.there; becomes = its_coming c old.other old.becomes };
+          others = λ place its is_there none.
+              let old = follows.ahead.others place its is_there (sym (flights place) ∙ none) in record { begun = comes_now place.client ∙ old.begun; there = old.there };
+          waits = λ c some. flights (due_at c (shadow.finals c).source) ∙ follows.ahead.waits c (sym (comes_now c) ∙ some);
+          known = λ x certain none.
+              let old = follows.ahead.known x certain (λ c some. none c (comes_now c ∙ some)) in record { byte = old.byte; certain = old.certain };
+          given = λ c x some determined gives_it.
+              let old = less c x determined in follows.ahead.given c x (sym (comes_now c) ∙ some) old gives_it;
+        };
+        marked = all_mapped (IsMarked board.clients) (IsMarked (set board.clients number changed)) (heard board.errors number q) order marked follows.marked;
+        failing = all_mapped (IsFailing board) (IsFailing now) (heard board.errors number q) order failing follows.failing;
+        open_ones =
+            all_mapped (λ entry. entry.whole ≡ false → IsOpen board shadow entry) (λ entry. entry.whole ≡ false → IsOpen now shadow entry) (heard board.errors number q) order
+            opened follows.open_ones;
+        known = λ c some.
+            any_map (is_coming c) (heard board.errors number q) order
+            ∙ ap (λ (test : Entry → Bool). list_any test order) (fun_ext (λ entry. coming_kept c entry (is_coming number entry) refl))
+            ∙ follows.known c (sym (comes_now c) ∙ some);
+        early = λ c due its. comes_now c ∙ follows.early c due (sym (early_now c) ∙ its);
+      }
+    where
+      changed : ClientBoard
+      changed = record client { coming = unless_failed true client.coming }
+
+      now : Board
+      now = with_client number changed board
+
+      flights : (place : Place) → flight_at (set board.clients number changed) place ≡ flight_at board.clients place
+      flights place = ap (λ (f : Flights). flight_in f place.source) (flights_kept board.clients number client changed there refl place.client)
+
+      comes_now : (c : ℕ) → comes (set board.clients number changed) c ≡ comes board.clients c
+      comes_now = comes_changed changed refl
+
+      early_now : (c : ℕ) → early_at (set board.clients number changed) c ≡ early_at board.clients c
+      early_now = early_changed changed refl
+
+      own_coming : coming_at (set board.clients number changed) number ≡ unless_failed true (coming_at board.clients number)
+      own_coming = coming_same board.clients number client changed there ∙ ap (λ (o : Option ClientBoard). unless_failed true (coming_in o)) (sym there)
+
+      coming_now : (c : ℕ) → (coming_at (set board.clients number changed) c ≡ coming_at board.clients c)
+          ⊎ (coming_at (set board.clients number changed) c ≡ unless_failed true (coming_at board.clients c))
+      coming_now c =
+          elim (cases_eq c number) [
+            | inl same ↦ inr (ap (coming_at (set board.clients number changed)) same ∙ own_coming ∙ ap (λ k. unless_failed true (coming_at board.clients k)) (sym same))
+            | inr differ ↦ inl (coming_other board.clients number c changed differ)
+          ]
+
+      less : (c x : ℕ) → (coming_at (set board.clients number changed) c).determined x ≡ true → (coming_at board.clients c).determined x ≡ true
+      less c x determined =
+          elim (coming_now c) [
+            | inl same ↦ sym (ap (λ (r : Footprint). r.determined x) same) ∙ determined
+            | inr fails_now ↦ absurd (cc (sym (ap (λ (r : Footprint). r.determined x) fails_now) ∙ determined))
+          ]
+
+      its_coming : (c : ℕ) (other : InFlight) → IsComing board.memory.faults board.memory.regions (coming_at board.clients c) (shadow.finals c) other
+          → IsComing board.memory.faults board.memory.regions (coming_at (set board.clients number changed) c) (shadow.finals c) other
+      its_coming c other old =
+          elim (coming_now c) [
+            | inl same ↦ subst (λ r. IsComing board.memory.faults board.memory.regions r (shadow.finals c) other) (sym same) old
+            | inr fails_now ↦ subst (λ r. IsComing board.memory.faults board.memory.regions r (shadow.finals c) other) (sym fails_now)
+                (record {
+                  source = old.source;
+                  well = old.well;
+                  silent = old.silent;
+                  same = λ writes. ap (λ (r : Footprint). record r { failed = true; determined = λ x. false }) (old.same writes);
+                  acts = old.acts;
+                  less = λ x writes determined. absurd (cc (determined));
+                  beats = old.beats;
+                })
+          ]
+
+      any : board.errors ≡ Any
+      any = spoiled_any board.errors q is
+
+      coming_kept : (c : ℕ) (entry : Entry) (b : Bool) → is_coming number entry ≡ b → is_coming c (heard board.errors number q entry) ≡ is_coming c entry
+      coming_kept c entry true own = ap (is_coming c) (heard_is board.errors number q entry own)
+      coming_kept c entry false own = ap (is_coming c) (heard_not board.errors number q entry own)
+
+      marked : (entry : Entry) → IsMarked board.clients entry → IsMarked (set board.clients number changed) (heard board.errors number q entry)
+      marked entry was = by_coming (is_coming number entry) refl
+        where
+          by_coming : (b : Bool) → is_coming number entry ≡ b → IsMarked (set board.clients number changed) (heard board.errors number q entry)
+          by_coming true own =
+              subst (IsMarked (set board.clients number changed)) (sym (heard_is board.errors number q entry own))
+              (λ alive. was alive ∙ sym (ap (λ (o : Option InFlight). is_some o) (flights (place_of entry))))
+          by_coming false own =
+              subst (IsMarked (set board.clients number changed)) (sym (heard_not board.errors number q entry own))
+              (λ alive. was alive ∙ sym (ap (λ (o : Option InFlight). is_some o) (flights (place_of entry))))
+
+      failing : (entry : Entry) → IsFailing board entry → IsFailing now (heard board.errors number q entry)
+      failing entry was = by_coming (is_coming number entry) refl
+        where
+          by_coming : (b : Bool) → is_coming number entry ≡ b → IsFailing now (heard board.errors number q entry)
+          by_coming true own =
+              subst (IsFailing now) (sym (heard_is board.errors number q entry own))
+              (λ whole alive flight there_now. absurd (cc (sym whole ∙ (coming_parts number entry own).1)))
+          by_coming false own =
+              subst (IsFailing now) (sym (heard_not board.errors number q entry own))
+              (λ whole alive flight there_now. was whole alive flight (sym (flights (place_of entry)) ∙ there_now))
+
+      opened : (entry : Entry) → (entry.whole ≡ false → IsOpen board shadow entry) → (heard board.errors number q entry).whole ≡ false
+          → IsOpen now shadow (heard board.errors number q entry)
+      opened entry was unwhole = by_coming (is_coming number entry) refl
+        where
+          by_coming : (b : Bool) → is_coming number entry ≡ b → IsOpen now shadow (heard board.errors number q entry)
+          by_coming true own =
+              let parts = coming_parts number entry own in
+              let it = was parts.1 in
+              subst (IsOpen now shadow) (sym (heard_is board.errors number q entry own))
+              (record {
+                begun = comes_now entry.client ∙ it.begun;
+                final = it.final;
+                none_came = it.none_came;
+                any = it.any;
+                early = early_now entry.client ∙ it.early;
+                replied = it.replied ∙ ap (replied_by board.errors) (sym (early_now entry.client));
+                failed = ap (λ c. (coming_at (set board.clients number changed) c).failed) parts.0 ∙ ap (λ (r : Footprint). r.failed) own_coming
+                    ∙ sym (failed_any board.errors board.memory.faults board.memory.regions (record entry { spoiled = entry.spoiled || is_spoiled board.errors q }) any
+                    (or_right entry.spoiled (is_spoiled board.errors q) is));
+              })
+          by_coming false own =
+              let still = heard_not board.errors number q entry own in
+              let not_whole = sym (ap (λ (e : Entry). e.whole) still) ∙ unwhole in
+              let it = was not_whole in
+              let differ : entry.client ≡ number → ⊥ = λ same. grind (arith, nat_tests, own, same, not_whole) in
+              subst (IsOpen now shadow) (sym still)
+              (record {
+                begun = comes_now entry.client ∙ it.begun;
+                final = it.final;
+                none_came = it.none_came;
+                any = it.any;
+                early = early_now entry.client ∙ it.early;
+                replied = it.replied ∙ ap (replied_by board.errors) (sym (early_now entry.client));
+                failed = ap (λ (r : Footprint). r.failed) (coming_other board.clients number entry.client changed differ) ∙ it.failed;
+              })
 
   -- ---- requests that are put in
 
@@ -141,11 +370,11 @@ module _ (board : Board) (shadow : Shadow) (order : Order) (follows : Follows bo
       abbrev other : ClientBoard
       other = there_too.0
 
-      abbrev heard : ClientBoard
-      heard = record client { front = Some message }
+      abbrev listening : ClientBoard
+      listening = record client { front = Some message }
 
       abbrev now : Board
-      now = begun_on (with_client number heard board) number heard (beginning_on (with_client number heard board) (request_of message))
+      now = begun_on (with_client number listening board) number (record listening { early = early_due board.errors (request_of message) }) (joining_on (with_client number listening board) (request_of message))
 
       abbrev now_shadow : Shadow
       now_shadow =
@@ -176,6 +405,45 @@ module _ (board : Board) (shadow : Shadow) (order : Order) (follows : Follows bo
       came_before =
           begins.came_before board shadow (settle order) follows.explains follows.ahead number client other message bytes spoiled there there_too.1 front free may silent well
 
+      early_others : (c : ℕ) → (c ≡ number → ⊥) → early_at now.clients c ≡ early_at board.clients c
+      early_others =
+          begins.early_others board shadow (settle order) follows.explains follows.ahead number client other message bytes spoiled there there_too.1 front free may silent well
+
+      coming_others : (c : ℕ) → (c ≡ number → ⊥)
+          → coming_at now.clients c ≡ beside (coming_at board.clients c) (joining_on (with_client number listening board) (request_of message))
+      coming_others =
+          begins.coming_others board shadow (settle order) follows.explains follows.ahead number client other message bytes spoiled there there_too.1 front free may silent well
+
+      -- its own: its reply may come where errors are told in any way
+      own_open : IsOpen now now_shadow entry
+      own_open =
+          record {
+            begun = comes_own;
+            final = sym (finals_own shadow.finals number q);
+            none_came = refl;
+            any = any_early board.errors;
+            early = begins.early_own board shadow (settle order) follows.explains follows.ahead number client other message bytes spoiled there there_too.1 front free may silent well
+                ∙ its_early board.errors;
+            replied = its_reply board.errors ∙ ap (replied_by board.errors) (sym (begins.early_own board shadow (settle order) follows.explains follows.ahead number client other
+                message bytes spoiled there there_too.1 front free may silent well));
+            failed = ap (λ (r : Footprint). r.failed)
+                (begins.coming_own board shadow (settle order) follows.explains follows.ahead number client other message bytes spoiled there there_too.1 front free may silent well)
+                ∙ begins.mine_failed board shadow (settle order) follows.explains follows.ahead number client other message bytes spoiled there there_too.1 front free may silent well
+                ∙ fails_begun board.errors number board.memory (request_of message) q may silent;
+          }
+        where
+          any_early : (e : Errors) → may_reply e false ≡ true → e ≡ Any
+          any_early Any is = refl
+          any_early Strict is = absurd (cc (is))
+
+          its_early : (e : Errors) → early_due e (request_of message) ≡ (if may_reply e false then Some (beat_without_data q acknowledged) else None)
+          its_early Strict = refl
+          its_early Any = refl
+
+          its_reply : (e : Errors) → false ≡ replied_by e (early_due e (request_of message))
+          its_reply Strict = refl
+          its_reply Any = refl
+
       still_open : (one : Entry) → IsOpen board shadow one → IsOpen now now_shadow one
       still_open one was =
           let apart = came_before one.client was.begun in
@@ -183,11 +451,15 @@ module _ (board : Board) (shadow : Shadow) (order : Order) (follows : Follows bo
             begun = comes_others one.client apart ∙ was.begun;
             final = was.final ∙ sym (finals_other shadow.finals number one.client q apart);
             none_came = was.none_came;
+            any = was.any;
+            early = early_others one.client apart ∙ was.early;
+            replied = was.replied ∙ ap (replied_by board.errors) (sym (early_others one.client apart));
+            failed = ap (λ (r : Footprint). r.failed) (coming_others one.client apart) ∙ was.failed;
           }
 
       still_failing : (one : Entry) → IsFailing board one → IsFailing now one
       still_failing one was whole alive flight there_now =
-          let before_it = was_beside (beginning_on (with_client number heard board) (request_of message)) (flight_at board.clients (place_of one)) flight
+          let before_it = was_beside (joining_on (with_client number listening board) (request_of message)) (flight_at board.clients (place_of one)) flight
           (sym (begins.now_flight board shadow (settle order) follows.explains follows.ahead number client other message bytes spoiled there there_too.1 front free may silent
           well (place_of one)) ∙ there_now) in
           sym (ap (λ (f : InFlight). f.footprint.failed) before_it.2) ∙ was whole alive before_it.0 before_it.1
@@ -198,8 +470,9 @@ module _ (board : Board) (shadow : Shadow) (order : Order) (follows : Follows bo
           ∙ ap (λ (o : Option InFlight). is_some o) (none_here board shadow follows.ahead number message.source client there front free))
 
       pub begun_follows : IsFollowed
-          (begun_on (with_client number (record client { front = Some message }) board) number (record client { front = Some message })
-          (beginning_on (with_client number (record client { front = Some message }) board) (request_of message)))
+          (begun_on (with_client number (record client { front = Some message }) board) number
+          (record client { front = Some message; early = early_due board.errors (request_of message) })
+          (joining_on (with_client number (record client { front = Some message }) board) (request_of message)))
           (before ++ record (entry_of board.errors number (request_of message) false) { request = record (request_of message) { bytes = bytes; corrupt = spoiled } } ∷ after)
       begun_follows = (
         now_shadow,
@@ -223,11 +496,16 @@ module _ (board : Board) (shadow : Shadow) (order : Order) (follows : Follows bo
               (all-map (λ one. one.whole ≡ false → IsOpen board shadow one) (λ one. one.whole ≡ false → IsOpen now now_shadow one) (before ++ after)
               (λ one was unwhole. still_open one (was unwhole))
               (subst (AllByRecursion (λ one. one.whole ≡ false → IsOpen board shadow one)) parts follows.open_ones))
-              (λ unwhole. record { begun = comes_own; final = sym (finals_own shadow.finals number q); none_came = refl });
+              (λ unwhole. own_open);
           known = λ c some. known c some (cases_eq c number);
+          early = λ c due is. early c due is (cases_eq c number);
         },
       )
         where
+          early : (c : ℕ) (due : DBeat) → early_at now.clients c ≡ Some due → (c ≡ number) ⊎ (c ≡ number → ⊥) → comes now.clients c ≡ true
+          early c due is (inl same) = ap (comes now.clients) same ∙ comes_own
+          early c due is (inr differ) = comes_others c differ ∙ follows.early c due (sym (early_others c differ) ∙ is)
+
           known : (c : ℕ) → comes now.clients c ≡ true → (c ≡ number) ⊎ (c ≡ number → ⊥) → list_any (is_coming c) (before ++ entry ∷ after) ≡ true
           known c some (inl same) = any_here (is_coming c) before after entry (grind (arith, nat_tests, same))
           known c some (inr differ) =
@@ -266,6 +544,12 @@ module _ (board : Board) (shadow : Shadow) (order : Order) (follows : Follows bo
 
       once_apart : (c : ℕ) → comes once_now.clients c ≡ true → c ≡ number → ⊥
       once_apart = joins.apart_now board shadow (settle order) follows.explains follows.ahead number client once_other q r there there_too.1 front free well may
+
+      once_early : (c : ℕ) → (c ≡ number → ⊥) → early_at once_now.clients c ≡ early_at board.clients c
+      once_early = joins.early_others board shadow (settle order) follows.explains follows.ahead number client once_other q r there there_too.1 front free well may
+
+      once_coming : (c : ℕ) → (c ≡ number → ⊥) → coming_at once_now.clients c ≡ beside (coming_at board.clients c) (joining_on board q)
+      once_coming = joins.coming_others board shadow (settle order) follows.explains follows.ahead number client once_other q r there there_too.1 front free well may
 
       once_own : flight_at once_now.clients (due_at number q.source) ≡ Some (joins.flight board shadow (settle order) follows.explains follows.ahead number client once_other q r there there_too.1 front free well may)
       once_own = joins.own_here board shadow (settle order) follows.explains follows.ahead number client once_other q r there there_too.1 front free well may
@@ -336,12 +620,27 @@ module _ (board : Board) (shadow : Shadow) (order : Order) (follows : Follows bo
               (all-map (λ one. one.whole ≡ false → IsOpen board shadow one) (λ one. one.whole ≡ false → IsOpen once_now once_shadow one) (before ++ after)
               (λ one was unwhole.
               let it = was unwhole in
-              record { begun = once_comes one.client (once_before one.client it.begun) ∙ it.begun; final = it.final; none_came = it.none_came })
+              let apart = once_before one.client it.begun in
+              record {
+                begun = once_comes one.client apart ∙ it.begun;
+                final = it.final;
+                none_came = it.none_came;
+                any = it.any;
+                early = once_early one.client apart ∙ it.early;
+                replied = it.replied ∙ ap (replied_by board.errors) (sym (once_early one.client apart));
+                failed = ap (λ (r : Footprint). r.failed) (once_coming one.client apart) ∙ it.failed;
+              })
               (subst (AllByRecursion (λ one. one.whole ≡ false → IsOpen board shadow one)) parts follows.open_ones))
               (λ unwhole. absurd (cc (unwhole)));
           known = λ c some.
               any_with (is_coming c) before after once_entry
               (ap (list_any (is_coming c)) (sym parts) ∙ follows.known c (sym (once_comes c (once_apart c some)) ∙ some));
+          early = λ c due is. elim (cases_eq c number) [
+            | inl same ↦
+                absurd (cc (sym (ap (early_at once_now.clients) same
+                ∙ joins.early_own board shadow (settle order) follows.explains follows.ahead number client once_other q r there there_too.1 front free well may) ∙ is))
+            | inr differ ↦ once_comes c differ ∙ follows.early c due (sym (once_early c differ) ∙ is)
+          ];
         },
       )
 
@@ -349,8 +648,14 @@ module _ (board : Board) (shadow : Shadow) (order : Order) (follows : Follows bo
 
   module _ (q : WholeRequest) (some : is_some client.front ≡ true) (free : list_any (is_of_source q.source) client.flights.due ≡ false)
       (well : IsWell q) (becomes : AllByRecursion (λ entry. is_coming number entry ≡ true → MayBecome (entry_of board.errors number q true) entry.request) order) where
+    -- it is in flight, whether or not its reply came before
     abbrev given_now : Board
-    given_now = given_on board number client q (coming_on board q client.coming)
+    given_now =
+        record board {
+          clients = set board.clients number (with_accepted (flight_for board.memory (coming_on board q client.coming) q) client);
+          memory = carried_out board.memory q;
+          indeterminate = after_given board.indeterminate (coming_on board q client.coming) q.bytes;
+        }
 
     comes_it : comes board.clients number ≡ true
     comes_it = ap (λ (o : Option ClientBoard). is_some (front_in o)) there ∙ some
@@ -381,11 +686,17 @@ module _ (board : Board) (shadow : Shadow) (order : Order) (follows : Follows bo
     given_comes : (c : ℕ) → (c ≡ number → ⊥) → comes given_now.clients c ≡ comes board.clients c
     given_comes = gives.comes_others board shadow follows.ahead number client q final there comes_it refl may well free
 
+    given_early : (c : ℕ) → (c ≡ number → ⊥) → early_at given_now.clients c ≡ early_at board.clients c
+    given_early = gives.early_others board shadow follows.ahead number client q final there comes_it refl may well free
+
+    given_coming : (c : ℕ) → (c ≡ number → ⊥) → coming_at given_now.clients c ≡ coming_at board.clients c
+    given_coming = gives.coming_others board shadow follows.ahead number client q final there comes_it refl may well free
+
     none_due : flight_at board.clients (due_at number q.source) ≡ None
     none_due = ap (λ (f : Flights). due_to f q.source) (ap flights_in there) ∙ none_found q.source client.flights.due free
 
     given_marked : (entry : Entry) → IsMarked board.clients entry → (entry.whole ≡ false → IsOpen board shadow entry) → (is_coming number entry ≡ true → MayBecome (entry_of board.errors number q true) entry.request)
-        → IsMarked given_now.clients (finished board.errors number q entry)
+        → IsMarked given_now.clients (made_whole board.errors number q entry)
     given_marked entry was open_one becoming = by_coming (is_coming number entry) refl
       where
         its_place : is_coming number entry ≡ true → place_of entry ≡ due_at number q.source
@@ -405,15 +716,15 @@ module _ (board : Board) (shadow : Shadow) (order : Order) (follows : Follows bo
             let client_is : entry.client ≡ number = ap (λ (p : Place). p.client) same in
             absurd (grind (arith, nat_tests, none, unwhole, client_is))
 
-        by_coming : (b : Bool) → is_coming number entry ≡ b → IsMarked given_now.clients (finished board.errors number q entry)
+        by_coming : (b : Bool) → is_coming number entry ≡ b → IsMarked given_now.clients (made_whole board.errors number q entry)
         by_coming true is =
-            subst (IsMarked given_now.clients) (sym (finished_is board.errors number q entry is))
+            subst (IsMarked given_now.clients) (sym (made_is board.errors number q entry is))
             (λ alive. sym (ap (λ (p : Place). is_some (flight_at given_now.clients p)) (its_place is) ∙ ap (λ (o : Option InFlight). is_some o) given_own))
         by_coming false is =
-            subst (IsMarked given_now.clients) (sym (finished_not board.errors number q entry is)) (λ alive. by_place is alive (cases_place (place_of entry) (due_at number q.source)))
+            subst (IsMarked given_now.clients) (sym (made_not board.errors number q entry is)) (λ alive. by_place is alive (cases_place (place_of entry) (due_at number q.source)))
 
     given_failing : (entry : Entry) → IsFailing board entry → IsMarked board.clients entry → (entry.whole ≡ false → IsOpen board shadow entry)
-        → (is_coming number entry ≡ true → MayBecome (entry_of board.errors number q true) entry.request) → IsFailing given_now (finished board.errors number q entry)
+        → (is_coming number entry ≡ true → MayBecome (entry_of board.errors number q true) entry.request) → IsFailing given_now (made_whole board.errors number q entry)
     given_failing entry was marked opened becoming = by_coming (is_coming number entry) refl
       where
         by_place : is_coming number entry ≡ false → entry.whole ≡ true → has_ended entry ≡ false → (flight : InFlight)
@@ -426,12 +737,12 @@ module _ (board : Board) (shadow : Shadow) (order : Order) (follows : Follows bo
             marked alive ∙ ap (λ (p : Place). is_some (flight_at board.clients p)) same ∙ ap (λ (o : Option InFlight). is_some o) none_due in
             absurd (cc (sym whole ∙ unwhole))
 
-        by_coming : (b : Bool) → is_coming number entry ≡ b → IsFailing given_now (finished board.errors number q entry)
+        by_coming : (b : Bool) → is_coming number entry ≡ b → IsFailing given_now (made_whole board.errors number q entry)
         by_coming false is =
-            subst (IsFailing given_now) (sym (finished_not board.errors number q entry is))
+            subst (IsFailing given_now) (sym (made_not board.errors number q entry is))
             (λ whole alive flight there_now. by_place is whole alive flight there_now (cases_place (place_of entry) (due_at number q.source)))
         by_coming true is =
-            subst (IsFailing given_now) (sym (finished_is board.errors number q entry is))
+            subst (IsFailing given_now) (sym (made_is board.errors number q entry is))
             (λ whole alive flight there_now.
             let parts = coming_parts number entry is in
             let came = (opened parts.1).none_came in
@@ -444,44 +755,55 @@ module _ (board : Board) (shadow : Shadow) (order : Order) (follows : Follows bo
             ∙ gives.kept_failed board shadow follows.ahead number client q final there comes_it refl may well free
             ∙ fails_as board.errors number board.memory q entry.request (becoming is)
             ∙ failed_by board.errors board.memory.faults board.memory.regions (record (entry_of board.errors number q true) { request = entry.request })
-            (record entry { whole = true; spoiled = is_spoiled board.errors q }) refl refl)
+            (record entry { whole = true; spoiled = is_spoiled board.errors q; early = false }) refl refl)
 
-    given_open : (entry : Entry) → (entry.whole ≡ false → IsOpen board shadow entry) → (finished board.errors number q entry).whole ≡ false
-        → IsOpen given_now shadow (finished board.errors number q entry)
+    given_open : (entry : Entry) → (entry.whole ≡ false → IsOpen board shadow entry) → (made_whole board.errors number q entry).whole ≡ false
+        → IsOpen given_now shadow (made_whole board.errors number q entry)
     given_open entry was unwhole = by_coming (is_coming number entry) refl
       where
-        by_coming : (b : Bool) → is_coming number entry ≡ b → IsOpen given_now shadow (finished board.errors number q entry)
-        by_coming true is = absurd (cc (sym (ap (λ (e : Entry). e.whole) (finished_is board.errors number q entry is)) ∙ unwhole))
+        by_coming : (b : Bool) → is_coming number entry ≡ b → IsOpen given_now shadow (made_whole board.errors number q entry)
+        by_coming true is = absurd (cc (sym (ap (λ (e : Entry). e.whole) (made_is board.errors number q entry is)) ∙ unwhole))
         by_coming false is =
-            let still = finished_not board.errors number q entry is in
+            let still = made_not board.errors number q entry is in
             let not_whole = sym (ap (λ (e : Entry). e.whole) still) ∙ unwhole in
             let it = was not_whole in
             let differ : entry.client ≡ number → ⊥ = λ same. grind (arith, nat_tests, is, same, not_whole) in
             subst (IsOpen given_now shadow) (sym still)
-            (record { begun = given_comes entry.client differ ∙ it.begun; final = it.final; none_came = it.none_came })
+            (record {
+              begun = given_comes entry.client differ ∙ it.begun;
+              final = it.final;
+              none_came = it.none_came;
+              any = it.any;
+              early = given_early entry.client differ ∙ it.early;
+              replied = it.replied ∙ ap (replied_by board.errors) (sym (given_early entry.client differ));
+              failed = ap (λ (r : Footprint). r.failed) (given_coming entry.client differ) ∙ it.failed;
+            })
 
-    pub given_follows : IsFollowed (given_on board number client q (coming_on board q client.coming)) (map (finished board.errors number q) order)
-    given_follows = (
-      shadow,
+    whole_follows : Follows given_now shadow (map (made_whole board.errors number q) order)
+    whole_follows =
       record {
-        explains = subst (Explains (shadow_of board shadow)) (sym (settle_finished board.errors number q order)) follows.explains;
+        explains = subst (Explains (shadow_of board shadow)) (sym (settle_made board.errors number q order)) follows.explains;
         ahead = gives.given_ahead board shadow follows.ahead number client q final there comes_it refl may well free;
         marked = given_marks order follows.marked follows.open_ones becomes;
         failing = given_fails order follows.failing follows.marked follows.open_ones becomes;
         open_ones =
-            all_mapped (λ entry. entry.whole ≡ false → IsOpen board shadow entry) (λ entry. entry.whole ≡ false → IsOpen given_now shadow entry) (finished board.errors number q) order
+            all_mapped (λ entry. entry.whole ≡ false → IsOpen board shadow entry) (λ entry. entry.whole ≡ false → IsOpen given_now shadow entry) (made_whole board.errors number q) order
             given_open follows.open_ones;
         known = λ c comes_now.
             let differ = given_apart c comes_now in
-            any_map (is_coming c) (finished board.errors number q) order
-            ∙ ap (λ (test : Entry → Bool). list_any test order) (fun_ext (λ entry. coming_finished board.errors number c q entry differ))
+            any_map (is_coming c) (made_whole board.errors number q) order
+            ∙ ap (λ (test : Entry → Bool). list_any test order) (fun_ext (λ entry. coming_made board.errors number c q entry differ))
             ∙ follows.known c (sym (given_comes c differ) ∙ comes_now);
-      },
-    )
+        early = λ c due is. elim (cases_eq c number) [
+          | inl same ↦
+              absurd (cc (sym (ap (early_at given_now.clients) same ∙ early_same board.clients number client (with_accepted (flight_for board.memory (coming_on board q client.coming) q) client) there) ∙ is))
+          | inr differ ↦ given_comes c differ ∙ follows.early c due (sym (given_early c differ) ∙ is)
+        ];
+      }
       where
         given_marks : (some_order : Order) → AllByRecursion (IsMarked board.clients) some_order → AllByRecursion (λ entry. entry.whole ≡ false → IsOpen board shadow entry) some_order
             → AllByRecursion (λ entry. is_coming number entry ≡ true → MayBecome (entry_of board.errors number q true) entry.request) some_order
-            → AllByRecursion (IsMarked given_now.clients) (map (finished board.errors number q) some_order)
+            → AllByRecursion (IsMarked given_now.clients) (map (made_whole board.errors number q) some_order)
         given_marks [] marked opened becoming = tt
         given_marks (entry ∷ rest) marked opened becoming =
             (given_marked entry marked.0 opened.0 becoming.0, given_marks rest marked.1 opened.1 becoming.1)
@@ -489,10 +811,108 @@ module _ (board : Board) (shadow : Shadow) (order : Order) (follows : Follows bo
         given_fails : (some_order : Order) → AllByRecursion (IsFailing board) some_order → AllByRecursion (IsMarked board.clients) some_order
             → AllByRecursion (λ entry. entry.whole ≡ false → IsOpen board shadow entry) some_order
             → AllByRecursion (λ entry. is_coming number entry ≡ true → MayBecome (entry_of board.errors number q true) entry.request) some_order
-            → AllByRecursion (IsFailing given_now) (map (finished board.errors number q) some_order)
+            → AllByRecursion (IsFailing given_now) (map (made_whole board.errors number q) some_order)
         given_fails [] failing marked opened becoming = tt
         given_fails (entry ∷ rest) failing marked opened becoming =
             (given_failing entry failing.0 marked.0 opened.0 becoming.0, given_fails rest failing.1 marked.1 opened.1 becoming.1)
+
+    -- ---- it has ended, where its reply came before
+
+    replied_as : has_replied board.errors client ≡ replied_by board.errors client.early
+    replied_as = by_errors board.errors
+      where
+        by_errors : (e : Errors) → has_replied e client ≡ replied_by e client.early
+        by_errors Strict = refl
+        by_errors Any = refl
+
+    -- whether it came before the order tells too
+    own_replied : (entry : Entry) → (entry.whole ≡ false → IsOpen board shadow entry) → is_coming number entry ≡ true → entry.replied ≡ has_replied board.errors client
+    own_replied entry opened is =
+        let parts = coming_parts number entry is in
+        (opened parts.1).replied ∙ ap (λ c. replied_by board.errors (early_at board.clients c)) parts.0
+        ∙ ap (λ (o : Option ClientBoard). replied_by board.errors (early_in o)) there ∙ sym replied_as
+
+    abbrev flight_now : InFlight
+    flight_now = flight_for board.memory (coming_on board q client.coming) q
+
+    -- where it didn't come before
+    finished_same : has_replied board.errors client ≡ false → (some_order : Order) → AllByRecursion (λ entry. entry.whole ≡ false → IsOpen board shadow entry) some_order
+        → map (made_whole board.errors number q) some_order ≡ map (finished board.errors number q) some_order
+    finished_same none [] opened = refl
+    finished_same none (entry ∷ rest) opened =
+        let first = one (is_coming number entry) refl in
+        let last = finished_same none rest opened.1 in
+        cc (first, last)
+      where
+        one : (b : Bool) → is_coming number entry ≡ b → made_whole board.errors number q entry ≡ finished board.errors number q entry
+        one false is = rw is refl
+        one true is = let came : entry.replied ≡ false = own_replied entry opened.0 is ∙ none in rw (is, came) refl
+
+    -- where it did
+    finished_ended : has_replied board.errors client ≡ true → (some_order : Order) → AllByRecursion (IsMarked board.clients) some_order
+        → AllByRecursion (λ entry. entry.whole ≡ false → IsOpen board shadow entry) some_order
+        → AllByRecursion (λ entry. is_coming number entry ≡ true → MayBecome (entry_of board.errors number q true) entry.request) some_order
+        → map (ended number q.source) (map (made_whole board.errors number q) some_order) ≡ map (finished board.errors number q) some_order
+    finished_ended some_reply [] marked opened becoming = refl
+    finished_ended some_reply (entry ∷ rest) marked opened becoming =
+        let first = one (is_coming number entry) refl in
+        let last = finished_ended some_reply rest marked.1 opened.1 becoming.1 in
+        cc (first, last)
+      where
+        waits : Entry → Bool
+        waits some_entry = some_entry.client == number && some_entry.request.source == q.source && some_entry.came == 0
+
+        one : (b : Bool) → is_coming number entry ≡ b → ended number q.source (made_whole board.errors number q entry) ≡ finished board.errors number q entry
+        one true is =
+            let parts = coming_parts number entry is in
+            let came : entry.replied ≡ true = own_replied entry opened.0 is ∙ some_reply in
+            let none_came = (opened.0 parts.1).none_came in
+            let source = ap (λ (x : WholeRequest). x.source) (becoming.0 is).fields in
+            let waiting : waits entry ≡ true = grind (arith, nat_tests, parts.0, none_came, source) in
+            ap (ended number q.source) (made_is board.errors number q entry is) ∙ rw (waiting, is, came) refl
+        one false is =
+            let not_waiting : waits entry ≡ false =
+            false_from_ne_true (waits entry) (λ waiting.
+            let live : has_ended entry ≡ false = grind (arith, nat_tests, waiting, some_beats entry.request) in
+            let its_place : place_of entry ≡ due_at number q.source = grind (arith, nat_tests, waiting) in
+            let unwhole : entry.whole ≡ false =
+            marked.0 live ∙ ap (λ (p : Place). is_some (flight_at board.clients p)) its_place ∙ ap (λ (o : Option InFlight). is_some o) none_due in
+            grind (arith, is, unwhole, waiting)) in
+            ap (ended number q.source) (made_not board.errors number q entry is) ∙ rw (not_waiting, is) refl
+
+    -- the client with it and without it again
+    without_it : without q.source (with_accepted flight_now client) ≡ with_whole true flight_now client
+    without_it =
+        ap (λ (due : List InFlight). record client { front = None; flights = record client.flights { due = due }; coming = no_footprint; early = None })
+        (without_last q.source client.flights.due flight_now free refl)
+
+    -- ---- the board with it
+
+    pub given_follows : IsFollowed (given_on board number client q (coming_on board q client.coming)) (map (finished board.errors number q) order)
+    given_follows = by_replied (has_replied board.errors client) refl
+      where
+        given_by : Bool → Board
+        given_by replied =
+            record board {
+              clients = set board.clients number (with_whole replied flight_now client);
+              memory = carried_out board.memory q;
+              indeterminate = after_given board.indeterminate (coming_on board q client.coming) q.bytes;
+            }
+
+        accepted_there : slice_get given_now.clients number ≡ Some (with_accepted flight_now client)
+        accepted_there = get_set board.clients number (with_accepted flight_now client) (slice_get_within board.clients number client there)
+
+        by_replied : (b : Bool) → has_replied board.errors client ≡ b → IsFollowed (given_on board number client q (coming_on board q client.coming)) (map (finished board.errors number q) order)
+        by_replied false none =
+            subst₂ IsFollowed (ap given_by (sym none)) (finished_same none order follows.open_ones) (shadow, whole_follows)
+        by_replied true some_reply =
+            let after = removed_follows given_now shadow (map (made_whole board.errors number q) order) whole_follows number q.source
+            (with_accepted flight_now client) accepted_there (comes_same board.clients number client (with_accepted flight_now client) there) in
+            subst₂ IsFollowed
+            (ap {B = Board} (λ (clients : List ClientBoard). record given_now { clients = clients })
+            (set-set board.clients number (with_accepted flight_now client) (without q.source (with_accepted flight_now client)) ∙ ap (set board.clients number) without_it)
+            ∙ ap given_by (sym some_reply))
+            (finished_ended some_reply order follows.marked follows.open_ones becomes) after
 
 -- ---- any beat on channel A
 
@@ -530,9 +950,26 @@ module _ (board : Board) (order new : Order) (fronts : AreFronts board.clients) 
       subst₂ IsFollowed (ap (λ (o : Option HeldMessage). whole_on board number client (request_of message) (is_some o)) (sym front)) (sym put.4) after
   by_taken client (Some held) More there front is goes =
       let message = joined client.limits client.front beat in
-      subst₂ IsFollowed (ap (λ (o : Option HeldMessage). continued_on RealTime (with_client number (record client { front = Some message }) board) number
-      (record client { front = Some message }) message (is_some o)) (sym front)) (sym goes)
-      (followed.0, goes_further board followed.0 order followed.1 number client there held message front)
+      let some = ap (λ (o : Option HeldMessage). is_some o) front in
+      let further = goes_further board followed.0 order followed.1 number client there message some in
+      let heard_client : ClientBoard = record client { front = Some message } in
+      let here : slice_get (set board.clients number heard_client) number ≡ Some heard_client =
+      get_set board.clients number heard_client (slice_get_within board.clients number client there) in
+      subst₂ IsFollowed
+      (ap (λ (o : Option HeldMessage). more_on (with_client number heard_client board) number heard_client (request_of message) (is_some o)) (sym front)) (sym goes)
+      (by_spoiled heard_client (request_of message) further here (is_spoiled board.errors (request_of message)) refl)
+    where
+      by_spoiled : (changed : ClientBoard) (q : WholeRequest) → Follows (with_client number changed board) followed.0 order
+          → slice_get (set board.clients number changed) number ≡ Some changed → (b : Bool) → is_spoiled board.errors q ≡ b
+          → IsFollowed (more_on (with_client number changed board) number changed q true) (map (heard board.errors number q) order)
+      by_spoiled changed q further here true corrupt =
+          subst (λ (b : Bool). IsFollowed (with_client number (record changed { coming = unless_failed b changed.coming }) (with_client number changed board)) (map (heard board.errors number q) order))
+          (sym corrupt) (followed.0, spoils (with_client number changed board) followed.0 order further number changed here q corrupt)
+      by_spoiled changed q further here false sound =
+          subst₂ IsFollowed
+          (ap {B = Board} (λ (clients : List ClientBoard). record board { clients = clients }) (sym (set-set board.clients number changed changed))
+          ∙ ap (λ (b : Bool). with_client number (record changed { coming = unless_failed b changed.coming }) (with_client number changed board)) (sym sound))
+          (sym (heard_same board.errors number q order sound)) (followed.0, further)
   by_taken client (Some held) Whole there front is goes =
       let message = joined client.limits client.front beat in
       let right = fronts number client there in

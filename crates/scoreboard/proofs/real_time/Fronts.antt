@@ -14,10 +14,10 @@ use Rattle.tl_checker.specs.declared.Progress.{Progress}
 use Rattle.tl_checker.specs.declared.Progress.TheVariants.{More, Whole}
 use Rattle.tl_checker.specs.declared.TlRule.{TlRule}
 use Rattle.setups.specs.Setups.{SetupLists}
-use Rattle.scoreboard.specs.Boards.{Board, ClientBoard, after_a, after_d, after_seen, answer_to, answered_on, beginning_on, client_beside, coming_on, flight_for, joining_on, more_on, opening_board, told_to, whole_on, with_accepted, with_client}
-use Rattle.scoreboard.specs.Flights.{Footprint, flights_after, is_of_source}
+use Rattle.scoreboard.specs.Boards.{Board, ClientBoard, after_a, after_d, after_seen, answer_to, answered_on, client_beside, coming_on, early_after, early_due, flight_for, has_replied, is_spoiled, joining_on, more_on, opening_board, told_to, whole_on, with_accepted, with_client, with_whole}
+use Rattle.scoreboard.specs.Flights.{Footprint, InFlight, flights_after, is_of_source}
 use Rattle.scoreboard.specs.InsideBoards.{front_after}
-use Rattle.scoreboard.specs.Races.{flight_beside}
+use Rattle.scoreboard.specs.Races.{flight_beside, unless_failed}
 use Rattle.scoreboard.specs.declared.ObservedBeat.{ObservedBeat}
 use Rattle.scoreboard.specs.declared.ObservedBeat.TheVariants.{A, D, Axi as OnAxi, Drained}
 use Rattle.scoreboard.specs.declared.Policy.TheVariants.{RealTime}
@@ -50,20 +50,29 @@ fronts_beside footprint clients are number client is =
 -- where a request begins, or goes on
 fronts_more : (board : Board) (number : ℕ) (client : ClientBoard) (q : WholeRequest) (begun : Bool) → slice_get board.clients number ≡ Some client
     → AreFronts board.clients → AreFronts (more_on board number client q begun).clients
-fronts_more board number client q true there are = are
+fronts_more board number client q true there are =
+    let right = are number client there in
+    each_client IsFrontRight board.clients number client (record client { coming = unless_failed (is_spoiled board.errors q) client.coming }) there are
+    (record { heard = right.heard; free = right.free })
 fronts_more board number client q false there are =
-    let footprint = beginning_on board q in
+    let footprint = joining_on board q in
     let right = fronts_beside footprint board.clients are number (client_beside footprint client) (beside_at footprint board.clients number client there) in
     each_client IsFrontRight (map (client_beside footprint) board.clients) number (client_beside footprint client)
-    (record (client_beside footprint client) { coming = footprint }) (beside_at footprint board.clients number client there)
+    (record (client_beside footprint client) { coming = footprint; early = early_due board.errors q }) (beside_at footprint board.clients number client there)
     (fronts_beside footprint board.clients are) (record { heard = right.heard; free = right.free })
+
+-- a client whose message is whole has begun none
+pub whole_front : (replied : Bool) (flight : InFlight) (client : ClientBoard) → (with_whole replied flight client).front ≡ None
+whole_front true flight client = refl
+whole_front false flight client = refl
 
 -- where it is whole
 fronts_whole : (board : Board) (number : ℕ) (client : ClientBoard) (q : WholeRequest) (begun : Bool) → slice_get board.clients number ≡ Some client
     → AreFronts board.clients → AreFronts (whole_on board number client q begun).clients
 fronts_whole board number client q true there are =
-    let changed = with_accepted (flight_for board.memory (coming_on board q client.coming) q) client in
-    each_client IsFrontRight board.clients number client changed there are (front_none changed refl)
+    let flight = flight_for board.memory (coming_on board q client.coming) q in
+    let changed = with_whole (has_replied board.errors client) flight client in
+    each_client IsFrontRight board.clients number client changed there are (front_none changed (whole_front (has_replied board.errors client) flight client))
 fronts_whole board number client q false there are =
     let footprint = joining_on board q in
     let changed = with_accepted (flight_for board.memory footprint q) (client_beside footprint client) in
@@ -106,7 +115,7 @@ fronts_reply board number beat are = by_client (slice_get board.clients number) 
     by_client None there = are
     by_client (Some client) there =
         let right = are number client there in
-        each_client IsFrontRight board.clients number client (record client { flights = flights_after client.flights beat.source; told = unwrap_or (told_to client) beat.denied }) there are
+        each_client IsFrontRight board.clients number client (record client { flights = flights_after client.flights beat.source; early = early_after client beat.source; told = unwrap_or (told_to client) beat.denied }) there are
         (record { heard = right.heard; free = still client client.front right.free })
 
 -- with any beat
@@ -158,17 +167,20 @@ front_beside footprint (client ∷ clients) (suc number) = front_beside footprin
 
 front_more : (board : Board) (number other : ℕ) (client : ClientBoard) (q : WholeRequest) (begun : Bool) → slice_get board.clients number ≡ Some client
     → front_at (more_on board number client q begun).clients other ≡ front_at board.clients other
-front_more board number other client q true there = refl
+front_more board number other client q true there =
+    front_kept board.clients number other client (record client { coming = unless_failed (is_spoiled board.errors q) client.coming }) there refl
 front_more board number other client q false there =
-    let footprint = beginning_on board q in
+    let footprint = joining_on board q in
     front_kept (map (client_beside footprint) board.clients) number other (client_beside footprint client)
-    (record (client_beside footprint client) { coming = footprint }) (beside_at footprint board.clients number client there) refl
+    (record (client_beside footprint client) { coming = footprint; early = early_due board.errors q }) (beside_at footprint board.clients number client there) refl
     ∙ front_beside footprint board.clients other
 
 front_whole : (board : Board) (number other : ℕ) (client : ClientBoard) (q : WholeRequest) (begun : Bool) → slice_get board.clients number ≡ Some client
     → front_at (whole_on board number client q begun).clients other ≡ (if other == number then None else front_at board.clients other)
 front_whole board number other client q true there =
-    front_set board.clients number other client (with_accepted (flight_for board.memory (coming_on board q client.coming) q) client) there
+    let flight = flight_for board.memory (coming_on board q client.coming) q in
+    front_set board.clients number other client (with_whole (has_replied board.errors client) flight client) there
+    ∙ ap (λ (front : Option HeldMessage). if other == number then front else front_at board.clients other) (whole_front (has_replied board.errors client) flight client)
 front_whole board number other client q false there =
     let footprint = joining_on board q in
     front_set (map (client_beside footprint) board.clients) number other (client_beside footprint client)
@@ -201,4 +213,4 @@ front_replied board number other beat = by_client (slice_get board.clients numbe
         → front_at (after_d board number found beat).clients other ≡ front_at board.clients other
     by_client None there = refl
     by_client (Some client) there =
-        front_kept board.clients number other client (record client { flights = flights_after client.flights beat.source; told = unwrap_or (told_to client) beat.denied }) there refl
+        front_kept board.clients number other client (record client { flights = flights_after client.flights beat.source; early = early_after client beat.source; told = unwrap_or (told_to client) beat.denied }) there refl

@@ -1,5 +1,5 @@
 -- A request that had begun on a board is whole: on its shadow it was carried out before, and the shadow is still ahead.
-use Rattle.std.proofs.Common.{◌≡◌, ℕ, Bool, true, false, ◌&&◌, ◌||◌, not, List, length, drop, map, Option, Some, None, ◌⊎◌, inl, inr, refl, sym, ◌∙◌, ap, subst}
+use Rattle.std.proofs.Common.{◌≡◌, ℕ, Bool, true, false, ◌&&◌, ◌||◌, not, List, length, drop, map, set, Option, Some, None, ◌⊎◌, inl, inr, refl, sym, ◌∙◌, ap, subst}
 use Rattle.std.specs.Prelude.{is_some, slice_get}
 use Rattle.std.specs.List.{list_any}
 use Rattle.std.proofs.lemmas.Bool.{and_parts, and_right, both_ways, cases_eq, false_from_ne_true, not-false}
@@ -10,14 +10,14 @@ use Rattle.burst_plan.specs.declared.Region.{Region}
 use Rattle.responses.specs.Shown.{shown}
 use Rattle.subordinate.specs.Faults.{Faults}
 use Rattle.meaning.specs.Meaning.{meaning}
-use Rattle.scoreboard.specs.Boards.{Board, ClientBoard, coming_on, fails, flight_for, given_on, place_on, with_accepted}
+use Rattle.scoreboard.specs.Boards.{Board, ClientBoard, coming_on, fails, flight_for, place_on, with_accepted}
 use Rattle.scoreboard.specs.Flights.{Footprint, InFlight, is_of_source}
-use Rattle.scoreboard.specs.Races.{alone, is_fixed, unless_failed}
+use Rattle.scoreboard.specs.Races.{after_given, alone, is_fixed, unless_failed}
 use Rattle.scoreboard.specs.RealTime.{MayBecome, entry_of}
-use Rattle.scoreboard.specs.SerialMemory.{place_in}
+use Rattle.scoreboard.specs.SerialMemory.{carried_out, place_in}
 use Rattle.scoreboard.proofs.real_time.Ahead.{HasBecome, HasBeside, IsAhead, IsBehind, IsFinal, IsGiven, IsSame, Shadow, comes, will_give}
 use Rattle.scoreboard.proofs.real_time.AlikeBeats.{Same}
-use Rattle.scoreboard.proofs.real_time.Comings.{comes_other, comes_same}
+use Rattle.scoreboard.proofs.real_time.Comings.{comes_other, comes_same, early_at, early_other}
 use Rattle.scoreboard.proofs.real_time.Entries.{carry}
 use Rattle.scoreboard.proofs.real_time.Explained.{sources_with}
 use Rattle.scoreboard.proofs.real_time.Failures.{acting_same, fails_flag, fails_keeps, fails_less, gives_less, gives_there, same_acting, same_shapes, shape_of, sound_spoils}
@@ -39,7 +39,12 @@ module _ (board : Board) (shadow : Shadow) (ahead : IsAhead board shadow) (numbe
   kept = coming_on board q client.coming
 
   abbrev pub now : Board
-  now = given_on board number client q kept
+  now =
+      record board {
+        clients = set board.clients number (with_accepted (flight_for board.memory kept q) client);
+        memory = carried_out board.memory q;
+        indeterminate = after_given board.indeterminate kept q.bytes;
+      }
 
   abbrev pub flight : InFlight
   flight = flight_for board.memory kept q
@@ -131,7 +136,10 @@ module _ (board : Board) (shadow : Shadow) (ahead : IsAhead board shadow) (numbe
   pub comes_others : (c : ℕ) → (c ≡ number → ⊥) → comes now.clients c ≡ comes board.clients c
   comes_others c differ = comes_other board.clients number c changed differ
 
-  coming_others : (c : ℕ) → (c ≡ number → ⊥) → coming_at now.clients c ≡ coming_at board.clients c
+  pub early_others : (c : ℕ) → (c ≡ number → ⊥) → early_at now.clients c ≡ early_at board.clients c
+  early_others c differ = early_other board.clients number c changed differ
+
+  pub coming_others : (c : ℕ) → (c ≡ number → ⊥) → coming_at now.clients c ≡ coming_at board.clients c
   coming_others c differ = coming_other board.clients number c changed differ
 
   -- ---- the shadow is ahead
@@ -220,7 +228,12 @@ module _ (board : Board) (shadow : Shadow) (ahead : IsAhead board shadow) (numbe
       others_here (due_at c (shadow.finals c).source) (λ same. differ (ap (λ (p : Place). p.client) same))
       ∙ ahead.waits c (sym (comes_others c differ) ∙ comes_it)
 
-  pub given_ahead : IsAhead (given_on board number client q (coming_on board q client.coming)) shadow
+  pub given_ahead : IsAhead
+      (record board {
+        clients = set board.clients number (with_accepted (flight_for board.memory (coming_on board q client.coming) q) client);
+        memory = carried_out board.memory q;
+        indeterminate = after_given board.indeterminate (coming_on board q client.coming) q.bytes;
+      }) shadow
   given_ahead =
       record {
         sources = sources;

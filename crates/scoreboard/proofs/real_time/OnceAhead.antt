@@ -11,7 +11,7 @@ use Rattle.burst_plan.specs.declared.Region.{Region}
 use Rattle.responses.specs.Shown.{shown}
 use Rattle.subordinate.specs.Faults.{Faults}
 use Rattle.meaning.specs.Meaning.{meaning}
-use Rattle.scoreboard.specs.Boards.{Board, ClientBoard, beginning_on, client_beside, fails, flight_for, footprints_of, joined_on, joining_on, place_on, with_accepted}
+use Rattle.scoreboard.specs.Boards.{Board, ClientBoard, client_beside, fails, flight_for, footprints_of, joined_on, joining_on, place_on, with_accepted}
 use Rattle.scoreboard.specs.Flights.{Footprint, InFlight, is_of_source}
 use Rattle.scoreboard.specs.Orders.{Order}
 use Rattle.scoreboard.specs.Races.{after_given, after_joining, alone as alone_of, beside, covers, flight_beside, is_fixed, joining, may_write}
@@ -23,7 +23,7 @@ use Rattle.scoreboard.proofs.real_time.Ahead.{HasBecome, HasBeside, IsAhead, IsB
 use Rattle.scoreboard.proofs.real_time.AheadBeside.{behind_beside, coming_beside_it, none_beside, was_beside}
 use Rattle.scoreboard.proofs.real_time.AlikeBeats.{LeftAlike, left_alike}
 use Rattle.scoreboard.proofs.real_time.Apart.{AreAll, determined_fixed, fixed_determined}
-use Rattle.scoreboard.proofs.real_time.Comings.{comes_beside, comes_other, comes_same}
+use Rattle.scoreboard.proofs.real_time.Comings.{comes_beside, comes_other, comes_same, early_at, early_beside, early_other, early_same}
 use Rattle.scoreboard.proofs.real_time.Entries.{carry}
 use Rattle.scoreboard.proofs.real_time.Explained.{Explains, sources_with}
 use Rattle.scoreboard.proofs.real_time.Failures.{acting_same, fails_flag, fails_keeps, fails_less, gives_less, gives_there, same_acting, same_shapes, shape_of, sound_spoils, well_as}
@@ -97,7 +97,7 @@ module _ (board : Board) (shadow : Shadow) (order : Order) (explains : Explains 
 
   -- the request's, beside all
   abbrev beginning : Footprint
-  beginning = beginning_on board q
+  beginning = joining board.indeterminate (footprints_of board.clients) (place_on board q) q
 
   well_there : IsWell r
   well_there = well_as board.errors number q r may well
@@ -231,7 +231,13 @@ module _ (board : Board) (shadow : Shadow) (order : Order) (explains : Explains 
   pub comes_others : (c : ℕ) → (c ≡ number → ⊥) → comes now.clients c ≡ comes board.clients c
   comes_others c differ = comes_other (map (client_beside mine) board.clients) number c changed differ ∙ comes_beside mine board.clients c
 
-  coming_others : (c : ℕ) → (c ≡ number → ⊥) → coming_at now.clients c ≡ beside (coming_at board.clients c) mine
+  pub early_own : early_at now.clients number ≡ None
+  early_own = early_same (map (client_beside mine) board.clients) number (client_beside mine client) changed there_given
+
+  pub early_others : (c : ℕ) → (c ≡ number → ⊥) → early_at now.clients c ≡ early_at board.clients c
+  early_others c differ = early_other (map (client_beside mine) board.clients) number c changed differ ∙ early_beside mine board.clients c
+
+  pub coming_others : (c : ℕ) → (c ≡ number → ⊥) → coming_at now.clients c ≡ beside (coming_at board.clients c) mine
   coming_others c differ = coming_other (map (client_beside mine) board.clients) number c changed differ ∙ coming_beside mine board.clients c
 
   none_yet : flight_at shadow.clients own_place ≡ None

@@ -54,8 +54,9 @@ module _ (begun : Bool) (number source : ℕ) where
   abbrev pub step : Entry → Entry
   step entry = with_beat begun number source entry
 
-  goes_on : (entry : Entry) → counts entry ≡ true → step entry ≡ record entry { came = entry.came + 1 }
-  goes_on entry is = rw is refl
+  pub goes_on : (entry : Entry) → entry.whole ≡ true
+      → (is_due begun number source entry && entry.request.source == source) ≡ true → with_beat begun number source entry ≡ record entry { came = entry.came + 1 }
+  goes_on entry whole is = rw (is, whole) refl
 
   pub stays : (entry : Entry) → counts entry ≡ false → step entry ≡ entry
   stays entry is = rw is refl
@@ -72,7 +73,7 @@ module _ (begun : Bool) (number source : ℕ) where
 
   -- what becomes of an entry, where the beat is due to the request at a place: the beat counts for it; or it has ended before, or is elsewhere
   pub data Moves (from : Place) (entry : Entry) : Type 0 where
-    Goes : has_ended entry ≡ false → counts entry ≡ true → place_of entry ≡ from → Moves from entry
+    Goes : entry.whole ≡ true → has_ended entry ≡ false → counts entry ≡ true → place_of entry ≡ from → Moves from entry
     Stays : counts entry ≡ false → IsElsewhere from entry → IsElsewhere (begun_at number) entry → Moves from entry
 
   same_request : (entry : Entry) → (step entry).request ≡ entry.request
@@ -87,8 +88,9 @@ module _ (begun : Bool) (number source : ℕ) where
   own_client : (entry : Entry) → counts entry ≡ true → entry.client ≡ number
   own_client entry counted = grind (arith, nat_tests, counted)
 
-  pub place_next : (entry : Entry) → counts entry ≡ true → place_of (step entry) ≡ begun_at number
-  place_next entry counted = rw (goes_on entry counted) (grind (arith, nat_tests, own_client entry counted))
+  pub place_next : (entry : Entry) → entry.whole ≡ true → (is_due begun number source entry && entry.request.source == source) ≡ true
+      → place_of (with_beat begun number source entry) ≡ begun_at number
+  place_next entry whole counted = rw (goes_on entry whole counted) (grind (arith, nat_tests, own_client entry counted))
 
   -- ---- what is in flight at the places
 
@@ -133,8 +135,8 @@ module _ (begun : Bool) (number source : ℕ) where
           live = λ live. let was = held.live live in
               live_now entry m was entry.came was.flight.beats (are.others (place_of entry) (away live) (apart live) ∙ was.there) was.left;
         })
-    stands_next entry m held (Goes live counted place) =
-        subst (λ e. HeldNow e m) (sym (goes_on entry counted))
+    stands_next entry m held (Goes whole live counted place) =
+        subst (λ e. HeldNow e m) (sym (goes_on entry whole counted))
         (record {
           well = held.well;
           whole = held.whole;
@@ -143,7 +145,7 @@ module _ (begun : Bool) (number source : ℕ) where
               let reply = (meaning faults regions entry.request was.made_of).reply in
               let left = ap (λ (beats : List DBeat). drop 1 beats) was.left ∙ drop-drop 1 entry.came (shown entry.request reply) in
               live_now entry m was (entry.came + 1) (drop 1 was.flight.beats)
-              (ap new_flights (ap place_of (sym (goes_on entry counted)) ∙ place_next entry counted) ∙ flight_next entry m counted place was
+              (ap new_flights (ap place_of (sym (goes_on entry whole counted)) ∙ place_next entry whole counted) ∙ flight_next entry m counted place was
               ∙ some_left was.flight (drop 1 was.flight.beats)
               (subst (λ (beats : List DBeat). 0 < length beats) (sym left) (live_left (record entry { came = entry.came + 1 }) reply alive))) left;
         })
@@ -158,11 +160,11 @@ module _ (begun : Bool) (number source : ℕ) where
     -- ---- the places
 
     differ_next : (entry other : Entry) → Moves from entry → Moves from other → Differ entry other → Differ (step entry) (step other)
-    differ_next entry other (Goes was counted place) (Goes is counts_too its_place) differ alive live same = differ was is (place ∙ sym its_place)
-    differ_next entry other (Goes was counted place) (Stays none away apart) differ alive live same =
-        let still = stays other none in apart (cc (still, live)) (cc (still, same, place_next entry counted))
-    differ_next entry other (Stays none away apart) (Goes is counted place) differ alive live same =
-        let still = stays entry none in apart (cc (still, alive)) (cc (still, same, place_next other counted))
+    differ_next entry other (Goes whole was counted place) (Goes whole_too is counts_too its_place) differ alive live same = differ was is (place ∙ sym its_place)
+    differ_next entry other (Goes whole was counted place) (Stays none away apart) differ alive live same =
+        let still = stays other none in apart (cc (still, live)) (cc (still, same, place_next entry whole counted))
+    differ_next entry other (Stays none away apart) (Goes whole is counted place) differ alive live same =
+        let still = stays entry none in apart (cc (still, alive)) (cc (still, same, place_next other whole counted))
     differ_next entry other (Stays none away apart) (Stays nor_it its_away its_apart) differ alive live same =
         subst₂ Differ (sym (stays entry none)) (sym (stays other nor_it)) differ alive live same
 
@@ -192,7 +194,7 @@ module _ (begun : Bool) (number source : ℕ) where
         waits_next : (due_at client place ≡ from → ⊥) → (entry : Entry) → Moves from entry → waits_for client place entry ≡ true
             → waits_for client place (step entry) ≡ true
         waits_next differ entry (Stays none away apart) waits = ap (waits_for client place) (stays entry none) ∙ waits
-        waits_next differ entry (Goes live counted its_place) waits =
+        waits_next differ entry (Goes whole live counted its_place) waits =
             let waiting : place_of entry ≡ due_at client place = grind (arith, nat_tests, waits) in absurd (differ (sym waiting ∙ its_place))
 
         by_place : (due_at client place ≡ from) ⊎ (due_at client place ≡ from → ⊥) → list_any (waits_for client place) (map step order) ≡ true
@@ -213,16 +215,16 @@ module _ (begun : Bool) (number source : ℕ) where
         begins : is_some (new_flights (begun_at number)) ≡ true → (entry : Entry) (n : Bytes) → Held entry n → Moves from entry → counts entry ≡ true
             → begun_to number (step entry) ≡ true
         begins left entry n held (Stays none away apart) is = absurd (both_ways (counts entry) none is)
-        begins left entry n held (Goes live is place) counts_too =
+        begins left entry n held (Goes whole live is place) counts_too =
             let was = held.live live in
             let more = left_some was.flight (drop 1 was.flight.beats) (grind (arith, flight_next entry n is place was, left)) in
             let alive = next_live entry (meaning faults regions entry.request was.made_of).reply
             (subst (λ (beats : List DBeat). 0 < length (drop 1 beats)) was.left more) in
-            ap (begun_to number) (goes_on entry is) ∙ grind (arith, nat_tests, own_client entry is, alive)
+            ap (begun_to number) (goes_on entry whole is) ∙ grind (arith, nat_tests, own_client entry is, alive)
 
         begun_still : (client ≡ number → ⊥) → (entry : Entry) → Moves from entry → begun_to client entry ≡ true → begun_to client (step entry) ≡ true
         begun_still differ entry (Stays none away apart) has = ap (begun_to client) (stays entry none) ∙ has
-        begun_still differ entry (Goes live is place) has = absurd (differ (grind (arith, nat_tests, has, own_client entry is)))
+        begun_still differ entry (Goes whole live is place) has = absurd (differ (grind (arith, nat_tests, has, own_client entry is)))
 
         by_client : (client ≡ number) ⊎ (client ≡ number → ⊥) → list_any (begun_to client) (map step order) ≡ true
         by_client (inl same) =

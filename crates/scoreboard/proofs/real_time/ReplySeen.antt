@@ -29,7 +29,7 @@ module _ (source : ℕ) where
   none_found number [] others is = refl
   none_found number (flight ∷ due) others is = rw (ne_eqb flight.source source (λ same. others.0 (same ∙ sym is))) (none_found number due others.1 is)
 
-  found_gone : (due : List InFlight) → AreDistinct (sources_of due) → find (is_of_source source) (less due) ≡ None
+  pub found_gone : (due : List InFlight) → AreDistinct (sources_of due) → find (is_of_source source) (less due) ≡ None
   found_gone [] distinct = refl
   found_gone (flight ∷ due) distinct = grind (arith, nat_tests, none_found flight.source due distinct.0, found_gone due distinct.1)
 

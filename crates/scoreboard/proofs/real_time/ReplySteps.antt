@@ -113,7 +113,7 @@ module _ (board : Board) (order : Order) (explains : Explains board order) (numb
         by_counts : (c : Bool) → counts begun number source entry ≡ c → Moves begun number source from entry
         by_counts true is =
             let at = due_place begun number source entry (and_parts (is_due begun number source entry) (entry.request.source == source) is).0 in
-            Goes at.live is at.there
+            Goes held.whole at.live is at.there
         by_counts false is =
             Stays is away (λ live same.
             let has : begun ≡ true = begun_as ∙ ap (λ (o : Option InFlight). is_some o) (ap flights (sym same) ∙ (held.live live).there) in

@@ -11,9 +11,9 @@ use Rattle.tl_checker.specs.declared.Progress.{Progress}
 use Rattle.tl_checker.specs.declared.Progress.TheVariants.{More, Whole}
 use Rattle.tl_checker.specs.declared.TlRule.{TlRule}
 use Rattle.setups.specs.Setups.{SetupLists}
-use Rattle.scoreboard.specs.Boards.{Board, ClientBoard, after_seen, answer_to, opening_with, wrong_at}
-use Rattle.scoreboard.specs.Orders.{Entry, IsWrongAs, Order, after_beat, board_after, byte_left, has_ended}
-use Rattle.scoreboard.specs.RealTime.{MayBecome, asked_on, entry_of, is_awaited, is_spoiled}
+use Rattle.scoreboard.specs.Boards.{Board, ClientBoard, after_seen, answer_to, is_spoiled, opening_with, wrong_at}
+use Rattle.scoreboard.specs.Orders.{Entry, IsWrongAs, Order, after_beat, board_after, byte_left, has_ended, reply_beats}
+use Rattle.scoreboard.specs.RealTime.{MayBecome, asked_on, entry_of, heard, is_awaited}
 use Rattle.scoreboard.specs.declared.Errors.{Errors}
 use Rattle.scoreboard.specs.declared.Policy.TheVariants.{RealTime}
 use Rattle.scoreboard.specs.declared.ObservedBeat.{ObservedBeat}
@@ -33,7 +33,15 @@ is_coming client entry = entry.client == client && not entry.whole
 
 -- it is whole with its last beat
 abbrev pub finished : Errors → ℕ → WholeRequest → Entry → Entry
-finished errors client q entry = if is_coming client entry then record entry { whole = true; spoiled = is_spoiled errors q } else entry
+finished errors client q entry =
+    if is_coming client entry
+    then record entry {
+      whole = true;
+      spoiled = is_spoiled errors q;
+      early = false;
+      came = if entry.replied then reply_beats entry.request else entry.came;
+    }
+    else entry
 
 -- with a beat that a port takes, by what had begun there: a request is put in with its first beat; and with the last one of several it is what it became
 abbrev pub GoesOnTaken : Errors → ℕ → Option HeldMessage → WholeRequest → Progress → Order → Order → Type 0
@@ -41,7 +49,7 @@ GoesOnTaken errors client None q More old new =
     (becomes : WholeRequest) × MayBecome (entry_of errors client q false) becomes × IsPutIn (record (entry_of errors client q false) { request = becomes }) old new
 GoesOnTaken errors client None q Whole old new =
     (becomes : WholeRequest) × MayBecome (entry_of errors client q true) becomes × IsPutIn (record (entry_of errors client q true) { request = becomes }) old new
-GoesOnTaken errors client (Some held) q More old new = new ≡ old
+GoesOnTaken errors client (Some held) q More old new = new ≡ map (heard errors client q) old
 GoesOnTaken errors client (Some held) q Whole old new =
     (new ≡ map (finished errors client q) old) × AllByRecursion (λ entry. is_coming client entry ≡ true → MayBecome (entry_of errors client q true) entry.request) old
 

@@ -152,3 +152,13 @@ failed_broken footprint failed told (due ∷ rest) (other ∷ others) beat broke
       ap (wrong_by (due_beat failed told other beat))
           (ap (λ (b : Bool). first_broken (reply_rules (due_beat b told other beat) beat)) has_too ∙ here),
     )
+
+-- what is blamed against a beat that is due breaks the rule against it, as it may be shown
+pub first_blamed : (footprint : Footprint) (told : Option Bool) (due : DBeat) (rest : List DBeat) (beat : DBeat) (broken : ReplyRule) (x : Option DBeat)
+    → wrong_told footprint told (due ∷ rest) beat ≡ Some (wrong.Reply broken x) → IsBroken (due_beat footprint.failed told due beat ∷ rest) beat broken
+first_blamed footprint told due rest beat broken x is = (
+  Some (due_beat footprint.failed told due beat),
+  ap (wrong_by (due_beat footprint.failed told due beat)) (is_blamed (due_beat footprint.failed told due beat)
+      (tells_otherwise footprint (beats_of footprint.size true - length (due ∷ rest)) due beat)
+      (first_broken (reply_rules (due_beat footprint.failed told due beat) beat)) broken x is).0,
+)

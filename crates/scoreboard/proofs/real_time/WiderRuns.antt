@@ -1,6 +1,6 @@
 -- Boards of both policies that get the same beats hold the same, but for what is known of requests that race, until one is of a busy source or a W
 -- beat without a write; so nothing is found wrong in real time with beats that are right.
-use Rattle.std.proofs.Common.{◌≡◌, ℕ, Bool, true, false, List, [], ◌∷◌, Option, Some, None, Result, Ok, Err, refl, sym, ◌∙◌, ap, ap₂, subst, arith}
+use Rattle.std.proofs.Common.{◌≡◌, ℕ, Bool, true, false, List, [], ◌∷◌, map, Option, Some, None, if◌then◌else◌, Result, Ok, Err, refl, sym, ◌∙◌, ap, ap₂, subst, arith}
 use Rattle.std.specs.Prelude.{is_some, slice_get, unwrap_or}
 use Rattle.std.specs.Option.{option_map}
 use Rattle.std.proofs.lemmas.Option.{slice_get-map}
@@ -14,9 +14,9 @@ use Rattle.tl_checker.specs.declared.Progress.TheVariants.{More, Whole}
 use Rattle.tl_checker.specs.declared.TlRule.{TlRule}
 use Rattle.axi_checker.specs.declared.AxiBeat.{AxiBeat}
 use Rattle.scoreboard.specs.AxiPorts.{PortBoard, after_in_order, after_with_early, tells_no_write, wrong_in_order}
-use Rattle.scoreboard.specs.Boards.{Board, ClientBoard, IsReached, a_wrong, after_a, after_all, after_d, after_seen, answer_to, answered_on, beginning_on, coming_on, fails, joining_on, more_on, opening_board, place_on, told_to, whole_on, with_client, with_taken, wrong_at}
-use Rattle.scoreboard.specs.Flights.{Flights, flights_after, no_footprint}
-use Rattle.scoreboard.specs.Races.{alone}
+use Rattle.scoreboard.specs.Boards.{Board, ClientBoard, IsReached, a_wrong, after_a, after_all, after_d, after_seen, answer_to, answered_on, client_beside, coming_on, early_after, early_due, early_left, fails, flight_for, footprints_of, has_replied, is_spoiled, joining_on, more_on, opening_board, place_on, told_to, whole_on, with_accepted, with_client, with_taken, with_whole, wrong_at}
+use Rattle.scoreboard.specs.Flights.{Flights, Footprint, InFlight, flights_after, next_reply, no_footprint}
+use Rattle.scoreboard.specs.Races.{alone, joining, unless_failed}
 use Rattle.scoreboard.specs.declared.Errors.TheVariants.{Strict}
 use Rattle.scoreboard.specs.Wider.{AreTogether, IsWiderAlong, LetsRightPass, TellsNoMore, board_alone, client_alone, tells_apart, tells_busy}
 use Rattle.scoreboard.specs.declared.Policy.TheVariants.{AcceptanceOrder, RealTime}
@@ -26,10 +26,14 @@ use Rattle.scoreboard.proofs.acceptance_order.Reached.{right_exactly, right_fron
 use Rattle.scoreboard.proofs.held.EarlyBeats.{after_as}
 use Rattle.scoreboard.proofs.real_time.Becoming.{errors_kept}
 use Rattle.scoreboard.proofs.real_time.EachFlight.{AreOfEach, IsOfEach, seen_each}
-use Rattle.scoreboard.proofs.real_time.Explained.{opening_at}
+use Rattle.scoreboard.proofs.real_time.Explained.{each_client, opening_at}
+use Rattle.scoreboard.proofs.real_time.FlightLists.{client_was}
+use Rattle.scoreboard.proofs.real_time.Fronts.{beside_at}
+use Rattle.std.proofs.lemmas.Option.{slice_get_within}
+use Rattle.bus_words.proofs.StoredPlaces.{get_set}
 use Rattle.scoreboard.proofs.real_time.Failures.{fails_flag}
-use Rattle.scoreboard.proofs.real_time.FlightsAlone.{begun_alone, client_changed_alone, flights_alone, given_alone, joined_alone, opens_alone, told_alone}
-use Rattle.scoreboard.proofs.real_time.WiderVerdicts.{IsUnfailed, none_told, nothing_early, same_answer, tells_no_more}
+use Rattle.scoreboard.proofs.real_time.FlightsAlone.{begun_alone, client_changed_alone, early_alone, flights_alone, further_alone, given_alone, joined_alone, none_left, opens_alone, told_alone}
+use Rattle.scoreboard.proofs.real_time.WiderVerdicts.{IsSure, IsUnfailed, none_told, nothing_early, same_answer, tells_no_more}
 
 -- a board of real time holds what one of acceptance order does, and nothing is early
 record IsOn (compared board : Board) : Type 0 where
@@ -38,11 +42,11 @@ record IsOn (compared board : Board) : Type 0 where
 
 -- ---- a beat that isn't of a busy source, and no W beat without a write
 
-request_on : (old : Board) (number : ℕ) (found : Option ClientBoard) (beat : ABeat) → old.axi.early ≡ []
+request_on : (old : Board) (number : ℕ) (found : Option ClientBoard) (beat : ABeat) → old.errors ≡ Strict → old.axi.early ≡ []
     → tells_busy (a_wrong AcceptanceOrder (option_map client_alone found) beat) ≡ false
     → IsOn (after_a AcceptanceOrder (board_alone old) number (option_map client_alone found) beat) (after_a RealTime old number found beat)
-request_on old number None beat none free = record { holds = refl; early = none }
-request_on old number (Some client) beat none free = rw (same_answer client beat free) (by_answer (answer_to AcceptanceOrder (client_alone client) beat))
+request_on old number None beat strict none free = record { holds = refl; early = none }
+request_on old number (Some client) beat strict none free = rw (same_answer client beat free) (by_answer (answer_to AcceptanceOrder (client_alone client) beat))
   where
     message : HeldMessage
     message = joined client.limits client.front beat
@@ -51,11 +55,17 @@ request_on old number (Some client) beat none free = rw (same_answer client beat
     changed = record client { front = Some message }
 
     more : (begun : Bool) → IsOn (with_client number (client_alone changed) (board_alone old)) (more_on (with_client number changed old) number changed (request_of message) begun)
-    more true = record { holds = client_changed_alone old number changed; early = none }
-    more false = record { holds = begun_alone old number changed (beginning_on (with_client number changed old) (request_of message)); early = none }
+    more true = record { holds = further_alone old number changed (unless_failed (is_spoiled old.errors (request_of message)) changed.coming); early = none }
+    more false = record {
+      holds = begun_alone old number changed (early_due old.errors (request_of message)) (joining_on (with_client number changed old) (request_of message));
+      early = none;
+    }
 
     whole : (begun : Bool) → IsOn (with_taken (board_alone old) number (client_alone client) (request_of message) no_footprint) (whole_on old number client (request_of message) begun)
-    whole true = record { holds = given_alone old number client (request_of message) (coming_on old (request_of message) client.coming); early = none }
+    whole true = record {
+      holds = given_alone old number client (request_of message) (coming_on old (request_of message) client.coming) (ap (λ errors. has_replied errors client) strict);
+      early = none;
+    }
     whole false = record { holds = joined_alone old number client (request_of message) (joining_on old (request_of message)); early = none }
 
     by_answer : (answer : Result Progress TlRule)
@@ -69,9 +79,15 @@ reply_on : (old : Board) (number : ℕ) (found : Option ClientBoard) (beat : DBe
 reply_on old number None beat none = record { holds = refl; early = none }
 reply_on old number (Some client) beat none =
     record {
-      holds = client_changed_alone old number (record client { flights = flights_after client.flights beat.source; told = unwrap_or (told_to client) beat.denied })
+      holds = client_changed_alone old number
+          (record client { flights = flights_after client.flights beat.source; early = early_after client beat.source; told = unwrap_or (told_to client) beat.denied })
           ∙ ap₂ (λ (flights : Flights) (told : Bool). with_client number (record (client_alone client) { flights = flights; told = told }) (board_alone old))
-          (flights_alone client.flights beat.source) (ap (λ (o : Option Bool). unwrap_or o beat.denied) (told_alone client));
+          (flights_alone client.flights beat.source) (ap (λ (o : Option Bool). unwrap_or o beat.denied) (told_alone client))
+          ∙ ap (λ (early : Option DBeat). with_client number (record (client_alone client) {
+            flights = flights_after (client_alone client).flights beat.source;
+            early = early;
+            told = unwrap_or (told_to (client_alone client)) beat.denied;
+          }) (board_alone old)) (sym (early_alone client beat.source));
       early = none;
     }
 
@@ -81,30 +97,109 @@ port_on port beat none there =
     let alone = nothing_early port none in
     ap (λ (p : PortBoard). after_with_early p beat) alone ∙ after_as port.limits port.open_bursts beat there ∙ ap (λ (p : PortBoard). after_in_order p beat) (sym alone)
 
-after_on : (old : Board) (seen : ObservedBeat) → old.axi.early ≡ [] → tells_apart (wrong_at AcceptanceOrder (board_alone old) seen) ≡ false
+after_on : (old : Board) (seen : ObservedBeat) → old.errors ≡ Strict → old.axi.early ≡ [] → tells_apart (wrong_at AcceptanceOrder (board_alone old) seen) ≡ false
     → IsOn (after_seen AcceptanceOrder (board_alone old) seen) (after_seen RealTime old seen)
-after_on old (A client beat) none free =
+after_on old (A client beat) strict none free =
     let there = slice_get-map client_alone old.clients client in
-    rw there (request_on old client (slice_get old.clients client) beat none (grind (arith, there, free)))
-after_on old (D client beat) none free = rw (slice_get-map client_alone old.clients client) (reply_on old client (slice_get old.clients client) beat none)
-after_on old (OnAxi beat) none free =
+    rw there (request_on old client (slice_get old.clients client) beat strict none (grind (arith, there, free)))
+after_on old (D client beat) strict none free = rw (slice_get-map client_alone old.clients client) (reply_on old client (slice_get old.clients client) beat none)
+after_on old (OnAxi beat) strict none free =
     let same = port_on old.axi beat none (grind (arith, free)) in
     record { holds = ap (λ (port : PortBoard). record (board_alone old) { axi = port }) same; early = ap (λ (port : PortBoard). port.early) same ∙ none }
-after_on old Drained none free = record { holds = refl; early = refl }
+after_on old Drained strict none free = record { holds = refl; early = refl }
 
 -- ---- no request in flight has failed, where errors are told as this project's bridge tells them
 
 record IsStrict (board : Board) : Type 0 where
   errors : board.errors ≡ Strict
   unfailed : AreOfEach IsUnfailed board.clients
+  none_early : (number : ℕ) (client : ClientBoard) → slice_get board.clients number ≡ Some client → client.early ≡ None
+
+-- nothing may come early
+abbrev IsLate : ClientBoard → Type 0
+IsLate client = client.early ≡ None
+
+late_beside : (footprint : Footprint) (clients : List ClientBoard) → ((number : ℕ) (client : ClientBoard) → slice_get clients number ≡ Some client → IsLate client)
+    → (number : ℕ) (client : ClientBoard) → slice_get (map (client_beside footprint) clients) number ≡ Some client → IsLate client
+late_beside footprint clients are number client is =
+    let was = client_was footprint clients number client is in sym (ap (λ (c : ClientBoard). c.early) was.2) ∙ are number was.0 was.1
+
+late_request : (board : Board) (number : ℕ) (beat : ABeat) → board.errors ≡ Strict
+    → ((other : ℕ) (client : ClientBoard) → slice_get board.clients other ≡ Some client → IsLate client)
+    → (other : ℕ) (client : ClientBoard) → slice_get (after_a RealTime board number (slice_get board.clients number) beat).clients other ≡ Some client → IsLate client
+late_request board number beat strict are = by_client (slice_get board.clients number) refl
+  where
+    whole_late : (replied : Bool) (flight : InFlight) (client : ClientBoard) → IsLate (with_whole replied flight client)
+    whole_late true flight client = refl
+    whole_late false flight client = refl
+
+    more : (old : Board) (client : ClientBoard) (q : WholeRequest) (begun : Bool) → old.errors ≡ Strict → slice_get old.clients number ≡ Some client → IsLate client
+        → ((other : ℕ) (one : ClientBoard) → slice_get old.clients other ≡ Some one → IsLate one)
+        → (other : ℕ) (one : ClientBoard) → slice_get (more_on old number client q begun).clients other ≡ Some one → IsLate one
+    more old client q true errors there late all =
+        each_client IsLate old.clients number client (record client { coming = unless_failed (is_spoiled old.errors q) client.coming }) there all late
+    more old client q false errors there late all =
+        let footprint = joining_on old q in
+        each_client IsLate (map (client_beside footprint) old.clients) number (client_beside footprint client)
+        (record (client_beside footprint client) { coming = footprint; early = early_due old.errors q }) (beside_at footprint old.clients number client there)
+        (late_beside footprint old.clients all) (ap (λ e. early_due e q) errors)
+
+    whole : (client : ClientBoard) (q : WholeRequest) (begun : Bool) → slice_get board.clients number ≡ Some client
+        → (other : ℕ) (one : ClientBoard) → slice_get (whole_on board number client q begun).clients other ≡ Some one → IsLate one
+    whole client q true there =
+        let flight = flight_for board.memory (coming_on board q client.coming) q in
+        each_client IsLate board.clients number client (with_whole (has_replied board.errors client) flight client) there are
+        (whole_late (has_replied board.errors client) flight client)
+    whole client q false there =
+        let footprint = joining_on board q in
+        each_client IsLate (map (client_beside footprint) board.clients) number (client_beside footprint client)
+        (with_accepted (flight_for board.memory footprint q) (client_beside footprint client)) (beside_at footprint board.clients number client there)
+        (late_beside footprint board.clients are) refl
+
+    by_answer : (client : ClientBoard) (answer : Result Progress TlRule) → slice_get board.clients number ≡ Some client
+        → (other : ℕ) (one : ClientBoard) → slice_get (answered_on RealTime board number client (joined client.limits client.front beat) answer).clients other ≡ Some one → IsLate one
+    by_answer client (Err broken) there = are
+    by_answer client (Ok More) there =
+        let message = joined client.limits client.front beat in
+        let heard = record client { front = Some message } in
+        more (with_client number heard board) heard (request_of message) (is_some client.front) strict
+        (get_set board.clients number heard (slice_get_within board.clients number client there)) (are number client there)
+        (each_client IsLate board.clients number client heard there are (are number client there))
+    by_answer client (Ok Whole) there = whole client (request_of (joined client.limits client.front beat)) (is_some client.front) there
+
+    by_client : (o : Option ClientBoard) → slice_get board.clients number ≡ o
+        → (other : ℕ) (one : ClientBoard) → slice_get (after_a RealTime board number o beat).clients other ≡ Some one → IsLate one
+    by_client None there = are
+    by_client (Some client) there = by_answer client (answer_to RealTime client beat) there
+
+late_reply : (board : Board) (number : ℕ) (beat : DBeat) → ((other : ℕ) (client : ClientBoard) → slice_get board.clients other ≡ Some client → IsLate client)
+    → (other : ℕ) (client : ClientBoard) → slice_get (after_d board number (slice_get board.clients number) beat).clients other ≡ Some client → IsLate client
+late_reply board number beat are = by_client (slice_get board.clients number) refl
+  where
+    by_client : (o : Option ClientBoard) → slice_get board.clients number ≡ o
+        → (other : ℕ) (one : ClientBoard) → slice_get (after_d board number o beat).clients other ≡ Some one → IsLate one
+    by_client None there = are
+    by_client (Some client) there =
+        each_client IsLate board.clients number client
+        (record client { flights = flights_after client.flights beat.source; early = early_after client beat.source; told = unwrap_or (told_to client) beat.denied }) there are
+        (ap (λ (o : Option DBeat). if is_some (next_reply client.flights beat.source) then o else early_left o beat.source) (are number client there)
+        ∙ none_left (is_some (next_reply client.flights beat.source)) beat.source)
+
+late_next : (board : Board) (seen : ObservedBeat) → board.errors ≡ Strict → ((other : ℕ) (client : ClientBoard) → slice_get board.clients other ≡ Some client → IsLate client)
+    → (other : ℕ) (client : ClientBoard) → slice_get (after_seen RealTime board seen).clients other ≡ Some client → IsLate client
+late_next board (A number beat) strict are = late_request board number beat strict are
+late_next board (D number beat) strict are = late_reply board number beat are
+late_next board (OnAxi beat) strict are = are
+late_next board Drained strict are = are
 
 strict_next : (board : Board) (seen : ObservedBeat) → IsStrict board → IsStrict (after_seen RealTime board seen)
 strict_next board seen strict =
     record {
       errors = errors_kept board seen ∙ strict.errors;
       unfailed = seen_each IsUnfailed (λ footprint flight sound. sound) (λ flight sound. sound) board strict.unfailed
-          (λ q. fails_flag (fails board.errors board.memory q) (beginning_on board q) refl ∙ sound q)
+          (λ q. fails_flag (fails board.errors board.memory q) (joining board.indeterminate (footprints_of board.clients) (place_on board q) q) refl ∙ sound q)
           (λ coming q. fails_flag (fails board.errors board.memory q) (alone board.indeterminate (place_on board q) q) refl ∙ sound q) seen;
+      none_early = late_next board seen strict.errors strict.none_early;
     }
   where
     sound : (q : WholeRequest) → fails board.errors board.memory q ≡ false
@@ -116,6 +211,7 @@ strict_opens setup =
       errors = refl;
       unfailed = λ number client is.
           let found = opening_at setup.config 0 setup.config.clients number client is in subst (IsOfEach IsUnfailed) (sym found.1) (tt, tt);
+      none_early = λ number client is. ap (λ (c : ClientBoard). c.early) (opening_at setup.config 0 setup.config.clients number client is).1;
     }
 
 strict_all : (beats : List ObservedBeat) (board : Board) → IsStrict board → IsStrict (after_all RealTime board beats)
@@ -124,21 +220,23 @@ strict_all (seen ∷ beats) board strict = strict_all beats (after_seen RealTime
 
 -- ---- lists of beats
 
-followed_on : (compared board : Board) (beats : List ObservedBeat) → IsOn compared board → AreTogether compared beats → IsOn (after_all AcceptanceOrder compared beats) (after_all RealTime board beats)
-followed_on compared board [] on told = on
-followed_on compared board (seen ∷ rest) on told =
+followed_on : (compared board : Board) (beats : List ObservedBeat) → IsStrict board → IsOn compared board → AreTogether compared beats → IsOn (after_all AcceptanceOrder compared beats) (after_all RealTime board beats)
+followed_on compared board [] strict on told = on
+followed_on compared board (seen ∷ rest) strict on told =
     let (free, more) = subst (λ (start : Board). AreTogether start (seen ∷ rest)) (sym on.holds) told in
-    rw (← on.holds) (followed_on (after_seen AcceptanceOrder (board_alone board) seen) (after_seen RealTime board seen) rest (after_on board seen on.early free) more)
+    rw (← on.holds) (followed_on (after_seen AcceptanceOrder (board_alone board) seen) (after_seen RealTime board seen) rest (strict_next board seen strict)
+    (after_on board seen strict.errors on.early free) more)
 
 -- any beats, until one is of a busy source or a W beat without a write: what is held after them, and what is said of the next
 pub is_wider : (board : Board) (seen : ObservedBeat) → IsWiderAlong board seen (wrong_at RealTime board seen)
 is_wider board seen setup before is told =
     let on = subst (IsOn (after_all AcceptanceOrder (opening_board setup) before)) (sym is)
-    (followed_on (opening_board setup) (opening_board setup) before (record { holds = opens_alone setup; early = refl }) told) in
+    (followed_on (opening_board setup) (opening_board setup) before (strict_opens setup) (record { holds = opens_alone setup; early = refl }) told) in
+    let strict = subst IsStrict (sym is) (strict_all before (opening_board setup) (strict_opens setup)) in
     record {
       holds = on.holds;
       tells = subst (λ (compared : Board). TellsNoMore (wrong_at AcceptanceOrder compared seen) (wrong_at RealTime board seen)) on.holds
-          (tells_no_more board seen (subst IsStrict (sym is) (strict_all before (opening_board setup) (strict_opens setup))).unfailed on.early);
+          (tells_no_more board seen (λ number client there. record { unfailed = strict.unfailed number client there; none_early = strict.none_early number client there }) on.early);
     }
 
 -- ---- beats that are right

@@ -21,7 +21,7 @@ use Rattle.axi_checker.specs.declared.AxiBeat.{AxiBeat}
 use Rattle.axi_checker.specs.declared.AxiBeat.TheVariants.{Ar as OnAr, Aw as OnAw, B as OnB, R as OnR, W as OnW}
 use Rattle.axi_checker.specs.Rules.{axi_fault}
 use Rattle.scoreboard.specs.AxiPorts.{PortBoard, none_early, tells_no_write, wrong_in_order, wrong_with_early}
-use Rattle.scoreboard.specs.Boards.{Board, ClientBoard, a_wrong, answer_to, d_wrong, is_payload, reply_rules, told_to, unless_indeterminate, wrong_at, wrong_beat, wrong_by, wrong_reply, wrong_request}
+use Rattle.scoreboard.specs.Boards.{Board, ClientBoard, a_wrong, answer_to, d_wrong, early_flight, is_payload, next_to, reply_rules, told_to, unless_indeterminate, wrong_at, wrong_beat, wrong_by, wrong_reply, wrong_request}
 use Rattle.scoreboard.specs.Flights.{Footprint, InFlight, begun_is_of, is_of_source, next_reply}
 use Rattle.scoreboard.specs.Wider.{TellsNoMore, board_alone, client_alone, flight_alone, tells_apart, tells_busy, tells_payload}
 use Rattle.scoreboard.specs.declared.Policy.TheVariants.{AcceptanceOrder, RealTime}
@@ -31,7 +31,7 @@ use Rattle.scoreboard.specs.declared.ObservedBeat.TheVariants.{A, D, Axi as OnAx
 use Rattle.scoreboard.specs.declared.Wrong.{Wrong}
 use Rattle.scoreboard.specs.declared.Wrong.TheVariants.{Reply}
 use Rattle.scoreboard.proofs.held.EarlyBeats.{aw_wrong}
-use Rattle.scoreboard.proofs.real_time.EachFlight.{AreOfEach, IsOfEach}
+use Rattle.scoreboard.proofs.real_time.EachFlight.{IsOfEach}
 use Rattle.scoreboard.proofs.real_time.FlightsAlone.{busy_alone, next_alone}
 use Rattle.scoreboard.proofs.real_time.Verdicts.{sure_told, wrong_sure}
 
@@ -133,12 +133,26 @@ next_of_each client source all = by_begun client.flights.begun all.1
     by_begun (Some flight) some = some
     by_begun None none = found (find (is_of_source source) client.flights.due) refl
 
-d_told : (found : Option ClientBoard) (beat : DBeat) → ((client : ClientBoard) → found ≡ Some client → IsOfEach IsUnfailed client)
+-- where nothing may come early the next beat is of a reply to one in flight
+next_in_flight : (client : ClientBoard) (source : ℕ) → client.early ≡ None → next_to RealTime client source ≡ next_reply client.flights source
+next_in_flight client source none = ap (λ (early : Option DBeat). option_or (next_reply client.flights source) (early_flight client early source)) none ∙ or_none (next_reply client.flights source)
+  where
+    or_none : (o : Option InFlight) → option_or o None ≡ o
+    or_none None = refl
+    or_none (Some flight) = refl
+
+-- no request of a client has failed, and nothing may come early to it
+pub record IsSure (client : ClientBoard) : Type 0 where
+  pub unfailed : IsOfEach IsUnfailed client
+  pub none_early : client.early ≡ None
+
+d_told : (found : Option ClientBoard) (beat : DBeat) → ((client : ClientBoard) → found ≡ Some client → IsSure client)
     → TellsNoMore (d_wrong AcceptanceOrder (option_map client_alone found) beat) (d_wrong RealTime found beat)
 d_told None beat unfailed = inl refl
 d_told (Some client) beat unfailed =
-    rw (next_alone client.flights beat.source)
-    (reply_told (told_to (client_alone client)) (told_to client) (next_reply client.flights beat.source) beat (next_of_each client beat.source (unfailed client refl)))
+    let sure = unfailed client refl in
+    rw (next_alone client.flights beat.source, next_in_flight client beat.source sure.none_early)
+    (reply_told (told_to (client_alone client)) (told_to client) (next_reply client.flights beat.source) beat (next_of_each client beat.source sure.unfailed))
 
 -- ---- the AXI4 port
 
@@ -165,7 +179,8 @@ axi_told port (OnR beat) none = inl refl
 
 -- ---- any beat
 
-pub tells_no_more : (board : Board) (seen : ObservedBeat) → AreOfEach IsUnfailed board.clients → board.axi.early ≡ []
+pub tells_no_more : (board : Board) (seen : ObservedBeat) → ((number : ℕ) (client : ClientBoard) → slice_get board.clients number ≡ Some client → IsSure client)
+    → board.axi.early ≡ []
     → TellsNoMore (wrong_at AcceptanceOrder (board_alone board) seen) (wrong_at RealTime board seen)
 tells_no_more board (A client beat) unfailed none = rw (slice_get-map client_alone board.clients client) (a_told (slice_get board.clients client) beat)
 tells_no_more board (D client beat) unfailed none =

@@ -15,6 +15,6 @@ returns-clause-state c found is =
     let old = c.args.self.now in
     let now = c.give.new.self in
     c.put_in.ensures.state found (ap (λ (b : BoardState). slice_get (board_of b).clients c.args.client) c.give.ensures.rest ∙ is)
-    ∙ given_taken old now c.args.client found
+    ∙ given_taken old now c.args.client found c.has_replied-replied.result (c.has_replied-replied.ensures found is)
     (record { rest = ap (with_changes now) c.give.ensures.rest; memory = c.give.ensures.memory; flight = c.give.ensures.flight })
     c.give.ensures.rest (c.give.ensures.footprint found is) c.give.ensures.bytes

@@ -3,10 +3,10 @@ use Rattle.std.proofs.Common.{◌≡◌, List, ap, ap₂, arith, length, map, ru
 use Rattle.std.specs.Vec.{with_items}
 use Rattle.std.proofs.lemmas.List.{places, with_items_is}
 use Rattle.tl_messages.specs.Requests.{bytes_given, request_of}
-use Rattle.scoreboard.specs.Boards.{beginning_on, client_beside, fails, flight_for, footprints_of, joining_on}
+use Rattle.scoreboard.specs.Boards.{client_beside, fails, flight_for, footprints_of, joining_on, place_on}
 use Rattle.scoreboard.specs.Flights.{Footprint}
 use Rattle.scoreboard.specs.InsideBoards.{BoardState, ClientState, ClientsHaveRoom, FlightState, FootprintState, board_of, client_of, footprint_of, is_marked, room_by}
-use Rattle.scoreboard.specs.Races.{after_joining, alone, beside_all, unless_failed}
+use Rattle.scoreboard.specs.Races.{after_joining, alone, beside_all, joining, unless_failed}
 use Rattle.scoreboard.specs.SerialMemory.{IsCheckedRequest, Memory, memory_of}
 use Rattle.scoreboard.specs.contracts.board.Scoreboard.{the_view}
 use Rattle.scoreboard.proofs.held.BoardSteps.{beside_kept}
@@ -55,7 +55,8 @@ invariant_of-self c =
 
 -- its footprint, on the board as it is held
 joined : (c : goal.After-self-1) → footprint_of c.limit.new.joined.footprint
-    ≡ beginning_on (board_of (the_view c.self.inside)) (request_of c.self.inside.request)
+    ≡ joining (is_marked c.self.inside.indeterminate) (footprints_of (map client_of c.self.inside.clients.items)) (place_on (board_of (the_view c.self.inside)) (request_of c.self.inside.request))
+    (request_of c.self.inside.request)
 joined c =
     c.limit.ensures.footprint
     ∙ ap₂ (λ (f : Footprint) (cs : List ClientState). beside_all f (footprints_of (map client_of cs)))

@@ -102,7 +102,7 @@ returns-in-Ok-More-clause-state c =
     let one : ClientBoard = record (found at) { front = Some message } in
     let more : c.take_beat.result ≡ Ok More = c.in-Ok-More.is ∙ ap Ok c.in-Ok-More.field-0-is in
     let is = c.from-number.ensures in
-    let goes = c.go_on.ensures.state one message (rw is at (here at (Ok More) more)) (λ first. ap (λ (front : Option HeldMessage). joined (found at).limits front c.args.beat.now) (none_here at first)) in
+    let goes = c.go_on.ensures.state one message (rw is at (here at (Ok More) more)) (λ first. ap (λ (front : Option HeldMessage). joined (found at).limits front c.args.beat.now) (none_here at first)) refl in
     rw (← is)
     (state_as policy (old at) number (found at) c.args.beat.now (there at) (board_of c.go_on.new.self) c.take_beat.result _ more (c.take_beat.ensures.answer (found at) (there at))
     (rw (← is) at goes

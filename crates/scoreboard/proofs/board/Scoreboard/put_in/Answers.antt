@@ -3,11 +3,11 @@ use Rattle.std.proofs.Common.{◌≡◌, Some, ap, rules, subst, sym, ◌∙◌,
 use Rattle.std.proofs.lemmas.Grind.{common_steps}
 use Rattle.std.specs.Prelude.{slice_get}
 use Rattle.bus_words.proofs.PlaceChanges.{all-got}
-use Rattle.scoreboard.specs.Boards.{ClientBoard, client_footprints, with_accepted, with_client}
+use Rattle.scoreboard.specs.Boards.{ClientBoard, client_footprints, with_client, with_whole}
 use Rattle.scoreboard.specs.InsideBoards.{AreOnGoodPages, BoardState, ClientState, IsFreeOf, IsOnGoodPage, board_of, client_of, flight_of, footprint_of, room_by}
 use Rattle.scoreboard.specs.contracts.board.Scoreboard.{the_view}
 use Rattle.scoreboard.proofs.held.BoardSteps.{client_is, client_kept, client_there, put_there, there_at}
-use Rattle.scoreboard.proofs.held.ClientFootprints.{good_accepted}
+use Rattle.scoreboard.proofs.held.ClientFootprints.{good_with_whole}
 use Rattle.scoreboard.proofs.board.Scoreboard.put_in.Goals as goal
 
 free : (c : goal.After-index_mut) → IsFreeOf c.self.inside.joining.source (client_of c.index_mut.result.now)
@@ -33,9 +33,9 @@ invariant_of-self c =
     let found = c.index_mut.result.now in
     let faults = c.self.inside.serial.pages.faults in
     let good = subst (λ (b : BoardState). IsOnGoodPage b.memory.pages.faults (footprint_of b.joining.footprint)) (sym c.self.view_is) c.requires.good in
-    let kept = client_kept room faults clients c.args.client found c.join.new.self (still c) (ap (λ (client : ClientState). client.flights.room) c.join.ensures.state)
+    let kept = client_kept room faults clients c.args.client found c.join.new.self (still c) c.join.ensures.own_room
     (λ own_good. subst (λ (client : ClientBoard). AreOnGoodPages faults (client_footprints client)) (sym c.join.ensures.client)
-    (good_accepted faults (flight_of c.self.inside.joining) (client_of found) own_good good))
+    (good_with_whole faults c.args.replied (flight_of c.self.inside.joining) (client_of found) own_good good))
     (c.self.invariant.0, c.self.invariant.1, c.self.invariant.4) in (
       kept.0,
       kept.1,
@@ -49,9 +49,9 @@ returns-clause-state c found is =
     let one = c.index_mut.result.now in
     let there = ap (λ (b : BoardState). slice_get (board_of b).clients c.args.client) c.self.view_is ∙ is in
     let same = client_is c.self.inside.clients.items c.args.client one found (still c) there in
-    put_there (the_view c.self.inside) c.args.client one c.join.new.self c.join.new.flight c.join.ensures.client
-    ∙ ap (λ (client : ClientBoard). with_client c.args.client (with_accepted (flight_of c.self.inside.joining) client) (board_of (the_view c.self.inside))) same
-    ∙ ap (λ (b : BoardState). with_client c.args.client (with_accepted (flight_of b.joining) found) (board_of b)) c.self.view_is
+    put_there (the_view c.self.inside) c.args.client one c.join.new.self c.join.new.flight c.args.replied c.join.ensures.client
+    ∙ ap (λ (client : ClientBoard). with_client c.args.client (with_whole c.args.replied (flight_of c.self.inside.joining) client) (board_of (the_view c.self.inside))) same
+    ∙ ap (λ (b : BoardState). with_client c.args.client (with_whole c.args.replied (flight_of b.joining) found) (board_of b)) c.self.view_is
 
 pub join-requires-clause-room : goal.join-requires-clause-room
 join-requires-clause-room c = grind (arith, common_steps)

@@ -11,4 +11,5 @@ invariant_of-self c = (
   rw c.give_way.ensures.flights (front_beside c.self.inside.port.front (flights_of c.self.inside.flights) (footprint_of c.args.other.now) c.self.invariant.2),
   c.self.invariant.3,
   c.give_way-2.ensures.room ∙ c.self.invariant.4 ∙ sym c.give_way.ensures.room,
+  c.self.invariant.5,
 )

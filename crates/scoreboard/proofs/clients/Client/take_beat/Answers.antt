@@ -10,13 +10,13 @@ pub invariant_of-self-in-Ok-More : goal.invariant_of-self-in-Ok-More
 invariant_of-self-in-Ok-More c =
     let answer = c.take_beat-answer.ensures.answer ∙ ap (judged c.self.inside.port.limits c.self.inside.port.front c.args.beat.now) c.is_busy-busy.ensures in
     let more : c.take_beat-answer.result ≡ Ok More = c.in-Ok-More.is ∙ ap Ok (rw c.in-Ok-More.is at c.in-Ok-More.field-0-is) in
-    let right = more_right c.args.policy c.self.inside.port c.take_beat-answer.new.self c.args.beat.now (flights_of c.self.inside.flights) c.take_beat-answer.result c.self.invariant.0
-    c.self.invariant.1 c.self.invariant.2 answer c.take_beat-answer.ensures.port more in
-    (right.0, right.1, right.2, right.3, c.self.invariant.4)
+    let right = more_right c.args.policy c.self.inside.port c.take_beat-answer.new.self c.args.beat.now (flights_of c.self.inside.flights) c.take_beat-answer.result c.self.inside.corrupt c.self.invariant.0
+    c.self.invariant.1 c.self.invariant.2 c.self.invariant.5 answer c.take_beat-answer.ensures.port more in
+    (right.0, right.1, right.2, right.3, c.self.invariant.4, right.4)
 
 pub returns-in-Ok-More-clause-first : goal.returns-in-Ok-More-clause-first
 returns-in-Ok-More-clause-first c none more =
-    first_taken c.self.inside.port.limits c.self.inside.port.front c.args.beat.now c.is_busy-busy.result More c.self.invariant.1
+    first_taken c.self.inside.port.limits c.self.inside.port.front c.args.beat.now c.is_busy-busy.result c.self.invariant.1
     (ap (λ (client : ClientState). client.front) c.self.view_is ∙ none) (sym c.take_beat-answer.ensures.answer ∙ more)
 
 pub returns-in-Ok-Whole-clause-free : goal.returns-in-Ok-Whole-clause-free

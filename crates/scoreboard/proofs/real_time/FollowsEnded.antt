@@ -1,0 +1,118 @@
+-- A request whose reply came before it was whole has ended with its last beat: the board, its shadow and the order go on together.
+use Rattle.std.proofs.Common.{◌≡◌, ℕ, ◌<◌, ◌&&◌, Bool, true, false, List, [], ◌∷◌, map, length, Option, Some, None, refl, sym, ◌∙◌, ap, subst, arith}
+use Rattle.std.specs.Prelude.{is_some, slice_get}
+use Rattle.std.specs.List.{list_any}
+use Rattle.std.proofs.Math.Path.{fun_ext}
+use Rattle.std.proofs.lemmas.Bool.Decides.{nat_tests}
+use Rattle.std.proofs.lemmas.Option.{slice_get_within}
+use Rattle.std.proofs.lemmas.Simd.{map-map}
+use Rattle.bus_words.proofs.MappedPlaces.{map_same}
+use Rattle.bus_words.proofs.StoredPlaces.{there_is}
+use Rattle.scoreboard.specs.Boards.{Board, ClientBoard, with_client}
+use Rattle.scoreboard.specs.Flights.{Footprint, InFlight}
+use Rattle.scoreboard.specs.Orders.{Entry, Order, has_ended}
+use Rattle.scoreboard.proofs.MappedLists.{any_map}
+use Rattle.scoreboard.proofs.real_time.Ahead.{Shadow, comes, shadow_of}
+use Rattle.scoreboard.proofs.real_time.Comings.{early_at}
+use Rattle.scoreboard.proofs.real_time.Entries.{place_of}
+use Rattle.scoreboard.proofs.real_time.Explained.{Explains}
+use Rattle.scoreboard.proofs.real_time.Follows.{Follows, IsFailing, IsFollowed, IsMarked, IsOpen, all_mapped, replied_by, settle, settled}
+use Rattle.scoreboard.proofs.real_time.Places.{Place, coming_at, due_at, flight_at}
+use Rattle.scoreboard.proofs.real_time.Removed.{Ends, Over, Still, away_from, coming_less, comes_less, early_less, ended, ended_ahead, ends, explains_ended, kept_at, without}
+use Rattle.scoreboard.proofs.real_time.StepOrders.{is_coming}
+
+module _ (board : Board) (shadow : Shadow) (order : Order) (follows : Follows board shadow order) (number source : ℕ) (client : ClientBoard)
+    (there : slice_get board.clients number ≡ Some client) (none : comes board.clients number ≡ false) where
+  -- the same client on the shadow
+  there_too : (other : ClientBoard) × (slice_get shadow.clients number ≡ Some other)
+  there_too =
+      there_is shadow.clients number
+      (subst (λ (n : ℕ). number < n) (sym follows.ahead.many) (slice_get_within board.clients number client there))
+
+  abbrev other : ClientBoard
+  other = there_too.0
+
+  abbrev now : Board
+  now = with_client number (without source client) board
+
+  abbrev now_shadow : Shadow
+  now_shadow = record shadow { clients = (with_client number (without source other) (shadow_of board shadow)).clients }
+
+  settled_ended : (entry : Entry) → settled (ended number source entry) ≡ ended number source (settled entry)
+  settled_ended entry = grind arith
+
+  settle_ended : settle (map (ended number source) order) ≡ map (ended number source) (settle order)
+  settle_ended =
+      map-map settled (ended number source) order
+      ∙ map_same (λ entry. settled (ended number source entry)) (λ entry. ended number source (settled entry)) order settled_ended
+      ∙ sym (map-map (ended number source) settled order)
+
+  comes_now : (c : ℕ) → comes now.clients c ≡ comes board.clients c
+  comes_now = comes_less board shadow follows.ahead number source client other there there_too.1 (follows.explains.sources number other there_too.1) none
+
+  early_now : (c : ℕ) → early_at now.clients c ≡ early_at board.clients c
+  early_now = early_less board shadow follows.ahead number source client other there there_too.1 (follows.explains.sources number other there_too.1) none
+
+  coming_now : (c : ℕ) → coming_at now.clients c ≡ coming_at board.clients c
+  coming_now = coming_less board shadow follows.ahead number source client other there there_too.1 (follows.explains.sources number other there_too.1) none
+
+  kept : (place : Place) → (place ≡ due_at number source → ⊥) → flight_at now.clients place ≡ flight_at board.clients place
+  kept place away = kept_at board.clients number source client there (follows.ahead.sources number client there) place away
+
+  marked : (entry : Entry) → IsMarked board.clients entry → IsMarked now.clients (ended number source entry)
+  marked entry was live =
+      let still = away_from number source entry live (ends number source entry) in
+      ap (λ (e : Entry). e.whole) still.0 ∙ was (sym (ap (λ (e : Entry). has_ended e) still.0) ∙ live)
+      ∙ sym (ap (λ (e : Entry). is_some (flight_at now.clients (place_of e))) still.0 ∙ ap (λ (o : Option InFlight). is_some o) (kept (place_of entry) still.1))
+
+  failing : (entry : Entry) → IsFailing board entry → IsFailing now (ended number source entry)
+  failing entry was whole live flight there_now =
+      let still = away_from number source entry live (ends number source entry) in
+      subst (λ (e : Entry). IsFailing now e) (sym still.0)
+      (λ its_whole its_live its_flight here. was its_whole its_live its_flight (sym (kept (place_of entry) still.1) ∙ here)) whole live flight there_now
+
+  opened : (entry : Entry) → (entry.whole ≡ false → IsOpen board shadow entry) → (ended number source entry).whole ≡ false
+      → IsOpen now now_shadow (ended number source entry)
+  opened entry was unwhole = by_ends (ends number source entry)
+    where
+      by_ends : Ends number source entry → IsOpen now now_shadow (ended number source entry)
+      by_ends (Over waits is) =
+          let it = was (sym (ap (λ (e : Entry). e.whole) is) ∙ unwhole) in
+          let client_is : entry.client ≡ number = grind (arith, nat_tests, waits) in
+          absurd (cc (sym none ∙ ap (comes board.clients) (sym client_is) ∙ it.begun))
+      by_ends (Still not_waiting is) =
+          let it = was (sym (ap (λ (e : Entry). e.whole) is) ∙ unwhole) in
+          subst (IsOpen now now_shadow) (sym is)
+          (record {
+            begun = comes_now entry.client ∙ it.begun;
+            final = it.final;
+            none_came = it.none_came;
+            any = it.any;
+            early = early_now entry.client ∙ it.early;
+            replied = it.replied ∙ ap (replied_by board.errors) (sym (early_now entry.client));
+            failed = ap (λ (r : Footprint). r.failed) (coming_now entry.client) ∙ it.failed;
+          })
+
+  pub removed_follows : IsFollowed (with_client number (without source client) board) (map (ended number source) order)
+  removed_follows = (
+    now_shadow,
+    record {
+      explains =
+          subst (Explains (shadow_of now now_shadow)) (sym settle_ended)
+          (explains_ended (shadow_of board shadow) (settle order) follows.explains number source other there_too.1);
+      ahead = ended_ahead board shadow follows.ahead number source client other there there_too.1 (follows.explains.sources number other there_too.1) none;
+      marked = all_mapped (IsMarked board.clients) (IsMarked now.clients) (ended number source) order marked follows.marked;
+      failing = all_mapped (IsFailing board) (IsFailing now) (ended number source) order failing follows.failing;
+      open_ones =
+          all_mapped (λ entry. entry.whole ≡ false → IsOpen board shadow entry) (λ entry. entry.whole ≡ false → IsOpen now now_shadow entry) (ended number source) order
+          opened follows.open_ones;
+      known = λ c some.
+          any_map (is_coming c) (ended number source) order
+          ∙ ap (λ (test : Entry → Bool). list_any test order) (fun_ext (λ entry. coming_kept c entry))
+          ∙ follows.known c (sym (comes_now c) ∙ some);
+      early = λ c due is. comes_now c ∙ follows.early c due (sym (early_now c) ∙ is);
+    },
+  )
+    where
+      coming_kept : (c : ℕ) (entry : Entry) → is_coming c (ended number source entry) ≡ is_coming c entry
+      coming_kept c entry = grind arith

@@ -1,0 +1,353 @@
+-- A reply that came before its request was whole ends it when it is whole: on a board and on its shadow the request is in flight no more, whatever reply has
+-- begun.
+use Rattle.std.proofs.Common.{◌≡◌, ℕ, ◌<◌, ◌==◌, Bool, true, false, ◌&&◌, List, [], ◌∷◌, ◌++◌, map, set, length, Option, Some, None, ◌⊎◌, inl, inr, if◌then◌else◌, refl, sym, ◌∙◌, ap, ap₂, subst, arith}
+use Rattle.std.specs.Prelude.{◌≢◌, is_some, slice_get}
+use Rattle.std.specs.List.{AllByRecursion, find, list_any}
+use Rattle.std.proofs.Math.Path.{fun_ext}
+use Rattle.std.proofs.lemmas.Bool.{cases_eq, ne_eqb}
+use Rattle.std.proofs.lemmas.Bool.Decides.{nat_tests}
+use Rattle.std.proofs.lemmas.List.{length-set}
+use Rattle.std.proofs.lemmas.Option.{slice_get_within}
+use Rattle.bus_words.specs.Places.{AreDistinct, without_first}
+use Rattle.bus_words.proofs.DistinctPlaces.{distinct-without_first}
+use Rattle.bus_words.proofs.PlaceChanges.{all-map}
+use Rattle.bus_words.proofs.StoredPlaces.{get_set, get_set-other}
+use Rattle.burst_plan.specs.declared.Region.{Region}
+use Rattle.subordinate.specs.Faults.{Faults}
+use Rattle.meaning.specs.Meaning.{Bytes, zeros}
+use Rattle.scoreboard.specs.Boards.{Board, ClientBoard, with_client}
+use Rattle.scoreboard.specs.Flights.{Flights, Footprint, InFlight, is_of_source, no_footprint}
+use Rattle.scoreboard.specs.Orders.{Entry, Order, begun_to, has_ended, reply_beats}
+use Rattle.scoreboard.specs.Races.{may_write}
+use Rattle.scoreboard.proofs.MappedLists.{any_map, find_other, without_first_map}
+use Rattle.scoreboard.proofs.real_time.Ahead.{HasBecome, IsAhead, IsFinal, Shadow, comes, front_in, shadow_of}
+use Rattle.scoreboard.proofs.real_time.Apart.{AreApart, AreEither, IsEither}
+use Rattle.scoreboard.proofs.real_time.Comings.{comes_other, comes_same, early_at, early_in, early_other, early_same}
+use Rattle.scoreboard.proofs.real_time.Entries.{AreDistinct as AreApartEntries, Differ, Each, IsLive, Stands, carry, place_of, run}
+use Rattle.scoreboard.proofs.real_time.Explained.{Explains, nothing_with, sources_with}
+use Rattle.scoreboard.proofs.real_time.FlightPlaces.{coming_other, coming_same}
+use Rattle.scoreboard.proofs.real_time.Places.{HaveSources, Place, begun_at, cases_place, coming_at, coming_in, due_at, flight_at, flight_in, flights_at, flights_in, flights_other, flights_same, footprint_in}
+use Rattle.scoreboard.proofs.real_time.ReplyMoves.{waits_for}
+use Rattle.scoreboard.proofs.real_time.RequestActs.{IsWell}
+use Rattle.scoreboard.proofs.real_time.ReplySeen.{found_gone}
+
+-- a client without the request that is due to a source
+abbrev pub without : ℕ → ClientBoard → ClientBoard
+without source client = record client { flights = record client.flights { due = without_first (is_of_source source) client.flights.due } }
+
+-- one that waits for the reply to a source has ended
+abbrev pub ended : ℕ → ℕ → Entry → Entry
+ended number source entry = if waits_for number source entry then record entry { came = reply_beats entry.request } else entry
+
+-- ---- what is in flight at the places
+
+module _ (clients : List ClientBoard) (number source : ℕ) (client : ClientBoard) (there : slice_get clients number ≡ Some client)
+    (sources : HaveSources client.flights) where
+  abbrev less : List ClientBoard
+  less = set clients number (without source client)
+
+  pub gone_at : flight_at (set clients number (without source client)) (due_at number source) ≡ None
+  gone_at = ap (λ (f : Flights). flight_in f (Some source)) (flights_same clients number client (without source client) there) ∙ found_gone source client.flights.due sources
+
+  pub kept_at : (place : Place) → (place ≡ due_at number source → ⊥) → flight_at (set clients number (without source client)) place ≡ flight_at clients place
+  kept_at place away = by_client (cases_eq place.client number)
+    where
+      by_source : (s : Option ℕ) → (record { client = number; source = s } ≡ due_at number source → ⊥)
+          → flight_in (without source client).flights s ≡ flight_in client.flights s
+      by_source None differ = refl
+      by_source (Some s) differ = find_other source s client.flights.due (λ same. differ (ap (due_at number) same))
+
+      by_client : (place.client ≡ number) ⊎ (place.client ≡ number → ⊥) → flight_at less place ≡ flight_at clients place
+      by_client (inr differ) = ap (λ (f : Flights). flight_in f place.source) (flights_other clients number place.client (without source client) differ)
+      by_client (inl same) =
+          let is : place ≡ record { client = number; source = place.source } = ap (λ c. record { client = c; source = place.source }) same in
+          ap (flight_at less) is
+          ∙ ap (λ (f : Flights). flight_in f place.source) (flights_same clients number client (without source client) there)
+          ∙ by_source place.source (λ other. away (is ∙ other))
+          ∙ sym (ap (flight_at clients) is ∙ ap (λ (f : Flights). flight_in f place.source) (ap flights_in there))
+
+  pub sources_less : HaveSources (without source client).flights
+  sources_less =
+      subst AreDistinct (sym (without_first_map (λ n. n == source) (λ (flight : InFlight). flight.source) client.flights.due))
+      (distinct-without_first (λ n. n == source) (map (λ (flight : InFlight). flight.source) client.flights.due) sources)
+
+  -- the footprint at a place is none, or what it was
+  footprint_less : (place : Place) → (footprint_in (flight_at less place) ≡ no_footprint) ⊎ (footprint_in (flight_at less place) ≡ footprint_in (flight_at clients place))
+  footprint_less place =
+      elim (cases_place place (due_at number source)) [
+        | inl same ↦ inl (ap footprint_in (ap (flight_at less) same ∙ gone_at))
+        | inr away ↦ inr (ap footprint_in (kept_at place away))
+      ]
+
+  pub apart_less : AreApart (λ place. footprint_in (flight_at clients place)) → AreApart (λ place. footprint_in (flight_at (set clients number (without source client)) place))
+  apart_less old = record { apart = λ i j x differ determined. by_both i j x (footprint_less i) (footprint_less j) differ determined }
+    where
+      by_both : (i j : Place) (x : ℕ) → (footprint_in (flight_at less i) ≡ no_footprint) ⊎ (footprint_in (flight_at less i) ≡ footprint_in (flight_at clients i))
+          → (footprint_in (flight_at less j) ≡ no_footprint) ⊎ (footprint_in (flight_at less j) ≡ footprint_in (flight_at clients j))
+          → (i ≡ j → ⊥) → (footprint_in (flight_at less i)).determined x ≡ true → may_write (footprint_in (flight_at less j)) x ≡ false
+      by_both i j x (inl none) other differ determined = absurd (cc (sym (ap (λ (f : Footprint). f.determined x) none) ∙ determined))
+      by_both i j x first (inl none) differ determined = ap (λ (f : Footprint). may_write f x) none
+      by_both i j x (inr is) (inr its) differ determined =
+          ap (λ (f : Footprint). may_write f x) its ∙ old.apart i j x differ (sym (ap (λ (f : Footprint). f.determined x) is) ∙ determined)
+
+  pub either_less : (indeterminate : ℕ → Bool) → AreEither indeterminate (λ place. footprint_in (flight_at clients place))
+      → AreEither indeterminate (λ place. footprint_in (flight_at (set clients number (without source client)) place))
+  either_less indeterminate old =
+      record {
+        either = λ place. elim (footprint_less place) [
+          | inl none ↦ subst (IsEither indeterminate) (sym none) (λ reads. absurd (cc (reads)))
+          | inr is ↦ subst (IsEither indeterminate) (sym is) (old.either place)
+        ];
+      }
+
+-- ---- the entries
+
+module _ (number source : ℕ) where
+  abbrev step : Entry → Entry
+  step entry = ended number source entry
+
+  -- one that waits has ended, another is as it was
+  pub data Ends (entry : Entry) : Type 0 where
+    Over : waits_for number source entry ≡ true → ended number source entry ≡ record entry { came = reply_beats entry.request } → Ends entry
+    Still : waits_for number source entry ≡ false → ended number source entry ≡ entry → Ends entry
+
+  pub ends : (entry : Entry) → Ends entry
+  ends entry = by_test (waits_for number source entry) refl
+    where
+      by_test : (b : Bool) → waits_for number source entry ≡ b → Ends entry
+      by_test true is = Over is (rw is refl)
+      by_test false is = Still is (rw is refl)
+
+  over_ended : (entry : Entry) → step entry ≡ record entry { came = reply_beats entry.request } → has_ended (step entry) ≡ true
+  over_ended entry is = ap (λ (e : Entry). has_ended e) is ∙ grind (arith, nat_tests)
+
+  -- one that is live still is elsewhere
+  pub away_from : (entry : Entry) → has_ended (ended number source entry) ≡ false → Ends entry
+      → (ended number source entry ≡ entry) × (place_of entry ≡ due_at number source → ⊥)
+  away_from entry live (Over waits is) = absurd (cc (sym live ∙ over_ended entry is))
+  away_from entry live (Still none is) =
+      (is, λ same. let waits : waits_for number source entry ≡ true = grind (arith, nat_tests, same) in absurd (cc (sym none ∙ waits)))
+
+  same_request : (entry : Entry) → (step entry).request ≡ entry.request
+  same_request entry = grind arith
+
+  run_ended : (faults : Faults) (regions : List Region) (order : Order) (m : Bytes) → run faults regions m (map step order) ≡ run faults regions m order
+  run_ended faults regions [] m = refl
+  run_ended faults regions (entry ∷ order) m = rw (run, same_request entry) (run_ended faults regions order (carry faults regions entry.request m))
+
+  differ_ended : (entry other : Entry) → Differ entry other → Differ (step entry) (step other)
+  differ_ended entry other differ live its_live same =
+      let mine = away_from entry live (ends entry) in
+      let theirs = away_from other its_live (ends other) in
+      differ (sym (ap (λ (e : Entry). has_ended e) mine.0) ∙ live) (sym (ap (λ (e : Entry). has_ended e) theirs.0) ∙ its_live)
+      (sym (ap place_of mine.0) ∙ same ∙ ap place_of theirs.0)
+
+  differ_all : (entry : Entry) (order : Order) → AllByRecursion (Differ entry) order → AllByRecursion (Differ (step entry)) (map step order)
+  differ_all entry [] all = tt
+  differ_all entry (other ∷ order) all = (differ_ended entry other all.0, differ_all entry order all.1)
+
+  distinct_ended : (order : Order) → AreApartEntries order → AreApartEntries (map step order)
+  distinct_ended [] distinct = tt
+  distinct_ended (entry ∷ order) distinct = (differ_all entry order distinct.0, distinct_ended order distinct.1)
+
+  -- one that waits for another source still does, and one that has begun too
+  waits_still : (c s : ℕ) → (due_at c s ≡ due_at number source → ⊥) → (entry : Entry) → waits_for c s (step entry) ≡ waits_for c s entry
+  waits_still c s differ entry = by_ends (ends entry)
+    where
+      by_ends : Ends entry → waits_for c s (step entry) ≡ waits_for c s entry
+      by_ends (Still none is) = ap (waits_for c s) is
+      by_ends (Over waits is) =
+          let client : entry.client ≡ number = grind (arith, nat_tests, waits) in
+          let its_source : entry.request.source ≡ source = grind (arith, nat_tests, waits) in
+          by_both (cases_eq c number) (cases_eq s source) client its_source
+        where
+          by_both : (c ≡ number) ⊎ (c ≡ number → ⊥) → (s ≡ source) ⊎ (s ≡ source → ⊥) → entry.client ≡ number → entry.request.source ≡ source
+              → waits_for c s (step entry) ≡ waits_for c s entry
+          by_both (inl same) (inl own) client its = absurd (differ (ap₂ due_at same own))
+          by_both (inr other) sources client its =
+              let none : (entry.client == c) ≡ false = ne_eqb entry.client c (λ is_it. other (sym is_it ∙ client)) in
+              ap (waits_for c s) is ∙ rw none refl
+          by_both clients (inr other) client its =
+              let none : (entry.request.source == s) ≡ false = ne_eqb entry.request.source s (λ is_it. other (sym is_it ∙ its)) in
+              ap (waits_for c s) is ∙ grind (arith, none)
+
+  begun_still : (c : ℕ) (entry : Entry) → begun_to c entry ≡ true → begun_to c (step entry) ≡ true
+  begun_still c entry has = by_ends (ends entry)
+    where
+      by_ends : Ends entry → begun_to c (step entry) ≡ true
+      by_ends (Still none is) = ap (begun_to c) is ∙ has
+      by_ends (Over waits is) = absurd (grind (arith, nat_tests, has, waits))
+
+  any_begun : (c : ℕ) (order : Order) → list_any (begun_to c) order ≡ true → list_any (begun_to c) (map step order) ≡ true
+  any_begun c [] some = some
+  any_begun c (entry ∷ order) some = grind (arith, some, begun_still c entry, any_begun c order)
+
+-- ---- on a board that explains an order
+
+module _ (board : Board) (order : Order) (explains : Explains board order) (number source : ℕ) (client : ClientBoard)
+    (there : slice_get board.clients number ≡ Some client) where
+  abbrev faults : Faults
+  faults = board.memory.faults
+
+  abbrev regions : List Region
+  regions = board.memory.regions
+
+  abbrev now : List ClientBoard
+  now = set board.clients number (without source client)
+
+  sources : HaveSources client.flights
+  sources = explains.sources number client there
+
+  stands_ended : (entry : Entry) (m : Bytes) → Stands faults regions (flight_at board.clients) entry m → Stands faults regions (flight_at now) (ended number source entry) m
+  stands_ended entry m held =
+      record {
+        well = subst IsWell (sym (same_request number source entry)) held.well;
+        whole = by_whole (ends number source entry);
+        live = λ live. by_live live (away_from number source entry live (ends number source entry));
+      }
+    where
+      by_whole : Ends number source entry → (ended number source entry).whole ≡ true
+      by_whole (Over waits is) = ap (λ (e : Entry). e.whole) is ∙ held.whole
+      by_whole (Still none is) = ap (λ (e : Entry). e.whole) is ∙ held.whole
+
+      by_live : has_ended (ended number source entry) ≡ false → (ended number source entry ≡ entry) × (place_of entry ≡ due_at number source → ⊥)
+          → IsLive faults regions (flight_at now) (ended number source entry) m
+      by_live live (same, away) =
+          let was = held.live (sym (ap (λ (e : Entry). has_ended e) same) ∙ live) in
+          subst (λ (e : Entry). IsLive faults regions (flight_at now) e m) (sym same)
+          (record {
+            flight = was.flight;
+            there = kept_at board.clients number source client there sources (place_of entry) away ∙ was.there;
+            source = was.source;
+            acting = was.acting;
+            made_of = was.made_of;
+            bytes = was.bytes;
+            left = was.left;
+            same = was.same;
+          })
+
+  each_ended : (some_order : Order) (m : Bytes) → Each faults regions (Stands faults regions (flight_at board.clients)) m some_order
+      → Each faults regions (Stands faults regions (flight_at now)) m (map (ended number source) some_order)
+  each_ended [] m each = tt
+  each_ended (entry ∷ some_order) m each = (
+    stands_ended entry m each.0,
+    rw (same_request number source entry) (each_ended some_order (carry faults regions entry.request m) each.1),
+  )
+
+  pub explains_ended : Explains (with_client number (without source client) board) (map (ended number source) order)
+  explains_ended =
+      record {
+        sources = sources_with board.clients number client (without source client) there explains.sources (sources_less board.clients number source client there sources);
+        nothing = nothing_with board.clients number client (without source client) there explains.nothing (explains.nothing number client there);
+        small = explains.small;
+        apart = apart_less board.clients number source client there sources explains.apart;
+        either = either_less board.clients number source client there sources board.indeterminate explains.either;
+        distinct = distinct_ended number source order explains.distinct;
+        entries = each_ended order zeros explains.entries;
+        known = λ x certain. ap (λ (f : Bytes). f x) (run_ended number source faults regions order zeros) ∙ explains.known x certain;
+        waiting = λ c s some. by_place c s some (cases_place (due_at c s) (due_at number source));
+        begun = λ c some. any_begun number source c order
+            (explains.begun c (sym (ap (λ (o : Option InFlight). is_some o) (kept_at board.clients number source client there sources (begun_at c) (not_due c))) ∙ some));
+      }
+    where
+      not_due : (c : ℕ) → begun_at c ≡ due_at number source → ⊥
+      not_due c same = let is = ap (λ (p : Place). p.source) same in absurd (cc (is))
+
+      by_place : (c s : ℕ) → is_some (flight_at now (due_at c s)) ≡ true → (due_at c s ≡ due_at number source) ⊎ (due_at c s ≡ due_at number source → ⊥)
+          → list_any (waits_for c s) (map (ended number source) order) ≡ true
+      by_place c s some (inl same) =
+          absurd (cc (sym (ap (λ (o : Option InFlight). is_some o) (ap (flight_at now) same ∙ gone_at board.clients number source client there sources)) ∙ some))
+      by_place c s some (inr away) =
+          any_map (waits_for c s) (ended number source) order
+          ∙ ap (λ (test : Entry → Bool). list_any test order) (fun_ext (λ entry. waits_still number source c s away entry))
+          ∙ explains.waiting c s (sym (ap (λ (o : Option InFlight). is_some o) (kept_at board.clients number source client there sources (due_at c s) away)) ∙ some)
+
+-- ---- a board and its shadow
+
+module _ (board : Board) (shadow : Shadow) (ahead : IsAhead board shadow) (number source : ℕ) (client other : ClientBoard)
+    (there : slice_get board.clients number ≡ Some client) (there_too : slice_get shadow.clients number ≡ Some other)
+    (sources_too : HaveSources other.flights) (none : comes board.clients number ≡ false) where
+  abbrev mine : List ClientBoard
+  mine = set board.clients number (without source client)
+
+  abbrev theirs : List ClientBoard
+  theirs = set shadow.clients number (without source other)
+
+  own_sources : HaveSources client.flights
+  own_sources = ahead.sources number client there
+
+  kept_mine : (place : Place) → (place ≡ due_at number source → ⊥) → flight_at mine place ≡ flight_at board.clients place
+  kept_mine place away = kept_at board.clients number source client there own_sources place away
+
+  kept_theirs : (place : Place) → (place ≡ due_at number source → ⊥) → flight_at theirs place ≡ flight_at shadow.clients place
+  kept_theirs place away = kept_at shadow.clients number source other there_too sources_too place away
+
+  pub comes_less : (c : ℕ) → comes (set board.clients number (without source client)) c ≡ comes board.clients c
+  comes_less c =
+      elim (cases_eq c number) [
+        | inl same ↦
+            ap (comes mine) same ∙ comes_same board.clients number client (without source client) there
+            ∙ sym (ap (λ (o : Option ClientBoard). is_some (front_in o)) there) ∙ ap (comes board.clients) (sym same)
+        | inr differ ↦ comes_other board.clients number c (without source client) differ
+      ]
+
+  pub early_less : (c : ℕ) → early_at (set board.clients number (without source client)) c ≡ early_at board.clients c
+  early_less c =
+      elim (cases_eq c number) [
+        | inl same ↦
+            ap (early_at mine) same ∙ early_same board.clients number client (without source client) there ∙ sym (ap early_in there)
+            ∙ ap (early_at board.clients) (sym same)
+        | inr differ ↦ early_other board.clients number c (without source client) differ
+      ]
+
+  pub coming_less : (c : ℕ) → coming_at (set board.clients number (without source client)) c ≡ coming_at board.clients c
+  coming_less c =
+      elim (cases_eq c number) [
+        | inl same ↦
+            ap (coming_at mine) same ∙ coming_same board.clients number client (without source client) there ∙ sym (ap coming_in there)
+            ∙ ap (coming_at board.clients) (sym same)
+        | inr differ ↦ coming_other board.clients number c (without source client) differ
+      ]
+
+  -- what has begun is another's
+  apart : (c : ℕ) → comes board.clients c ≡ true → c ≡ number → ⊥
+  apart c some same = absurd (cc (sym none ∙ ap (comes board.clients) (sym same) ∙ some))
+
+  others_place : (c s : ℕ) → (c ≡ number → ⊥) → due_at c s ≡ due_at number source → ⊥
+  others_place c s differ same = differ (ap (λ (p : Place). p.client) same)
+
+  pub ended_ahead : IsAhead (with_client number (without source client) board) (record shadow { clients = set shadow.clients number (without source other) })
+  ended_ahead =
+      record {
+        sources = sources_with board.clients number client (without source client) there ahead.sources (sources_less board.clients number source client there own_sources);
+        small = ahead.small;
+        many = length-set shadow.clients number (without source other) ∙ ahead.many ∙ sym (length-set board.clients number (without source client));
+        placed = λ place flight is. elim (cases_place place (due_at number source)) [
+          | inl same ↦ absurd (cc (sym (ap (flight_at mine) same ∙ gone_at board.clients number source client there own_sources) ∙ is))
+          | inr away ↦
+              let old = ahead.placed place flight (sym (kept_mine place away) ∙ is) in
+              record { other = old.other; there = kept_theirs place away ∙ old.there; behind = old.behind }
+        ];
+        begun = λ c some.
+            let before = sym (comes_less c) ∙ some in
+            let old = ahead.begun c before in
+            subst (λ coming. HasBecome board.memory.faults board.memory.regions theirs coming c (shadow.finals c)) (sym (coming_less c))
+            (record {
+              other = old.other;
+              there = kept_theirs (due_at c (shadow.finals c).source) (others_place c (shadow.finals c).source (apart c before)) ∙ old.there;
+              becomes = old.becomes;
+            });
+        others = λ place its is nothing. elim (cases_place place (due_at number source)) [
+          | inl same ↦ absurd (cc (sym (ap (flight_at theirs) same ∙ gone_at shadow.clients number source other there_too sources_too) ∙ is))
+          | inr away ↦
+              let old = ahead.others place its (sym (kept_theirs place away) ∙ is) (sym (kept_mine place away) ∙ nothing) in
+              record { begun = comes_less place.client ∙ old.begun; there = old.there }
+        ];
+        waits = λ c some.
+            let before = sym (comes_less c) ∙ some in
+            kept_mine (due_at c (shadow.finals c).source) (others_place c (shadow.finals c).source (apart c before)) ∙ ahead.waits c before;
+        known = λ x certain nothing.
+            let same = ahead.known x certain (λ c some. nothing c (comes_less c ∙ some)) in record { byte = same.byte; certain = same.certain };
+        given = λ c x some determined gives_it.
+            ahead.given c x (sym (comes_less c) ∙ some) (sym (ap (λ (r : Footprint). r.determined x) (coming_less c)) ∙ determined) gives_it;
+      }
