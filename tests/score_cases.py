@@ -9,6 +9,7 @@ import re
 import sys
 from pathlib import Path
 
+import error_histories
 import script_cases
 from ends import started, told
 
@@ -593,7 +594,7 @@ def all_cases():
             yield f"{name}, by profile {profile}", *case_of(f"{SETUP}\nbad 10018\nprofile {profile}\n{history.strip()}")
     for row in STORED:
         yield f"{row}, by profile tilelink", *stored_by_tilelink(row)
-    for name, lines in INPUTS.items():
+    for name, lines in (INPUTS | error_histories.histories()).items():
         yield name, *case_of(lines)
 
 

@@ -1,5 +1,5 @@
 -- What the lines of a set-up ask of a bridge, and the board that judges beats by it (this project's profile).
-use Rattle.std.specs.Prelude.{ℕ, Bool, true, false, ◌||◌, List, [], ◌∷◌, Option, Some, None, Result, Err, if◌then◌else◌, is_some, unwrap_or, codes}
+use Rattle.std.specs.Prelude.{ℕ, Bool, true, false, ◌&&◌, ◌||◌, List, [], ◌∷◌, Option, Some, None, Result, Err, if◌then◌else◌, is_some, unwrap_or, codes}
 use Rattle.std.specs.Str.{bytes_eq}
 use Rattle.line_text.specs.Fields.{Field, read_as}
 use Rattle.line_text.specs.Words.{word_at}
@@ -8,6 +8,8 @@ use Rattle.score_script.specs.declared.profiles.Asked.{Asked}
 use Rattle.scoreboard.specs.Boards as boards
 use Rattle.scoreboard.specs.Boards.{Board, wrong_at}
 use Rattle.scoreboard.specs.SerialMemory.{byte_at}
+use Rattle.scoreboard.specs.declared.Errors.{Errors}
+use Rattle.scoreboard.specs.declared.Errors.TheVariants.{Any, Strict}
 use Rattle.scoreboard.specs.declared.Policy.{Policy}
 use Rattle.scoreboard.specs.declared.Policy.TheVariants.{AcceptanceOrder, RealTime}
 use Rattle.scoreboard.specs.declared.ObservedBeat.{ObservedBeat}
@@ -39,11 +41,31 @@ strict_field word = bytes_eq word (codes "strict")
 abbrev pub axi_line : List (List ℕ) → Result Bool ℕ
 axi_line words = read_as (strict_field ∷ []) words true
 
--- ---- both
+-- ---- errors ERRORS
+
+-- whether errors may be told in any way where this policy was asked for, if any was: in real time alone
+abbrev pub takes_any : Option Policy → Bool
+takes_any None = false
+takes_any (Some AcceptanceOrder) = false
+takes_any (Some RealTime) = true
+
+-- the name of a way in which errors may be told, where this policy was asked for, if any was
+abbrev pub errors_field : Option Policy → Field
+errors_field policy word = bytes_eq word (codes "strict") || (bytes_eq word (codes "any") && takes_any policy)
+
+-- the way in which errors are told, by its name
+abbrev pub errors_in : List ℕ → Errors
+errors_in word = if bytes_eq word (codes "any") then Any else Strict
+
+-- how errors are told, or the first wrong word
+abbrev pub errors_line : Option Policy → List (List ℕ) → Result Errors ℕ
+errors_line policy words = read_as (errors_field policy ∷ []) words (errors_in (word_at words 2))
+
+-- ---- all of them
 
 -- no line has asked for anything
 abbrev pub nothing_asked : Asked
-nothing_asked = record { policy = None; strict = false }
+nothing_asked = record { policy = None; strict = false; errors = None }
 
 -- what a `profile` line says beside those before it: a set-up has at most one
 abbrev pub with_profile : Asked → List (List ℕ) → Result Asked ℕ
@@ -54,16 +76,28 @@ with_profile asked words =
 abbrev pub with_axi : Asked → List (List ℕ) → Result Asked ℕ
 with_axi asked words = if asked.strict then Err 1 else told_as (λ strict. record asked { strict = strict }) (axi_line words)
 
+-- the same of an `errors` line, behind the profile for which it is
+abbrev pub with_errors : Asked → List (List ℕ) → Result Asked ℕ
+with_errors asked words =
+    if is_some asked.errors then Err 1 else told_as (λ errors. record asked { errors = Some errors }) (errors_line asked.policy words)
+
 -- what the lines so far ask for, if the words are of such a line
 abbrev pub own_line : Asked → List (List ℕ) → Option (Result Asked ℕ)
 own_line asked words =
     if bytes_eq (word_at words 1) (codes "profile")
     then Some (with_profile asked words)
-    else (if bytes_eq (word_at words 1) (codes "axi") then Some (with_axi asked words) else None)
+    else
+    (if bytes_eq (word_at words 1) (codes "axi")
+    then Some (with_axi asked words)
+    else (if bytes_eq (word_at words 1) (codes "errors") then Some (with_errors asked words) else None))
 
 -- the policy of a set-up, by the one that a line of it asks for, if any does
 abbrev pub policy_of : Option Policy → Policy
 policy_of named = unwrap_or named AcceptanceOrder
+
+-- how errors are told in a set-up, by what a line of it asks for, if any does
+abbrev pub errors_of : Option Errors → Errors
+errors_of named = unwrap_or named Strict
 
 -- ---- boards
 
@@ -72,9 +106,9 @@ pub record PolicyBoard : Type 0 where
   pub policy : Policy
   pub board : Board
 
--- nothing was observed
-abbrev pub opening_board : Policy → SetupLists → PolicyBoard
-opening_board policy setup = record { policy = policy; board = boards.opening_board setup }
+-- nothing was observed, and errors are told so
+abbrev pub opening_board : Policy → Errors → SetupLists → PolicyBoard
+opening_board policy errors setup = record { policy = policy; board = boards.opening_with errors setup }
 
 -- what is wrong with a beat, if anything is
 abbrev pub wrong_in : PolicyBoard → ObservedBeat → Option Wrong

@@ -3,7 +3,7 @@ use Rattle.std.specs.Prelude.{ℕ, ◌+◌, ◌^◌, ◌-◌, Bool, true, List, 
 use Rattle.std.specs.Option.{option_or}
 use Rattle.score_script.specs.FindingTexts.{last_text, optional_text}
 use Rattle.score_script.specs.ObservedLines.{command_of, only_settles}
-use Rattle.score_script.specs.Profiles.{PolicyBoard, after_seen, bursts_open, byte_in, nothing_asked, opening_board, own_line, policy_of, replies_open, wrong_in}
+use Rattle.score_script.specs.Profiles.{PolicyBoard, after_seen, bursts_open, byte_in, errors_of, nothing_asked, opening_board, own_line, policy_of, replies_open, wrong_in}
 use Rattle.score_script.specs.declared.findings.Finding.{Finding}
 use Rattle.score_script.specs.declared.findings.Finding.TheVariants as finding
 use Rattle.score_script.specs.declared.score.Command.{Command}
@@ -32,7 +32,7 @@ pub record Score : Type 0 where
 abbrev pub opening_score : Asked → SetupLists → Score
 opening_score asked setup =
     record {
-      board = opening_board (policy_of asked.policy) setup;
+      board = opening_board (policy_of asked.policy) (errors_of asked.errors) setup;
       places = if asked.strict then Some setup.regions else None;
       held = None;
       judged = 0;
@@ -131,8 +131,9 @@ closing settled = (
   nat_lt 0 settled.1.wrong,
 )
 
--- it has every set-up line, and a `profile` and an `axi` line of its own; without the first the profile is `bridge`, without the second no place is
--- judged. An answer that only settles a beat is passed over before the first command
+-- it has every set-up line, and a `profile`, an `axi` and an `errors` line of its own; without the first the profile is `bridge`, without the second no
+-- place is judged, and without the third errors are told as this project's bridge tells them. An answer that only settles a beat is passed over before
+-- the first command
 abbrev pub score_kind : Kind Asked Score Command
 score_kind =
     record {

@@ -2,10 +2,10 @@
 ghost use Rattle.std.specs.Prelude.{◌≡◌, ◌<◌, true};
 ghost use Rattle.line_text.specs.Fields.{Reads};
 ghost use Rattle.line_text.specs.Words.{word_at};
-ghost use Rattle.score_script.specs.Profiles.{axi_line, nothing_asked, own_line, policy_in, profile_field, profile_line, strict_field, with_axi, with_profile};
+ghost use Rattle.score_script.specs.Profiles.{axi_line, errors_field, errors_in, errors_line, nothing_asked, own_line, policy_in, profile_field, profile_line, strict_field, takes_any, with_axi, with_errors, with_profile};
 
 use line_text::Words;
-use scoreboard::Policy;
+use scoreboard::{Errors, Policy};
 
 /// What the lines of a set-up ask for beside the set-up itself.
 #[derive(Clone, Copy, Debug, PartialEq, Eq)]
@@ -14,6 +14,8 @@ pub(crate) struct Asked {
     pub(crate) policy: Option<Policy>,
     /// Whether bursts have to go to the pages of regions.
     pub(crate) strict: bool,
+    /// How errors are told, if that is said.
+    pub(crate) errors: Option<Errors>,
 }
 
 /// The policy of the profile that a word names.
@@ -57,6 +59,34 @@ fn axi_line(words: &Words<'_>) -> Result<bool, u32>
     Ok(strict)
 }
 
+/// Whether errors may be told in any way where this policy was asked for, if any was.
+fn takes_any(policy: Option<Policy>) -> bool
+    ensures { result ≡ takes_any policy }
+{
+    matches!(policy, Some(Policy::RealTime))
+}
+
+/// How errors are told, by a word, where this policy was asked for, if any was.
+fn errors_at(policy: Option<Policy>, words: &Words<'_>, n: u32) -> Result<Errors, u32>
+    requires { 0 < n }
+    ensures { Reads (errors_field policy (word_at words.now n)) (errors_in (word_at words.now n)) n result }
+{
+    match words.at(n) {
+        b"strict" => Ok(Errors::Strict),
+        b"any" if takes_any(policy) => Ok(Errors::Any),
+        _ => Err(n),
+    }
+}
+
+/// `errors ERRORS`.
+fn errors_line(policy: Option<Policy>, words: &Words<'_>) -> Result<Errors, u32>
+    ensures { result ≡ errors_line policy words.now }
+{
+    let errors = errors_at(policy, words, 2)?;
+    words.end(2)?;
+    Ok(errors)
+}
+
 impl Asked {
     /// No line has asked for anything.
     pub(crate) fn nothing() -> Asked
@@ -65,6 +95,7 @@ impl Asked {
         Asked {
             policy: None,
             strict: false,
+            errors: None,
         }
     }
 
@@ -90,6 +121,17 @@ impl Asked {
         Ok(Asked { strict, ..self })
     }
 
+    /// The same of an `errors` line.
+    fn with_errors(self, words: &Words<'_>) -> Result<Asked, u32>
+        ensures { result ≡ with_errors self words.now }
+    {
+        if self.errors.is_some() {
+            return Err(1);
+        }
+        let errors = Some(errors_line(self.policy, words)?);
+        Ok(Asked { errors, ..self })
+    }
+
     /// What the lines of a set-up ask for with one line more, if that is such a line.
     pub(crate) fn own_line(self, words: &Words<'_>) -> Option<Result<Asked, u32>>
         ensures { result ≡ own_line self words.now }
@@ -99,6 +141,9 @@ impl Asked {
         }
         if words.at(1) == b"axi".as_slice() {
             return Some(self.with_axi(words));
+        }
+        if words.at(1) == b"errors".as_slice() {
+            return Some(self.with_errors(words));
         }
         None
     }

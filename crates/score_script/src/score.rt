@@ -10,7 +10,7 @@ use crate::findings::{Finding, Findings, last_line, optional_line};
 use crate::profiles::Asked;
 use burst_plan::Region;
 use line_text::WriteFault;
-use scoreboard::{AxiPlaces, ObservedBeat, Policy, Scoreboard, Wrong};
+use scoreboard::{AxiPlaces, Errors, ObservedBeat, Policy, Scoreboard, Wrong};
 use setups::{Setup, SetupFault};
 use std::alloc::{AllocError, Global};
 use std::io::Write;
@@ -134,7 +134,8 @@ impl Score {
         ensures opens { IfOk result (λ score. score_of score ≡ opening_score asked (lists_of setup.now)) }
     {
         let policy = asked.policy.unwrap_or(Policy::AcceptanceOrder);
-        let board = Scoreboard::new(alloc, policy, setup)?;
+        let errors = asked.errors.unwrap_or(Errors::Strict);
+        let board = Scoreboard::new(alloc, policy, errors, setup)?;
         match places_for(alloc, asked.strict, setup.regions.as_slice()) {
             Ok(places) => Ok(Score {
                 board,

@@ -1,7 +1,7 @@
 //! A board of each policy: what a text doesn't ask of it.
 use super::{ACK, PUT, REGION, SEEN, refused_set_up, same, set_up};
 use burst_plan::MapFault;
-use scoreboard::{ObservedBeat, Policy, ReplyRule, Scoreboard, Wrong};
+use scoreboard::{Errors, ObservedBeat, Policy, ReplyRule, Scoreboard, Wrong};
 use setups::SetupFault;
 use std::test::Fail;
 use tl_checker::TlRule;
@@ -13,7 +13,7 @@ const POLICIES: [Policy; 2] = [Policy::AcceptanceOrder, Policy::RealTime];
 fn what_is_left_after_each_beat(rt: HostRuntime) -> Result<(), Fail> {
     let setup = set_up(REGION).expect(&rt, "room");
     for policy in POLICIES {
-        let mut board = Scoreboard::new(rt.alloc(), policy, &setup)?;
+        let mut board = Scoreboard::new(rt.alloc(), policy, Errors::Strict, &setup)?;
         for (place, (seen, outstanding, open)) in SEEN.iter().enumerate() {
             let case = (policy, place);
             same(&rt, case, board.judge(seen), None);
@@ -28,7 +28,7 @@ fn what_is_left_after_each_beat(rt: HostRuntime) -> Result<(), Fail> {
 fn bytes_from_the_request_on(rt: HostRuntime) -> Result<(), Fail> {
     let setup = set_up(REGION).expect(&rt, "room");
     for policy in POLICIES {
-        let mut board = Scoreboard::new(rt.alloc(), policy, &setup)?;
+        let mut board = Scoreboard::new(rt.alloc(), policy, Errors::Strict, &setup)?;
         same(&rt, policy, board.byte(0x1000f), Some(0));
         same(&rt, policy, board.judge(&ObservedBeat::A(0, PUT)), None);
         for (address, byte) in [
@@ -71,7 +71,7 @@ const WRONG: [(ObservedBeat, Option<Wrong>); 5] = [
 fn what_is_wrong(rt: HostRuntime) -> Result<(), Fail> {
     let setup = set_up(REGION).expect(&rt, "room");
     for policy in POLICIES {
-        let mut board = Scoreboard::new(rt.alloc(), policy, &setup)?;
+        let mut board = Scoreboard::new(rt.alloc(), policy, Errors::Strict, &setup)?;
         for (place, (seen, wrong)) in WRONG.iter().enumerate() {
             same(&rt, (policy, place), board.judge(seen), *wrong);
         }
@@ -84,7 +84,7 @@ fn a_region_of_no_pages(rt: HostRuntime) {
     let setup = refused_set_up().expect(&rt, "room");
     let fault = SetupFault::Map(MapFault::RegionEmpty(0));
     for policy in POLICIES {
-        let refused = Scoreboard::new(rt.alloc(), policy, &setup).err();
+        let refused = Scoreboard::new(rt.alloc(), policy, Errors::Strict, &setup).err();
         same(&rt, policy, refused, Some(fault));
     }
 }

@@ -2,7 +2,7 @@
 use super::{GET, PUT, REGION, SEEN, refused_set_up, same, set_up};
 use burst_plan::MapFault;
 use observed_run::observed;
-use scoreboard::{Policy, Scoreboard};
+use scoreboard::{Errors, Policy, Scoreboard};
 use setups::SetupFault;
 use std::test::Fail;
 use world::Step;
@@ -34,7 +34,7 @@ fn what_a_run_shows(rt: HostRuntime) -> Result<(), Fail> {
         same(&rt, place, beats.get(place), Some(seen));
     }
     for policy in [Policy::AcceptanceOrder, Policy::RealTime] {
-        let mut board = Scoreboard::new(rt.alloc(), policy, &setup)?;
+        let mut board = Scoreboard::new(rt.alloc(), policy, Errors::Strict, &setup)?;
         for (place, beat) in beats.iter().enumerate() {
             same(&rt, (policy, place), board.judge(beat), None);
         }
