@@ -156,8 +156,7 @@ module _ (errors : Errors) (limits : TlPortLimits) (beat : ABeat) (busy : Bool) 
       → ComeNext front progress → (progress ≡ Whole → IsWell (request_of (joined limits front beat)))
       → AreHeld errors fronts now → AreHeld errors next (with_progress errors number front (request_of (joined limits front beat)) progress now)
   held_progress None More answer own come well are =
-      each_last (IsHeldBy errors next) now (entry_of errors number (request_of (begun limits.client beat)) false) (others_held More come own are)
-      (
+      each_last (IsHeldBy errors next) now (entry_of errors number (request_of (begun limits.client beat)) false) (others_held More come own are) (
         λ unwhole. record {
           held = begun limits.client beat;
           told = λ is. is;

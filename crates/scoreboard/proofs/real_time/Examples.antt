@@ -1,5 +1,5 @@
 -- Worked values of orders: what has begun, what is due in each order of it, and what a board says; and where the laws on lists of beats end.
-use Rattle.std.proofs.Common.{◌≡◌, ℕ, true, false, List, [], ◌∷◌, ◌++◌, length, Some, None, refl, sym, ◌∙◌, inl, inr, arith}
+use Rattle.std.proofs.Common.{◌≡◌, ℕ, zero, suc, true, false, List, [], ◌∷◌, ◌++◌, length, Some, None, refl, sym, ◌∙◌, inl, inr, arith}
 use Rattle.std.proofs.lemmas.Bool.{false≢true}
 use Rattle.std.proofs.lemmas.Option.{none-some}
 use Rattle.std.specs.Prelude.{replicate}
@@ -12,16 +12,17 @@ use Rattle.subordinate.specs.declared.PageKind.TheVariants.{Good}
 use Rattle.setups.specs.Setups.{SetupLists}
 use Rattle.scoreboard.specs.Boards.{after_all, opening_board, wrong_at}
 use Rattle.scoreboard.specs.Right.{IsRight}
-use Rattle.scoreboard.specs.declared.ReplyRule.TheVariants.{Payload, Unasked}
+use Rattle.scoreboard.specs.declared.ReplyRule.TheVariants.{Corrupt, Denied, Payload, Unasked}
 use Rattle.scoreboard.specs.declared.ObservedBeat.{ObservedBeat}
 use Rattle.scoreboard.specs.declared.ObservedBeat.TheVariants.{A, D}
 use Rattle.scoreboard.specs.declared.Wrong.TheVariants.{Reply}
 use Rattle.scoreboard.specs.Orders.{Asked, board_after, due_beats}
-use Rattle.scoreboard.specs.declared.Errors.TheVariants.{Strict}
-use Rattle.scoreboard.specs.RealTime.{KeepsRealTime, arranged, as_begun, begun_in}
+use Rattle.scoreboard.specs.declared.Errors.TheVariants.{Any, Strict}
+use Rattle.scoreboard.specs.RealTime.{KeepsRealTime, MayBecomeAll, arranged, as_begun, begun_in}
 use Rattle.scoreboard.specs.Wider.{TellsNoMore}
 use Rattle.scoreboard.specs.declared.Policy.TheVariants.{AcceptanceOrder, RealTime}
 use Rattle.scoreboard.proofs.acceptance_order.Reached.{right_nothing}
+use Rattle.scoreboard.proofs.real_time.Arranged.{nothing_more}
 
 -- two clients and one good page, to which a region leads that permits all
 abbrev setup : SetupLists
@@ -180,6 +181,98 @@ atomic_in_doubt : ((board_after Strict setup (swap ∷ [])).indeterminate 0x1000
     × ((board_after Strict setup with_atomic).indeterminate 0x1000b ≡ true)
 unfolding zero_words
 atomic_in_doubt = (refl, refl)
+
+-- ---- a put that is corrupt, where errors are told in any way
+
+-- client 0 puts the word at 8, and says that it is corrupt
+abbrev spoiled : ObservedBeat
+spoiled = A 0 (record (a 0 0 3 5 0x08 0xff 0xaa000000) { corrupt = true })
+
+abbrev acknowledged_word : DBeat
+acknowledged_word = record acknowledged { size = 3 }
+
+abbrev denied_word : DBeat
+denied_word = record acknowledged_word { denied = true }
+
+-- what is asked of an order by a beat, the first of its reply
+abbrev asked_by : ℕ → DBeat → Asked
+asked_by client beat = record { errors = Any; told = None; client = client; beat = beat }
+
+-- it may be acknowledged or denied, by the board and by the one order that there is; where errors are told as this project's bridge tells them it has to
+-- be denied
+either_answer : (wrong_at RealTime (board_after Any setup (spoiled ∷ [])) (D 0 acknowledged_word) ≡ None)
+    × (wrong_at RealTime (board_after Any setup (spoiled ∷ [])) (D 0 denied_word) ≡ None)
+    × (due_beats setup (arranged Any setup (spoiled ∷ []) (as_begun Any setup (spoiled ∷ [])) (0 ∷ [])) (asked_by 0 acknowledged_word) ≡ acknowledged_word ∷ [])
+    × (due_beats setup (arranged Any setup (spoiled ∷ []) (as_begun Any setup (spoiled ∷ [])) (0 ∷ [])) (asked_by 0 denied_word) ≡ denied_word ∷ [])
+    × (wrong_at RealTime (board_after Strict setup (spoiled ∷ [])) (D 0 acknowledged_word) ≡ Some (Reply Denied (Some denied_word)))
+    × (due_beats setup (arranged Strict setup (spoiled ∷ []) (as_begun Strict setup (spoiled ∷ [])) (0 ∷ [])) (asked 0 5) ≡ denied_word ∷ [])
+unfolding zero_words
+either_answer = (refl, refl, refl, refl, refl, refl)
+
+-- a get behind its reply
+abbrev in_doubt : List ObservedBeat
+in_doubt = spoiled ∷ D 0 acknowledged_word ∷ get ∷ []
+
+-- nobody knows whether it was carried out, or what it wrote
+any_value : ((board_after Any setup in_doubt).indeterminate 0x1000b ≡ true)
+    × ((board_after Any setup in_doubt).memory.bytes 0x1000b ≡ 0)
+    × (wrong_at RealTime (board_after Any setup in_doubt) (D 1 (told 0xaa000000)) ≡ None)
+    × (wrong_at RealTime (board_after Any setup in_doubt) (D 1 (told 0)) ≡ None)
+    × (wrong_at RealTime (board_after Any setup in_doubt) (D 1 (told 0xbb000000)) ≡ None)
+    × ((board_after Strict setup in_doubt).indeterminate 0x1000b ≡ false)
+    × (wrong_at RealTime (board_after Strict setup in_doubt) (D 1 (told 0xaa000000)) ≡ Some (Reply Payload (Some (told 0))))
+unfolding zero_words
+any_value = (refl, refl, refl, refl, refl, refl, refl)
+
+-- the put as it is carried out all the same
+abbrev carried : ℕ → WholeRequest
+carried number = record (as_begun Any setup in_doubt number) { corrupt = false }
+
+-- it may become that
+may_be_carried : MayBecomeAll (begun_in Any setup in_doubt) carried
+may_be_carried zero below =
+    let left = (nothing_more Any setup in_doubt 0 below).left refl refl
+    in record {
+      same = λ whole sound. absurd (false≢true (sym sound));
+      fields = refl;
+      corrupt = λ sound spoilt. absurd (false≢true (sym sound));
+      bytes = λ unwhole. absurd (false≢true (sym unwhole));
+      left = λ whole spoilt. record { bytes = record { count = left.bytes.count; small = left.bytes.small }; within = left.within; full = left.full };
+    }
+may_be_carried (suc zero) below = nothing_more Any setup in_doubt 1 below
+may_be_carried (suc (suc number)) below = absurd (omega (arith, below))
+
+-- the get is told what the put gave, or what was there
+carried_or_not : (due_beats setup (arranged Any setup in_doubt carried (0 ∷ 1 ∷ [])) (asked_by 1 (told 0)) ≡ told 0xaa000000 ∷ [])
+    × (due_beats setup (arranged Any setup in_doubt (as_begun Any setup in_doubt) (0 ∷ 1 ∷ [])) (asked_by 1 (told 0)) ≡ told 0 ∷ [])
+unfolding zero_words
+carried_or_not = (refl, refl)
+
+-- ---- a get that fails
+
+-- client 1 gets two words of a page that isn't there
+abbrev get_absent : ObservedBeat
+get_absent = A 1 (a 4 0 4 2 0x1000 0xff 0)
+
+abbrev refused : DBeat
+refused = record { opcode = 1; param = 0; size = 4; source = 2; denied = true; payload = 0; corrupt = true }
+
+-- neither denied nor corrupt
+abbrev passed : DBeat
+passed = record refused { denied = false; corrupt = false }
+
+abbrev when_refused : List ObservedBeat
+when_refused = get_absent ∷ D 1 refused ∷ []
+
+-- either may be its first beat, but what is denied is corrupt; and what the first tells of denied holds for the second
+first_holds : (wrong_at RealTime (board_after Any setup (get_absent ∷ [])) (D 1 refused) ≡ None)
+    × (wrong_at RealTime (board_after Any setup (get_absent ∷ [])) (D 1 passed) ≡ None)
+    × (wrong_at RealTime (board_after Any setup (get_absent ∷ [])) (D 1 (record refused { corrupt = false })) ≡ Some (Reply Corrupt (Some refused)))
+    × (wrong_at RealTime (board_after Any setup when_refused) (D 1 refused) ≡ None)
+    × (wrong_at RealTime (board_after Any setup when_refused) (D 1 passed) ≡ Some (Reply Denied (Some refused)))
+    × (due_beats setup (arranged Any setup when_refused (as_begun Any setup when_refused) (0 ∷ [])) (record (asked_by 1 passed) { told = Some true }) ≡ refused ∷ [])
+unfolding zero_words
+first_holds = (refl, refl, refl, refl, refl, refl)
 
 -- ---- where the laws end
 
