@@ -19,6 +19,7 @@ pub mod FlightLists
 pub mod FlightPlaces
 pub mod FlightsAlone
 pub mod Follows
+pub mod FollowsChanges
 pub mod FollowsEnded
 pub mod FollowsReplies
 pub mod FollowsRequests

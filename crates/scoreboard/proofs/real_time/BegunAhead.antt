@@ -1,15 +1,14 @@
 -- A message begins on a board, and on its shadow the request that it becomes is carried out: the shadow is still ahead.
-use Rattle.std.proofs.Common.{◌≡◌, ℕ, Bool, true, false, ◌&&◌, not, List, [], map, set, length, Option, Some, None, ◌⊎◌, inl, inr, refl, sym, ◌∙◌, ap, subst, arith}
-use Rattle.std.specs.Prelude.{is_some, option_map, slice_get, unwrap_or}
+use Rattle.std.proofs.Common.{◌≡◌, ℕ, Bool, true, false, not, List, [], map, set, Option, Some, None, ◌⊎◌, inl, inr, refl, sym, ◌∙◌, ap, subst, arith}
+use Rattle.std.specs.Prelude.{option_map, slice_get}
 use Rattle.std.specs.List.{list_any}
 use Rattle.std.proofs.lemmas.Bool.{and_parts, cases_eq, or_parts, or_right}
 use Rattle.std.proofs.lemmas.List.{length-map, length-set}
 use Rattle.std.proofs.lemmas.Option.{slice_get-map, slice_get_within}
 use Rattle.bus_words.proofs.StoredPlaces.{get_set}
-use Rattle.tl_messages.specs.Operations.{has_data, reply_has_data}
+use Rattle.tl_messages.specs.Operations.{reply_has_data}
 use Rattle.tl_messages.specs.Requests.{HeldMessage, WholeRequest, request_of}
 use Rattle.burst_plan.specs.declared.Region.{Region}
-use Rattle.burst_plan.specs.PageMap.{address_of}
 use Rattle.responses.specs.Shown.{shown}
 use Rattle.subordinate.specs.Faults.{Faults}
 use Rattle.scoreboard.specs.Boards.{Board, ClientBoard, begun_on, client_beside, early_due, fails, flight_for, footprints_of, joining_on, place_on, with_accepted, with_client}
@@ -17,7 +16,6 @@ use Rattle.scoreboard.specs.Flights.{Flights, Footprint, InFlight, is_of_source}
 use Rattle.scoreboard.specs.Orders.{Order}
 use Rattle.scoreboard.specs.Races.{after_given, after_joining, alone, beside, flight_beside, joining, may_write}
 use Rattle.scoreboard.specs.RealTime.{MayBecome, entry_of}
-use Rattle.scoreboard.specs.SerialMemory.{on_good_page}
 use Rattle.scoreboard.proofs.real_time.Acceptance.{other_flight, own_flight, sources_beside}
 use Rattle.scoreboard.proofs.real_time.Ahead.{HasBecome, HasBeside, IsAhead, IsBehind, IsComing, IsFinal, IsGiven, IsSame, IsWithin, Shadow, comes, shadow_of, shadow_touches, shadow_writes, touches, will_give, within_writes}
 use Rattle.scoreboard.proofs.real_time.AheadBeside.{behind_beside, coming_beside_it, none_beside, was_beside}

@@ -32,7 +32,7 @@ use Rattle.scoreboard.specs.declared.Wrong.TheVariants.{Axi, NoClient, Place as 
 use Rattle.scoreboard.proofs.real_time.Ahead.{HasBeside, Shadow, comes, front_in, none_given, shadow_of}
 use Rattle.scoreboard.proofs.real_time.AlikeBeats.{left_alike}
 use Rattle.scoreboard.proofs.real_time.Entries.{Each, IsLive, Stands, carry, run}
-use Rattle.scoreboard.proofs.real_time.Explained.{Explains, explains_as, explains_opening, opening_at, opening_flights}
+use Rattle.scoreboard.proofs.real_time.Explained.{explains_as, explains_opening, opening_at, opening_flights}
 use Rattle.scoreboard.proofs.real_time.Failures.{failed_at, fails_at, same_shapes, shape_of, silent_known, silent_shown}
 use Rattle.scoreboard.proofs.real_time.Follows.{Follows, IsFailing, IsFollowed, IsMarked, IsOpen, begun_here, begun_settled, follows_as, run_settled, settle, settled}
 use Rattle.scoreboard.proofs.real_time.FollowsReplies.{EarlyDue, WholeDue, due_cases, due_settled, due_whole, early_due_in, early_there, follows_reply, nobody_due}

@@ -1,12 +1,12 @@
 -- What holds of each request in flight as it joins the others, and stays where others join and beats of its reply come, holds along beats.
-use Rattle.std.proofs.Common.{◌≡◌, ℕ, ◌==◌, Bool, true, false, List, [], ◌∷◌, map, drop, Option, Some, None, Result, Ok, Err, if◌then◌else◌, refl, ap, subst}
+use Rattle.std.proofs.Common.{◌≡◌, ℕ, ◌==◌, Bool, true, false, List, [], ◌∷◌, map, drop, Option, Some, None, Result, Ok, Err, if◌then◌else◌, refl, subst}
 use Rattle.std.specs.Prelude.{is_some, slice_get, unwrap_or}
 use Rattle.std.specs.List.{AllByRecursion, find}
 use Rattle.std.specs.Option.{option_map, option_to_list}
 use Rattle.std.proofs.lemmas.Option.{slice_get_within}
 use Rattle.bus_words.proofs.PlaceChanges.{all-append, all-find, all-without_first}
 use Rattle.bus_words.proofs.StoredPlaces.{get_set}
-use Rattle.tl_messages.specs.Requests.{HeldMessage, WholeRequest, request_of}
+use Rattle.tl_messages.specs.Requests.{WholeRequest, request_of}
 use Rattle.tl_messages.specs.declared.ABeat.{ABeat}
 use Rattle.tl_messages.specs.declared.DBeat.{DBeat}
 use Rattle.tl_checker.specs.Ports.{joined}
@@ -14,7 +14,7 @@ use Rattle.tl_checker.specs.declared.Progress.{Progress}
 use Rattle.tl_checker.specs.declared.Progress.TheVariants.{More, Whole}
 use Rattle.tl_checker.specs.declared.TlRule.{TlRule}
 use Rattle.scoreboard.specs.Boards.{Board, ClientBoard, after_a, after_d, after_seen, answer_to, answered_on, client_beside, coming_on, early_after, early_due, flight_for, has_replied, is_spoiled, joining_on, more_on, told_to, whole_on, with_accepted, with_client, with_whole}
-use Rattle.scoreboard.specs.Flights.{Flights, Footprint, InFlight, begun_after, flights_after, is_of_source, with_left}
+use Rattle.scoreboard.specs.Flights.{Footprint, InFlight, begun_after, flights_after, is_of_source, with_left}
 use Rattle.scoreboard.specs.Races.{flight_beside, unless_failed}
 use Rattle.scoreboard.specs.declared.ObservedBeat.{ObservedBeat}
 use Rattle.scoreboard.specs.declared.ObservedBeat.TheVariants.{A, D, Axi as OnAxi, Drained}

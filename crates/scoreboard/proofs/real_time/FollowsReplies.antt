@@ -22,7 +22,7 @@ use Rattle.scoreboard.proofs.real_time.Ahead.{IsAhead, Shadow, comes, shadow_of}
 use Rattle.scoreboard.proofs.real_time.Entries.{Each, Stands, carry, place_of}
 use Rattle.scoreboard.proofs.real_time.Explained.{Explains}
 use Rattle.scoreboard.proofs.real_time.Follows.{Follows, IsFailing, IsFollowed, IsMarked, IsOpen, all_both, begun_here, begun_settled, begun_there, replied_by, settle, settled}
-use Rattle.scoreboard.proofs.real_time.FollowsRequests.{client_ahead, client_follows, coming_changed, comes_changed, early_changed, there_too}
+use Rattle.scoreboard.proofs.real_time.FollowsChanges.{client_ahead, client_follows, coming_changed, comes_changed, early_changed, there_too}
 use Rattle.scoreboard.proofs.real_time.Comings.{early_at, early_in, early_other, early_same}
 use Rattle.scoreboard.proofs.real_time.Places.{Place, begun_at, cases_place, coming_at, due_at, flight_at, flight_in, flights_kept}
 use Rattle.scoreboard.proofs.real_time.RepliedAhead as replies

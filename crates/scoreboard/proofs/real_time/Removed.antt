@@ -1,17 +1,14 @@
 -- A reply that came before its request was whole ends it when it is whole: on a board and on its shadow the request is in flight no more, whatever reply has
 -- begun.
-use Rattle.std.proofs.Common.{◌≡◌, ℕ, ◌<◌, ◌==◌, Bool, true, false, ◌&&◌, List, [], ◌∷◌, ◌++◌, map, set, length, Option, Some, None, ◌⊎◌, inl, inr, if◌then◌else◌, refl, sym, ◌∙◌, ap, ap₂, subst, arith}
-use Rattle.std.specs.Prelude.{◌≢◌, is_some, slice_get}
-use Rattle.std.specs.List.{AllByRecursion, find, list_any}
+use Rattle.std.proofs.Common.{◌≡◌, ℕ, ◌==◌, Bool, true, false, List, [], ◌∷◌, map, set, Option, Some, None, ◌⊎◌, inl, inr, if◌then◌else◌, refl, sym, ◌∙◌, ap, ap₂, subst, arith}
+use Rattle.std.specs.Prelude.{is_some, slice_get}
+use Rattle.std.specs.List.{AllByRecursion, list_any}
 use Rattle.std.proofs.Math.Path.{fun_ext}
 use Rattle.std.proofs.lemmas.Bool.{cases_eq, ne_eqb}
 use Rattle.std.proofs.lemmas.Bool.Decides.{nat_tests}
 use Rattle.std.proofs.lemmas.List.{length-set}
-use Rattle.std.proofs.lemmas.Option.{slice_get_within}
 use Rattle.bus_words.specs.Places.{AreDistinct, without_first}
 use Rattle.bus_words.proofs.DistinctPlaces.{distinct-without_first}
-use Rattle.bus_words.proofs.PlaceChanges.{all-map}
-use Rattle.bus_words.proofs.StoredPlaces.{get_set, get_set-other}
 use Rattle.burst_plan.specs.declared.Region.{Region}
 use Rattle.subordinate.specs.Faults.{Faults}
 use Rattle.meaning.specs.Meaning.{Bytes, zeros}
@@ -20,13 +17,13 @@ use Rattle.scoreboard.specs.Flights.{Flights, Footprint, InFlight, is_of_source,
 use Rattle.scoreboard.specs.Orders.{Entry, Order, begun_to, has_ended, reply_beats}
 use Rattle.scoreboard.specs.Races.{may_write}
 use Rattle.scoreboard.proofs.MappedLists.{any_map, find_other, without_first_map}
-use Rattle.scoreboard.proofs.real_time.Ahead.{HasBecome, IsAhead, IsFinal, Shadow, comes, front_in, shadow_of}
+use Rattle.scoreboard.proofs.real_time.Ahead.{HasBecome, IsAhead, Shadow, comes, front_in}
 use Rattle.scoreboard.proofs.real_time.Apart.{AreApart, AreEither, IsEither}
 use Rattle.scoreboard.proofs.real_time.Comings.{comes_other, comes_same, early_at, early_in, early_other, early_same}
 use Rattle.scoreboard.proofs.real_time.Entries.{AreDistinct as AreApartEntries, Differ, Each, IsLive, Stands, carry, place_of, run}
 use Rattle.scoreboard.proofs.real_time.Explained.{Explains, nothing_with, sources_with}
 use Rattle.scoreboard.proofs.real_time.FlightPlaces.{coming_other, coming_same}
-use Rattle.scoreboard.proofs.real_time.Places.{HaveSources, Place, begun_at, cases_place, coming_at, coming_in, due_at, flight_at, flight_in, flights_at, flights_in, flights_other, flights_same, footprint_in}
+use Rattle.scoreboard.proofs.real_time.Places.{HaveSources, Place, begun_at, cases_place, coming_at, coming_in, due_at, flight_at, flight_in, flights_in, flights_other, flights_same, footprint_in}
 use Rattle.scoreboard.proofs.real_time.ReplyMoves.{waits_for}
 use Rattle.scoreboard.proofs.real_time.RequestActs.{IsWell}
 use Rattle.scoreboard.proofs.real_time.ReplySeen.{found_gone}

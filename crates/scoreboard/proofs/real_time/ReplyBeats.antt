@@ -4,9 +4,8 @@ use Rattle.std.specs.Prelude.{slice_get}
 use Rattle.std.specs.List.{list_any}
 use Rattle.std.proofs.lemmas.Bool.Decides.{nat_tests}
 use Rattle.bus_words.proofs.PlaceChanges.{find-passes}
-use Rattle.tl_messages.specs.declared.DBeat.{DBeat}
 use Rattle.meaning.specs.Meaning.{Bytes, zeros}
-use Rattle.scoreboard.specs.Boards.{Board, ClientBoard, after_d}
+use Rattle.scoreboard.specs.Boards.{Board, ClientBoard}
 use Rattle.scoreboard.specs.Flights.{InFlight, flights_after, is_of_source, next_reply}
 use Rattle.scoreboard.specs.Orders.{Entry, Order, after_beat, begun_to}
 use Rattle.scoreboard.proofs.real_time.Entries.{Stands}

@@ -33,7 +33,7 @@ use Rattle.std.proofs.lemmas.Option.{slice_get_within}
 use Rattle.bus_words.proofs.StoredPlaces.{get_set}
 use Rattle.scoreboard.proofs.real_time.Failures.{fails_flag}
 use Rattle.scoreboard.proofs.real_time.FlightsAlone.{begun_alone, client_changed_alone, early_alone, flights_alone, further_alone, given_alone, joined_alone, none_left, opens_alone, told_alone}
-use Rattle.scoreboard.proofs.real_time.WiderVerdicts.{IsSure, IsUnfailed, none_told, nothing_early, same_answer, tells_no_more}
+use Rattle.scoreboard.proofs.real_time.WiderVerdicts.{IsUnfailed, none_told, nothing_early, same_answer, tells_no_more}
 
 -- a board of real time holds what one of acceptance order does, and nothing is early
 record IsOn (compared board : Board) : Type 0 where
