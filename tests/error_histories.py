@@ -82,8 +82,6 @@ BY_ANY = {
         A 0 4 0 3 6 3000 ff 0 0
         D 0 1 0 4 6 0 7 0 -> reply 4 SIZE expected D 0 1 0 3 6 0 0000000000000007 0
         D 0 1 0 3 6 1 0 1 -> reply 1 UNASKED
-        A 0 0 0 4 5 0 ff 1 1
-        D 0 0 0 4 5 1 0 0 -> reply 1 UNASKED
         -> outstanding 0 open 0
         """,
     "what doesn't fail is neither denied nor corrupt, and its data are compared": """
@@ -263,6 +261,313 @@ BY_ANY = {
         """,
 }
 
+# The one beat that a Put of two beats gets, which comes after the first of them.
+EARLY = "D 0 0 0 4 5 0 0 0"
+
+# Where a Put fails by its address, and why.
+NOT_TO_BE_PUT = {
+    "2000": "of a page that answers with an error",
+    "3000": "of a page that isn't there",
+    "5000": "that no region leads",
+    "8000": "that no region permits",
+}
+
+# By errors any too: a reply that comes before its request is whole.
+BEFORE_WHOLE = {
+    "a Put of two beats is acknowledged after its first, and then no more": f"""
+        A 0 0 0 4 5 0 ff 1 0
+        {EARLY}
+        A 0 0 0 4 5 0 ff 2 0
+        {EARLY} -> reply 1 UNASKED
+        -> outstanding 0 open 0
+        """,
+    "a second acknowledgement before the last beat": f"""
+        A 0 0 0 4 5 0 ff 1 0
+        {EARLY}
+        {EARLY} -> reply 1 UNASKED
+        A 0 0 0 4 5 0 ff 2 0
+        {EARLY} -> reply 1 UNASKED
+        -> outstanding 0 open 0
+        """,
+    "the reply to a Put of four beats comes after any of them, once": """
+        A 0 0 0 5 5 20 ff 1 0
+        D 0 0 0 5 5 0 0 0
+        A 0 0 0 5 5 20 ff 2 0
+        A 0 0 0 5 5 20 ff 3 0
+        A 0 0 0 5 5 20 ff 4 0
+        A 0 0 0 5 5 20 ff 1 0
+        A 0 0 0 5 5 20 ff 2 0
+        A 0 0 0 5 5 20 ff 3 0
+        D 0 0 0 5 5 0 0 0
+        A 0 0 0 5 5 20 ff 4 0
+        A 0 1 0 5 5 20 0f 1 0
+        A 0 1 0 5 5 20 00 2 0
+        D 0 0 0 5 5 0 0 0
+        A 0 1 0 5 5 20 f0 3 0
+        D 0 0 0 5 5 0 0 0 -> reply 1 UNASKED
+        A 0 1 0 5 5 20 ff 4 0
+        A 0 0 0 5 5 20 ff 1 0
+        A 0 0 0 5 5 20 ff 2 0
+        A 0 0 0 5 5 20 ff 3 0
+        A 0 0 0 5 5 20 ff 4 0
+        D 0 0 0 5 5 0 0 0
+        D 0 0 0 5 5 0 0 0 -> reply 1 UNASKED
+        -> outstanding 0 open 0
+        """,
+    "a Put that stays without its last beat, replied to or not, is no accepted request": f"""
+        A 0 0 0 4 5 0 ff 1 0
+        {EARLY}
+        A 1 0 0 4 6 40 ff 1 0
+        -> outstanding 0 open 0
+        """,
+    "a Put that is whole, and not replied to, is one that is outstanding": """
+        A 0 0 0 4 5 0 ff 1 0
+        D 1 0 0 4 5 0 0 0 -> reply 1 UNASKED
+        D 0 0 0 4 6 0 0 0 -> reply 1 UNASKED
+        A 0 0 0 4 5 0 ff 2 0
+        -> outstanding 1 open 0
+        """,
+    "a Put that hasn't failed isn't denied, and the beat counts as come": f"""
+        A 0 0 0 4 5 0 ff 1 0
+        D 0 0 0 4 5 1 0 0 -> reply 5 DENIED expected D 0 0 0 4 5 0 0000000000000000 0
+        {EARLY} -> reply 1 UNASKED
+        A 0 0 0 4 5 0 ff 2 0
+        {EARLY} -> reply 1 UNASKED
+        A 1 4 0 4 7 0 ff 0 0
+        D 1 1 0 4 7 0 0 0 -> reply 7 PAYLOAD expected D 1 1 0 4 7 0 0000000000000001 0
+        D 1 1 0 4 7 0 2 0
+        -> outstanding 0 open 0
+        """,
+    "a Put to a bad word hasn't failed": """
+        A 0 0 0 4 5 10 ff 1 0
+        D 0 0 0 4 5 1 0 0 -> reply 5 DENIED expected D 0 0 0 4 5 0 0000000000000000 0
+        A 0 0 0 4 5 10 ff 2 0
+        -> outstanding 0 open 0
+        """,
+    **{
+        f"a Put {why} is denied after its first beat, or not": f"""
+        A 0 0 0 4 5 {address} ff 1 0
+        D 0 0 0 4 5 1 0 0
+        {EARLY} -> reply 1 UNASKED
+        A 0 0 0 4 5 {address} ff 2 0
+        D 0 0 0 4 5 1 0 0 -> reply 1 UNASKED
+        A 0 0 0 4 5 {address} ff 1 0
+        {EARLY}
+        A 0 0 0 4 5 {address} ff 2 0
+        A 0 0 0 4 5 {address} ff 1 0
+        D 0 0 0 4 5 1 0 1 -> reply 6 CORRUPT expected D 0 0 0 4 5 1 0000000000000000 0
+        A 0 0 0 4 5 {address} ff 2 0
+        A 1 4 0 4 7 0 ff 0 0
+        D 1 1 0 4 7 0 1 0 -> reply 7 PAYLOAD expected D 1 1 0 4 7 0 0000000000000000 0
+        D 1 1 0 4 7 0 0 0
+        -> outstanding 0 open 0
+        """
+        for address, why in NOT_TO_BE_PUT.items()
+    },
+    "a Put whose first beat is corrupt is denied after it, and leaves its bytes in doubt": """
+        A 0 0 0 4 5 0 ff 1 1
+        D 0 0 0 4 5 1 0 0
+        A 0 0 0 4 5 0 ff 2 0
+        D 0 0 0 4 5 1 0 0 -> reply 1 UNASKED
+        A 1 4 0 4 7 0 ff 0 0
+        D 1 1 0 4 7 0 9 0
+        D 1 1 0 4 7 0 9 0
+        A 1 4 0 3 7 10 ff 0 0
+        D 1 1 0 3 7 0 9 0 -> reply 7 PAYLOAD expected D 1 1 0 3 7 0 0000000000000000 0
+        -> outstanding 0 open 0
+        """,
+    "a Put of four beats has failed with its second, which is corrupt": """
+        A 0 0 0 5 5 20 ff 1 0
+        A 0 0 0 5 5 20 ff 2 1
+        D 0 0 0 5 5 1 0 0
+        A 0 0 0 5 5 20 ff 3 0
+        A 0 0 0 5 5 20 ff 4 0
+        A 0 0 0 5 5 20 ff 1 0
+        A 0 0 0 5 5 20 ff 2 1
+        A 0 0 0 5 5 20 ff 3 0
+        D 0 0 0 5 5 1 0 0
+        A 0 0 0 5 5 20 ff 4 0
+        A 1 4 0 5 7 20 ff 0 0
+        D 1 1 0 5 7 0 9 0
+        D 1 1 0 5 7 0 9 0
+        D 1 1 0 5 7 0 9 0
+        D 1 1 0 5 7 0 9 0
+        -> outstanding 0 open 0
+        """,
+    "before that beat it hadn't failed": """
+        A 0 0 0 5 5 20 ff 1 0
+        D 0 0 0 5 5 1 0 0 -> reply 5 DENIED expected D 0 0 0 5 5 0 0000000000000000 0
+        A 0 0 0 5 5 20 ff 2 1
+        D 0 0 0 5 5 1 0 0 -> reply 1 UNASKED
+        A 0 0 0 5 5 20 ff 3 0
+        A 0 0 0 5 5 20 ff 4 0
+        A 1 4 0 3 7 38 ff 0 0
+        D 1 1 0 3 7 0 9 0
+        -> outstanding 0 open 0
+        """,
+    "a Put has failed with a beat that is corrupt behind its acknowledgement": f"""
+        A 0 0 0 4 5 0 ff 1 0
+        {EARLY}
+        A 0 0 0 4 5 0 ff 2 1
+        A 1 4 0 4 7 0 ff 0 0
+        D 1 1 0 4 7 0 9 0
+        D 1 1 0 4 7 0 9 0
+        A 1 4 0 3 7 0 ff 0 0
+        D 1 1 0 3 7 1 0 1 -> reply 5 DENIED expected D 1 1 0 3 7 0 0000000000000000 0
+        -> outstanding 0 open 0
+        """,
+    "what was corrupt of one Put isn't of the next": f"""
+        A 0 0 0 4 5 0 ff 1 1
+        D 0 0 0 4 5 1 0 0
+        A 0 0 0 4 5 0 ff 2 0
+        A 0 0 0 4 5 0 ff 3 0
+        D 0 0 0 4 5 1 0 0 -> reply 5 DENIED expected D 0 0 0 4 5 0 0000000000000000 0
+        A 0 0 0 4 5 0 ff 4 0
+        A 1 4 0 4 7 0 ff 0 0
+        D 1 1 0 4 7 0 1 0 -> reply 7 PAYLOAD expected D 1 1 0 4 7 0 0000000000000003 0
+        D 1 1 0 4 7 0 4 0
+        -> outstanding 0 open 0
+        """,
+    "a Put that is acknowledged races until its last beat, and has ended with it": f"""
+        A 0 0 0 4 5 0 ff 1 0
+        {EARLY}
+        A 1 4 0 3 7 0 ff 0 0
+        D 1 1 0 3 7 0 0 0
+        A 1 4 0 3 7 8 ff 0 0
+        D 1 1 0 3 7 0 9 0
+        mem 10000 -> = mem 00
+        A 0 0 0 4 5 0 ff 2 0
+        mem 10000 -> = mem 01
+        A 1 4 0 4 7 0 ff 0 0
+        D 1 1 0 4 7 0 0 0 -> reply 7 PAYLOAD expected D 1 1 0 4 7 0 0000000000000001 0
+        D 1 1 0 4 7 0 2 0
+        A 1 4 0 3 7 8 ff 0 0
+        D 1 1 0 3 7 0 0 0 -> reply 7 PAYLOAD expected D 1 1 0 3 7 0 0000000000000002 0
+        -> outstanding 0 open 0
+        """,
+    "without that reply it has not": f"""
+        A 0 0 0 4 5 0 ff 1 0
+        A 0 0 0 4 5 0 ff 2 0
+        A 1 4 0 3 7 0 ff 0 0
+        D 1 1 0 3 7 0 0 0
+        {EARLY}
+        A 1 4 0 3 7 0 ff 0 0
+        D 1 1 0 3 7 0 0 0 -> reply 7 PAYLOAD expected D 1 1 0 3 7 0 0000000000000001 0
+        -> outstanding 0 open 0
+        """,
+    "a Get that came before the last beat reads either, though its reply comes after it": f"""
+        A 0 0 0 4 5 0 ff 1 0
+        {EARLY}
+        A 1 4 0 3 7 8 ff 0 0
+        A 1 4 0 3 8 8 ff 0 0
+        A 0 0 0 4 5 0 ff 2 0
+        D 1 1 0 3 7 0 0 0
+        D 1 1 0 3 8 0 2 0
+        -> outstanding 0 open 0
+        """,
+    "a Put between the acknowledgement and the last beat: either may come last": f"""
+        A 0 0 0 4 5 0 ff 1 0
+        {EARLY}
+        A 1 0 0 3 6 8 ff 3 0
+        D 1 0 0 3 6 0 0 0
+        A 0 0 0 4 5 0 ff 2 0
+        A 1 4 0 3 7 8 ff 0 0
+        D 1 1 0 3 7 0 3 0
+        A 1 4 0 3 7 8 ff 0 0
+        D 1 1 0 3 7 0 2 0
+        A 1 4 0 3 7 0 ff 0 0
+        D 1 1 0 3 7 0 2 0 -> reply 7 PAYLOAD expected D 1 1 0 3 7 0 0000000000000001 0
+        -> outstanding 0 open 0
+        """,
+    "a Put behind the last beat comes last": f"""
+        A 0 0 0 4 5 0 ff 1 0
+        {EARLY}
+        A 0 0 0 4 5 0 ff 2 0
+        A 1 0 0 3 6 8 ff 3 0
+        D 1 0 0 3 6 0 0 0
+        A 1 4 0 3 7 8 ff 0 0
+        D 1 1 0 3 7 0 2 0 -> reply 7 PAYLOAD expected D 1 1 0 3 7 0 0000000000000003 0
+        -> outstanding 0 open 0
+        """,
+    "its source is free with its last beat, and no other request of its client comes before": f"""
+        A 0 0 0 4 5 0 ff 1 0
+        {EARLY}
+        A 0 4 0 3 6 0 ff 0 0 -> request 10 BURST_CONTROL
+        A 0 0 0 3 5 0 ff 3 0 -> request 10 BURST_CONTROL
+        A 0 0 0 4 5 0 ff 2 0
+        A 0 0 0 3 5 0 ff 3 0
+        A 0 0 0 3 5 0 ff 4 0 -> request 9 SOURCE_BUSY
+        A 0 4 0 3 6 8 ff 0 0
+        D 0 1 0 3 6 0 0 0 -> reply 7 PAYLOAD expected D 0 1 0 3 6 0 0000000000000002 0
+        D 0 0 0 3 5 0 0 0
+        -> outstanding 0 open 0
+        """,
+    "each of two Puts behind one another is acknowledged early": f"""
+        A 0 0 0 4 5 0 ff 1 0
+        {EARLY}
+        A 0 0 0 4 5 0 ff 2 0
+        A 0 0 0 4 5 0 ff 3 0
+        {EARLY}
+        A 0 0 0 4 5 0 ff 4 0
+        {EARLY} -> reply 1 UNASKED
+        A 1 4 0 4 7 0 ff 0 0
+        D 1 1 0 4 7 0 3 0
+        D 1 1 0 4 7 0 2 0 -> reply 7 PAYLOAD expected D 1 1 0 4 7 0 0000000000000004 0
+        -> outstanding 0 open 0
+        """,
+    "early replies to two clients": f"""
+        A 0 0 0 4 5 0 ff 1 0
+        A 1 0 0 4 5 3000 ff 1 0
+        D 1 0 0 4 5 1 0 0
+        D 0 0 0 4 5 1 0 0 -> reply 5 DENIED expected D 0 0 0 4 5 0 0000000000000000 0
+        A 0 0 0 4 5 0 ff 2 0
+        D 1 0 0 4 5 1 0 0 -> reply 1 UNASKED
+        A 1 0 0 4 5 3000 ff 2 0
+        -> outstanding 0 open 0
+        """,
+    "opcode, param, size and corrupt of an early reply are asked for, and its payload isn't": f"""
+        A 0 0 0 4 5 0 ff 1 0
+        D 0 1 0 4 5 0 0 0 -> reply 3 OPCODE expected D 0 0 0 4 5 0 0000000000000000 0
+        {EARLY} -> reply 1 UNASKED
+        A 0 0 0 4 5 0 ff 2 0
+        {EARLY} -> reply 1 UNASKED
+        A 0 0 0 4 5 0 ff 1 0
+        D 0 0 1 4 5 0 0 0 -> reply 3 OPCODE expected D 0 0 0 4 5 0 0000000000000000 0
+        A 0 0 0 4 5 0 ff 2 0
+        A 0 0 0 4 5 0 ff 1 0
+        D 0 0 0 3 5 0 0 0 -> reply 4 SIZE expected D 0 0 0 4 5 0 0000000000000000 0
+        A 0 0 0 4 5 0 ff 2 0
+        A 0 0 0 4 5 0 ff 1 0
+        D 0 0 0 4 5 0 0 1 -> reply 6 CORRUPT expected D 0 0 0 4 5 0 0000000000000000 0
+        A 0 0 0 4 5 0 ff 2 0
+        A 0 0 0 4 5 0 ff 1 0
+        D 0 0 0 4 5 0 7 0
+        A 0 0 0 4 5 0 ff 2 0
+        -> outstanding 0 open 0
+        """,
+    "another reply of its client goes on, and ends, before it comes": f"""
+        A 0 4 0 4 6 20 ff 0 0
+        A 0 0 0 4 5 0 ff 1 0
+        D 0 1 0 4 6 0 0 0
+        {EARLY} -> reply 2 INTERLEAVED expected D 0 1 0 4 6 0 0000000000000000 0
+        D 0 1 0 4 6 0 0 0
+        {EARLY}
+        A 0 0 0 4 5 0 ff 2 0
+        {EARLY} -> reply 1 UNASKED
+        -> outstanding 0 open 0
+        """,
+    "the reply to the last request of its source goes on before it comes": f"""
+        A 0 4 0 4 5 20 ff 0 0
+        D 0 1 0 4 5 0 0 0
+        A 0 0 0 4 5 0 ff 1 0
+        {EARLY} -> reply 3 OPCODE expected D 0 1 0 4 5 0 0000000000000000 0
+        {EARLY}
+        A 0 0 0 4 5 0 ff 2 0
+        {EARLY} -> reply 1 UNASKED
+        -> outstanding 0 open 0
+        """,
+}
+
 # By either profile, with a line `errors strict` and without one.
 BY_STRICT = {
     "errors told as they aren't by this project's bridge": """
@@ -289,6 +594,22 @@ BY_STRICT = {
         A 0 0 0 4 5 0 ff 1 1
         A 1 4 0 3 7 8 ff 0 0
         D 1 1 0 3 7 0 9 0 -> reply 7 PAYLOAD expected D 1 1 0 3 7 0 0000000000000000 0
+        A 0 0 0 4 5 0 ff 2 0
+        D 0 0 0 4 5 1 0 0
+        -> outstanding 0 open 0
+        """,
+    "a reply before its request is whole": f"""
+        A 0 0 0 4 5 0 ff 1 0
+        {EARLY} -> reply 1 UNASKED
+        A 0 0 0 4 5 0 ff 2 0
+        {EARLY}
+        {EARLY} -> reply 1 UNASKED
+        A 0 0 0 4 5 3000 ff 1 0
+        D 0 0 0 4 5 1 0 0 -> reply 1 UNASKED
+        A 0 0 0 4 5 3000 ff 2 0
+        {EARLY} -> reply 5 DENIED expected D 0 0 0 4 5 1 0000000000000000 0
+        A 0 0 0 4 5 0 ff 1 1
+        D 0 0 0 4 5 1 0 0 -> reply 1 UNASKED
         A 0 0 0 4 5 0 ff 2 0
         D 0 0 0 4 5 1 0 0
         -> outstanding 0 open 0
@@ -336,7 +657,7 @@ LINES = {
 
 def histories() -> dict[str, str]:
     """Each whole input, with what is said of its lines."""
-    by_any = {f"{name}, by errors any": f"{ANY}\n{history.strip()}" for name, history in BY_ANY.items()}
+    by_any = {f"{name}, by errors any": f"{ANY}\n{history.strip()}" for name, history in (BY_ANY | BEFORE_WHOLE).items()}
     by_strict = {
         f"{name}, by {why}": f"{FAULTY}\n{lines}{history.strip()}"
         for why, lines in STRICT.items()

@@ -1,6 +1,6 @@
 """The bridges in RTL under a simulator: the first one, in front of each memory, isn't found wrong, and each fault that is planted in
 it is told, by both profiles; the other one, whose Puts are seen as their beats come, isn't found wrong by what TileLink asks where
-no access fails. Where there is no simulator nothing is tried, and that is said.
+no access fails, nor where some do and errors may be told in any way. Where there is no simulator nothing is tried, and that is said.
 
     python3 tests/rtl_runs.py TLSCORE
 """
@@ -18,9 +18,10 @@ import run
 
 
 RUNS = (
-    ("bridge", False, "bridge", 1),
-    ("bridge", False, "tilelink", 1),
-    ("streaming_bridge", True, "tilelink", 4),
+    ("bridge", False, "bridge", "strict", 1),
+    ("bridge", False, "tilelink", "strict", 1),
+    ("streaming_bridge", True, "tilelink", "strict", 4),
+    ("streaming_bridge", False, "tilelink", "any", 4),
 )
 
 
@@ -31,11 +32,12 @@ def cases(score):
         print(f"skipped: the bridges in RTL, as neither {' nor '.join(run.SIMULATORS)} is installed")
         return
     with tempfile.TemporaryDirectory() as folder:
-        for bridge, is_calm, profile, runs in RUNS:
-            given = argparse.Namespace(runs=runs, first=1, profile=profile, simulator=simulator, score=Path(score).resolve())
+        for bridge, is_calm, profile, errors, runs in RUNS:
+            asked = {"runs": runs, "first": 1, "profile": profile, "errors": errors}
+            given = argparse.Namespace(simulator=simulator, score=Path(score).resolve(), **asked)
             for bench in run.benches(bridge, is_calm):
                 variant = run.tried(bench, given, Path(folder))
-                yield f"{bridge} in RTL, by profile {profile}", None if variant.is_well() else str(variant)
+                yield f"{bridge} in RTL, by profile {profile} and errors {errors}", None if variant.is_well() else str(variant)
 
 
 if __name__ == "__main__":

@@ -323,6 +323,7 @@ abbrev pub early_left : Option DBeat → ℕ → Option DBeat
 early_left None source = None
 early_left (Some due) source = if due.source == source then None else Some due
 
+-- the same by the requests in flight: where one of them has its next beat there, this wasn't it
 abbrev pub early_after : ClientBoard → ℕ → Option DBeat
 early_after client source = if is_some (next_reply client.flights source) then client.early else early_left client.early source
 

@@ -36,7 +36,7 @@ Order = List Entry
 abbrev pub reply_beats : WholeRequest → ℕ
 reply_beats q = beats_of q.size (reply_has_data q.operation)
 
--- whether the whole reply came
+-- whether it is whole, and the whole reply came
 abbrev pub has_ended : Entry → Bool
 has_ended entry = nat_le (reply_beats entry.request) entry.came
 

@@ -31,9 +31,9 @@ use tl_messages::{ABeat, DBeat, Request};
 
 /// Tells of each beat that was observed at the ports of a bridge whether it can be right: that the requests and the AXI4
 /// beats keep their rules, and that the replies are those of the accepted requests, carried out whole, one at a time, in an order
-/// that its policy allows: in order of acceptance, or in any in which a request whose whole reply was seen before another began comes
-/// before it. Where requests take effect in real time, errors may be told as this project's bridge tells them, or in any way that
-/// TileLink allows; by this a reply is due from its request's first beat on.
+/// that its policy allows: in order of acceptance, or in any in which a request that was whole, and whose whole reply was seen,
+/// before another began comes before it. Where requests take effect in real time, errors may be told as this project's bridge tells
+/// them, or in any way that TileLink allows; by this a reply is due from its request's first beat on.
 ///
 /// A beat that breaks a rule changes nothing, but a beat of a due reply counts as come whatever it shows, and an AW that is wrong
 /// for the data before it alone opens its burst. All room is taken by `new`; no other call takes memory.
@@ -298,8 +298,8 @@ impl Scoreboard {
     /// right together. Where they take effect in real time, nothing is wrong with beats that are right in order of acceptance; what
     /// is said of any beat is what is said of it in order of acceptance, or nothing where that is SOURCE_BUSY, W_WITHOUT_AW or PAYLOAD, up
     /// to the first SOURCE_BUSY or W_WITHOUT_AW; and a beat of a reply that is found wrong is wrong, by that rule, in each
-    /// order of the requests that have begun in which none stands behind one that began after its whole reply had come, whatever
-    /// those become of which beats are still to come.
+    /// order of the requests that have begun in which none stands behind one that began after it was whole and its whole reply had
+    /// come, whatever those become of which beats are still to come.
     pub fn judge(&mut self, seen: &ObservedBeat) -> Option<Wrong>
         ensures answer { result ≡ wrong_at self.old.policy (board_of self.old) seen.now }
         ensures state { board_of self.new ≡ after_seen self.old.policy (board_of self.old) seen.now }

@@ -26,9 +26,9 @@ pub enum Policy {
     /// In that of their acceptance alone, which comes with their last beats. A source is busy until its reply's last beat, and an AW
     /// beat comes before its W beats.
     AcceptanceOrder,
-    /// In each in which a request whose whole reply was seen before another began comes before it. A request begins with its
-    /// first beat, and its reply is due from its last on, or by `Errors::Any` from its first. A source is free from its reply's first
-    /// beat on, and W beats may come before their AW.
+    /// In each in which a request that was whole, and whose whole reply was seen, before another began comes before it. A request
+    /// begins with its first beat, and its reply is due from its last on, or by `Errors::Any` from its first. A source is free from
+    /// its reply's first beat on, and W beats may come before their AW.
     RealTime,
 }
 

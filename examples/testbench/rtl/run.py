@@ -1,13 +1,14 @@
 """Simulates the bridge of this folder in front of each memory, as it is, and with each of seven faults planted, and has tlscore judge
 what the monitor saw.
 
-    python3 examples/testbench/rtl/run.py [--runs N] [--first SEED] [--profile NAME] [--bridge NAME] [--calm]
-                                          [--simulator NAME] [--score PROGRAM]
+    python3 examples/testbench/rtl/run.py [--runs N] [--first SEED] [--profile NAME] [--errors HOW] [--bridge NAME]
+                                          [--calm] [--simulator NAME] [--score PROGRAM]
 
 For each of them it prints how many runs were told wrong, and after how many beats the first wrong line came. It ends with status 0
 exactly where the right bridge is never blamed and each fault is told in some run, with 1 where not, with 2 for words that it doesn't
 know, with 3 where a simulator or tlscore can't do its work, and with 4 where there is no simulator. --bridge streaming_bridge has
-another one judged, which is right and yet blamed for how it tells errors: README.md says why. With --calm there are none.
+another one judged, which is right and yet blamed for how it tells errors, but with --errors any: README.md says why. With --calm
+there are none.
 """
 
 import argparse
@@ -128,7 +129,7 @@ class Variant:
 def tried(bench, given, folder):
     """Runs a testbench with each seed."""
     runs, variant, seen = compiled(given.simulator, bench, folder), Variant(bench), folder / "seen.lines"
-    setup = f"{SETUP}profile {given.profile}\n"
+    setup = f"{SETUP}profile {given.profile}\nerrors {given.errors}\n"
     for seed in range(given.first, given.first + given.runs):
         simulated([*runs, f"+seed={seed}", f"+observed={seen}"])
         variant.take(seed, setup, judged(given.score, setup, seen.read_text()))
@@ -147,6 +148,7 @@ def words():
     asked.add_argument("--runs", type=int, default=20, help="how many runs of each (20)")
     asked.add_argument("--first", type=int, default=1, help="the seed of the first run, from 1; the others follow (1)")
     asked.add_argument("--profile", choices=("bridge", "tilelink"), default="bridge", help="what is asked of the bridge (bridge)")
+    asked.add_argument("--errors", choices=("strict", "any"), default="strict", help="how they may be told; any by tilelink alone (strict)")
     asked.add_argument("--bridge", choices=BRIDGES, default=BRIDGES[0], help="which bridge (the one that the faults are of)")
     asked.add_argument("--calm", action="store_true", help="no access fails, and no beat is corrupt")
     asked.add_argument("--simulator", choices=SIMULATORS, help="the first of these that is there")
@@ -155,6 +157,8 @@ def words():
     given = asked.parse_args()
     if given.runs < 1 or given.first < 1:
         asked.error("runs and seeds are counted from 1")
+    if given.errors == "any" and given.profile != "tilelink":
+        asked.error("--errors any goes with --profile tilelink alone")
     given.score = Path(given.score).resolve()
     return given
 

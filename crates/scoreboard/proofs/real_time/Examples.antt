@@ -248,6 +248,61 @@ carried_or_not : (due_beats setup (arranged Any setup in_doubt carried (0 ∷ 1 
 unfolding zero_words
 carried_or_not = (refl, refl)
 
+-- ---- a put that is replied to before it is whole
+
+abbrev denied_words : DBeat
+denied_words = record acknowledged_words { denied = true }
+
+-- its first beat has come: where errors are told in any way its reply may come, by the board and by the order that there is, and else not. It hasn't failed,
+-- so that it isn't denied
+early_answer : (wrong_at RealTime (board_after Any setup (first_word ∷ [])) (D 0 acknowledged_words) ≡ None)
+    × (due_beats setup (arranged Any setup (first_word ∷ []) (as_begun Any setup (first_word ∷ [])) (0 ∷ [])) (asked_by 0 acknowledged_words)
+    ≡ acknowledged_words ∷ [])
+    × (wrong_at RealTime (board_after Any setup (first_word ∷ [])) (D 0 denied_words) ≡ Some (Reply Denied (Some acknowledged_words)))
+    × (wrong_at RealTime (board_after Strict setup (first_word ∷ [])) (D 0 acknowledged_words) ≡ Some (Reply Unasked None))
+unfolding zero_words
+early_answer = (refl, refl, refl, refl)
+
+-- client 0 begins a put of two words of a page that isn't there, or of which the first is corrupt
+abbrev first_absent : ObservedBeat
+first_absent = A 0 (a 0 0 4 7 0x1000 0xff 1)
+
+abbrev first_spoiled : ObservedBeat
+first_spoiled = A 0 (record (a 0 0 4 7 0 0xff 1) { corrupt = true })
+
+-- it may be denied, or not
+early_denial : (wrong_at RealTime (board_after Any setup (first_absent ∷ [])) (D 0 denied_words) ≡ None)
+    × (wrong_at RealTime (board_after Any setup (first_absent ∷ [])) (D 0 acknowledged_words) ≡ None)
+    × (wrong_at RealTime (board_after Any setup (first_spoiled ∷ [])) (D 0 denied_words) ≡ None)
+    × (wrong_at RealTime (board_after Any setup (first_spoiled ∷ [])) (D 0 acknowledged_words) ≡ None)
+unfolding zero_words
+early_denial = (refl, refl, refl, refl)
+
+-- once it came no other is due, before the last beat and after it
+abbrev replied : List ObservedBeat
+replied = first_word ∷ D 0 acknowledged_words ∷ []
+
+early_once : (wrong_at RealTime (board_after Any setup replied) (D 0 acknowledged_words) ≡ Some (Reply Unasked None))
+    × (wrong_at RealTime (board_after Any setup (replied ++ last_word ∷ [])) (D 0 acknowledged_words) ≡ Some (Reply Unasked None))
+    × (due_beats setup (arranged Any setup (replied ++ last_word ∷ []) (as_begun Any setup (replied ++ last_word ∷ [])) (0 ∷ []))
+    (asked_by 0 acknowledged_words) ≡ [])
+unfolding zero_words
+early_once = (refl, refl, refl)
+
+-- a get between the reply and the last beat may be told either, and one behind the last beat has to be told what was put
+races_until_whole : (wrong_at RealTime (board_after Any setup (replied ++ get ∷ [])) (D 1 (told 0)) ≡ None)
+    × (wrong_at RealTime (board_after Any setup (replied ++ get ∷ [])) (D 1 (told 0xcc000000)) ≡ None)
+    × (wrong_at RealTime (board_after Any setup (replied ++ last_word ∷ get ∷ [])) (D 1 (told 0)) ≡ Some (Reply Payload (Some (told 0xcc000000))))
+unfolding zero_words
+races_until_whole = (refl, refl, refl)
+
+-- so the order in which it would be right doesn't keep real time
+not_before_whole : KeepsRealTime Any setup (replied ++ last_word ∷ get ∷ []) (1 ∷ 0 ∷ []) → ⊥
+unfolding zero_words
+not_before_whole keeps =
+    keeps.0.0
+    (record { first = replied ++ last_word ∷ []; rest = get ∷ []; parts = refl; begun = omega arith; ended = refl; not_yet = omega arith })
+
 -- ---- a get that fails
 
 -- client 1 gets two words of a page that isn't there
