@@ -38,6 +38,7 @@ pub mod ReplyMoves
 pub mod ReplySeen
 pub mod ReplySteps
 pub mod RequestActs
+pub mod RightRuns
 pub mod ShadowJoins
 pub mod ShadowPlaces
 pub mod StepOrders

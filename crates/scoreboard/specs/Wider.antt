@@ -4,16 +4,18 @@ use Rattle.std.specs.Prelude.{◌≡◌, ◌⊎◌, ⊤, Bool, true, false, ◌|
 use Rattle.tl_checker.specs.declared.TlRule.TheVariants.{SourceBusy}
 use Rattle.setups.specs.Setups.{SetupLists}
 use Rattle.scoreboard.specs.AxiPorts.{tells_no_write}
-use Rattle.scoreboard.specs.Boards.{Board, ClientBoard, after_all, after_seen, opening_board, wrong_at}
+use Rattle.scoreboard.specs.Boards.{Board, ClientBoard, after_all, after_seen, opening_board, opening_with, wrong_at}
 use Rattle.scoreboard.specs.Flights.{InFlight, each_flight, no_footprint}
 use Rattle.scoreboard.specs.Right.{IsRight}
+use Rattle.scoreboard.specs.declared.Errors.{Errors}
+use Rattle.scoreboard.specs.declared.Errors.TheVariants.{Strict}
 use Rattle.scoreboard.specs.declared.Policy.TheVariants.{AcceptanceOrder, RealTime}
 use Rattle.scoreboard.specs.declared.ReplyRule.TheVariants.{Payload}
 use Rattle.scoreboard.specs.declared.ObservedBeat.{ObservedBeat}
 use Rattle.scoreboard.specs.declared.Wrong.{Wrong}
 use Rattle.scoreboard.specs.declared.Wrong.TheVariants.{Reply, Request}
 
--- ---- a board but for what it knows of requests that race: their footprints, and which bytes are indeterminate
+-- ---- a board but for what it knows of requests that race, their footprints, and which bytes are indeterminate, and of how errors may be told
 
 abbrev pub flight_alone : InFlight → InFlight
 flight_alone flight = record flight { footprint = no_footprint }
@@ -22,7 +24,7 @@ abbrev pub client_alone : ClientBoard → ClientBoard
 client_alone client = record client { flights = each_flight flight_alone client.flights; coming = no_footprint; early = None }
 
 abbrev pub board_alone : Board → Board
-board_alone board = record board { clients = map client_alone board.clients; indeterminate = λ x. false }
+board_alone board = record board { clients = map client_alone board.clients; indeterminate = λ x. false; errors = Strict }
 
 -- ---- one beat
 
@@ -66,8 +68,8 @@ IsWiderAlong board seen verdict =
     → IsWiderThan (after_all AcceptanceOrder (opening_board setup) before) board seen verdict
 
 -- of beats that are right: nothing is found wrong with the last of them, where all of them are right: where each reply is that of its request
--- carried out whole in its turn, in order of acceptance, and every rule is kept
+-- carried out whole in its turn, in order of acceptance, and every rule is kept; however errors may be told
 abbrev pub LetsRightPass : Board → ObservedBeat → Option Wrong → Type 0
 LetsRightPass board seen verdict =
-    (setup : SetupLists) (before : List ObservedBeat) → board ≡ after_all RealTime (opening_board setup) before
+    (errors : Errors) (setup : SetupLists) (before : List ObservedBeat) → board ≡ after_all RealTime (opening_with errors setup) before
     → IsRight setup (before ++ seen ∷ []) → verdict ≡ None

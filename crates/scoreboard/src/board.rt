@@ -295,11 +295,12 @@ impl Scoreboard {
     /// What is wrong with the next beat that was observed; none where nothing is.
     ///
     /// Where requests take effect in order of acceptance, nothing is wrong with a beat, if none was before it, exactly where all of them are
-    /// right together. Where they take effect in real time, nothing is wrong with beats that are right in order of acceptance; what
-    /// is said of any beat is what is said of it in order of acceptance, or nothing where that is SOURCE_BUSY, W_WITHOUT_AW or PAYLOAD, up
-    /// to the first SOURCE_BUSY or W_WITHOUT_AW; and a beat of a reply that is found wrong is wrong, by that rule, in each
-    /// order of the requests that have begun in which none stands behind one that began after it was whole and its whole reply had
-    /// come, whatever those become of which beats are still to come.
+    /// right together. Where they take effect in real time, nothing is wrong with beats that are right in order of acceptance,
+    /// however errors may be told. Where these are told as this project's bridge tells them, what is said of any beat is what is said of
+    /// it in order of acceptance, or nothing where that is SOURCE_BUSY, W_WITHOUT_AW or PAYLOAD, up to the first SOURCE_BUSY or
+    /// W_WITHOUT_AW. And a beat of a reply that is found wrong is wrong, by that rule, in each order of the requests that have begun in
+    /// which none stands behind one that began after it was whole and its whole reply had come, whatever those become of which beats
+    /// are still to come, and whatever those leave that have failed.
     pub fn judge(&mut self, seen: &ObservedBeat) -> Option<Wrong>
         ensures answer { result ≡ wrong_at self.old.policy (board_of self.old) seen.now }
         ensures state { board_of self.new ≡ after_seen self.old.policy (board_of self.old) seen.now }

@@ -70,7 +70,7 @@ next_right : (beat : DBeat) (rest : List DBeat) → wrong_beat (beat ∷ rest) b
 next_right beat rest = grind (arith, nat_tests, booleans_Decides)
 
 -- so a beat that isn't wrong is the next of the reply that may come
-right_next : (beats : List DBeat) (beat : DBeat) → wrong_beat beats beat ≡ None → (rest : List DBeat) × (beats ≡ beat ∷ rest)
+pub right_next : (beats : List DBeat) (beat : DBeat) → wrong_beat beats beat ≡ None → (rest : List DBeat) × (beats ≡ beat ∷ rest)
 right_next [] beat none = absurd (cc (none))
 right_next (due ∷ rest) beat none = let same : due ≡ beat = grind (arith, nat_tests, booleans_Decides, none) in (rest, rw same refl)
 

@@ -1,5 +1,5 @@
 -- Boards of both policies that get the same beats hold the same, but for what is known of requests that race, until one is of a busy source or a W
--- beat without a write; so nothing is found wrong in real time with beats that are right.
+-- beat without a write.
 use Rattle.std.proofs.Common.{◌≡◌, ℕ, Bool, true, false, List, [], ◌∷◌, map, Option, Some, None, if◌then◌else◌, Result, Ok, Err, refl, sym, ◌∙◌, ap, ap₂, subst, arith}
 use Rattle.std.specs.Prelude.{is_some, slice_get, unwrap_or}
 use Rattle.std.specs.Option.{option_map}
@@ -14,15 +14,15 @@ use Rattle.tl_checker.specs.declared.Progress.TheVariants.{More, Whole}
 use Rattle.tl_checker.specs.declared.TlRule.{TlRule}
 use Rattle.axi_checker.specs.declared.AxiBeat.{AxiBeat}
 use Rattle.scoreboard.specs.AxiPorts.{PortBoard, after_in_order, after_with_early, tells_no_write, wrong_in_order}
-use Rattle.scoreboard.specs.Boards.{Board, ClientBoard, IsReached, a_wrong, after_a, after_all, after_d, after_seen, answer_to, answered_on, client_beside, coming_on, early_after, early_due, early_left, fails, flight_for, footprints_of, has_replied, is_spoiled, joining_on, more_on, opening_board, place_on, told_to, whole_on, with_accepted, with_client, with_taken, with_whole, wrong_at}
+use Rattle.scoreboard.specs.Boards.{Board, ClientBoard, a_wrong, after_a, after_all, after_d, after_seen, answer_to, answered_on, client_beside, coming_on, early_after, early_due, early_left, fails, flight_for, footprints_of, has_replied, is_spoiled, joining_on, more_on, opening_board, place_on, told_to, whole_on, with_accepted, with_client, with_taken, with_whole, wrong_at}
 use Rattle.scoreboard.specs.Flights.{Flights, Footprint, InFlight, flights_after, next_reply, no_footprint}
 use Rattle.scoreboard.specs.Races.{alone, joining, unless_failed}
+use Rattle.scoreboard.specs.declared.Errors.{Errors}
 use Rattle.scoreboard.specs.declared.Errors.TheVariants.{Strict}
-use Rattle.scoreboard.specs.Wider.{AreTogether, IsWiderAlong, LetsRightPass, TellsNoMore, board_alone, client_alone, tells_apart, tells_busy}
+use Rattle.scoreboard.specs.Wider.{AreTogether, IsWiderAlong, TellsNoMore, board_alone, client_alone, tells_apart, tells_busy}
 use Rattle.scoreboard.specs.declared.Policy.TheVariants.{AcceptanceOrder, RealTime}
 use Rattle.scoreboard.specs.declared.ObservedBeat.{ObservedBeat}
 use Rattle.scoreboard.specs.declared.ObservedBeat.TheVariants.{A, D, Axi as OnAxi, Drained}
-use Rattle.scoreboard.proofs.acceptance_order.Reached.{right_exactly, right_front, right_reached}
 use Rattle.scoreboard.proofs.held.EarlyBeats.{after_as}
 use Rattle.scoreboard.proofs.real_time.Becoming.{errors_kept}
 use Rattle.scoreboard.proofs.real_time.EachFlight.{AreOfEach, IsOfEach, seen_each}
@@ -33,20 +33,25 @@ use Rattle.std.proofs.lemmas.Option.{slice_get_within}
 use Rattle.bus_words.proofs.StoredPlaces.{get_set}
 use Rattle.scoreboard.proofs.real_time.Failures.{fails_flag}
 use Rattle.scoreboard.proofs.real_time.FlightsAlone.{begun_alone, client_changed_alone, early_alone, flights_alone, further_alone, given_alone, joined_alone, none_left, opens_alone, told_alone}
-use Rattle.scoreboard.proofs.real_time.WiderVerdicts.{IsUnfailed, none_told, nothing_early, same_answer, tells_no_more}
+use Rattle.scoreboard.proofs.real_time.WiderVerdicts.{IsUnfailed, nothing_early, same_answer, tells_no_more}
 
 -- a board of real time holds what one of acceptance order does, and nothing is early
-record IsOn (compared board : Board) : Type 0 where
-  holds : board_alone board ≡ compared
-  early : board.axi.early ≡ []
+pub record IsOn (compared board : Board) : Type 0 where
+  pub holds : board_alone board ≡ compared
+  pub early : board.axi.early ≡ []
 
 -- ---- a beat that isn't of a busy source, and no W beat without a write
 
-request_on : (old : Board) (number : ℕ) (found : Option ClientBoard) (beat : ABeat) → old.errors ≡ Strict → old.axi.early ≡ []
+-- no reply came to a request that isn't whole
+abbrev pub IsWaiting : Errors → ClientBoard → Type 0
+IsWaiting errors client = is_some client.front ≡ true → has_replied errors client ≡ false
+
+request_on : (old : Board) (number : ℕ) (found : Option ClientBoard) (beat : ABeat) → ((client : ClientBoard) → found ≡ Some client → IsWaiting old.errors client)
+    → old.axi.early ≡ []
     → tells_busy (a_wrong AcceptanceOrder (option_map client_alone found) beat) ≡ false
     → IsOn (after_a AcceptanceOrder (board_alone old) number (option_map client_alone found) beat) (after_a RealTime old number found beat)
-request_on old number None beat strict none free = record { holds = refl; early = none }
-request_on old number (Some client) beat strict none free = rw (same_answer client beat free) (by_answer (answer_to AcceptanceOrder (client_alone client) beat))
+request_on old number None beat waits none free = record { holds = refl; early = none }
+request_on old number (Some client) beat waits none free = rw (same_answer client beat free) (by_answer (answer_to AcceptanceOrder (client_alone client) beat))
   where
     message : HeldMessage
     message = joined client.limits client.front beat
@@ -61,18 +66,19 @@ request_on old number (Some client) beat strict none free = rw (same_answer clie
       early = none;
     }
 
-    whole : (begun : Bool) → IsOn (with_taken (board_alone old) number (client_alone client) (request_of message) no_footprint) (whole_on old number client (request_of message) begun)
-    whole true = record {
-      holds = given_alone old number client (request_of message) (coming_on old (request_of message) client.coming) (ap (λ errors. has_replied errors client) strict);
+    whole : (begun : Bool) → is_some client.front ≡ begun
+        → IsOn (with_taken (board_alone old) number (client_alone client) (request_of message) no_footprint) (whole_on old number client (request_of message) begun)
+    whole true is = record {
+      holds = given_alone old number client (request_of message) (coming_on old (request_of message) client.coming) (waits client refl is);
       early = none;
     }
-    whole false = record { holds = joined_alone old number client (request_of message) (joining_on old (request_of message)); early = none }
+    whole false is = record { holds = joined_alone old number client (request_of message) (joining_on old (request_of message)); early = none }
 
     by_answer : (answer : Result Progress TlRule)
         → IsOn (answered_on AcceptanceOrder (board_alone old) number (client_alone client) message answer) (answered_on RealTime old number client message answer)
     by_answer (Err broken) = record { holds = refl; early = none }
     by_answer (Ok More) = more (is_some client.front)
-    by_answer (Ok Whole) = whole (is_some client.front)
+    by_answer (Ok Whole) = whole (is_some client.front) refl
 
 reply_on : (old : Board) (number : ℕ) (found : Option ClientBoard) (beat : DBeat) → old.axi.early ≡ []
     → IsOn (after_d (board_alone old) number (option_map client_alone found) beat) (after_d old number found beat)
@@ -97,16 +103,17 @@ port_on port beat none there =
     let alone = nothing_early port none in
     ap (λ (p : PortBoard). after_with_early p beat) alone ∙ after_as port.limits port.open_bursts beat there ∙ ap (λ (p : PortBoard). after_in_order p beat) (sym alone)
 
-after_on : (old : Board) (seen : ObservedBeat) → old.errors ≡ Strict → old.axi.early ≡ [] → tells_apart (wrong_at AcceptanceOrder (board_alone old) seen) ≡ false
+pub after_on : (old : Board) (seen : ObservedBeat)
+    → ((number : ℕ) (client : ClientBoard) → slice_get old.clients number ≡ Some client → IsWaiting old.errors client) → old.axi.early ≡ [] → tells_apart (wrong_at AcceptanceOrder (board_alone old) seen) ≡ false
     → IsOn (after_seen AcceptanceOrder (board_alone old) seen) (after_seen RealTime old seen)
-after_on old (A client beat) strict none free =
+after_on old (A client beat) waits none free =
     let there = slice_get-map client_alone old.clients client in
-    rw there (request_on old client (slice_get old.clients client) beat strict none (grind (arith, there, free)))
-after_on old (D client beat) strict none free = rw (slice_get-map client_alone old.clients client) (reply_on old client (slice_get old.clients client) beat none)
-after_on old (OnAxi beat) strict none free =
+    rw there (request_on old client (slice_get old.clients client) beat (waits client) none (grind (arith, there, free)))
+after_on old (D client beat) waits none free = rw (slice_get-map client_alone old.clients client) (reply_on old client (slice_get old.clients client) beat none)
+after_on old (OnAxi beat) waits none free =
     let same = port_on old.axi beat none (grind (arith, free)) in
     record { holds = ap (λ (port : PortBoard). record (board_alone old) { axi = port }) same; early = ap (λ (port : PortBoard). port.early) same ∙ none }
-after_on old Drained strict none free = record { holds = refl; early = refl }
+after_on old Drained waits none free = record { holds = refl; early = refl }
 
 -- ---- no request in flight has failed, where errors are told as this project's bridge tells them
 
@@ -225,7 +232,7 @@ followed_on compared board [] strict on told = on
 followed_on compared board (seen ∷ rest) strict on told =
     let (free, more) = subst (λ (start : Board). AreTogether start (seen ∷ rest)) (sym on.holds) told in
     rw (← on.holds) (followed_on (after_seen AcceptanceOrder (board_alone board) seen) (after_seen RealTime board seen) rest (strict_next board seen strict)
-    (after_on board seen strict.errors on.early free) more)
+    (after_on board seen (λ number client is in_front. ap (λ errors. has_replied errors client) strict.errors) on.early free) more)
 
 -- any beats, until one is of a busy source or a W beat without a write: what is held after them, and what is said of the next
 pub is_wider : (board : Board) (seen : ObservedBeat) → IsWiderAlong board seen (wrong_at RealTime board seen)
@@ -238,18 +245,3 @@ is_wider board seen setup before is told =
       tells = subst (λ (compared : Board). TellsNoMore (wrong_at AcceptanceOrder compared seen) (wrong_at RealTime board seen)) on.holds
           (tells_no_more board seen (λ number client there. record { unfailed = strict.unfailed number client there; none_early = strict.none_early number client there }) on.early);
     }
-
--- ---- beats that are right
-
--- of which none is wrong in order of acceptance
-told_none : (start : Board) (beats : List ObservedBeat) (board : Board) → IsReached AcceptanceOrder start beats board → AreTogether start beats
-told_none start [] board reached = tt
-told_none start (seen ∷ rest) board (none, more) = (ap tells_apart none, told_none (after_seen AcceptanceOrder start seen) rest board more)
-
--- nothing is wrong in real time with the last of them
-pub lets_right_pass : (board : Board) (seen : ObservedBeat) → LetsRightPass board seen (wrong_at RealTime board seen)
-lets_right_pass board seen setup before is right =
-    let compared = after_all AcceptanceOrder (opening_board setup) before in
-    let reached = right_reached setup before (right_front setup before (seen ∷ []) right) in
-    none_told (wrong_at AcceptanceOrder compared seen) (wrong_at RealTime board seen)
-    (is_wider board seen setup before is (told_none (opening_board setup) before compared reached)).tells ((right_exactly setup before compared seen reached).1 right)

@@ -78,7 +78,7 @@ answers_to client beat =
     by_busy false true = answers_free client.limits client.front beat
     by_busy false false = inl refl
 
-a_told : (found : Option ClientBoard) (beat : ABeat) → TellsNoMore (a_wrong AcceptanceOrder (option_map client_alone found) beat) (a_wrong RealTime found beat)
+pub a_told : (found : Option ClientBoard) (beat : ABeat) → TellsNoMore (a_wrong AcceptanceOrder (option_map client_alone found) beat) (a_wrong RealTime found beat)
 a_told None beat = inl refl
 a_told (Some client) beat =
     elim (answers_to client beat) [
@@ -106,7 +106,7 @@ rule_told otherwise due (Some rule) = by_tests (is_payload rule) otherwise refl
     by_tests true false is = inr (inr (is_told rule due is), refl)
     by_tests false tells is = inl refl
 
-told_less : (footprint : Footprint) (dues : List DBeat) (beat : DBeat) → TellsNoMore (wrong_beat dues beat) (wrong_sure footprint dues beat)
+pub told_less : (footprint : Footprint) (dues : List DBeat) (beat : DBeat) → TellsNoMore (wrong_beat dues beat) (wrong_sure footprint dues beat)
 told_less footprint [] beat = inl refl
 told_less footprint (due ∷ rest) beat = rule_told _ due (first_broken (reply_rules due beat))
 
@@ -168,7 +168,7 @@ w_told verdict = by_test (tells_no_write verdict) refl
 pub nothing_early : (port : PortBoard) → port.early ≡ [] → port ≡ none_early port.limits port.open_bursts
 nothing_early port none = ap (λ early. record port { early = early }) none
 
-axi_told : (port : PortBoard) (beat : AxiBeat) → port.early ≡ [] → TellsNoMore (wrong_in_order port beat) (wrong_with_early port beat)
+pub axi_told : (port : PortBoard) (beat : AxiBeat) → port.early ≡ [] → TellsNoMore (wrong_in_order port beat) (wrong_with_early port beat)
 axi_told port (OnAw beat) none =
     inl (ap (λ (p : PortBoard). wrong_with_early p (OnAw beat)) (nothing_early port none)
     ∙ aw_wrong port.limits port.open_bursts beat (axi_fault port.limits port.open_bursts (OnAw beat)))

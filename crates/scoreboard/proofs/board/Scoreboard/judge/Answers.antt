@@ -6,7 +6,8 @@ use Rattle.scoreboard.specs.RealTime.{JudgesRightly}
 use Rattle.scoreboard.specs.declared.Policy.{Policy}
 use Rattle.scoreboard.proofs.acceptance_order.Reached.{memory_reached, right_exactly}
 use Rattle.scoreboard.proofs.real_time.JudgedRightly.{judges_rightly}
-use Rattle.scoreboard.proofs.real_time.WiderRuns.{is_wider, lets_right_pass}
+use Rattle.scoreboard.proofs.real_time.RightRuns.{lets_right_pass}
+use Rattle.scoreboard.proofs.real_time.WiderRuns.{is_wider}
 use Rattle.scoreboard.proofs.board.Scoreboard.judge.Goals as goal
 
 pub returns-clause-exactly : goal.returns-clause-exactly
