@@ -1,11 +1,15 @@
 """The bridges in RTL under a simulator: the first one, in front of each memory, isn't found wrong, and each fault that is planted in
 it is told, by both profiles; the other one, whose Puts are seen as their beats come, isn't found wrong by what TileLink asks where
-no access fails, nor where some do and errors may be told in any way. Where there is no simulator nothing is tried, and that is said.
+no access fails. Then 20 runs of both as they are, as run.py --right makes them: none is found wrong, and those of the second one
+do what they are to show. Where there is no simulator nothing is tried, and that is said.
 
     python3 tests/rtl_runs.py TLSCORE
 """
 
 import argparse
+import functools
+import operator
+import os
 import shutil
 import sys
 import tempfile
@@ -17,27 +21,46 @@ sys.path.append(str(Path(__file__).resolve().parent.parent / "examples/testbench
 import run
 
 
-RUNS = (
-    ("bridge", False, "bridge", "strict", 1),
-    ("bridge", False, "tilelink", "strict", 1),
-    ("streaming_bridge", True, "tilelink", "strict", 4),
-    ("streaming_bridge", False, "tilelink", "any", 4),
-)
+RIGHT_RUNS = 20
+SOURCES, IDS, AT_ONCE = 2 * 16, 8, 4  # of both clients; of both sides; at the least
+
+
+def planted():
+    """A run of each testbench by the profiles that are its own."""
+    strict = run.Asked("bridge"), run.Asked("tilelink")
+    benches = [bench for asked in strict for bench in run.benches("bridge", asked)]
+    return [(bench, [1]) for bench in benches + run.benches("streaming_bridge", run.Asked("tilelink"), is_calm=True)]
+
+
+def idle(traffic):
+    """What runs of the streaming bridge have to show and don't."""
+    counts = {
+        "sources": len(traffic.sources) == SOURCES,
+        "IDs": len(traffic.ids) == IDS,
+        "requests at once": traffic.at_once >= AT_ONCE,
+        "replies out of order": traffic.overtaking,
+        "addresses ahead of a Put's last beat": traffic.streamed,
+        "replies ahead of a request's last beat": traffic.foretold,
+    }
+    return [name for name, is_there in counts.items() if not is_there]
 
 
 def cases(score):
-    """Each testbench, with as many runs, by the profiles that are its own."""
+    """Each testbench, and what the right ones did."""
     simulator = next(filter(shutil.which, run.SIMULATORS), None)
     if not simulator:
         print(f"skipped: the bridges in RTL, as neither {' nor '.join(run.SIMULATORS)} is installed")
         return
+    given = argparse.Namespace(simulator=simulator, score=Path(score).resolve(), jobs=os.cpu_count() or 1)
+    plan, seen = planted() + run.right_plan(range(1, RIGHT_RUNS + 1)), []
     with tempfile.TemporaryDirectory() as folder:
-        for bridge, is_calm, profile, errors, runs in RUNS:
-            asked = {"runs": runs, "first": 1, "profile": profile, "errors": errors}
-            given = argparse.Namespace(simulator=simulator, score=Path(score).resolve(), **asked)
-            for bench in run.benches(bridge, is_calm):
-                variant = run.tried(bench, given, Path(folder))
-                yield f"{bridge} in RTL, by profile {profile} and errors {errors}", None if variant.is_well() else str(variant)
+        for variant in run.tried(plan, given, Path(folder)):
+            bench, asked = variant.bench, variant.bench.asked
+            name = f"{bench.device} in RTL, by profile {asked.profile} and errors {asked.errors}"
+            yield name, None if variant.is_well() else str(variant)
+            seen += [variant.traffic] if asked.errors == "any" else []
+    lacking = idle(functools.reduce(operator.or_, seen))
+    yield "what the streaming bridge's runs show", f"none had {', '.join(lacking)}" if lacking else None
 
 
 if __name__ == "__main__":

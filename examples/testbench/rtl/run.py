@@ -1,14 +1,16 @@
 """Simulates the bridge of this folder in front of each memory, as it is, and with each of seven faults planted, and has tlscore judge
 what the monitor saw.
 
-    python3 examples/testbench/rtl/run.py [--runs N] [--first SEED] [--profile NAME] [--errors HOW] [--bridge NAME]
-                                          [--calm] [--simulator NAME] [--score PROGRAM]
+    python3 examples/testbench/rtl/run.py [--runs N] [--first SEED] [--jobs N] [--simulator NAME] [--score PROGRAM]
+                                          [--profile NAME] [--errors HOW] [--bridge NAME] [--habit NAME] [--calm]
+    python3 examples/testbench/rtl/run.py --right [--runs N] [--first SEED] [--jobs N] [--simulator NAME] [--score PROGRAM]
 
 For each of them it prints how many runs were told wrong, and after how many beats the first wrong line came. It ends with status 0
 exactly where the right bridge is never blamed and each fault is told in some run, with 1 where not, with 2 for words that it doesn't
 know, with 3 where a simulator or tlscore can't do its work, and with 4 where there is no simulator. --bridge streaming_bridge has
-another one judged, which is right and yet blamed for how it tells errors, but with --errors any: README.md says why. With --calm
-there are none.
+another one judged, which tells errors in its own way: it asks for --profile tilelink --errors any, or with --calm for the first alone.
+
+--right has both bridges judged as they are, each by what it promises, N runs in all, and prints a table of them.
 """
 
 import argparse
@@ -20,14 +22,20 @@ import subprocess
 import sys
 import tempfile
 from collections import Counter
+from concurrent.futures import ThreadPoolExecutor
 from pathlib import Path
 from typing import NamedTuple
+
+import traffic
 
 HERE = Path(__file__).resolve().parent
 SETUP = (HERE / "setup.lines").read_text()
 FILES = ("testbench.sv", "client.sv", "bridge.sv", "streaming_bridge.sv", "fifo.sv", "memory.sv", "monitor.sv")
 SIMULATORS = ("iverilog", "verilator")
 BRIDGES = ("bridge", "streaming_bridge")
+PROFILES = ("bridge", "tilelink")
+ERRORS = ("strict", "any")
+HABITS = ("EARLY", "QUIET")  # of the streaming bridge
 MEMORIES = ("ANY_ORDER", "IN_ORDER", "AS_BEATS_COME", "SLOW")
 RIGHT = "NONE"
 BUGS = ("LANE_SWAPPED", "STROBE_LOST", "OTHER_SOURCE", "REPLY_TWICE", "WLAST_EARLY", "PAGE_CROSSED", "REGION_UNASKED")
@@ -39,12 +47,25 @@ class Cannot(Exception):
     """A program can't do its work."""
 
 
+class Asked(NamedTuple):
+    """What is asked of a bridge: the order of its requests, and how it may tell errors."""
+
+    profile: str = PROFILES[0]
+    errors: str = ERRORS[0]
+
+    @property
+    def setup(self):
+        return f"{SETUP}profile {self.profile}\nerrors {self.errors}\n"
+
+
 class Bench(NamedTuple):
-    """A bridge, in front of a memory, with a fault planted or with none."""
+    """A bridge, in front of a memory, with a fault planted or with none, and what is asked of it."""
 
     bridge: str
+    asked: Asked
     memory: str = MEMORIES[0]
     bug: str = RIGHT
+    habit: str = HABITS[0]
     is_calm: bool = False  # no access fails, and no beat is corrupt
 
     @property
@@ -52,21 +73,32 @@ class Bench(NamedTuple):
         return self.memory if self.bug == RIGHT else self.bug
 
     @property
+    def device(self):
+        return self.bridge if self.bridge == BRIDGES[0] else f"{self.bridge} {self.habit}"
+
+    @property
     def defines(self):
         chosen = [f"-DBRIDGE={self.bridge}"] if self.bridge != BRIDGES[0] else []
-        return [*chosen, f"-DMEMORY={self.memory}", f"-DBUG={self.bug}", f"-DCALM={int(self.is_calm)}"]
+        return [*chosen, f"-DHABIT={self.habit}", f"-DMEMORY={self.memory}", f"-DBUG={self.bug}", f"-DCALM={int(self.is_calm)}"]
+
+
+class Run(NamedTuple):
+    """What a run gave: the scoreboard's lines, and what was under way."""
+
+    told: str
+    traffic: traffic.Traffic
 
 
 def compiled(simulator, bench, folder):
-    """Makes a testbench, and returns the words that run it."""
-    parts = folder / bench.name
+    """Makes a testbench in a folder of its own, and returns the words that run it."""
+    made = folder / "testbench"
     if simulator == "iverilog":
-        words = ["iverilog", "-g2012", *bench.defines, "-s", "testbench", "-o", parts]
-        runs = ["vvp", "-n", parts]
+        words = ["iverilog", "-g2012", *bench.defines, "-s", "testbench", "-o", made]
+        runs = ["vvp", "-n", made]
     else:
-        words = ["verilator", "--binary", "--timing", "-Wno-fatal", *bench.defines, "--top-module", "testbench", "-Mdir", parts]
-        words += ["-o", "testbench"]
-        runs = [parts / "testbench"]
+        words = ["verilator", "--binary", "--timing", "-Wno-fatal", *bench.defines, "--top-module", "testbench", "-Mdir", folder]
+        words += ["-o", made.name]
+        runs = [made]
     simulated([*words, *FILES])
     return runs
 
@@ -89,28 +121,39 @@ def judged(score, setup, text):
     return ran.stdout
 
 
+def ran(bench, seed, making, score, folder):
+    """Runs a testbench with a seed, once it is made, and has it judged."""
+    seen = folder / f"seen-{seed}.lines"
+    simulated([*making.result(), f"+seed={seed}", f"+observed={seen}"])
+    text = seen.read_text()
+    seen.unlink()
+    return Run(judged(score, bench.asked.setup, text), traffic.of(text))
+
+
 class Variant:
     """The runs of a testbench."""
 
     def __init__(self, bench):
         self.bench = bench
+        self.traffic = traffic.Traffic()
         self.runs = self.beats = self.unfinished = 0
         self.first = []  # of each run that was told wrong: how many beats came up to the first wrong one
         self.names = Counter()  # what that one was told for
         self.seed = None  # of the first such run
 
-    def take(self, seed, setup, text):
-        """Notes what the scoreboard prints of a run."""
-        ended = ENDED.search(text)
+    def take(self, seed, run):
+        """Notes what a run gave."""
+        ended = ENDED.search(run.told)
         if not ended:
             raise Cannot(f"the scoreboard printed no last line of seed {seed}")
         judged, wrong, outstanding, still_open = map(int, ended.groups())
         self.runs += 1
         self.beats += judged
         self.unfinished += outstanding + still_open > 0
+        self.traffic |= run.traffic
         if wrong:
-            line, name = WRONG.search(text).groups()
-            self.first.append(int(line) - setup.count("\n"))
+            line, name = WRONG.search(run.told).groups()
+            self.first.append(int(line) - self.bench.asked.setup.count("\n"))
             self.names[name] += 1
             self.seed = self.seed or seed
 
@@ -126,39 +169,96 @@ class Variant:
         return f"{counts}; {times}; {self.names.most_common(1)[0][0]}; as in seed {self.seed}"
 
 
-def tried(bench, given, folder):
-    """Runs a testbench with each seed."""
-    runs, variant, seen = compiled(given.simulator, bench, folder), Variant(bench), folder / "seen.lines"
-    setup = f"{SETUP}profile {given.profile}\nerrors {given.errors}\n"
-    for seed in range(given.first, given.first + given.runs):
-        simulated([*runs, f"+seed={seed}", f"+observed={seen}"])
-        variant.take(seed, setup, judged(given.score, setup, seen.read_text()))
-    return variant
+def tried(plan, given, folder):
+    """Runs testbenches, each with its seeds, several at once, and gives what was found of each in their order."""
+    judged(given.score, SETUP, "")  # so that it is built before several ask for it
+    pool = ThreadPoolExecutor(given.jobs)
+    try:
+        folders = [Path(tempfile.mkdtemp(dir=folder)) for _ in plan]
+        made = [pool.submit(compiled, given.simulator, bench, its) for (bench, _), its in zip(plan, folders)]
+        runs = [
+            [pool.submit(ran, bench, seed, making, given.score, its) for seed in seeds]
+            for (bench, seeds), making, its in zip(plan, made, folders)
+        ]
+        for (bench, seeds), its_runs in zip(plan, runs):
+            variant = Variant(bench)
+            for seed, run in zip(seeds, its_runs):
+                variant.take(seed, run.result())
+            yield variant
+    finally:
+        pool.shutdown(cancel_futures=True)
 
 
-def benches(bridge, is_calm=False):
+def benches(bridge, asked, is_calm=False, habit=HABITS[0]):
     """The bridge in front of each memory, and with each fault that is planted in it; of a calm run none is looked for."""
     bugs = BUGS if bridge == BRIDGES[0] and not is_calm else ()
-    return [Bench(bridge, memory, is_calm=is_calm) for memory in MEMORIES] + [Bench(bridge, bug=bug) for bug in bugs]
+    right = [Bench(bridge, asked, memory, habit=habit, is_calm=is_calm) for memory in MEMORIES]
+    return right + [Bench(bridge, asked, bug=bug) for bug in bugs]
+
+
+def right_plan(seeds):
+    """Both bridges as they are, in front of each memory, by what each promises: each gets a seed in turn."""
+    judged_as = [(BRIDGES[0], HABITS[0], Asked())] + [(BRIDGES[1], habit, Asked("tilelink", "any")) for habit in HABITS]
+    right = [Bench(bridge, asked, memory, habit=habit) for bridge, habit, asked in judged_as for memory in MEMORIES]
+    return [(bench, seeds[at :: len(right)]) for at, bench in enumerate(right)]
+
+
+def plan_of(given):
+    """Each testbench that is asked for, with its seeds."""
+    seeds = range(given.first, given.first + given.runs)
+    if given.right:
+        return right_plan(seeds)
+    asked = Asked(given.profile, given.errors)
+    return [(bench, seeds) for bench in benches(given.bridge, asked, given.calm, given.habit)]
+
+
+HEAD = f"{'bridge':22} {'memory':14} {'runs':>5} {'blamed':>6}   at once  sources  IDs  overtaking  streamed  foretold"
+
+
+def row(variant):
+    """A line of the table of the right bridges."""
+    bench, seen = variant.bench, variant.traffic
+    counts = f"{bench.device:22} {bench.memory:14} {variant.runs:5} {len(variant.first):6}"
+    line = f"{counts} {seen.at_once:9} {len(seen.sources):8} {len(seen.ids):4} {seen.overtaking:11} {seen.streamed:9} {seen.foretold:9}"
+    why = f"; {variant.names.most_common(1)[0][0]}, as in seed {variant.seed}" if variant.first else ""
+    return line + why + (f"; {variant.unfinished} unfinished" if variant.unfinished else "")
+
+
+def verdict(variants, is_table):
+    """The last line."""
+    failed = [it for it in variants if not it.is_well()]
+    if is_table:
+        runs, blamed, unfinished = (sum(counts) for counts in zip(*((it.runs, len(it.first), it.unfinished) for it in variants)))
+        return f"{runs} runs of right bridges, {blamed} blamed, {unfinished} unfinished"
+    if failed:
+        return f"not as it should be: {', '.join(it.bench.name for it in failed)}"
+    return "the right bridge was never blamed, and each fault was told"
 
 
 def words():
     """What is asked for."""
-    asked = argparse.ArgumentParser(description="a bridge in SystemVerilog, right and with faults, judged by tlscore")
-    asked.add_argument("--runs", type=int, default=20, help="how many runs of each (20)")
+    asked = argparse.ArgumentParser(description="bridges in SystemVerilog, right and with faults, judged by tlscore")
+    asked.add_argument("--right", action="store_true", help="both bridges as they are, each by what it promises: a table")
+    asked.add_argument("--runs", type=int, default=20, help="how many runs of each, with --right in all (20)")
     asked.add_argument("--first", type=int, default=1, help="the seed of the first run, from 1; the others follow (1)")
-    asked.add_argument("--profile", choices=("bridge", "tilelink"), default="bridge", help="what is asked of the bridge (bridge)")
-    asked.add_argument("--errors", choices=("strict", "any"), default="strict", help="how they may be told; any by tilelink alone (strict)")
-    asked.add_argument("--bridge", choices=BRIDGES, default=BRIDGES[0], help="which bridge (the one that the faults are of)")
+    asked.add_argument("--profile", choices=PROFILES, help="what is asked of the bridge (bridge)")
+    asked.add_argument("--errors", choices=ERRORS, help="how it may tell errors; any only by profile tilelink (strict)")
+    asked.add_argument("--bridge", choices=BRIDGES, help="which bridge (the one that the faults are of)")
+    asked.add_argument("--habit", choices=HABITS, help="how the streaming bridge tells errors (EARLY)")
     asked.add_argument("--calm", action="store_true", help="no access fails, and no beat is corrupt")
+    asked.add_argument("--jobs", type=int, default=os.cpu_count() or 1, help="how many runs at once (as many as there are processors)")
     asked.add_argument("--simulator", choices=SIMULATORS, help="the first of these that is there")
     score = os.environ.get("TLSCORE", HERE.parents[2] / "tlscore")
     asked.add_argument("--score", default=score, help="the scoreboard (what TLSCORE names, else tlscore at the top)")
     given = asked.parse_args()
-    if given.runs < 1 or given.first < 1:
-        asked.error("runs and seeds are counted from 1")
+    if min(given.runs, given.first, given.jobs) < 1:
+        asked.error("runs, seeds and jobs are counted from 1")
+    if given.right and (given.calm or given.profile or given.errors or given.bridge or given.habit):
+        asked.error("--right chooses the bridges, and what is asked of them, itself")
+    given.profile, given.errors = given.profile or PROFILES[0], given.errors or ERRORS[0]
+    given.bridge, given.habit = given.bridge or BRIDGES[0], given.habit or HABITS[0]
     if given.errors == "any" and given.profile != "tilelink":
-        asked.error("--errors any goes with --profile tilelink alone")
+        asked.error("--errors any stands with --profile tilelink")
     given.score = Path(given.score).resolve()
     return given
 
@@ -171,18 +271,19 @@ def main():
         print(f"no simulator: {' or '.join(wanted)} has to be on PATH", file=sys.stderr)
         return 4
     print(f"{given.simulator}, seeds {given.first} to {given.first + given.runs - 1}", flush=True)
+    if given.right:
+        print(HEAD, flush=True)
     variants = []
     try:
         with tempfile.TemporaryDirectory() as folder:
-            for bench in benches(given.bridge, given.calm):
-                variants.append(tried(bench, given, Path(folder)))
-                print(variants[-1], flush=True)
+            for variant in tried(plan_of(given), given, Path(folder)):
+                variants.append(variant)
+                print(row(variant) if given.right else variant, flush=True)
     except Cannot as why:
         print(why, file=sys.stderr)
         return 3
-    failed = [it.bench.name for it in variants if not it.is_well()]
-    print(f"not as it should be: {', '.join(failed)}" if failed else "the right bridge was never blamed, and each fault was told")
-    return int(bool(failed))
+    print(verdict(variants, given.right))
+    return int(not all(it.is_well() for it in variants))
 
 
 if __name__ == "__main__":
