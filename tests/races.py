@@ -1,8 +1,9 @@
 """Histories of few requests by lot, most of which race, and what tlscore says of their replies by `profile tilelink`. What a reply
-may show is found by search: in each order of the requests that have begun in which none stands behind one that began after its
-whole reply had come, they are carried out whole, one at a time; a Put that isn't whole gives any bytes, or none. Where each byte of
-a beat is so in some order, the beat isn't blamed. Where a byte is so in none, and was given last by a Put with which nothing raced,
-the beat is blamed.
+may show is found by search: in each order of the requests that have begun in which none stands behind one that began after it was
+whole and its whole reply had come, they are carried out whole, one at a time; a Put that isn't whole gives any bytes, or none.
+Where each byte of a beat is so in some order, the beat isn't blamed. Where a byte is so in none, and was given last by a Put with
+which nothing raced, the beat is blamed. Every other history is one by `errors any`, in which no beat is corrupt, and some Puts are
+replied to before they are whole.
 
     python3 tests/races.py TLSCORE [HISTORIES] [--seed WORD]
 """
@@ -33,7 +34,7 @@ BYTES, ADDRESSES, MASKS = 16, (0, 3, 8, 15), (0xFF, 0xF0, 0x0F, 0x01, 0)
 MOVES, MOST, QUIET, SPOILED = 40, 6, 3, (0, 0, 0.1)
 VERDICT = re.compile(r"(?m)^= wrong (\d+) (.*)$")
 # How many beats these are at least in a history, on the average; `History.read` says what the words mean.
-WANTED = {"raced": 1, "wrong": 1, "surely wrong": 1, "blamed": 1}
+WANTED = {"raced": 1, "wrong": 1, "surely wrong": 1, "blamed": 1, "early": 0.1}
 
 
 @dataclass(eq=False)
@@ -44,7 +45,7 @@ class Request:
     came: int = 0  # how many of these beats came
     reply: tuple = ()  # in order of acceptance, once it is whole
     replied: int = 0  # how many beats of the reply came
-    ended: int = None  # the line of the last of them
+    ended: int = None  # the line of the last of them, or of its own last beat, if that came later
 
     @property
     def first(self):
@@ -120,8 +121,9 @@ class History:
     """Clients that make requests and are told their replies in a random schedule. When all is quiet Gets read what they may have
     left, one at a time; then comes a Put, and behind its reply a Get of which each byte is wrong."""
 
-    def __init__(self, rng):
-        self.rng, self.memory, self.lines = rng, Memory(SETUP), [*SETUP.lines, "profile tilelink"]
+    def __init__(self, rng, errors):
+        self.rng, self.memory, self.lines = rng, Memory(SETUP), [*SETUP.lines, "profile tilelink", f"errors {errors}"]
+        self.is_any, self.early = errors == "any", 0  # and how many replies came before their requests were whole
         self.kinds, self.requests = rng.choice((ALL, ALL, SUMS)), []
         self.told = {}  # by the line of each beat with data: the line that was due in order of acceptance, and what is said of it
         for _ in range(MOVES):
@@ -142,13 +144,15 @@ class History:
         live = [it for it in self.requests if it.client == client and not it.ended]
         whole = [it for it in live if it.reply]
         if rng.random() < 0.45:
-            if whole:
-                self.tell(next((it for it in whole if it.replied), rng.choice(whole)), rng.choice(SPOILED))
+            begun = [it for it in live if not it.reply and not it.replied and self.is_any]
+            may = [it for it in whole if it.replied] or whole + begun
+            if may:
+                self.tell(rng.choice(may), rng.choice(SPOILED))
         elif len(whole) < len(live):
             self.offer(next(it for it in live if not it.reply))
         elif len(live) < 2 and len(self.requests) < MOST:
             opcode, param, size = rng.choice(self.kinds)
-            self.begin(client, opcode, param, size, rng.choice(ADDRESSES) & -(2**size), corrupt=0.1)
+            self.begin(client, opcode, param, size, rng.choice(ADDRESSES) & -(2**size), corrupt=0 if self.is_any else 0.1)
 
     def end(self, spoiled=0):
         """All requests end, first those of which the reply goes on."""
@@ -177,9 +181,15 @@ class History:
         request.came += 1
         if request.came == len(request.beats):
             request.reply = self.memory.carry_out(request.client, request.beats)
+            request.ended = len(self.lines) if request.replied else None
 
     def tell(self, request, spoiled):
-        """The next beat of a reply comes."""
+        """The next beat of a reply comes, or the only one, before its request is whole."""
+        if not request.reply:
+            self.early += 1
+            self.lines.append(f"D {request.client} 0 0 {request.first.size} {request.first.source} 0 {0:016x} 0")
+            request.replied = 1
+            return
         due = request.reply[request.replied]
         payload = self.read(request, due, spoiled) if due.opcode == 1 else 0
         self.lines.append(line_of(due, payload))
@@ -229,7 +239,8 @@ def fault_of(program, history, counts):
 def cases(given):
     counts = Counter()
     for number in range(given.histories):
-        history = History(random.Random(f"{given.seed} {number}"))
+        history = History(random.Random(f"{given.seed} {number}"), ("strict", "any")[number % 2])
+        counts.update(early=history.early)
         counts.update(kind for _, said in history.told.values() for kind in said)
         yield f"seed {given.seed}, history {number}", fault_of(given.tlscore, history, counts)
     for what, least in WANTED.items():
