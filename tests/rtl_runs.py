@@ -59,7 +59,7 @@ def cases(score):
             name = f"{bench.device} in RTL, by profile {asked.profile} and errors {asked.errors}"
             yield name, None if variant.is_well() else str(variant)
             seen += [variant.traffic] if asked.errors == "any" else []
-    lacking = idle(functools.reduce(operator.or_, seen))
+    lacking = idle(functools.reduce(operator.or_, seen, run.traffic.Traffic()))
     yield "what the streaming bridge's runs show", f"none had {', '.join(lacking)}" if lacking else None
 
 

@@ -219,9 +219,9 @@ def row(variant):
     """A line of the table of the right bridges."""
     bench, seen = variant.bench, variant.traffic
     counts = f"{bench.device:22} {bench.memory:14} {variant.runs:5} {len(variant.first):6}"
-    line = f"{counts} {seen.at_once:9} {len(seen.sources):8} {len(seen.ids):4} {seen.overtaking:11} {seen.streamed:9} {seen.foretold:9}"
+    was = f"{seen.at_once:9} {len(seen.sources):8} {len(seen.ids):4} {seen.overtaking:11} {seen.streamed:9} {seen.foretold:9}"
     why = f"; {variant.names.most_common(1)[0][0]}, as in seed {variant.seed}" if variant.first else ""
-    return line + why + (f"; {variant.unfinished} unfinished" if variant.unfinished else "")
+    return f"{counts} {was}{why}" + (f"; {variant.unfinished} unfinished" if variant.unfinished else "")
 
 
 def verdict(variants, is_table):
@@ -246,7 +246,7 @@ def words():
     asked.add_argument("--bridge", choices=BRIDGES, help="which bridge (the one that the faults are of)")
     asked.add_argument("--habit", choices=HABITS, help="how the streaming bridge tells errors (EARLY)")
     asked.add_argument("--calm", action="store_true", help="no access fails, and no beat is corrupt")
-    asked.add_argument("--jobs", type=int, default=os.cpu_count() or 1, help="how many runs at once (as many as there are processors)")
+    asked.add_argument("--jobs", type=int, default=os.cpu_count() or 1, help="how many runs at once (one a processor)")
     asked.add_argument("--simulator", choices=SIMULATORS, help="the first of these that is there")
     score = os.environ.get("TLSCORE", HERE.parents[2] / "tlscore")
     asked.add_argument("--score", default=score, help="the scoreboard (what TLSCORE names, else tlscore at the top)")
@@ -255,6 +255,8 @@ def words():
         asked.error("runs, seeds and jobs are counted from 1")
     if given.right and (given.calm or given.profile or given.errors or given.bridge or given.habit):
         asked.error("--right chooses the bridges, and what is asked of them, itself")
+    if given.habit and given.bridge != BRIDGES[1]:
+        asked.error(f"--habit stands with --bridge {BRIDGES[1]}")
     given.profile, given.errors = given.profile or PROFILES[0], given.errors or ERRORS[0]
     given.bridge, given.habit = given.bridge or BRIDGES[0], given.habit or HABITS[0]
     if given.errors == "any" and given.profile != "tilelink":
