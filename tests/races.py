@@ -34,7 +34,7 @@ BYTES, ADDRESSES, MASKS = 16, (0, 3, 8, 15), (0xFF, 0xF0, 0x0F, 0x01, 0)
 MOVES, MOST, QUIET, SPOILED = 40, 6, 3, (0, 0, 0.1)
 VERDICT = re.compile(r"(?m)^= wrong (\d+) (.*)$")
 # How many beats these are at least in a history, on the average; `History.read` says what the words mean.
-WANTED = {"raced": 1, "wrong": 1, "surely wrong": 1, "blamed": 1, "early": 0.1}
+WANTED = {"raced": 1, "wrong": 1, "surely wrong": 1, "blamed": 1, "early": 0.02}
 
 
 @dataclass(eq=False)
