@@ -1,9 +1,9 @@
 //! The monitor.
-ghost use Rattle.std.specs.Prelude.{◌≡◌, ℕ, ◌+◌, ◌∷◌, ◌++◌, ◌<◌, ◌≤◌, None, Some, Ok, Err, IsErr, IsOk, IsSome, IfOk, IfSome, MatchOption, MatchResult, filter, length, position, sum_by};
+ghost use Rattle.std.specs.Prelude.{◌≡◌, ℕ, ◌+◌, ◌∷◌, ◌++◌, ◌<◌, ◌≤◌, None, Some, Ok, Err, IsErr, IsOk, IsSome, IfOk, IfSome, MatchOption, MatchResult, filter, length, option_map, position, sum_by};
 ghost use Rattle.axi_beats.specs.Bursts.{IsLegal};
 ghost use Rattle.axi_beats.specs.Responses.{is_exokay};
 ghost use Rattle.axi_beats.specs.Transfers.{IsBusWidth};
-ghost use Rattle.axi_checker.specs.OpenBursts.{lacks_data, nothing_open, open_after, open_count, read_of_id, write_of_id, write_to_fill};
+ghost use Rattle.axi_checker.specs.OpenBursts.{lacks_data, nothing_open, oldest_read, oldest_write, open_after, open_count, read_of_id, write_of_id, write_to_fill};
 ghost use Rattle.axi_checker.specs.declared.AxiBeat.TheVariants.{Ar as OnAr, Aw as OnAw, B as OnB, R as OnR, W as OnW};
 ghost use Rattle.axi_checker.specs.Order.{lasts_from, read_given, reads_asked, reads_owe, writes_lack};
 ghost use Rattle.axi_checker.specs.Rules.{axi_fault, beats_sent, burst_fault, id_of, open_after_all, open_with_burst, outstanding_beside};
@@ -210,6 +210,24 @@ impl Monitor {
         } else {
             self.reads.add(burst.ar());
         }
+    }
+
+    /// The address of the oldest outstanding write of an ID, to which the next response of the ID is (AXI4, A5, transaction ordering).
+    pub fn oldest_write(&self, id: u8) -> Option<AwBeat>
+        ensures oldest { result ≡ option_map (λ write. write.aw) (oldest_write id self.now.open_bursts) }
+        ensures size { IfSome result (λ aw. aw.size ≤ 3) }
+    {
+        let (_, write) = self.writes.oldest(id)?;
+        Some(write.aw)
+    }
+
+    /// The address of the oldest outstanding read of an ID, to which the next data of the ID are (AXI4, A5, transaction ordering).
+    pub fn oldest_read(&self, id: u8) -> Option<ArBeat>
+        ensures oldest { result ≡ option_map (λ read. read.ar) (oldest_read id self.now.open_bursts) }
+        ensures size { IfSome result (λ ar. ar.size ≤ 3) }
+    {
+        let (_, read) = self.reads.oldest(id)?;
+        Some(read.ar)
     }
 
     /// How many bursts are outstanding, on both sides.

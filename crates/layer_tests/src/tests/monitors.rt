@@ -203,6 +203,10 @@ fn whole_bursts(rt: HostRuntime) -> Result<(), Fail> {
     let second = takes(&mut monitor, &held);
     same(&rt, "a second read", second, Some(AxiRule::Depth));
     same(&rt, "both", monitor.outstanding(), 2);
+    let at_write = monitor.oldest_write(0);
+    same(&rt, "the write", at_write, Some(write(0, 0x10000, 1, 3)));
+    let at_read = monitor.oldest_read(0);
+    same(&rt, "the read", at_read, Some(read(0, 0x10000, 1, 3)));
     let first = monitor.take(&beat_of(R(0, Okay, false)));
     same(&rt, "the first data", first, Ok(()));
     same(&rt, "beats that came", monitor.answered_reads(), 1);
