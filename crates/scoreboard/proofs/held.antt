@@ -4,6 +4,7 @@ pub mod ClientFootprints
 pub mod EarlyBeats
 pub mod EarlyReplies
 pub mod Failed
+pub mod FailedResponses
 pub mod FootprintBytes
 pub mod FreeFronts
 pub mod Marks

@@ -14,6 +14,7 @@ pub mod Entries
 mod Examples
 pub mod Explained
 pub mod Failures
+pub mod Fates
 pub mod FirstBeats
 pub mod FlightLists
 pub mod FlightPlaces
@@ -21,6 +22,7 @@ pub mod FlightsAlone
 pub mod Follows
 pub mod FollowsChanges
 pub mod FollowsEnded
+pub mod FollowsHits
 pub mod FollowsReplies
 pub mod FollowsRequests
 pub mod Fronts

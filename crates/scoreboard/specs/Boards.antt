@@ -18,6 +18,7 @@ use Rattle.tl_checker.specs.declared.Progress.{Progress}
 use Rattle.tl_checker.specs.declared.Progress.TheVariants.{More, Whole}
 use Rattle.tl_checker.specs.declared.TlRule.{TlRule}
 use Rattle.axi_checker.specs.OpenBursts.{nothing_open}
+use Rattle.axi_checker.specs.declared.AxiBeat.{AxiBeat}
 use Rattle.responses.specs.Shown.{beat_without_data, shown}
 use Rattle.config.specs.Configs.{axi_port_of, port_of}
 use Rattle.config.specs.declared.Config.{Config}
@@ -25,6 +26,7 @@ use Rattle.setups.specs.Setups.{SetupLists, faults_of}
 use Rattle.meaning.specs.Meaning.{acknowledged, zeros}
 use Rattle.std.specs.Option.{option_or}
 use Rattle.scoreboard.specs.AxiPorts.{PortBoard, drained, none_early, port_after, port_wrong}
+use Rattle.scoreboard.specs.FailedBursts.{Span, after_hit, failed_span, hit, hit_flight}
 use Rattle.scoreboard.specs.Flights.{Flights, Footprint, InFlight, each_flight, flights_after, in_flight, is_busy, next_reply, no_flights, no_footprint, replies_left, with_flight}
 use Rattle.scoreboard.specs.Races.{after_given, after_joining, alone, beside, flight_beside, joining, unless_failed}
 use Rattle.scoreboard.specs.SerialMemory.{Memory, carried_out, meaning_in, place_in}
@@ -257,7 +259,8 @@ early_due Any q = Some (beat_without_data q acknowledged)
 
 -- the footprint of a request that had begun, when it is whole: what was determined of it all the while
 abbrev pub kept_from : Footprint → Footprint → Footprint
-kept_from coming footprint = record footprint { determined = λ x. footprint.determined x && coming.determined x }
+kept_from coming footprint =
+    record footprint { failed = coming.failed || footprint.failed; determined = λ x. footprint.determined x && coming.determined x }
 
 -- the same on a board
 abbrev pub coming_on : Board → WholeRequest → Footprint → Footprint
@@ -337,11 +340,30 @@ after_d old number (Some client) beat =
       told = unwrap_or (told_to client) beat.denied;
     }) old
 
+-- ---- an error response
+
+abbrev pub hit_client : Span → ClientBoard → ClientBoard
+hit_client span client = record client { flights = each_flight (hit_flight span) client.flights; coming = hit span client.coming }
+
+-- the board where each request may have failed that shares a byte with a burst, if one was answered with an error
+abbrev pub hit_on : Option Span → Board → Board
+hit_on None board = board
+hit_on (Some span) board =
+    record board {
+      clients = map (hit_client span) board.clients;
+      indeterminate = after_hit board.indeterminate span (footprints_of board.clients);
+    }
+
+-- after a beat on the AXI4 port
+abbrev pub after_axi : Policy → Board → AxiBeat → Board
+after_axi AcceptanceOrder old beat = record old { axi = port_after AcceptanceOrder old.axi beat }
+after_axi RealTime old beat = hit_on (failed_span old.errors old.axi beat) (record old { axi = port_after RealTime old.axi beat })
+
 -- the board after a beat
 abbrev pub after_seen : Policy → Board → ObservedBeat → Board
 after_seen policy old (A client beat) = after_a policy old client (slice_get old.clients client) beat
 after_seen policy old (D client beat) = after_d old client (slice_get old.clients client) beat
-after_seen policy old (OnAxi beat) = record old { axi = port_after policy old.axi beat }
+after_seen policy old (OnAxi beat) = after_axi policy old beat
 after_seen policy old Drained = record old { axi = drained old.axi }
 
 -- ---- what isn't finished

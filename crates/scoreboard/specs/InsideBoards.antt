@@ -14,9 +14,12 @@ use Rattle.tl_checker.specs.declared.Progress.TheVariants.{More, Whole}
 use Rattle.tl_checker.specs.declared.TlRule.{TlRule}
 use Rattle.subordinate.specs.Faults.{Faults, is_good, standing_at}
 use Rattle.subordinate.specs.InsidePages.{PagesState}
+use Rattle.axi_checker.specs.OpenBursts.{OpenBursts}
+use Rattle.axi_checker.specs.declared.AxiBeat.{AxiBeat}
 use Rattle.scoreboard.specs.AxiPorts.{PortBoard}
 use Rattle.scoreboard.specs.Boards.{Board, ClientBoard, tells_error}
-use Rattle.scoreboard.specs.Flights.{Flights, Footprint, InFlight, is_of_source}
+use Rattle.scoreboard.specs.FailedBursts.{Span, answered_span}
+use Rattle.scoreboard.specs.Flights.{Flights, Footprint, InFlight, each_flight, is_of_source}
 use Rattle.scoreboard.specs.InsideSerial.{IsMemoryRange, bytes_in}
 use Rattle.scoreboard.specs.SerialMemory.{MemoryState, memory_of}
 use Rattle.scoreboard.specs.declared.Errors.{Errors}
@@ -127,6 +130,21 @@ early_of (Some due) source = if due.source == source then Some due else None
 abbrev pub fails_by : Errors → List DBeat → Bool
 fails_by Strict beats = false
 fails_by Any beats = tells_error beats
+
+-- the bytes of the burst that an error response is to, where that may tell of other requests, whether or not it breaks a rule
+abbrev pub span_told : Policy → Errors → OpenBursts → AxiBeat → Option Span
+span_told AcceptanceOrder errors open_bursts beat = None
+span_told RealTime Strict open_bursts beat = None
+span_told RealTime Any open_bursts beat = answered_span open_bursts beat
+
+-- ---- what changes of footprints
+
+abbrev pub flight_changed : (Footprint → Footprint) → InFlight → InFlight
+flight_changed change flight = record flight { footprint = change flight.footprint }
+
+-- a client whose requests change, in flight or begun
+abbrev pub client_changed : (Footprint → Footprint) → ClientBoard → ClientBoard
+client_changed change client = record client { flights = each_flight (flight_changed change) client.flights; coming = change client.coming }
 
 -- ---- what stays so
 

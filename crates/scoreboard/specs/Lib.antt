@@ -1,5 +1,6 @@
 pub mod AxiPorts
 pub mod Boards
+pub mod FailedBursts
 pub mod Flights
 pub mod InsideBoards
 pub mod InsideSerial

@@ -1,11 +1,14 @@
 //! The AXI4 port by its monitor.
-ghost use Rattle.std.specs.Prelude.{◌≡◌, true, IfOk};
-ghost use Rattle.axi_checker.specs.OpenBursts.{nothing_open, open_count};
-ghost use Rattle.axi_checker.specs.Rules.{axi_fault};
+ghost use Rattle.std.specs.Prelude.{◌≡◌, true, IfOk, option_map};
+ghost use Rattle.axi_checker.specs.OpenBursts.{nothing_open, oldest_read, oldest_write, open_count};
+ghost use Rattle.axi_checker.specs.Rules.{address_of_read, address_of_write, axi_fault};
 ghost use Rattle.config.specs.Configs.{axi_port_of, is_valid};
 ghost use Rattle.scoreboard.specs.AxiPorts.{bursts_after, wrong_axi};
+ghost use Rattle.scoreboard.specs.FailedBursts.{answered_span, span_of};
 
 use crate::Wrong;
+use crate::failed_bursts::Span;
+use axi_beats::Resp;
 use axi_checker::{AxiBeat, Monitor};
 use config::Config;
 use std::alloc::{AllocError, Global};
@@ -53,6 +56,33 @@ impl AxiPort {
         ensures { self.new ≡ record self.old { open_bursts = nothing_open } }
     {
         self.monitor.clear();
+    }
+
+    /// The bytes of the oldest write of an ID.
+    fn oldest_write(&self, id: u8) -> Option<Span>
+        ensures { result ≡ option_map (λ write. span_of (address_of_write write.aw)) (oldest_write id self.now.open_bursts) }
+    {
+        let aw = self.monitor.oldest_write(id)?;
+        Some(Span::of_write(aw))
+    }
+
+    /// The bytes of the oldest read of an ID.
+    fn oldest_read(&self, id: u8) -> Option<Span>
+        ensures { result ≡ option_map (λ read. span_of (address_of_read read.ar)) (oldest_read id self.now.open_bursts) }
+    {
+        let ar = self.monitor.oldest_read(id)?;
+        Some(Span::of_read(ar))
+    }
+
+    /// The bytes of the burst that a beat answers, if it is a response that tells an error: of the oldest of its ID (AXI4, A5).
+    pub(crate) fn answered_span(&self, beat: &AxiBeat) -> Option<Span>
+        ensures { result ≡ answered_span self.now.open_bursts beat.now }
+    {
+        match beat {
+            AxiBeat::B(b) if b.resp != Resp::Okay => self.oldest_write(b.id),
+            AxiBeat::R(r) if r.resp != Resp::Okay => self.oldest_read(r.id),
+            _ => None,
+        }
     }
 
     /// Judges a beat; one that breaks a rule changes nothing.

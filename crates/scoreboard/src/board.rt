@@ -8,18 +8,21 @@ ghost use Rattle.meaning.specs.InTurn.{bytes_of_all};
 ghost use Rattle.setups.specs.Setups.{SetupLists, lists_of, setup_fault};
 ghost use Rattle.setups.specs.declared.SetupFault.TheVariants.{NoMemory};
 ghost use Rattle.subordinate.specs.Faults.{is_good, standing_at};
-ghost use Rattle.scoreboard.specs.Boards.{acting, client_beside, early_due, fails, footprints_of, opening_client, replies_open};
+ghost use Rattle.scoreboard.specs.Boards.{acting, client_beside, early_due, fails, footprints_of, hit_client, opening_client, replies_open};
+ghost use Rattle.scoreboard.specs.FailedBursts.{after_hit};
 ghost use Rattle.scoreboard.specs.InsideBoards.{AreOnGoodPages, ClientsHaveRoom, IsOnGoodPage, client_of, footprint_of, is_marked, room_by};
 ghost use Rattle.scoreboard.specs.Races.{after_given, after_joining, beside_all, beside_dependent};
 ghost use Rattle.scoreboard.specs.SerialMemory.{IsCheckedRequest, byte_at, carried_out, memory_of, place_in};
 
 use crate::clients::Client;
 use crate::early_port::EarlyPort;
+use crate::failed_bursts::Span;
 use crate::footprint::Footprint;
 use crate::in_flight::InFlight;
 use crate::marks::mark_given;
 use crate::serial::SerialMemory;
 use crate::{Errors, ObservedBeat, Policy, Wrong};
+use axi_checker::AxiBeat;
 use burst_plan::PageMap;
 use config::Config;
 use setups::{Setup, SetupFault, setup_fault};
@@ -221,11 +224,34 @@ fn give_way(clients: &mut [Client], other: &Footprint)
     }
 }
 
+/// What those requests of some clients may write, in flight or begun, is indeterminate that share a byte with a burst that was answered
+/// with an error.
+fn mark_shared(marks: &mut Pages, clients: &[Client], span: Span)
+    requires good { AreOnGoodPages marks.old.faults (footprints_of (map client_of clients.now)) }
+    ensures faults { marks.new.faults ≡ marks.old.faults }
+    ensures bytes { is_marked marks.new ≡ after_hit (is_marked marks.old) span (footprints_of (map client_of clients.now)) }
+{
+    for client in clients {
+        client.mark_shared(marks, span);
+    }
+}
+
+/// Those requests of some clients, in flight or begun, may have failed that share a byte with such a burst.
+fn hit(clients: &mut [Client], span: Span)
+    ensures clients { map client_of clients.new ≡ map (hit_client span) (map client_of clients.old) }
+    ensures room { (room : ℕ) → ClientsHaveRoom room clients.old → ClientsHaveRoom room clients.new }
+{
+    for client in clients.iter_mut() {
+        client.hit(span);
+    }
+}
+
 impl Scoreboard {
-    ghost use Rattle.scoreboard.specs.Boards.{ClientBoard, IsReached, a_wrong, accepted_on, after_a, after_d, after_seen, answer_to, begun_on, coming_on, continued_on, d_wrong, flight_for, given_on, has_replied, is_spoiled, joined_on, joining_on, opening_board, opening_with, with_client, with_taken, with_whole, wrong_at};
+    ghost use Rattle.scoreboard.specs.Boards.{ClientBoard, IsReached, a_wrong, accepted_on, after_a, after_axi, after_d, after_seen, answer_to, begun_on, coming_on, continued_on, d_wrong, flight_for, given_on, has_replied, hit_on, is_spoiled, joined_on, joining_on, opening_board, opening_with, with_client, with_taken, with_whole, wrong_at};
     ghost use Rattle.scoreboard.specs.Flights.{no_footprint};
     ghost use Rattle.scoreboard.specs.Races.{unless_failed};
-    ghost use Rattle.scoreboard.specs.InsideBoards.{IsFirstBeat, IsFreeOf, board_of, flight_of, front_after};
+    ghost use Rattle.scoreboard.specs.InsideBoards.{IsFirstBeat, IsFreeOf, board_of, flight_of, front_after, span_told};
+    ghost use Rattle.scoreboard.specs.AxiPorts.{port_wrong};
     ghost use Rattle.tl_messages.specs.Requests.{HeldMessage};
     ghost use Rattle.tl_checker.specs.Ports.{joined};
     ghost use Rattle.tl_checker.specs.declared.Progress.TheVariants.{More, Whole};
@@ -325,7 +351,7 @@ impl Scoreboard {
         match seen {
             ObservedBeat::A(client, beat) => self.judge_request(*client, beat),
             ObservedBeat::D(client, beat) => self.judge_reply(*client, beat),
-            ObservedBeat::Axi(beat) => self.axi.judge(self.policy, beat),
+            ObservedBeat::Axi(beat) => self.judge_axi(beat),
             ObservedBeat::Drained => {
                 self.axi.clear();
                 None
@@ -615,6 +641,50 @@ impl Scoreboard {
             return Some(Wrong::NoClient);
         };
         found.judge_reply(self.policy, beat)
+    }
+
+    /// The bytes of the burst that an error response is to, where requests take effect in real time, and errors are told in any way.
+    fn span_told(&self, beat: &AxiBeat) -> Option<Span>
+        ensures { result ≡ span_told self.now.policy self.now.errors self.now.axi.open_bursts beat.now }
+    {
+        match (self.policy, self.errors) {
+            (Policy::RealTime, Errors::Any) => self.axi.answered_span(beat),
+            _ => None,
+        }
+    }
+
+    /// Judges a beat on a channel of the AXI4 port. With an error response that breaks no rule each request may have failed that shares a
+    /// byte with its burst, where errors may be told in any way.
+    fn judge_axi(&mut self, beat: &AxiBeat) -> Option<Wrong>
+        ensures answer { result ≡ port_wrong self.old.policy self.old.axi beat.now }
+        ensures state { board_of self.new ≡ after_axi self.old.policy (board_of self.old) beat.now }
+        ensures policy { self.new.policy ≡ self.old.policy }
+    {
+        let told = self.span_told(beat);
+        let wrong = self.axi.judge(self.policy, beat);
+        if wrong.is_some() {
+            return wrong;
+        }
+        let Some(span) = told else {
+            return None;
+        };
+        self.hit(span);
+        None
+    }
+
+    /// Each request may have failed that shares a byte with a burst that was answered with an error, and what it may write is
+    /// indeterminate.
+    fn hit(&mut self, span: Span)
+        ensures state { board_of self.new ≡ hit_on (Some span) (board_of self.old) }
+        ensures policy { self.new.policy ≡ self.old.policy }
+    {
+        let Scoreboard {
+            clients,
+            indeterminate,
+            ..
+        } = self;
+        mark_shared(indeterminate, clients, span);
+        hit(clients, span);
     }
 
     /// How many accepted requests have a reply that wasn't observed whole.

@@ -5,16 +5,18 @@ ghost use Rattle.tl_messages.specs.Requests.{HeldMessage, request_of};
 ghost use Rattle.tl_checker.specs.Ports.{joined};
 ghost use Rattle.tl_checker.specs.declared.Progress.TheVariants.{More, Whole};
 ghost use Rattle.config.specs.Configs.{is_valid};
-ghost use Rattle.scoreboard.specs.Boards.{answer_to, client_beside, client_footprints, early_after, early_left, has_replied, is_spoiled, kept_from, next_to, opening_client, told_to, with_whole, wrong_reply};
+ghost use Rattle.scoreboard.specs.Boards.{answer_to, client_beside, client_footprints, early_after, early_left, has_replied, hit_client, is_spoiled, kept_from, next_to, opening_client, told_to, with_whole, wrong_reply};
+ghost use Rattle.scoreboard.specs.FailedBursts.{after_hit};
 ghost use Rattle.scoreboard.specs.Flights.{flights_after, is_of_source, next_reply, replies_left};
 ghost use Rattle.scoreboard.specs.InsideBoards.{AreOnGoodPages, IsFirstBeat, client_of, early_of, flight_of, flights_of, footprint_of, front_after, is_marked};
 ghost use Rattle.scoreboard.specs.Races.{beside_all, beside_dependent, unless_failed};
 ghost use Rattle.scoreboard.specs.SerialMemory.{IsCheckedRequest};
 
+use crate::failed_bursts::Span;
 use crate::flights::Flights;
 use crate::footprint::Footprint;
 use crate::in_flight::{InFlight, wrong_told};
-use crate::marks::mark_dependent;
+use crate::marks::{mark_dependent, mark_shared};
 use crate::{Errors, Policy, ReplyRule, Wrong};
 use config::Config;
 use std::alloc::{AllocError, Global};
@@ -182,7 +184,8 @@ impl Client {
         errors == Errors::Any && self.early.is_none()
     }
 
-    /// Of the request that had begun and is whole now, only those bytes stay determined that were so all the while.
+    /// Of the request that had begun and is whole now, only those bytes stay determined that were so all the while; if it had failed, it
+    /// has.
     pub(crate) fn keep(&self, flight: &mut InFlight)
         ensures footprint { footprint_of flight.new.footprint ≡ kept_from (footprint_of self.now.coming) (footprint_of flight.old.footprint) }
         ensures room { length flight.new.footprint.determined ≡ length flight.old.footprint.determined }
@@ -269,5 +272,25 @@ impl Client {
     {
         self.flights.give_way(other);
         self.coming.give_way(other);
+    }
+
+    /// What those of its requests may write, in flight or begun, is indeterminate that share a byte with a burst that was answered with an
+    /// error.
+    pub(crate) fn mark_shared(&self, marks: &mut Pages, span: Span)
+        requires good { AreOnGoodPages marks.old.faults (client_footprints (client_of self.now)) }
+        ensures faults { marks.new.faults ≡ marks.old.faults }
+        ensures bytes { is_marked marks.new ≡ after_hit (is_marked marks.old) span (client_footprints (client_of self.now)) }
+    {
+        self.flights.mark_shared(marks, span);
+        mark_shared(marks, &self.coming, span);
+    }
+
+    /// Those of its requests, in flight or begun, may have failed that share a byte with such a burst.
+    pub(crate) fn hit(&mut self, span: Span)
+        ensures client { client_of self.new ≡ hit_client span (client_of self.old) }
+        ensures room { self.new.flights.room ≡ self.old.flights.room }
+    {
+        self.flights.hit(span);
+        self.coming.hit(span);
     }
 }

@@ -4,8 +4,10 @@ ghost use Rattle.std.specs.VecDeque.{deque_capacity};
 ghost use Rattle.axi_checker.specs.OpenBursts.{nothing_open, open_count};
 ghost use Rattle.config.specs.Configs.{axi_port_of, is_valid};
 ghost use Rattle.scoreboard.specs.AxiPorts.{after_with_early, drained, none_early, port_after, port_wrong, taking, tells_no_write, wrong_with_early};
+ghost use Rattle.scoreboard.specs.FailedBursts.{answered_span};
 
 use crate::axi_port::AxiPort;
+use crate::failed_bursts::Span;
 use crate::{Policy, Wrong};
 use axi_beats::WBeat;
 use axi_checker::{AxiBeat, AxiRule};
@@ -94,6 +96,13 @@ impl EarlyPort {
     {
         self.axi.clear();
         self.early.clear();
+    }
+
+    /// The bytes of the burst that a beat answers, if it is a response that tells an error.
+    pub(crate) fn answered_span(&self, beat: &AxiBeat) -> Option<Span>
+        ensures { result ≡ answered_span self.now.open_bursts beat.now }
+    {
+        self.axi.answered_span(beat)
     }
 
     /// Judges a beat. Where requests take effect in real time a write's data may be early, and its address takes them.

@@ -4,13 +4,15 @@ ghost use Rattle.std.specs.List.{list_any, position};
 ghost use Rattle.std.specs.Vec.{vec_capacity};
 ghost use Rattle.bus_words.specs.Places.{without_first};
 ghost use Rattle.scoreboard.specs.Boards.{wrong_reply};
+ghost use Rattle.scoreboard.specs.FailedBursts.{after_hit, hit_flight};
 ghost use Rattle.scoreboard.specs.Flights.{begun_after, due_to, each_flight, flights_after, in_flight, is_busy, is_of_source, next_reply, replies_left};
 ghost use Rattle.scoreboard.specs.InsideBoards.{AreOnGoodPages, HaveRoom, flight_of, flights_of, footprint_of, is_marked};
 ghost use Rattle.scoreboard.specs.Races.{beside_all, beside_dependent, flight_beside};
 
+use crate::failed_bursts::Span;
 use crate::footprint::Footprint;
 use crate::in_flight::InFlight;
-use crate::marks::mark_dependent;
+use crate::marks::{mark_dependent, mark_shared};
 use crate::{Policy, ReplyRule, Wrong};
 use std::alloc::{AllocError, Global};
 use std::marker::Model;
@@ -104,6 +106,27 @@ fn give_way_each(due: &mut [InFlight], other: &Footprint)
 {
     for flight in due.iter_mut() {
         flight.give_way(other);
+    }
+}
+
+/// What those requests may write is indeterminate that share a byte with a burst that was answered with an error.
+fn mark_shared_each(marks: &mut Pages, due: &[InFlight], span: Span)
+    requires good { AreOnGoodPages marks.old.faults (map (λ flight. flight.footprint) (map flight_of due.now)) }
+    ensures faults { marks.new.faults ≡ marks.old.faults }
+    ensures bytes { is_marked marks.new ≡ after_hit (is_marked marks.old) span (map (λ flight. flight.footprint) (map flight_of due.now)) }
+{
+    for flight in due {
+        mark_shared(marks, flight.footprint(), span);
+    }
+}
+
+/// Those requests may have failed that share a byte with such a burst.
+fn hit_each(due: &mut [InFlight], span: Span)
+    ensures flights { map flight_of due.new ≡ map (hit_flight span) (map flight_of due.old) }
+    ensures rooms { (room : ℕ) → HaveRoom room due.old → HaveRoom room due.new }
+{
+    for flight in due.iter_mut() {
+        flight.hit(span);
     }
 }
 
@@ -269,6 +292,29 @@ impl Flights {
         give_way_each(&mut self.due, other);
         if let Some(flight) = &mut self.begun {
             flight.give_way(other);
+        }
+    }
+
+    /// What those may write is indeterminate that share a byte with a burst that was answered with an error.
+    pub(crate) fn mark_shared(&self, marks: &mut Pages, span: Span)
+        requires good { AreOnGoodPages marks.old.faults (map (λ flight. flight.footprint) (in_flight (flights_of self.now))) }
+        ensures faults { marks.new.faults ≡ marks.old.faults }
+        ensures bytes { is_marked marks.new ≡ after_hit (is_marked marks.old) span (map (λ flight. flight.footprint) (in_flight (flights_of self.now))) }
+    {
+        mark_shared_each(marks, &self.due, span);
+        if let Some(flight) = &self.begun {
+            mark_shared(marks, flight.footprint(), span);
+        }
+    }
+
+    /// Those may have failed that share a byte with such a burst.
+    pub(crate) fn hit(&mut self, span: Span)
+        ensures flights { flights_of self.new ≡ each_flight (hit_flight span) (flights_of self.old) }
+        ensures room { self.new.room ≡ self.old.room }
+    {
+        hit_each(&mut self.due, span);
+        if let Some(flight) = &mut self.begun {
+            flight.hit(span);
         }
     }
 }

@@ -5,9 +5,11 @@ ghost use Rattle.subordinate.specs.Faults.{is_good, standing_at};
 ghost use Rattle.scoreboard.specs.InsideSerial.{IsMemoryRange};
 ghost use Rattle.scoreboard.specs.InsideBoards.{is_marked, footprint_of, determined_in};
 ghost use Rattle.scoreboard.specs.Boards.{kept_from};
+ghost use Rattle.scoreboard.specs.FailedBursts.{hit, shares};
 ghost use Rattle.scoreboard.specs.Flights.{no_footprint};
 ghost use Rattle.scoreboard.specs.Races.{alone, beside, covers, is_fixed, meets, unless_failed};
 
+use crate::failed_bursts::Span;
 use std::alloc::{AllocError, Global};
 use std::marker::Model;
 use subordinate::Pages;
@@ -152,6 +154,16 @@ impl Footprint {
         u64::from(self.address) < other_end && u64::from(other.address) < end
     }
 
+    /// Whether it reads or writes, and a burst has one of its bytes.
+    pub(crate) fn shares(&self, span: Span) -> bool
+        ensures { result ≡ shares span (footprint_of self.now) }
+    {
+        let end = u64::from(self.address) + u64::from(self.bytes());
+        (self.reads || self.writes)
+            && u64::from(self.address) <= span.last
+            && u64::from(span.first) < end
+    }
+
     /// It becomes a request that acts at an address, where it acts on a good page, alone.
     pub(crate) fn start(&mut self, marks: &Pages, place: Option<u32>, request: &Request)
         requires range { IfSome place (λ address. IsMemoryRange address request.now.size) }
@@ -238,7 +250,7 @@ impl Footprint {
         self.is_determined(i) && other.is_determined_at(self.address_of(i))
     }
 
-    /// Of its bytes only those stay determined that are determined of another.
+    /// Of its bytes only those stay determined that are determined of another, and it has failed if that one has.
     pub(crate) fn keep(&mut self, coming: &Footprint)
         ensures footprint { footprint_of self.new ≡ kept_from (footprint_of coming.now) (footprint_of self.old) }
         ensures room { length self.new.determined ≡ length self.old.determined }
@@ -247,6 +259,7 @@ impl Footprint {
             let kept = self.is_determined_with(coming, i);
             self.put(i, kept);
         }
+        self.failed |= coming.failed;
     }
 
     /// It has failed: none of its bytes is determined.
@@ -270,6 +283,15 @@ impl Footprint {
         if failed {
             self.fail();
         }
+    }
+
+    /// It may have failed, where it shares a byte with a burst that was answered with an error.
+    pub(crate) fn hit(&mut self, span: Span)
+        ensures footprint { footprint_of self.new ≡ hit span (footprint_of self.old) }
+        ensures room { length self.new.determined ≡ length self.old.determined }
+    {
+        let failed = self.shares(span);
+        self.fail_if(failed);
     }
 
     /// Whether it leaves its bytes the same in every order, where they are determined.

@@ -5,12 +5,14 @@ ghost use Rattle.tl_messages.specs.Operations.{beats_of};
 ghost use Rattle.tl_messages.specs.Requests.{request_of};
 ghost use Rattle.responses.specs.Shown.{shown};
 ghost use Rattle.scoreboard.specs.Boards.{differs_in, due_beat, is_payload, kept_from, reply_rules, tells_error, tells_otherwise, unless_indeterminate, wrong_by, wrong_reply};
+ghost use Rattle.scoreboard.specs.FailedBursts.{hit_flight};
 ghost use Rattle.scoreboard.specs.Flights.{no_footprint};
 ghost use Rattle.scoreboard.specs.InsideBoards.{fails_by, flight_of, footprint_of, is_marked};
 ghost use Rattle.scoreboard.specs.InsideSerial.{IsMemoryRange};
 ghost use Rattle.scoreboard.specs.Races.{alone, flight_beside, unless_failed};
 ghost use Rattle.scoreboard.specs.SerialMemory.{IsCheckedRequest, carried_out, meaning_in, memory_of};
 
+use crate::failed_bursts::Span;
 use crate::footprint::Footprint;
 use crate::serial::SerialMemory;
 use crate::{Errors, Policy, ReplyRule, Wrong};
@@ -213,7 +215,7 @@ impl InFlight {
         self.footprint.start(marks, place, request);
     }
 
-    /// Of its bytes only those stay determined that are determined of another footprint.
+    /// Of its bytes only those stay determined that are determined of another footprint, and it has failed if that one has.
     pub(crate) fn keep(&mut self, coming: &Footprint)
         ensures footprint { footprint_of self.new.footprint ≡ kept_from (footprint_of coming.now) (footprint_of self.old.footprint) }
         ensures room { length self.new.footprint.determined ≡ length self.old.footprint.determined }
@@ -322,5 +324,13 @@ impl InFlight {
         ensures source { self.new.source ≡ self.old.source }
     {
         self.footprint.give_way(other);
+    }
+
+    /// It may have failed, where it shares a byte with a burst that was answered with an error.
+    pub(crate) fn hit(&mut self, span: Span)
+        ensures flight { flight_of self.new ≡ hit_flight span (flight_of self.old) }
+        ensures room { length self.new.footprint.determined ≡ length self.old.footprint.determined }
+    {
+        self.footprint.hit(span);
     }
 }

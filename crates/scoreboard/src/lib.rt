@@ -5,6 +5,7 @@ mod axi_port;
 mod board;
 mod clients;
 mod early_port;
+mod failed_bursts;
 mod flights;
 mod footprint;
 mod in_flight;
@@ -39,8 +40,9 @@ pub enum Errors {
     /// word, writes nothing, and each beat of its reply is denied and corrupt as this project's profile says.
     Strict,
     /// In any way that TileLink allows: a request of which a beat was corrupt, or whose access fails by the page map or a bad word,
-    /// may be denied or not, its data may be corrupt or not, and what it may have written is in doubt. A reply is due from its
-    /// request's first beat on.
+    /// may be denied or not, its data may be corrupt or not, and what it may have written is in doubt; so may one be that shares a
+    /// byte with a burst to which a response came that is an error (AXI4, A3.4.4) before the last beat of its reply. A reply is due
+    /// from its request's first beat on.
     Any,
 }
 

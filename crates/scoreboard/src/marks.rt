@@ -8,8 +8,10 @@ ghost use Rattle.subordinate.specs.Faults.{device_fault, is_good, standing_at};
 ghost use Rattle.scoreboard.specs.InsideSerial.{IsMemoryRange};
 ghost use Rattle.scoreboard.specs.SerialMemory.{IsCheckedRequest};
 ghost use Rattle.scoreboard.specs.InsideBoards.{IsOnGoodPage, determined_in, footprint_of, is_marked};
-ghost use Rattle.scoreboard.specs.Races.{after_given, covers, depends_on};
+ghost use Rattle.scoreboard.specs.FailedBursts.{shares};
+ghost use Rattle.scoreboard.specs.Races.{after_given, covers, depends_on, may_write};
 
+use crate::failed_bursts::Span;
 use crate::footprint::Footprint;
 use crate::serial::put_word;
 use bus_words::has_lane;
@@ -114,6 +116,19 @@ pub(crate) fn mark_dependent(marks: &mut Pages, footprint: &Footprint, other: &F
         ≡ (is_marked marks.old x || depends_on (footprint_of footprint.now) (footprint_of other.now) && covers (footprint_of footprint.now) x) }
 {
     if !footprint.reads() || !footprint.writes() || !other.writes() || !footprint.meets(other) {
+        return;
+    }
+    mark_all(marks, footprint);
+}
+
+/// All bytes of a request are indeterminate that may write, and shares one with a burst that was answered with an error.
+pub(crate) fn mark_shared(marks: &mut Pages, footprint: &Footprint, span: Span)
+    requires good { IsOnGoodPage marks.old.faults (footprint_of footprint.now) }
+    ensures faults { marks.new.faults ≡ marks.old.faults }
+    ensures bytes { (x : ℕ) → is_marked marks.new x
+        ≡ (is_marked marks.old x || shares span (footprint_of footprint.now) && may_write (footprint_of footprint.now) x) }
+{
+    if !footprint.writes() || !footprint.shares(span) {
         return;
     }
     mark_all(marks, footprint);

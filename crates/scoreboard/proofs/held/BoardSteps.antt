@@ -11,14 +11,15 @@ use Rattle.subordinate.specs.InsidePages.{PagesState}
 use Rattle.tl_messages.specs.Requests.{HeldMessage, WholeRequest, begun, bytes_given, request_of}
 use Rattle.tl_messages.specs.declared.ABeat.{ABeat}
 use Rattle.tl_messages.specs.declared.DBeat.{DBeat}
-use Rattle.scoreboard.specs.Boards.{Board, ClientBoard, acting, after_d, begun_on, client_beside, client_footprints, coming_on, early_after, early_due, fails, flight_for, footprints_of, given_on, has_replied, joined_on, joining_on, told_to, with_accepted, with_client, with_taken, with_whole}
+use Rattle.scoreboard.specs.Boards.{Board, ClientBoard, acting, after_d, begun_on, client_beside, client_footprints, coming_on, early_after, early_due, fails, flight_for, footprints_of, given_on, has_replied, hit_client, joined_on, joining_on, told_to, with_accepted, with_client, with_taken, with_whole}
+use Rattle.scoreboard.specs.FailedBursts.{Span}
 use Rattle.scoreboard.specs.Flights.{Footprint, InFlight, flights_after, is_of_source}
 use Rattle.scoreboard.specs.InsideBoards.{AreOnGoodPages, BoardState, ClientState, ClientsHaveRoom, FlightState, IsFreeOf, board_of, client_of, flight_of, flights_of, footprint_of, is_marked}
 use Rattle.scoreboard.specs.Races.{after_given, after_joining, beside_dependent, flight_beside, joining, unless_failed}
 use Rattle.scoreboard.specs.SerialMemory.{Memory, carried_out, memory_of, place_in}
 use Rattle.scoreboard.specs.declared.Errors.{Errors}
 use Rattle.scoreboard.specs.declared.Errors.TheVariants.{Any, Strict}
-use Rattle.scoreboard.proofs.held.ClientFootprints.{all_beside, good_client, good_each}
+use Rattle.scoreboard.proofs.held.ClientFootprints.{all_beside, all_hit, good_client, good_each}
 use Rattle.scoreboard.proofs.held.Marks.{nothing_given}
 use Rattle.scoreboard.proofs.MappedLists.{any_map}
 
@@ -61,15 +62,26 @@ client_kept room faults clients number found new there same keeps held =
       good_client faults clients number new held.2 (keeps (all-got good clients number found (good_each faults clients held.2) there)),
     )
 
--- and where all have given way
-pub beside_kept : (room : ℕ) (faults : Faults) (clients given : List ClientState) (footprint : Footprint) → map client_of given ≡ map (client_beside footprint) (map client_of clients)
-    → (ClientsHaveRoom room clients → ClientsHaveRoom room given) → AreKept room faults clients → AreKept room faults given
-beside_kept room faults clients given footprint is rooms held =
-    let many = sym (length-map given client_of) ∙ ap length is ∙ length-map (map client_of clients) (client_beside footprint) ∙ length-map clients client_of in (
+-- and where all change that are on good pages, and stay there
+all_kept : (room : ℕ) (faults : Faults) (clients new : List ClientState) (change : ClientBoard → ClientBoard) → map client_of new ≡ map change (map client_of clients)
+    → (AreOnGoodPages faults (footprints_of (map client_of clients)) → AreOnGoodPages faults (footprints_of (map change (map client_of clients))))
+    → (ClientsHaveRoom room clients → ClientsHaveRoom room new) → AreKept room faults clients → AreKept room faults new
+all_kept room faults clients new change is good rooms held =
+    let many = sym (length-map new client_of) ∙ ap length is ∙ length-map (map client_of clients) change ∙ length-map clients client_of in (
       rw many held.0,
       rooms held.1,
-      subst (λ (cs : List ClientBoard). AreOnGoodPages faults (footprints_of cs)) (sym is) (all_beside faults footprint (map client_of clients) held.2),
+      subst (λ (cs : List ClientBoard). AreOnGoodPages faults (footprints_of cs)) (sym is) (good held.2),
     )
+
+-- that have given way
+pub beside_kept : (room : ℕ) (faults : Faults) (clients given : List ClientState) (footprint : Footprint) → map client_of given ≡ map (client_beside footprint) (map client_of clients)
+    → (ClientsHaveRoom room clients → ClientsHaveRoom room given) → AreKept room faults clients → AreKept room faults given
+beside_kept room faults clients given footprint is rooms held = all_kept room faults clients given (client_beside footprint) is (all_beside faults footprint (map client_of clients)) rooms held
+
+-- of which those are hit that share a byte with a burst
+pub hit_kept : (room : ℕ) (faults : Faults) (clients new : List ClientState) (span : Span) → map client_of new ≡ map (hit_client span) (map client_of clients)
+    → (ClientsHaveRoom room clients → ClientsHaveRoom room new) → AreKept room faults clients → AreKept room faults new
+hit_kept room faults clients new span is rooms held = all_kept room faults clients new (hit_client span) is (all_hit faults span (map client_of clients)) rooms held
 
 -- ---- a request that is taken in
 

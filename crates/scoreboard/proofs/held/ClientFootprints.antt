@@ -9,10 +9,11 @@ use Rattle.bus_words.proofs.PlaceChanges.{all-append, all-find, all-map, all-set
 use Rattle.subordinate.specs.Faults.{Faults, is_good, standing_at}
 use Rattle.tl_messages.specs.Requests.{WholeRequest}
 use Rattle.tl_messages.specs.declared.DBeat.{DBeat}
-use Rattle.scoreboard.specs.Boards.{ClientBoard, client_beside, client_footprints, footprints_of, with_accepted, with_whole}
+use Rattle.scoreboard.specs.Boards.{ClientBoard, client_beside, client_footprints, footprints_of, hit_client, with_accepted, with_whole}
+use Rattle.scoreboard.specs.FailedBursts.{Span, hit, shares}
 use Rattle.scoreboard.specs.Flights.{Footprint, InFlight, begun_after, flights_after, in_flight, is_of_source, with_left}
-use Rattle.scoreboard.specs.InsideBoards.{AreOnGoodPages, ClientState, IsOnGoodPage, client_of}
-use Rattle.scoreboard.specs.Races.{flight_beside, joining, unless_failed}
+use Rattle.scoreboard.specs.InsideBoards.{AreOnGoodPages, ClientState, IsOnGoodPage, client_changed, client_of, flight_changed}
+use Rattle.scoreboard.specs.Races.{beside, joining, unless_failed}
 
 -- one client more
 pub footprints_more : (clients : List ClientState) (i : ℕ) (client : ClientState) → i < length clients → client ≡ get_or clients i client
@@ -114,23 +115,35 @@ module _ (faults : Faults) where
           (all-without_first Good (is_of_source source) due all, begun_good (find (is_of_source source) due) source (found (find (is_of_source source) due) refl), (good_parts client good).2)
       by_begun (Some flight) some = (all, begun_good (Some flight) source some, (good_parts client good).2)
 
-  -- beside a request that joins
-  good_beside : (footprint : Footprint) (client : ClientBoard) → AreOnGoodPages faults (client_footprints client) → AreOnGoodPages faults (client_footprints (client_beside footprint client))
-  good_beside footprint client good =
-      let parts = good_parts client good in
-      good_whole (client_beside footprint client) (mapped_all Good (flight_beside footprint) client.flights.due parts.0, one client.flights.begun parts.1, parts.2)
-    where
-      one : (begun : Option InFlight) → AllByRecursion Good (option_to_list begun) → AllByRecursion Good (option_to_list (option_map (flight_beside footprint) begun))
-      one None here = tt
-      one (Some flight) here = here
+  -- where each footprint changes, and stays on a good page
+  module _ (change : Footprint → Footprint) (keeps : (footprint : Footprint) → IsOnGoodPage faults footprint → IsOnGoodPage faults (change footprint)) where
+    good_changed : (client : ClientBoard) → AreOnGoodPages faults (client_footprints client) → AreOnGoodPages faults (client_footprints (client_changed change client))
+    good_changed client good =
+        let parts = good_parts client good in
+        good_whole (client_changed change client) (
+          mapped_all Good (flight_changed change) client.flights.due (all-map Good (λ flight. Good (flight_changed change flight)) client.flights.due one parts.0),
+          begun client.flights.begun parts.1,
+          keeps client.coming parts.2,
+        )
+      where
+        one : (flight : InFlight) → Good flight → Good (flight_changed change flight)
+        one flight here = keeps flight.footprint here
 
+        begun : (o : Option InFlight) → AllByRecursion Good (option_to_list o) → AllByRecursion Good (option_to_list (option_map (flight_changed change) o))
+        begun None here = tt
+        begun (Some flight) here = (one flight here.0, tt)
+
+    all_changed : (clients : List ClientBoard) → AreOnGoodPages faults (footprints_of clients) → AreOnGoodPages faults (footprints_of (map (client_changed change) clients))
+    all_changed clients good =
+        let has = λ (client : ClientBoard). AreOnGoodPages faults (client_footprints client) in
+        flat_all (IsOnGoodPage faults) client_footprints (map (client_changed change) clients)
+        (mapped_all has (client_changed change) clients
+        (all-map has (λ client. has (client_changed change client)) clients good_changed (all_flat (IsOnGoodPage faults) client_footprints clients good)))
+
+  -- beside a request that joins
   pub all_beside : (footprint : Footprint) (clients : List ClientBoard) → AreOnGoodPages faults (footprints_of clients)
       → AreOnGoodPages faults (footprints_of (map (client_beside footprint) clients))
-  all_beside footprint clients good =
-      let has = λ (client : ClientBoard). AreOnGoodPages faults (client_footprints client) in
-      flat_all (IsOnGoodPage faults) client_footprints (map (client_beside footprint) clients)
-      (mapped_all has (client_beside footprint) clients
-      (all-map has (λ client. has (client_beside footprint client)) clients (good_beside footprint) (all_flat (IsOnGoodPage faults) client_footprints clients good)))
+  all_beside footprint clients good = all_changed (λ one. beside one footprint) (λ one here. here) clients good
 
   -- with a request more in flight, and none coming
   pub good_accepted : (flight : InFlight) (client : ClientBoard) → AreOnGoodPages faults (client_footprints client) → IsOnGoodPage faults flight.footprint
@@ -161,6 +174,11 @@ module _ (faults : Faults) where
   pub good_unless_failed : (failed : Bool) (footprint : Footprint) → IsOnGoodPage faults footprint → IsOnGoodPage faults (unless_failed failed footprint)
   good_unless_failed true footprint good = good
   good_unless_failed false footprint good = good
+
+  -- where those are hit that share a byte with a burst
+  pub all_hit : (span : Span) (clients : List ClientBoard) → AreOnGoodPages faults (footprints_of clients)
+      → AreOnGoodPages faults (footprints_of (map (hit_client span) clients))
+  all_hit span clients good = all_changed (hit span) (λ one here. good_unless_failed (shares span one) one here) clients good
 
 -- one that has joined others acts on a good page, if on any
 pub good_joining : (faults : Faults) (indeterminate : ℕ → Bool) (others : List Footprint) (place : Option ℕ) (q : WholeRequest) → IfSome place (λ address. is_good (standing_at faults address) ≡ true)

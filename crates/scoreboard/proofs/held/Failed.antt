@@ -1,5 +1,6 @@
 -- A request that was carried out, and has failed or not by its reply.
-use Rattle.std.proofs.Common.{◌≡◌, Bool, true, false, refl, ◌∙◌, ap}
+use Rattle.std.proofs.Common.{◌≡◌, Bool, true, false, refl, sym, ◌∙◌, ap}
+use Rattle.std.proofs.Math.Bool.{or-true}
 use Rattle.tl_messages.specs.Requests.{HeldMessage, WholeRequest, request_of}
 use Rattle.responses.specs.Shown.{shown}
 use Rattle.scoreboard.specs.Boards.{fails, flight_for, kept_from}
@@ -17,7 +18,7 @@ fails_is Strict memory q = refl
 fails_is Any memory q = refl
 
 pub failed_kept : (b : Bool) (coming footprint : Footprint) → unless_failed b (kept_from coming footprint) ≡ kept_from coming (unless_failed b footprint)
-failed_kept true coming footprint = refl
+failed_kept true coming footprint = ap {B = Footprint} (λ (b : Bool). record footprint { failed = b; determined = λ x. false }) (sym (or-true coming.failed))
 failed_kept false coming footprint = refl
 
 -- a request as it was carried out, with a footprint

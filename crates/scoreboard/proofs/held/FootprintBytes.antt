@@ -1,5 +1,5 @@
 -- The bytes of a request: they are in one page, and one after another of them is determined or isn't.
-use Rattle.std.proofs.Common.{◌≡◌, ℕ, ◌+◌, ◌-◌, ◌/◌, ◌^◌, ◌<◌, ◌≤◌, Bool, true, false, ◌&&◌, not, List, get_or, refl, ◌∙◌, ap, arith, inr}
+use Rattle.std.proofs.Common.{◌≡◌, ℕ, ◌+◌, ◌-◌, ◌/◌, ◌^◌, ◌<◌, ◌≤◌, Bool, true, false, ◌&&◌, ◌||◌, not, List, get_or, refl, ◌∙◌, ap, ap₂, arith, inr}
 use Rattle.std.specs.Prelude.{nat_le, nat_lt}
 use Rattle.std.proofs.Math.Path.{fun_ext}
 use Rattle.std.proofs.Math.Pow.{pow_mono}
@@ -66,11 +66,16 @@ given_way old now other writes rest each =
         ∙ rw writes (grind arith)
 
 -- those that are kept of a request that had begun
-pub kept : (old now : FootprintState) (coming : Footprint) → now ≡ record old { determined = now.determined }
+pub kept : (old now : FootprintState) (coming : Footprint) → now ≡ record old { failed = old.failed || coming.failed; determined = now.determined }
     → ((k : ℕ) → k < 2 ^ old.size → get_or now.determined k false ≡ (get_or old.determined k false && coming.determined (old.address + k))) → footprint_of now ≡ kept_from coming (footprint_of old)
-kept old now coming rest each = ap footprint_of rest ∙ ap (λ (f : ℕ → Bool). record (footprint_of old) { determined = f }) (fun_ext (λ x. at x))
+kept old now coming rest each =
+    ap footprint_of rest
+    ∙ ap₂ {C = Footprint} (λ (b : Bool) (f : ℕ → Bool). record (footprint_of old) { failed = b; determined = f }) (either old.failed coming.failed) (fun_ext (λ x. at x))
   where
-    at : (x : ℕ) → determined_in (record old { determined = now.determined }) x ≡ (determined_in old x && coming.determined x)
+    either : (b d : Bool) → (b || d) ≡ (d || b)
+    either b d = grind arith
+
+    at : (x : ℕ) → determined_in (record old { failed = old.failed || coming.failed; determined = now.determined }) x ≡ (determined_in old x && coming.determined x)
     at x =
         by_place old.address (2 ^ old.size) now.determined (λ y. get_or old.determined (y - old.address) false && coming.determined y)
         (λ i below. let place : old.address + i - old.address ≡ i = omega arith in rw place (each i below)) x

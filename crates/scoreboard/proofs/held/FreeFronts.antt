@@ -14,8 +14,7 @@ use Rattle.tl_checker.specs.declared.TlRule.{TlRule}
 use Rattle.tl_checker.proofs.BeatRules.{first_none, right_named}
 use Rattle.tl_checker.proofs.Taking.{answered_parts}
 use Rattle.scoreboard.specs.Flights.{Flights, Footprint, InFlight, begun_is_of, due_after, each_flight, flights_after, is_busy, is_of_source}
-use Rattle.scoreboard.specs.InsideBoards.{IsFirstBeat, IsFrontFree, front_corrupt}
-use Rattle.scoreboard.specs.Races.{flight_beside}
+use Rattle.scoreboard.specs.InsideBoards.{IsFirstBeat, IsFrontFree, flight_changed, front_corrupt}
 use Rattle.scoreboard.specs.declared.Policy.{Policy}
 use Rattle.scoreboard.specs.declared.Policy.TheVariants.{AcceptanceOrder, RealTime}
 use Rattle.scoreboard.proofs.MappedLists.{any_map}
@@ -85,7 +84,7 @@ front_after_reply (Some held) flights source free = by_begun flights.begun
     by_begun None = none_without_first (is_of_source held.source) (is_of_source source) flights.due free
     by_begun (Some flight) = free
 
-pub front_beside : (front : Option HeldMessage) (flights : Flights) (footprint : Footprint) → IsFrontFree front flights
-    → IsFrontFree front (each_flight (flight_beside footprint) flights)
-front_beside None flights footprint free = tt
-front_beside (Some held) flights footprint free = any_map (is_of_source held.source) (flight_beside footprint) flights.due ∙ free
+pub front_changed : (front : Option HeldMessage) (flights : Flights) (change : Footprint → Footprint) → IsFrontFree front flights
+    → IsFrontFree front (each_flight (flight_changed change) flights)
+front_changed None flights change free = tt
+front_changed (Some held) flights change free = any_map (is_of_source held.source) (flight_changed change) flights.due ∙ free

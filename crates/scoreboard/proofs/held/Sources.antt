@@ -12,8 +12,7 @@ use Rattle.bus_words.proofs.FirstPlaces.{find-first, find-none, position_is_firs
 use Rattle.bus_words.proofs.MappedPlaces.{map-remove, position_map}
 use Rattle.bus_words.proofs.PlaceChanges.{all-append, all-remove}
 use Rattle.scoreboard.specs.Flights.{Flights, Footprint, InFlight, flights_after, is_of_source}
-use Rattle.scoreboard.specs.InsideBoards.{AreDue, FlightState, FlightsState, HaveRoom, flight_of}
-use Rattle.scoreboard.specs.Races.{flight_beside}
+use Rattle.scoreboard.specs.InsideBoards.{AreDue, FlightState, FlightsState, HaveRoom, flight_changed, flight_of}
 
 -- ---- distinct numbers below a bound
 
@@ -86,12 +85,12 @@ due_without room due place are =
       distinct = rw sources (distinct-remove (map (λ flight. flight.source) due) place are.distinct);
     }
 
--- when each has given way to another
-pub due_beside : (room : ℕ) (old new : List FlightState) (other : Footprint) → AreDue room old → map flight_of new ≡ map (flight_beside other) (map flight_of old) → (HaveRoom room old → HaveRoom room new)
-    → AreDue room new
-due_beside room old new other are given rooms =
+-- when the footprint of each has changed
+pub due_changed : (room : ℕ) (old new : List FlightState) (change : Footprint → Footprint) → AreDue room old → map flight_of new ≡ map (flight_changed change) (map flight_of old)
+    → (HaveRoom room old → HaveRoom room new) → AreDue room new
+due_changed room old new change are given rooms =
     let source = λ (flight : InFlight). flight.source in
-    let same = sym (map-map source flight_of new) ∙ ap (map source) given ∙ map-map source (flight_beside other) (map flight_of old) ∙ map-map source flight_of old in
+    let same = sym (map-map source flight_of new) ∙ ap (map source) given ∙ map-map source (flight_changed change) (map flight_of old) ∙ map-map source flight_of old in
     record { rooms = rooms are.rooms; bytes = rw same are.bytes; distinct = rw same are.distinct }
 
 -- ---- the one of a source

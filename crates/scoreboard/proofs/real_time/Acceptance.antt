@@ -12,7 +12,7 @@ use Rattle.meaning.specs.Meaning.{Bytes, zeros}
 use Rattle.scoreboard.specs.Boards.{Board, ClientBoard, client_beside, flight_for, footprints_of, joined_on, with_accepted}
 use Rattle.scoreboard.specs.SerialMemory.{on_good_page, place_in}
 use Rattle.scoreboard.specs.Orders.{Order, begun_to, has_ended}
-use Rattle.scoreboard.specs.RealTime.{entry_of}
+use Rattle.scoreboard.proofs.real_time.StepOrders.{first_of}
 use Rattle.scoreboard.specs.declared.Errors.TheVariants.{Strict}
 use Rattle.scoreboard.specs.Flights.{Flights, Footprint, InFlight, due_to, is_of_source}
 use Rattle.scoreboard.specs.Races.{alone, beside, beside_all, flight_beside, joining, may_write}
@@ -123,12 +123,12 @@ module _ (board : Board) (number : ℕ) (client : ClientBoard) (q : WholeRequest
   abbrev its_place : Place
   its_place = due_at number q.source
 
-  pub explains_joined : (before after : Order) → IsWell q → list_any has_ended after ≡ false → Explains board (before ++ after)
-      → Explains (joined_on board number client q (sure_on board q)) (before ++ entry_of Strict number q true ∷ after)
-  explains_joined before after well none explains =
+  pub explains_joined : (n : ℕ) (before after : Order) → IsWell q → list_any has_ended after ≡ false → Explains board (before ++ after)
+      → Explains (joined_on board number client q (sure_on board q)) (before ++ first_of Strict number q true n ∷ after)
+  explains_joined n before after well none explains =
       let with_it =
       inserted board.memory.faults board.memory.regions (flight_at board.clients) (flight_at with_it_all) (footprints_of board.clients)
-      board.indeterminate board.memory.bytes (entry_of Strict number q true) accepted well refl refl
+      board.indeterminate board.memory.bytes (first_of Strict number q true n) accepted well refl refl
       (joins_right board.memory.faults board.memory.regions board.indeterminate (footprint_at board.clients) (footprints_of board.clients) q are well)
       are explains.apart explains.either (own_flight board number client q sure there free) (other_flight board number client q sure there free) before after zeros explains.entries none elsewhere explains.distinct explains.known refl
       explains.small refl in
@@ -144,12 +144,12 @@ module _ (board : Board) (number : ℕ) (client : ClientBoard) (q : WholeRequest
         small = (acts board.memory.faults board.memory.regions q well).small board.memory.bytes explains.small;
         apart = with_it.apart_now;
         either = with_it.either_now;
-        distinct = distinct_with before after (entry_of Strict number q true) explains.distinct elsewhere;
+        distinct = distinct_with before after (first_of Strict number q true n) explains.distinct elsewhere;
         entries = with_it.entries;
         known = with_it.known;
         waiting = λ c source some. waiting c source some (cases_place (due_at c source) its_place);
         begun = λ c some.
-            any_with (begun_to c) before after (entry_of Strict number q true)
+            any_with (begun_to c) before after (first_of Strict number q true n)
             (explains.begun c (sym (still_some board number client q sure there free (begun_at c) (not_due c)) ∙ some));
       }
     where
@@ -167,12 +167,12 @@ module _ (board : Board) (number : ℕ) (client : ClientBoard) (q : WholeRequest
 
       waiting : (c source : ℕ) → is_some (flight_at with_it_all (due_at c source)) ≡ true
           → (due_at c source ≡ its_place) ⊎ (due_at c source ≡ its_place → ⊥)
-          → list_any (waits_for c source) (before ++ entry_of Strict number q true ∷ after) ≡ true
+          → list_any (waits_for c source) (before ++ first_of Strict number q true n ∷ after) ≡ true
       waiting c source some (inr differ) =
-          any_with (waits_for c source) before after (entry_of Strict number q true)
+          any_with (waits_for c source) before after (first_of Strict number q true n)
           (explains.waiting c source (sym (still_some board number client q sure there free (due_at c source) differ) ∙ some))
       waiting c source some (inl same) =
           let there : Some source ≡ Some q.source = ap (λ (p : Place). p.source) same in
           let is : source ≡ q.source = cc (there) in
-          any_here (waits_for c source) before after (entry_of Strict number q true)
+          any_here (waits_for c source) before after (first_of Strict number q true n)
           (grind (arith, nat_tests, is, ap (λ (p : Place). p.client) same))

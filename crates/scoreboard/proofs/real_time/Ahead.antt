@@ -1,9 +1,10 @@
 -- A board beside its shadow, on which each request is carried out with its first beat, as what it becomes. The board knows less: a request that has begun
 -- there is in flight on the shadow. What the board holds to be determined is so on the shadow, as far as it is read, and tells the same.
-use Rattle.std.proofs.Common.{◌≡◌, ℕ, ◌<◌, Bool, true, false, ◌&&◌, ◌||◌, List, map, length, drop, Option, Some, None, inl, inr, refl, sym, ◌∙◌, ap, arith}
+use Rattle.std.proofs.Common.{◌≡◌, ℕ, ◌<◌, Bool, true, false, ◌&&◌, ◌||◌, ◌==◌, List, map, length, drop, Option, Some, None, if◌then◌else◌, inl, inr, refl, sym, ◌∙◌, ap, ap₂, arith}
 use Rattle.std.specs.Prelude.{is_some, slice_get}
 use Rattle.std.specs.List.{list_any}
-use Rattle.std.proofs.lemmas.Bool.{cases_Bool}
+use Rattle.std.proofs.lemmas.Bool.{and_parts, cases_Bool}
+use Rattle.std.proofs.lemmas.Bool.Decides.{nat_tests}
 use Rattle.tl_messages.specs.Operations.{reply_has_data}
 use Rattle.tl_messages.specs.Requests.{HeldMessage, WholeRequest}
 use Rattle.burst_plan.specs.declared.Region.{Region}
@@ -23,20 +24,21 @@ use Rattle.scoreboard.proofs.real_time.RequestActs.{AreBytes, IsWell, acts, give
 
 -- ---- one request
 
--- a request in flight beside the same one on the shadow, where it acts as it does here, if it does; what it reads is determined there too, and its reply's
--- beats have the same shape. If it hasn't failed it acts on the shadow as it does here, and its reply's beats are alike
-pub record IsBehind (mine theirs : InFlight) : Type 0 where
+-- a request in flight beside the same one on the shadow, where it acts as it does here, if it does; its reply's beats have the same shape. If it isn't fated
+-- to fail before its reply ends what it reads is determined there too; and if it hasn't failed either it acts on the shadow as it does here, and its reply's
+-- beats are alike
+pub record IsBehind (fated : Bool) (mine theirs : InFlight) : Type 0 where
   pub source : mine.source ≡ theirs.source
   pub acts : (theirs.footprint.reads || theirs.footprint.writes) ≡ true
       → mine.footprint ≡ record theirs.footprint { failed = mine.footprint.failed; determined = mine.footprint.determined }
-  pub sound : mine.footprint.failed ≡ false → mine.footprint ≡ record theirs.footprint { determined = mine.footprint.determined }
-  pub less : (x : ℕ) → mine.footprint.reads ≡ true → mine.footprint.determined x ≡ true → theirs.footprint.determined x ≡ true
+  pub sound : fated ≡ false → mine.footprint.failed ≡ false → mine.footprint ≡ record theirs.footprint { determined = mine.footprint.determined }
+  pub less : fated ≡ false → (x : ℕ) → mine.footprint.reads ≡ true → mine.footprint.determined x ≡ true → theirs.footprint.determined x ≡ true
   pub long : length mine.beats ≡ length theirs.beats
   pub shapes : map shape_of mine.beats ≡ map shape_of theirs.beats
-  pub alike : mine.footprint.failed ≡ false → (n : ℕ) → n < length theirs.beats → LeftAlike mine.footprint (drop n mine.beats) (drop n theirs.beats)
+  pub alike : fated ≡ false → mine.footprint.failed ≡ false → (n : ℕ) → n < length theirs.beats → LeftAlike mine.footprint (drop n mine.beats) (drop n theirs.beats)
 
 -- the footprint of what has begun beside the request that it becomes, which is in flight on the shadow: one that reads nothing, and that may write no
--- more than was said with the first beat
+-- more than was said with the first beat. Where it has failed nothing of it is determined
 pub record IsComing (faults : Faults) (regions : List Region) (coming : Footprint) (q : WholeRequest) (theirs : InFlight) : Type 0 where
   pub source : theirs.source ≡ q.source
   pub well : IsWell q
@@ -45,16 +47,65 @@ pub record IsComing (faults : Faults) (regions : List Region) (coming : Footprin
   pub acts : theirs.footprint ≡ record (own faults regions q) { determined = theirs.footprint.determined }
   pub less : (x : ℕ) → (own faults regions q).writes ≡ true → coming.determined x ≡ true → theirs.footprint.determined x ≡ true
   pub beats : (m : Bytes) → theirs.beats ≡ shown q (meaning faults regions q m).reply
+  pub broken : (x : ℕ) → coming.failed ≡ true → coming.determined x ≡ false
 
 -- ---- the board
 
--- a shadow: its clients, bytes and indeterminate bytes, and what becomes of each client's message that has begun; all else is the board's, but that errors are
--- told there as this project's bridge tells them, of what the requests become
+-- a shadow: its clients, bytes and indeterminate bytes; what becomes of each client's message that has begun; which requests are fated to fail before their
+-- replies end, by their numbers, and by the places of those that are in flight on the board. All else is the board's, but that errors are told there as this
+-- project's bridge tells them, of what the requests become
 pub record Shadow : Type 0 where
   pub clients : List ClientBoard
   pub bytes : Bytes
   pub indeterminate : ℕ → Bool
   pub finals : ℕ → WholeRequest
+  pub fate : ℕ → Bool
+  pub fates : Place → Bool
+
+-- ---- what is fated to fail
+
+abbrev is_source : Option ℕ → Option ℕ → Bool
+is_source None None = true
+is_source None (Some other) = false
+is_source (Some source) None = false
+is_source (Some source) (Some other) = source == other
+
+-- whether two places are one
+abbrev pub is_at : Place → Place → Bool
+is_at place other = place.client == other.client && is_source place.source other.source
+
+-- where the one at a place is fated, or isn't
+abbrev pub fates_with : (Place → Bool) → Place → Bool → Place → Bool
+fates_with fates place fated other = if is_at other place then fated else fates other
+
+pub fates_own : (fates : Place → Bool) (place : Place) (fated : Bool) → fates_with fates place fated place ≡ fated
+fates_own fates place fated = by_source place.source refl
+  where
+    by_source : (source : Option ℕ) → place.source ≡ source → fates_with fates place fated place ≡ fated
+    by_source None is = grind (arith, nat_tests, is)
+    by_source (Some source) is = grind (arith, nat_tests, is)
+
+pub fates_other : (fates : Place → Bool) (place : Place) (fated : Bool) (other : Place) → (other ≡ place → ⊥) → fates_with fates place fated other ≡ fates other
+fates_other fates place fated other differ = by_at (is_at other place) refl
+  where
+    same_source : (one two : Option ℕ) → is_source one two ≡ true → one ≡ two
+    same_source None None is = refl
+    same_source None (Some two) is = absurd (cc (is))
+    same_source (Some one) None is = absurd (cc (is))
+    same_source (Some one) (Some two) is = ap Some (grind (arith, nat_tests, is))
+
+    by_at : (b : Bool) → is_at other place ≡ b → fates_with fates place fated other ≡ fates other
+    by_at false is = rw is refl
+    by_at true is =
+        let parts = and_parts (other.client == place.client) (is_source other.source place.source) is in
+        let client : other.client ≡ place.client = grind (arith, nat_tests, parts.0) in
+        absurd (differ (ap₂ (λ c s. record { client = c; source = s }) client (same_source other.source place.source parts.1)))
+
+-- no request in flight may write a byte that is fated to fail and hasn't
+abbrev pub NoneFated : List ClientBoard → (Place → Bool) → ℕ → Type 0
+NoneFated clients fates x =
+    (place : Place) (flight : InFlight) → flight_at clients place ≡ Some flight → fates place ≡ true → flight.footprint.failed ≡ false
+    → may_write flight.footprint x ≡ false
 
 abbrev pub shadow_of : Board → Shadow → Board
 shadow_of board shadow =
@@ -81,7 +132,7 @@ pub record IsFinal (board : Board) (shadow : Shadow) (place : Place) : Type 0 wh
 pub record HasBeside (shadow : Shadow) (place : Place) (flight : InFlight) : Type 0 where
   pub other : InFlight
   pub there : flight_at shadow.clients place ≡ Some other
-  pub behind : IsBehind flight other
+  pub behind : IsBehind (shadow.fates place) flight other
 
 -- and so has a message that has begun, as what it becomes
 pub record HasBecome (faults : Faults) (regions : List Region) (clients : List ClientBoard) (coming : Footprint) (client : ℕ) (q : WholeRequest) : Type 0 where
@@ -111,6 +162,7 @@ pub record IsAhead (board : Board) (shadow : Shadow) : Type 0 where
   pub waits : (client : ℕ) → comes board.clients client ≡ true → flight_at board.clients (due_at client (shadow.finals client).source) ≡ None
   pub known : (x : ℕ) → board.indeterminate x ≡ false
       → ((client : ℕ) → comes board.clients client ≡ true → will_give board.memory.faults board.memory.regions (shadow.finals client) x ≡ false)
+      → NoneFated board.clients shadow.fates x
       → IsSame board shadow x
   pub given : (client x : ℕ) → comes board.clients client ≡ true → (coming_at board.clients client).determined x ≡ true
       → will_give board.memory.faults board.memory.regions (shadow.finals client) x ≡ true

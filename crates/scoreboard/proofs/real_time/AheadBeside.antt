@@ -1,5 +1,5 @@
 -- Requests on a board and on its shadow, beside one that joins both: they stand beside each other as before.
-use Rattle.std.proofs.Common.{◌≡◌, ℕ, true, false, not, List, drop, Option, Some, None, refl, ap, arith}
+use Rattle.std.proofs.Common.{◌≡◌, ℕ, Bool, true, false, ◌&&◌, not, List, drop, Option, Some, None, refl, ap, arith}
 use Rattle.std.specs.Prelude.{option_map}
 use Rattle.std.proofs.lemmas.Bool.{and_from, and_parts}
 use Rattle.tl_messages.specs.Requests.{WholeRequest}
@@ -33,16 +33,17 @@ module _ (joined joined_there : Footprint) (within : IsWithin joined_there joine
       let none : may_write joined_there x ≡ false = within_writes joined_there joined x within (grind (arith, parts.1)) in
       and_from (theirs.determined x) (not (may_write joined_there x)) (less parts.0) (rw none refl)
 
-  pub behind_beside : (mine theirs : InFlight) → IsBehind mine theirs → IsBehind (flight_beside joined mine) (flight_beside joined_there theirs)
-  behind_beside mine theirs is =
+  pub behind_beside : (fated : Bool) (mine theirs : InFlight) → IsBehind fated mine theirs
+      → IsBehind fated (flight_beside joined mine) (flight_beside joined_there theirs)
+  behind_beside fated mine theirs is =
       record {
         source = is.source;
         acts = λ does. ap (λ (r : Footprint). record r { determined = (beside mine.footprint joined).determined }) (is.acts does);
-        sound = λ sound. ap (λ (r : Footprint). record r { determined = (beside mine.footprint joined).determined }) (is.sound sound);
-        less = λ x reads determined. less_beside mine.footprint theirs.footprint x (is.less x reads) determined;
+        sound = λ unfated sound. ap (λ (r : Footprint). record r { determined = (beside mine.footprint joined).determined }) (is.sound unfated sound);
+        less = λ unfated x reads determined. less_beside mine.footprint theirs.footprint x (is.less unfated x reads) determined;
         long = is.long;
         shapes = is.shapes;
-        alike = λ sound n below. left_beside mine.footprint joined (drop n mine.beats) (drop n theirs.beats) (is.alike sound n below);
+        alike = λ unfated sound n below. left_beside mine.footprint joined (drop n mine.beats) (drop n theirs.beats) (is.alike unfated sound n below);
       }
 
   pub coming_beside_it : (faults : Faults) (regions : List Region) (coming : Footprint) (q : WholeRequest) (theirs : InFlight) → IsComing faults regions coming q theirs
@@ -56,6 +57,7 @@ module _ (joined joined_there : Footprint) (within : IsWithin joined_there joine
         acts = ap (λ (r : Footprint). record r { determined = (beside theirs.footprint joined_there).determined }) is.acts;
         less = λ x writes determined. less_beside coming theirs.footprint x (is.less x writes) determined;
         beats = is.beats;
+        broken = λ x failed. ap (λ (b : Bool). b && not (may_write joined x)) (is.broken x failed);
       }
 
 -- a request that is in flight beside another was so before

@@ -1,8 +1,8 @@
 -- Orders that keep real time arise as requests are put in with their first beats, one after another, each as what it becomes.
-use Rattle.std.proofs.Common.{◌≡◌, ◌≢◌, ℕ, zero, suc, ◌+◌, ◌<◌, ◌≤◌, ◌==◌, Bool, true, false, ◌&&◌, List, [], ◌∷◌, ◌++◌, map, filter, length, Option, Some, None, Result, Ok, Err, inl, inr, if◌then◌else◌, nat_lt, refl, sym, ◌∙◌, ap, subst, arith}
+use Rattle.std.proofs.Common.{◌≡◌, ◌≢◌, ℕ, zero, suc, ◌+◌, ◌<◌, ◌≤◌, ◌==◌, Bool, true, false, ◌&&◌, ◌||◌, not, List, [], ◌∷◌, ◌++◌, map, filter, length, Option, Some, None, Result, Ok, Err, inl, inr, if◌then◌else◌, nat_lt, refl, sym, ◌∙◌, ap, subst, arith}
 use Rattle.std.specs.Prelude.{slice_get}
 use Rattle.std.specs.List.{AllByRecursion, list_any, range_with_len}
-use Rattle.std.proofs.lemmas.Bool.{both_ways, cases_eq, cases_Bool, false_from_ne_true, lt-ltb, ltb-true}
+use Rattle.std.proofs.lemmas.Bool.{both_ways, cases_eq, cases_Bool, false_from_ne_true, lt-ltb, ltb-true, or_right}
 use Rattle.std.proofs.lemmas.Bool.Decides.{nat_tests}
 use Rattle.std.proofs.lemmas.List.{append-nil, append_assoc, length-append, length-map, map-append}
 use Rattle.std.proofs.lemmas.List.Elements.{filter-append}
@@ -17,16 +17,19 @@ use Rattle.tl_checker.specs.declared.Progress.TheVariants.{More, Whole}
 use Rattle.tl_checker.specs.declared.TlRule.{TlRule}
 use Rattle.setups.specs.Setups.{SetupLists}
 use Rattle.scoreboard.specs.Boards.{Board, ClientBoard, after_all, after_seen, answer_to, is_spoiled, opening_with}
+use Rattle.scoreboard.specs.FailedBursts.{Span, failed_span, shares}
 use Rattle.scoreboard.specs.declared.Errors.{Errors}
 use Rattle.scoreboard.specs.declared.Policy.TheVariants as policy
 use Rattle.scoreboard.specs.declared.ObservedBeat.{ObservedBeat}
 use Rattle.scoreboard.specs.declared.ObservedBeat.TheVariants.{A, D, Axi as OnAxi, Drained}
 use Rattle.scoreboard.specs.Orders.{Entry, Order, after_beat, begun_to, board_after, counted, has_ended, is_due, reply_beats, with_beat}
-use Rattle.scoreboard.specs.RealTime.{EndedBefore, IsOrderOf, KeepsRealTime, MayBecome, MayBecomeAll, arranged, as_begun, becoming, begun_from, begun_in, begun_next, completed, entry_of, heard, numbered, with_answered, with_progress, with_request}
+use Rattle.scoreboard.specs.RealTime.{EndedBefore, IsOrderOf, KeepsRealTime, MayBecome, MayBecomeAll, acting_footprint, arranged, as_begun, becoming, begun_in, begun_next, completed, heard, numbered, struck, with_answered, with_failed, with_progress, with_request}
+use Rattle.scoreboard.specs.SerialMemory.{Memory}
 use Rattle.scoreboard.proofs.real_time.RequestActs.{well_bytes}
 use Rattle.scoreboard.proofs.real_time.StepOrders as steps
-use Rattle.scoreboard.proofs.real_time.StepOrders.{GoesOn, GoesOnAnswered, GoesOnRequest, GoesOnTaken, IsOrderFrom, IsPutIn, finished, is_coming}
-use Rattle.scoreboard.proofs.real_time.Becoming.{followed, may_from, no_entry, numbered_first, numbered_last, numbered_map}
+use Rattle.scoreboard.proofs.real_time.StepOrders.{GoesOn, GoesOnAnswered, GoesOnRequest, GoesOnTaken, HasFate, IsOrderFrom, IsPutIn, fated_of, finished, first_of, is_coming}
+use Rattle.scoreboard.proofs.real_time.Becoming.{MayBecomeFated, as_fated, followed, may_from, no_entry, numbered_first, numbered_last, numbered_map}
+use Rattle.scoreboard.proofs.real_time.Fates.{GrowsTo, counted_in, from_parts, goes_since, spoiled_any}
 
 -- ---- one beat more, behind others
 
@@ -91,6 +94,21 @@ all_below bound (first ∷ numbers) none =
     let rest = all_below bound numbers (λ number past. grind (arith, nat_tests, none number past)) in
     grind (arith, nat_tests, rest, none first)
 
+-- each of those stands in it once
+below_more : (bound : ℕ) (numbers : List ℕ) → length (below (bound + 1) numbers) ≡ length (below bound numbers) + times bound numbers
+below_more bound [] = refl
+below_more bound (first ∷ numbers) = grind (arith, nat_tests, below_more bound numbers)
+
+none_yet : (ks : List ℕ) → below 0 ks ≡ []
+none_yet [] = refl
+none_yet (first ∷ ks) = grind (arith, nat_tests, none_yet ks)
+
+count_below : (bound : ℕ) (numbers : List ℕ) → ((number : ℕ) → number < bound → times number numbers ≡ 1) → length (below bound numbers) ≡ bound
+count_below zero numbers once = ap (λ (ks : List ℕ). length ks) (none_yet numbers)
+count_below (suc bound) numbers once =
+    let next : suc bound ≡ bound + 1 = omega arith in
+    omega (arith, ap (λ n. length (below n numbers)) next, below_more bound numbers, once bound (omega arith), count_below bound numbers (λ number small. once number (omega (arith, small))))
+
 -- ---- the entries by their numbers
 
 -- what is the same below a bound, and what passes no test there
@@ -129,20 +147,37 @@ none_at test order none i small =
 
 -- ---- an entry as it becomes
 
+-- a request has the fields of an entry's
+abbrev HasFields : Entry → WholeRequest → Type 0
+HasFields entry q = q ≡ record entry.request { bytes = q.bytes; corrupt = q.corrupt }
+
 -- a test that asks nothing of a request that it may become otherwise
 abbrev IsKept : (Entry → Bool) → Type 0
-IsKept test = (entry : Entry) (q : WholeRequest) → MayBecome entry q → test (record entry { request = q }) ≡ test entry
+IsKept test = (entry : Entry) (q : WholeRequest) → HasFields entry q → test (record entry { request = q }) ≡ test entry
 
 ended_kept : IsKept has_ended
-ended_kept entry q may = ap (λ (r : WholeRequest). has_ended (record entry { request = r })) may.fields
+ended_kept entry q fields = ap (λ (r : WholeRequest). has_ended (record entry { request = r })) fields
 
 begun_kept : (client : ℕ) → IsKept (begun_to client)
-begun_kept client entry q may = ap (λ (r : WholeRequest). begun_to client (record entry { request = r })) may.fields
+begun_kept client entry q fields = ap (λ (r : WholeRequest). begun_to client (record entry { request = r })) fields
+
+-- an error response
+struck_kept : (memory : Memory) (span : Span) (entry : Entry) (q : WholeRequest) → HasFields entry q
+    → record (struck memory span entry) { request = q } ≡ struck memory span (record entry { request = q })
+struck_kept memory span entry q fields =
+    elim (cases_Bool (not (has_ended entry) && shares span (acting_footprint memory entry.request))) [
+      | inl is ↦ let other = same ∙ is in rw (is, other) refl
+      | inr is ↦ let other = same ∙ is in rw (is, other) refl
+    ]
+  where
+    same : (not (has_ended (record entry { request = q })) && shares span (acting_footprint memory q))
+        ≡ (not (has_ended entry) && shares span (acting_footprint memory entry.request))
+    same = ap (λ (r : WholeRequest). not (has_ended (record entry { request = r })) && shares span (acting_footprint memory r)) fields
 
 -- a beat of its reply
-beat_kept : (begun : Bool) (client source : ℕ) (entry : Entry) (q : WholeRequest) → MayBecome entry q
+beat_kept : (begun : Bool) (client source : ℕ) (entry : Entry) (q : WholeRequest) → HasFields entry q
     → with_beat begun client source (record entry { request = q }) ≡ record (with_beat begun client source entry) { request = q }
-beat_kept begun client source entry q may =
+beat_kept begun client source entry q fields =
     elim (cases_Bool (is_due begun client source entry && entry.request.source == source)) [
       | inl is ↦ let other = same ∙ is in rw (is, other) (by_whole entry.whole)
       | inr is ↦ let other = same ∙ is in rw (is, other) refl
@@ -150,7 +185,7 @@ beat_kept begun client source entry q may =
   where
     same : (is_due begun client source (record entry { request = q }) && q.source == source)
         ≡ (is_due begun client source entry && entry.request.source == source)
-    same = ap (λ (r : WholeRequest). is_due begun client source (record entry { request = r }) && r.source == source) may.fields
+    same = ap (λ (r : WholeRequest). is_due begun client source (record entry { request = r }) && r.source == source) fields
 
     by_whole : (whole : Bool) → counted whole (record entry { request = q }) ≡ record (counted whole entry) { request = q }
     by_whole true = refl
@@ -165,39 +200,17 @@ finish_kept errors client q r entry beats =
       | inr is ↦ rw is refl
     ]
 
--- ---- what a beat does to those that have begun
-
--- fewer have never begun
-no_fewer_taken : (errors : Errors) (client : ℕ) (front : Option HeldMessage) (q : WholeRequest) (progress : Progress) (now : Order)
-    → length now ≤ length (with_progress errors client front q progress now)
-no_fewer_taken errors client None q More now = omega (arith, length-append now (entry_of errors client q false ∷ []))
-no_fewer_taken errors client None q Whole now = omega (arith, length-append now (entry_of errors client q true ∷ []))
-no_fewer_taken errors client (Some held) q More now = omega (arith, length-map now (heard errors client q))
-no_fewer_taken errors client (Some held) q Whole now = omega (arith, length-map now (completed errors client q))
-
-no_fewer : (board : Board) (seen : ObservedBeat) (now : Order) → length now ≤ length (begun_next board seen now)
-no_fewer board (A number beat) now = by_client (slice_get board.clients number)
+-- one that a request may be, be it spoiled later
+fated_same : (fate : ℕ → Bool) (errors : Errors) (client : ℕ) (q r : WholeRequest) (whole : Bool) (number : ℕ)
+    → (is_spoiled errors q ≡ true → fate number ≡ true) → MayBecome (as_fated (fate number) (first_of errors client q whole number)) r
+    → MayBecome (fated_of fate errors client q whole number) r
+fated_same fate errors client q r whole number told may = by_spoiled (is_spoiled errors q) refl
   where
-    by_answer : (front : Option HeldMessage) (message : HeldMessage) (answer : Result Progress TlRule)
-        → length now ≤ length (with_answered board.errors number front message answer now)
-    by_answer front message (Err broken) = omega arith
-    by_answer front message (Ok progress) = no_fewer_taken board.errors number front (request_of message) progress now
-
-    by_client : (found : Option ClientBoard) → length now ≤ length (with_request board.errors number found beat now)
-    by_client None = omega arith
-    by_client (Some client) = by_answer client.front (joined client.limits client.front beat) (answer_to policy.RealTime client beat)
-no_fewer board (D client beat) now = omega (arith, length-map now (with_beat (list_any (begun_to client) now) client beat.source))
-no_fewer board (OnAxi beat) now = omega arith
-no_fewer board Drained now = omega arith
-
-more_begun : (rest : List ObservedBeat) (board : Board) (now : Order) → length now ≤ length (begun_from board now rest)
-more_begun [] board now = omega arith
-more_begun (seen ∷ rest) board now = omega (arith, no_fewer board seen now, more_begun rest (after_seen policy.RealTime board seen) (begun_next board seen now))
-
-from_parts : (first rest : List ObservedBeat) (board : Board) (now : Order)
-    → begun_from board now (first ++ rest) ≡ begun_from (after_all policy.RealTime board first) (begun_from board now first) rest
-from_parts [] rest board now = refl
-from_parts (seen ∷ first) rest board now = from_parts first rest (after_seen policy.RealTime board seen) (begun_next board seen now)
+    by_spoiled : (spoiled : Bool) → is_spoiled errors q ≡ spoiled → MayBecome (fated_of fate errors client q whole number) r
+    by_spoiled false is =
+        subst (λ (b : Bool). MayBecome (as_fated b (first_of errors client q whole number)) r) (ap (λ (b : Bool). b || fate number) (sym is)) may
+    by_spoiled true is =
+        subst (λ (b : Bool). MayBecome (as_fated b (first_of errors client q whole number)) r) (told is ∙ ap (λ (b : Bool). b || fate number) (sym is)) may
 
 -- ---- an order of all, as far as its requests have begun
 
@@ -220,17 +233,45 @@ module _ (errors : Errors) (setup : SetupLists) (beats : List ObservedBeat) (req
   abbrev so_far : List ObservedBeat → Order
   so_far done = entries_of (begun done)
 
+  -- those that are spoiled in the end
+  abbrev fate : ℕ → Bool
+  fate number = (numbered (begun beats) number).spoiled
+
+  grown : (done rest : List ObservedBeat) → beats ≡ done ++ rest → GrowsTo errors (begun done) (begun beats)
+  grown done rest is = subst (λ (all : List ObservedBeat). GrowsTo errors (begun done) (begun all)) (sym is) (goes_since errors setup done rest)
+
   within : (done rest : List ObservedBeat) → beats ≡ done ++ rest → length (begun done) ≤ length (begun beats)
-  within done rest is = rw (is, from_parts done rest (opening_with errors setup) []) (more_begun rest (board_after errors setup done) (begun done))
+  within done rest is = (grown done rest is).longer
 
   -- what they may become after all, they may become there
-  may_there : (done rest : List ObservedBeat) → beats ≡ done ++ rest → MayBecomeAll (begun done) requests
+  may_there : (done rest : List ObservedBeat) → beats ≡ done ++ rest → MayBecomeFated fate (begun done) requests
   may_there done rest is =
-      may_from rest (board_after errors setup done) (begun done) requests (followed errors setup done)
-      (subst (λ (now : Order). MayBecomeAll now requests) (ap begun is ∙ from_parts done rest (opening_with errors setup) []) may)
+      may_from fate rest (board_after errors setup done) (begun done) requests (followed errors setup done)
+      (subst (λ (now : Order). MayBecomeFated fate now requests) (ap begun is ∙ from_parts done rest (opening_with errors setup) []) as_fate)
+    where
+      as_fate : MayBecomeFated fate (begun beats) requests
+      as_fate number small = may number small
+
+  fields_there : (done rest : List ObservedBeat) → beats ≡ done ++ rest → (number : ℕ) → number < length (begun done)
+      → HasFields (numbered (begun done) number) (requests number)
+  fields_there done rest is number small = (may_there done rest is number small).fields
 
   once : (number : ℕ) → number < length (begun beats) → times number numbers ≡ 1
   once number small = is_order.all number ∙ rw (lt-ltb number (length (begun beats)) small) refl
+
+  -- as many as have begun
+  many_so_far : (done rest : List ObservedBeat) → beats ≡ done ++ rest → length (so_far done) ≡ length (begun done)
+  many_so_far done rest is =
+      length-map (below (length (begun done)) numbers) (becoming (begun done) requests)
+      ∙ count_below (length (begun done)) numbers (λ number small. once number (omega (arith, small, within done rest is)))
+
+  -- one that has ended was spoiled before, if it ever is
+  fates_kept : (done rest : List ObservedBeat) → beats ≡ done ++ rest → AllByRecursion (HasFate fate) (so_far done)
+  fates_kept done rest is =
+      each_below (HasFate fate) (becoming (begun done) requests) (length (begun done)) numbers
+      (λ k small ended fated. ((grown done rest is).grows k small).still
+      (sym (ended_kept (numbered (begun done) k) (requests k) (fields_there done rest is k small)) ∙ ended)
+      (sym (ap fate ((counted_in errors setup done).numbers k small)) ∙ fated))
 
   -- a test passes as often
   any_so_far : (done rest : List ObservedBeat) (test : Entry → Bool) → beats ≡ done ++ rest → IsKept test
@@ -242,7 +283,7 @@ module _ (errors : Errors) (setup : SetupLists) (beats : List ObservedBeat) (req
       each P all (first ∷ ks) = (all first, each P all ks)
 
       own : (number : ℕ) → number < length (begun done) → test (becoming (begun done) requests number) ≡ test (numbered (begun done) number)
-      own number small = kept (numbered (begun done) number) (requests number) (may_there done rest is number small)
+      own number small = kept (numbered (begun done) number) (requests number) (fields_there done rest is number small)
 
       by_some : (some : Bool) → list_any test (begun done) ≡ some → list_any test (so_far done) ≡ list_any test (begun done)
       by_some false none =
@@ -282,8 +323,12 @@ module _ (errors : Errors) (setup : SetupLists) (beats : List ObservedBeat) (req
     with_next : beats ≡ (done ++ seen ∷ []) ++ rest
     with_next = parts ∙ sym (append_assoc done (seen ∷ []) rest)
 
-    may_now : MayBecomeAll now requests
-    may_now = subst (λ (order : Order). MayBecomeAll order requests) is_next (may_there (done ++ seen ∷ []) rest with_next)
+    may_now : MayBecomeFated fate now requests
+    may_now = subst (λ (order : Order). MayBecomeFated fate order requests) is_next (may_there (done ++ seen ∷ []) rest with_next)
+
+    -- what is spoiled stays so
+    told_now : (k : ℕ) → k < length now → (numbered now k).spoiled ≡ true → fate k ≡ true
+    told_now k small = ((subst (λ (order : Order). GrowsTo errors order (begun beats)) is_next (grown (done ++ seen ∷ []) rest with_next)).grows k small).spoiled
 
     goes_to : (Goes : Order → Type 0) (order : Order) → Goes order → order ≡ entries_of now → Goes longer
     goes_to Goes order goes same = subst Goes (same ∙ ap entries_of (sym is_next)) goes
@@ -309,11 +354,28 @@ module _ (errors : Errors) (setup : SetupLists) (beats : List ObservedBeat) (req
         each k small =
             ap (λ (entry : Entry). record entry { request = requests k }) (numbered_map change (begun done) k small)
             ∙ sym (beat_kept (list_any (begun_to client) (begun done)) client source (numbered (begun done) k) (requests k)
-            (may_there done (seen ∷ rest) parts k small))
+            (fields_there done (seen ∷ rest) parts k small))
 
     -- how errors may be told there
     abbrev errors_now : Errors
     errors_now = (board_after errors setup done).errors
+
+    -- an error response
+    fail : (memory : Memory) (span : Option Span) → now ≡ with_failed memory span (begun done) → longer ≡ with_failed memory span (so_far done)
+    fail memory None same = quiet same
+    fail memory (Some span) same =
+        ap entries_of (is_next ∙ same)
+        ∙ ap (λ n. map (becoming (map change (begun done)) requests) (below n numbers)) (length-map (begun done) change)
+        ∙ same_below (becoming (map change (begun done)) requests) (λ k. change (becoming (begun done) requests k)) (length (begun done)) numbers each
+        ∙ sym (map-map change (becoming (begun done) requests) (below (length (begun done)) numbers))
+      where
+        change : Entry → Entry
+        change = struck memory span
+
+        each : (k : ℕ) → k < length (begun done) → becoming (map change (begun done)) requests k ≡ change (becoming (begun done) requests k)
+        each k small =
+            ap (λ (entry : Entry). record entry { request = requests k }) (numbered_map change (begun done) k small)
+            ∙ struck_kept memory span (numbered (begun done) k) (requests k) (fields_there done (seen ∷ rest) parts k small)
 
     -- a beat between the first and the last of a request
     hear : (client : ℕ) (q : WholeRequest) → now ≡ map (heard errors_now client q) (begun done) → longer ≡ map (heard errors_now client q) (so_far done)
@@ -341,29 +403,41 @@ module _ (errors : Errors) (setup : SetupLists) (beats : List ObservedBeat) (req
     -- the last beat of a request
     finish : (client : ℕ) (q : WholeRequest) → now ≡ map (completed errors_now client q) (begun done)
         → (longer ≡ map (finished errors_now client q) (so_far done))
-        × AllByRecursion (λ entry. is_coming client entry ≡ true → MayBecome (entry_of errors_now client q true) entry.request) (so_far done)
+        × AllByRecursion (λ entry. is_coming client entry ≡ true → MayBecome (fated_of fate errors_now client q true entry.number) entry.request) (so_far done)
     finish client q same = (
       ap entries_of (is_next ∙ same)
           ∙ ap (λ n. map (becoming (map change (begun done)) requests) (below n numbers)) (length-map (begun done) change)
           ∙ same_below (becoming (map change (begun done)) requests) (λ k. finished errors_now client q (becoming (begun done) requests k))
           (length (begun done)) numbers each
           ∙ sym (map-map (finished errors_now client q) (becoming (begun done) requests) (below (length (begun done)) numbers)),
-      each_below (λ entry. is_coming client entry ≡ true → MayBecome (entry_of errors_now client q true) entry.request) (becoming (begun done) requests) (length (begun done)) numbers own,
+      each_below (λ entry. is_coming client entry ≡ true → MayBecome (fated_of fate errors_now client q true entry.number) entry.request) (becoming (begun done) requests) (length (begun done)) numbers own,
     )
       where
         change : Entry → Entry
         change = completed errors_now client q
 
-        own : (k : ℕ) → k < length (begun done) → is_coming client (becoming (begun done) requests k) ≡ true → MayBecome (entry_of errors_now client q true) (requests k)
+        done_entry : Entry → Entry
+        done_entry entry =
+            record entry {
+              request = q;
+              whole = true;
+              spoiled = entry.spoiled || is_spoiled errors_now q;
+              early = false;
+              came = if entry.replied then reply_beats q else entry.came;
+            }
+
+        own : (k : ℕ) → k < length (begun done) → is_coming client (becoming (begun done) requests k) ≡ true
+            → MayBecome (fated_of fate errors_now client q true (numbered (begun done) k).number) (requests k)
         own k small coming =
             let entry = numbered (begun done) k in
-            let whole : change entry
-            ≡ record entry { request = q; whole = true; spoiled = is_spoiled errors_now q; early = false; came = if entry.replied then reply_beats q else entry.came } = rw coming refl in
-            let is : numbered now k
-            ≡ record entry { request = q; whole = true; spoiled = is_spoiled errors_now q; early = false; came = if entry.replied then reply_beats q else entry.came } =
-            ap (λ (o : Order). numbered o k) same ∙ numbered_map change (begun done) k small ∙ whole in
-            let may_then = subst (λ (e : Entry). MayBecome e (requests k)) is (may_now k (omega (arith, small, ap (λ (o : Order). length o) same, length-map (begun done) change))) in
-            record { same = may_then.same; fields = may_then.fields; corrupt = may_then.corrupt; bytes = may_then.bytes; left = may_then.left }
+            let whole : change entry ≡ done_entry entry = rw coming refl in
+            let is : numbered now k ≡ done_entry entry = ap (λ (o : Order). numbered o k) same ∙ numbered_map change (begun done) k small ∙ whole in
+            let there : k < length now = omega (arith, small, ap (λ (o : Order). length o) same, length-map (begun done) change) in
+            let may_then = subst (λ (e : Entry). MayBecome (as_fated (fate k) e) (requests k)) is (may_now k there) in
+            subst (λ n. MayBecome (fated_of fate errors_now client q true n) (requests k)) (sym ((counted_in errors setup done).numbers k small))
+            (fated_same fate errors_now client q (requests k) true k
+            (λ spoils. told_now k there (ap (λ (e : Entry). e.spoiled) is ∙ or_right entry.spoiled (is_spoiled errors_now q) spoils))
+            (record { same = may_then.same; fields = may_then.fields; corrupt = may_then.corrupt; bytes = may_then.bytes; left = may_then.left }))
 
         each : (k : ℕ) → k < length (begun done) → becoming (map change (begun done)) requests k ≡ finished errors_now client q (becoming (begun done) requests k)
         each k small =
@@ -373,12 +447,13 @@ module _ (errors : Errors) (setup : SetupLists) (beats : List ObservedBeat) (req
 
     -- a request begins, as what it becomes
     put : (Goes : Order → Type 0) (entry : Entry) → now ≡ begun done ++ entry ∷ []
-        → ((new : Order) → MayBecome entry (requests (length (begun done)))
+        → ((new : Order) → MayBecome (as_fated (fate (length (begun done))) entry) (requests (length (begun done)))
+        → (entry.spoiled ≡ true → fate (length (begun done)) ≡ true)
         → IsPutIn (record entry { request = requests (length (begun done)) }) (so_far done) new → Goes new)
         → Goes longer
     put Goes entry same goes =
         goes_to Goes new
-        (goes new becomes (map (becoming (begun done) requests) left, map (becoming (begun done) requests) right, were, none_ended, refl)) entries
+        (goes new becomes told (map (becoming (begun done) requests) left, map (becoming (begun done) requests) right, were, none_ended, refl)) entries
       where
         count : ℕ
         count = length (begun done)
@@ -389,10 +464,14 @@ module _ (errors : Errors) (setup : SetupLists) (beats : List ObservedBeat) (req
         more : count < length now
         more = omega (arith, ap (λ (o : Order). length o) same, length-append (begun done) (entry ∷ []))
 
-        becomes : MayBecome entry (requests count)
-        becomes =
-            subst (λ (e : Entry). MayBecome e (requests count))
-            (ap (λ (o : Order). numbered o count) same ∙ numbered_last (begun done) entry) (may_now count more)
+        last_now : numbered now count ≡ entry
+        last_now = ap (λ (o : Order). numbered o count) same ∙ numbered_last (begun done) entry
+
+        becomes : MayBecome (as_fated (fate count) entry) (requests count)
+        becomes = subst (λ (e : Entry). MayBecome (as_fated (fate count) e) (requests count)) last_now (may_now count more)
+
+        told : entry.spoiled ≡ true → fate count ≡ true
+        told spoils = told_now count more (ap (λ (e : Entry). e.spoiled) last_now ∙ spoils)
 
         here : Splits count numbers
         here =
@@ -419,7 +498,7 @@ module _ (errors : Errors) (setup : SetupLists) (beats : List ObservedBeat) (req
             none_below has_ended (becoming (begun done) requests) count here.right
             (all-map (λ number. EndedBefore errors setup beats number count → ⊥)
             (λ number. number < count → has_ended (becoming (begun done) requests number) ≡ false) here.right
-            (λ number keeps small. ended_kept (numbered (begun done) number) (requests number) (may_there done (seen ∷ rest) parts number small)
+            (λ number keeps small. ended_kept (numbered (begun done) number) (requests number) (fields_there done (seen ∷ rest) parts number small)
             ∙ false_from_ne_true (has_ended (numbered (begun done) number)) (λ over.
             keeps (record { first = done; rest = seen ∷ rest; parts = parts; begun = small; ended = over; not_yet = omega arith })))
             (kept_behind errors setup beats count here.left here.right (subst (KeepsRealTime errors setup beats) here.is is_order.keeps)))
@@ -453,50 +532,59 @@ module _ (errors : Errors) (setup : SetupLists) (beats : List ObservedBeat) (req
             ∙ ap (λ n. map with_it (below n numbers)) (sym (length-append (begun done) (entry ∷ [])))
             ∙ ap entries_of (sym same)
 
+    -- as what a client's request becomes
+    put_first : (client : ℕ) (q : WholeRequest) (whole : Bool) → now ≡ begun done ++ first_of errors_now client q whole (length (begun done)) ∷ []
+        → (becomes : WholeRequest) × MayBecome (fated_of fate errors_now client q whole (length (so_far done))) becomes
+        × IsPutIn (record (first_of errors_now client q whole (length (so_far done))) { request = becomes }) (so_far done) longer
+    put_first client q whole same =
+        subst (λ n. (becomes : WholeRequest) × MayBecome (fated_of fate errors_now client q whole n) becomes
+        × IsPutIn (record (first_of errors_now client q whole n) { request = becomes }) (so_far done) longer) (sym (many_so_far done (seen ∷ rest) parts))
+        (put (λ new. (becomes : WholeRequest) × MayBecome (fated_of fate errors_now client q whole count) becomes
+        × IsPutIn (record (first_of errors_now client q whole count) { request = becomes }) (so_far done) new) (first_of errors_now client q whole count) same
+        (λ new becomes told is. (requests count, fated_same fate errors_now client q (requests count) whole count told becomes, is)))
+      where
+        count : ℕ
+        count = length (begun done)
+
     -- a beat that a port takes
     taken : (client : ℕ) (front : Option HeldMessage) (q : WholeRequest) (progress : Progress) → now ≡ with_progress errors_now client front q progress (begun done)
-        → GoesOnTaken errors_now client front q progress (so_far done) longer
-    taken client None q More same =
-        put (GoesOnTaken errors_now client None q More (so_far done)) (entry_of errors_now client q false) same
-        (λ new becomes is. (requests (length (begun done)), becomes, is))
-    taken client None q Whole same =
-        put (GoesOnTaken errors_now client None q Whole (so_far done)) (entry_of errors_now client q true) same
-        (λ new becomes is. (requests (length (begun done)), becomes, is))
+        → GoesOnTaken fate errors_now client front q progress (so_far done) longer
+    taken client None q More same = put_first client q false same
+    taken client None q Whole same = put_first client q true same
     taken client (Some held) q More same = hear client q same
     taken client (Some held) q Whole same = finish client q same
 
     answered : (client : ℕ) (front : Option HeldMessage) (message : HeldMessage) (answer : Result Progress TlRule)
-        → now ≡ with_answered errors_now client front message answer (begun done) → GoesOnAnswered errors_now client front message answer (so_far done) longer
+        → now ≡ with_answered errors_now client front message answer (begun done) → GoesOnAnswered fate errors_now client front message answer (so_far done) longer
     answered client front message (Err broken) same = quiet same
     answered client front message (Ok progress) same = taken client front (request_of message) progress same
 
   goes_on : (done : List ObservedBeat) (seen : ObservedBeat) (rest : List ObservedBeat) → beats ≡ done ++ seen ∷ rest
-      → GoesOn (board_after errors setup done) seen (so_far done) (so_far (done ++ seen ∷ []))
-  goes_on done (OnAxi message) rest parts = quiet done (OnAxi message) rest parts refl
+      → GoesOn fate (board_after errors setup done) seen (so_far done) (so_far (done ++ seen ∷ []))
+  goes_on done (OnAxi message) rest parts =
+      let board = board_after errors setup done in
+      fail done (OnAxi message) rest parts board.memory (failed_span board.errors board.axi message) refl
   goes_on done Drained rest parts = quiet done Drained rest parts refl
   goes_on done (D client message) rest parts = beat done (D client message) rest parts client message.source refl
   goes_on done (A number message) rest parts = by_client (slice_get (board_after errors setup done).clients number) refl
     where
       by_client : (found : Option ClientBoard)
           → begun_next (board_after errors setup done) (A number message) (begun done) ≡ with_request (board_after errors setup done).errors number found message (begun done)
-          → GoesOnRequest (board_after errors setup done).errors number found message (so_far done) (so_far (done ++ A number message ∷ []))
+          → GoesOnRequest fate (board_after errors setup done).errors number found message (so_far done) (so_far (done ++ A number message ∷ []))
       by_client None same = quiet done (A number message) rest parts same
       by_client (Some client) same =
           answered done (A number message) rest parts number client.front (joined client.limits client.front message)
           (answer_to policy.RealTime client message) same
 
-  goes_from : (done rest : List ObservedBeat) → beats ≡ done ++ rest → IsOrderFrom (board_after errors setup done) (so_far done) rest (so_far beats)
+  goes_from : (done rest : List ObservedBeat) → beats ≡ done ++ rest → IsOrderFrom fate (board_after errors setup done) (so_far done) rest (so_far beats)
   goes_from done [] is = ap so_far (is ∙ append-nil done)
   goes_from done (seen ∷ rest) is = (
     so_far (done ++ seen ∷ []),
     goes_on done seen rest is,
-    subst (λ (board : Board). IsOrderFrom board (so_far (done ++ seen ∷ [])) rest (so_far beats)) (after_snoc done seen (opening_with errors setup))
+    fates_kept (done ++ seen ∷ []) rest (is ∙ sym (append_assoc done (seen ∷ []) rest)),
+    subst (λ (board : Board). IsOrderFrom fate board (so_far (done ++ seen ∷ [])) rest (so_far beats)) (after_snoc done seen (opening_with errors setup))
         (goes_from (done ++ seen ∷ []) rest (is ∙ sym (append_assoc done (seen ∷ []) rest))),
   )
-
-  none_yet : (ks : List ℕ) → below 0 ks ≡ []
-  none_yet [] = refl
-  none_yet (first ∷ ks) = grind (arith, nat_tests, none_yet ks)
 
   -- the order arises step by step
   pub arises : steps.IsOrderOf errors setup beats (arranged errors setup beats requests numbers)
@@ -504,8 +592,14 @@ module _ (errors : Errors) (setup : SetupLists) (beats : List ObservedBeat) (req
       subst (λ ks. steps.IsOrderOf errors setup beats (map (becoming (begun beats) requests) ks))
       (all_below (length (begun beats)) numbers (λ number past.
       let test : nat_lt number (length (begun beats)) ≡ false = grind (arith, nat_tests, past) in is_order.all number ∙ rw test refl))
-      (subst (λ (o : Order). IsOrderFrom (opening_with errors setup) o beats (so_far beats)) (ap (map (becoming [] requests)) (none_yet numbers))
-      (goes_from [] beats refl))
+      (record {
+        fate = fate;
+        any = spoiled_any errors setup beats;
+        ends = each_below (λ entry. fate entry.number ≡ true → entry.spoiled ≡ true) (becoming (begun beats) requests) (length (begun beats)) numbers
+            (λ k small fated. sym (ap fate ((counted_in errors setup beats).numbers k small)) ∙ fated);
+        from = subst (λ (o : Order). IsOrderFrom fate (opening_with errors setup) o beats (so_far beats)) (ap (map (becoming [] requests)) (none_yet numbers))
+            (goes_from [] beats refl);
+      })
 
 -- ---- the order of first beats
 

@@ -13,19 +13,21 @@ use Rattle.tl_checker.specs.declared.Progress.{Progress}
 use Rattle.tl_checker.specs.declared.Progress.TheVariants.{More, Whole}
 use Rattle.tl_checker.specs.declared.TlRule.{TlRule}
 use Rattle.setups.specs.Setups.{SetupLists}
-use Rattle.scoreboard.specs.Boards.{Board, ClientBoard, after_a, after_all, after_seen, answer_to, answered_on, is_spoiled, opening_with}
+use Rattle.scoreboard.specs.AxiPorts.{port_after}
+use Rattle.scoreboard.specs.Boards.{Board, ClientBoard, after_a, after_all, after_seen, answer_to, answered_on, hit_on, is_spoiled, opening_with}
+use Rattle.scoreboard.specs.FailedBursts.{Span, failed_span, shares}
 use Rattle.scoreboard.specs.Flights.{is_busy}
 use Rattle.scoreboard.specs.InsideBoards.{front_after}
-use Rattle.scoreboard.specs.Orders.{Entry, Order, begun_to, board_after, counted, is_due, reply_beats, with_beat}
-use Rattle.scoreboard.specs.RealTime.{MayBecome, MayBecomeAll, begun_from, begun_in, begun_next, completed, entry_of, heard, numbered, with_answered, with_progress, with_request}
+use Rattle.scoreboard.specs.Orders.{Entry, Order, begun_to, board_after, counted, has_ended, is_due, reply_beats, with_beat}
+use Rattle.scoreboard.specs.RealTime.{GivesBytes, MayBecome, acting_footprint, begun_from, begun_in, begun_next, completed, entry_of, heard, numbered, struck, with_answered, with_failed, with_progress, with_request}
+use Rattle.scoreboard.specs.SerialMemory.{Memory}
 use Rattle.scoreboard.specs.declared.Errors.{Errors}
-use Rattle.scoreboard.specs.declared.Errors.TheVariants.{Any, Strict}
+use Rattle.scoreboard.specs.declared.Errors.TheVariants.{Strict}
 use Rattle.scoreboard.specs.declared.ObservedBeat.{ObservedBeat}
 use Rattle.scoreboard.specs.declared.ObservedBeat.TheVariants.{A, D, Axi as OnAxi, Drained}
 use Rattle.scoreboard.specs.declared.Policy.TheVariants.{RealTime}
 use Rattle.scoreboard.proofs.real_time.CheckedRequests.{first_well, sound_well, whole_sound}
-use Rattle.scoreboard.proofs.real_time.Failures.{well_as}
-use Rattle.scoreboard.proofs.real_time.Fronts.{AreFronts, front_answered, front_at, front_of, front_replied, fronts_next, fronts_opening}
+use Rattle.scoreboard.proofs.real_time.Fronts.{AreFronts, front_answered, front_at, front_hit, front_of, front_replied, fronts_next, fronts_opening}
 use Rattle.scoreboard.proofs.real_time.RequestActs.{IsWell, well_bytes}
 
 -- ---- what is held of a request
@@ -52,24 +54,32 @@ held_more errors front request spoiled beat h =
       well = h.well;
     }
 
+-- whatever is spoiled by an error response
+held_struck : (errors : Errors) (front : Option HeldMessage) (request : WholeRequest) (spoiled : Bool) → IsHeld errors front request spoiled
+    → IsHeld errors front request true
+held_struck errors front request spoiled h =
+    record { held = h.held; told = λ is. refl; is = h.is; fields = h.fields; corrupt = h.corrupt; well = h.well }
+
+-- an entry as one that was spoiled, or wasn't
+abbrev pub as_fated : Bool → Entry → Entry
+as_fated fated entry = record entry { spoiled = fated }
+
 -- what it may become once it is whole, as what is held, it may become before
-held_becomes : (errors : Errors) (front next : Option HeldMessage) (entry : Entry) (q r : WholeRequest) (spoiled : Bool)
-    (was : IsHeld errors front entry.request entry.spoiled) (h : IsHeld errors next entry.request spoiled) → entry.whole ≡ false
-    → q ≡ request_of h.held → IsWell q → MayBecome (entry_of errors entry.client q true) r → MayBecome entry r
-held_becomes errors front next entry q r spoiled was h unwhole is well may =
+held_becomes : (errors : Errors) (next : Option HeldMessage) (entry : Entry) (q r : WholeRequest) (spoiled fated : Bool)
+    (h : IsHeld errors next entry.request spoiled) → entry.whole ≡ false
+    → q ≡ request_of h.held → IsWell q → MayBecome (as_fated fated (record entry { request = q; whole = true })) r → MayBecome (as_fated fated entry) r
+held_becomes errors next entry q r spoiled fated h unwhole is well may =
     record {
       same = λ whole. absurd (cc (unwhole, whole));
       fields = may.fields ∙ ap (λ (x : WholeRequest). record x { bytes = r.bytes; corrupt = r.corrupt }) (is ∙ h.fields);
-      corrupt = by_errors errors was may;
-      bytes = λ not_whole. well_bytes r (well_as errors entry.client q r may well);
+      corrupt = λ sound corrupt. may.corrupt sound (ap (λ (x : WholeRequest). x.corrupt) is ∙ h.corrupt corrupt);
+      bytes = λ not_whole. by_fated fated refl;
       left = λ whole. absurd (cc (unwhole, whole));
     }
   where
-    by_errors : (e : Errors) → IsHeld e front entry.request entry.spoiled → MayBecome (entry_of e entry.client q true) r
-        → entry.spoiled ≡ false → entry.request.corrupt ≡ true → r.corrupt ≡ true
-    by_errors Any before becomes sound corrupt = absurd (cc (sym sound ∙ before.told (before.corrupt corrupt)))
-    by_errors Strict before becomes sound corrupt =
-        ap (λ (x : WholeRequest). x.corrupt) (becomes.same refl refl ∙ is) ∙ h.corrupt corrupt
+    by_fated : (b : Bool) → fated ≡ b → GivesBytes r
+    by_fated false sound = subst GivesBytes (sym (may.same refl sound)) (well_bytes q well)
+    by_fated true spoils = (may.left refl spoils).bytes
 
 -- ---- each entry of an order, by its number
 
@@ -88,13 +98,13 @@ numbered_first now entry number small = get_or_append_left now (entry ∷ []) no
 pub numbered_last : (now : Order) (entry : Entry) → numbered (now ++ entry ∷ []) (length now) ≡ entry
 numbered_last now entry = get_or_at now entry [] no_entry (length now) refl
 
-each_map : (P Q : Entry → Type 0) (change : Entry → Entry) (now : Order) → ((entry : Entry) → P entry → Q (change entry)) → EachIn P now
+pub each_map : (P Q : Entry → Type 0) (change : Entry → Entry) (now : Order) → ((entry : Entry) → P entry → Q (change entry)) → EachIn P now
     → EachIn Q (map change now)
 each_map P Q change now goes all number small =
     let within : number < length now = omega (arith, small, length-map now change) in
     subst Q (sym (numbered_map change now number within)) (goes (numbered now number) (all number within))
 
-each_last : (P : Entry → Type 0) (now : Order) (entry : Entry) → EachIn P now → P entry → EachIn P (now ++ entry ∷ [])
+pub each_last : (P : Entry → Type 0) (now : Order) (entry : Entry) → EachIn P now → P entry → EachIn P (now ++ entry ∷ [])
 each_last P now entry all last number small =
     elim (cases_eq number (length now)) [
       | inl same ↦ subst P (sym (ap (numbered (now ++ entry ∷ [])) same ∙ numbered_last now entry)) last
@@ -131,6 +141,27 @@ of_others errors fronts entry number none held unwhole same =
 still_others : (entry : Entry) (number : ℕ) → (entry.client == number && not entry.whole) ≡ false → entry.whole ≡ false → entry.client ≡ number → ⊥
 still_others entry number test unwhole same = let is = eq-eqb entry.client number same in grind (arith, test, unwhole, is)
 
+-- ---- what they may become, by which are fated to be spoiled
+
+-- what each that has begun may become, where those are spoiled that are fated to be
+abbrev pub MayBecomeFated : (ℕ → Bool) → Order → (ℕ → WholeRequest) → Type 0
+MayBecomeFated fate begun requests = (number : ℕ) → number < length begun → MayBecome (as_fated (fate number) (numbered begun number)) (requests number)
+
+-- before one more begins
+may_first : (fate : ℕ → Bool) (now : Order) (entry : Entry) (requests : ℕ → WholeRequest) → MayBecomeFated fate (now ++ entry ∷ []) requests
+    → MayBecomeFated fate now requests
+may_first fate now entry requests may k small =
+    subst (λ (e : Entry). MayBecome (as_fated (fate k) e) (requests k)) (numbered_first now entry k small)
+    (may k (omega (arith, small, length-append now (entry ∷ []))))
+
+-- before each changes
+may_change : (fate : ℕ → Bool) (change : Entry → Entry) (now : Order) (requests : ℕ → WholeRequest)
+    → ((k : ℕ) → k < length now → MayBecome (as_fated (fate k) (change (numbered now k))) (requests k) → MayBecome (as_fated (fate k) (numbered now k)) (requests k))
+    → MayBecomeFated fate (map change now) requests → MayBecomeFated fate now requests
+may_change fate change now requests back may k small =
+    back k small
+    (subst (λ (e : Entry). MayBecome (as_fated (fate k) e) (requests k)) (numbered_map change now k small) (may k (omega (arith, small, length-map now change))))
+
 module _ (errors : Errors) (limits : TlPortLimits) (beat : ABeat) (busy : Bool) (number : ℕ) (fronts next : ℕ → Option HeldMessage) (now : Order) where
   -- the fronts after an answer
   abbrev ComeNext : Option HeldMessage → Progress → Type 0
@@ -156,7 +187,7 @@ module _ (errors : Errors) (limits : TlPortLimits) (beat : ABeat) (busy : Bool) 
       → ComeNext front progress → (progress ≡ Whole → IsWell (request_of (joined limits front beat)))
       → AreHeld errors fronts now → AreHeld errors next (with_progress errors number front (request_of (joined limits front beat)) progress now)
   held_progress None More answer own come well are =
-      each_last (IsHeldBy errors next) now (entry_of errors number (request_of (begun limits.client beat)) false) (others_held More come own are) (
+      each_last (IsHeldBy errors next) now (record (entry_of errors number (request_of (begun limits.client beat)) false) { number = length now }) (others_held More come own are) (
         λ unwhole. record {
           held = begun limits.client beat;
           told = λ is. is;
@@ -168,7 +199,7 @@ module _ (errors : Errors) (limits : TlPortLimits) (beat : ABeat) (busy : Bool) 
         first_well limits beat busy answer,
       )
   held_progress None Whole answer own come well are =
-      each_last (IsHeldBy errors next) now (entry_of errors number (request_of (begun limits.client beat)) true) (others_held Whole come own are)
+      each_last (IsHeldBy errors next) now (record (entry_of errors number (request_of (begun limits.client beat)) true) { number = length now }) (others_held Whole come own are)
       (λ unwhole. absurd (cc (unwhole)), well refl)
   held_progress (Some held) More answer own come well are =
       each_map (IsHeldBy errors fronts) (IsHeldBy errors next) (heard errors number (request_of (with_more held beat))) now by_test are
@@ -205,74 +236,52 @@ module _ (errors : Errors) (limits : TlPortLimits) (beat : ABeat) (busy : Bool) 
   -- ---- what they may become
 
   -- after the beat, and so before it
-  may_progress : (front : Option HeldMessage) (progress : Progress) (requests : ℕ → WholeRequest) → fronts number ≡ front
+  may_progress : (fate : ℕ → Bool) (front : Option HeldMessage) (progress : Progress) (requests : ℕ → WholeRequest) → fronts number ≡ front
       → ((held : HeldMessage) → front ≡ Some held → progress ≡ Whole → IsWell (request_of (with_more held beat)))
-      → AreHeld errors fronts now → MayBecomeAll (with_progress errors number front (request_of (joined limits front beat)) progress now) requests
-      → MayBecomeAll now requests
-  may_progress None More requests own well are may k small =
-      subst (λ (entry : Entry). MayBecome entry (requests k)) (numbered_first now (entry_of errors number (request_of (begun limits.client beat)) false) k small)
-      (may k (omega (arith, small, length-append now (entry_of errors number (request_of (begun limits.client beat)) false ∷ []))))
-  may_progress None Whole requests own well are may k small =
-      subst (λ (entry : Entry). MayBecome entry (requests k)) (numbered_first now (entry_of errors number (request_of (begun limits.client beat)) true) k small)
-      (may k (omega (arith, small, length-append now (entry_of errors number (request_of (begun limits.client beat)) true ∷ []))))
-  may_progress (Some held) More requests own well are may k small =
-      by_test (numbered now k) (are k small)
-      (subst (λ (entry : Entry). MayBecome entry (requests k)) (numbered_map change now k small) (may k (omega (arith, small, length-map now change))))
+      → AreHeld errors fronts now → MayBecomeFated fate (with_progress errors number front (request_of (joined limits front beat)) progress now) requests
+      → MayBecomeFated fate now requests
+  may_progress fate None More requests own well are may k small =
+      may_first fate now (record (entry_of errors number (request_of (begun limits.client beat)) false) { number = length now }) requests may k small
+  may_progress fate None Whole requests own well are may k small =
+      may_first fate now (record (entry_of errors number (request_of (begun limits.client beat)) true) { number = length now }) requests may k small
+  may_progress fate (Some held) More requests own well are may k small =
+      may_change fate (heard errors number (request_of (with_more held beat))) now requests (λ i below. by_test (fate i) (numbered now i) (requests i)) may k small
     where
-      change : Entry → Entry
-      change = heard errors number (request_of (with_more held beat))
-
-      by_test : (entry : Entry) → IsHeldBy errors fronts entry → MayBecome (change entry) (requests k) → MayBecome entry (requests k)
-      by_test entry was becomes =
+      by_test : (fated : Bool) (entry : Entry) (r : WholeRequest) → MayBecome (as_fated fated (heard errors number (request_of (with_more held beat)) entry)) r
+          → MayBecome (as_fated fated entry) r
+      by_test fated entry r becomes =
+          let same : as_fated fated (heard errors number (request_of (with_more held beat)) entry) ≡ as_fated fated entry =
           elim (cases_Bool (entry.client == number && not entry.whole)) [
-            | inl is ↦ own_request is
-            | inr is ↦ let still : change entry ≡ entry = rw is refl in subst (λ (e : Entry). MayBecome e (requests k)) still becomes
-          ]
-        where
-          own_request : (entry.client == number && not entry.whole) ≡ true → MayBecome entry (requests k)
-          own_request is =
-              let unwhole = not-true entry.whole (and_parts (entry.client == number) (not entry.whole) is).1 in
-              let done : change entry ≡ record entry { spoiled = entry.spoiled || is_spoiled errors (request_of (with_more held beat)) } = rw is refl in
-              let may_then = subst (λ (e : Entry). MayBecome e (requests k)) done becomes in
-              record {
-                same = λ whole. absurd (cc (unwhole, whole));
-                fields = may_then.fields;
-                corrupt = by_errors errors (was.0 unwhole) may_then.corrupt;
-                bytes = may_then.bytes;
-                left = λ whole. absurd (cc (unwhole, whole));
-              }
-            where
-              by_errors : (e : Errors) → IsHeld e (fronts entry.client) entry.request entry.spoiled
-                  → ((entry.spoiled || is_spoiled e (request_of (with_more held beat))) ≡ false → entry.request.corrupt ≡ true → (requests k).corrupt ≡ true)
-                  → entry.spoiled ≡ false → entry.request.corrupt ≡ true → (requests k).corrupt ≡ true
-              by_errors Any before keeps sound corrupt = absurd (cc (sym sound ∙ before.told (before.corrupt corrupt)))
-              by_errors Strict before keeps sound corrupt = keeps (ap (λ (b : Bool). b || false) sound) corrupt
-  may_progress (Some held) Whole requests own well are may k small =
-      by_test (numbered now k) (are k small)
-      (subst (λ (entry : Entry). MayBecome entry (requests k)) (numbered_map change now k small) (may k (omega (arith, small, length-map now change))))
+            | inl is ↦ rw is refl
+            | inr is ↦ rw is refl
+          ] in
+          subst (λ (e : Entry). MayBecome e r) same becomes
+  may_progress fate (Some held) Whole requests own well are may k small =
+      may_change fate change now requests (λ i below. by_test (fate i) (numbered now i) (requests i) (are i below)) may k small
     where
       change : Entry → Entry
       change = completed errors number (request_of (with_more held beat))
 
-      by_test : (entry : Entry) → IsHeldBy errors fronts entry → MayBecome (change entry) (requests k) → MayBecome entry (requests k)
-      by_test entry was becomes =
+      by_test : (fated : Bool) (entry : Entry) (r : WholeRequest) → IsHeldBy errors fronts entry → MayBecome (as_fated fated (change entry)) r
+          → MayBecome (as_fated fated entry) r
+      by_test fated entry r was becomes =
           elim (cases_Bool (entry.client == number && not entry.whole)) [
             | inl is ↦ own_request is
-            | inr is ↦ let still : change entry ≡ entry = rw is refl in subst (λ (e : Entry). MayBecome e (requests k)) still becomes
+            | inr is ↦ let still : change entry ≡ entry = rw is refl in subst (λ (e : Entry). MayBecome (as_fated fated e) r) still becomes
           ]
         where
-          own_request : (entry.client == number && not entry.whole) ≡ true → MayBecome entry (requests k)
+          own_request : (entry.client == number && not entry.whole) ≡ true → MayBecome (as_fated fated entry) r
           own_request is =
               let parts = and_parts (entry.client == number) (not entry.whole) is in
               let unwhole = not-true entry.whole parts.1 in
               let h = was.0 unwhole in
               let q = request_of (with_more held beat) in
               let this : held ≡ h.held = cc (sym own ∙ sym (ap fronts (eqb-true entry.client number parts.0)) ∙ h.is) in
-              let done : change entry
-              ≡ record entry { request = q; whole = true; spoiled = is_spoiled errors q; early = false; came = if entry.replied then reply_beats q else entry.came } = rw is refl in
-              let may_then = subst (λ (e : Entry). MayBecome e (requests k)) done becomes in
-              held_becomes errors (fronts entry.client) (Some (with_more h.held beat)) entry q (requests k)
-              (entry.spoiled || is_spoiled errors (request_of (with_more h.held beat))) h
+              let done : as_fated fated (change entry)
+              ≡ as_fated fated (record entry { request = q; whole = true; early = false; came = if entry.replied then reply_beats q else entry.came }) = rw is refl in
+              let may_then = subst (λ (e : Entry). MayBecome e r) done becomes in
+              held_becomes errors (Some (with_more h.held beat)) entry q r
+              (entry.spoiled || is_spoiled errors (request_of (with_more h.held beat))) fated
               (held_more errors (fronts entry.client) entry.request entry.spoiled beat h) unwhole
               (ap (λ (m : HeldMessage). request_of (with_more m beat)) this) (well held refl refl)
               (record { same = may_then.same; fields = may_then.fields; corrupt = may_then.corrupt; bytes = may_then.bytes; left = may_then.left })
@@ -324,8 +333,27 @@ held_request board number beat now fronts are = by_client (slice_get board.clien
 pub errors_kept : (board : Board) (seen : ObservedBeat) → (after_seen RealTime board seen).errors ≡ board.errors
 errors_kept board (A number beat) = grind arith
 errors_kept board (D number beat) = grind arith
-errors_kept board (OnAxi beat) = refl
+errors_kept board (OnAxi beat) = by_span (failed_span board.errors board.axi beat) (record board { axi = port_after RealTime board.axi beat })
+  where
+    by_span : (span : Option Span) (old : Board) → (hit_on span old).errors ≡ old.errors
+    by_span None old = refl
+    by_span (Some span) old = refl
 errors_kept board Drained = refl
+
+-- an error response spoils those that haven't ended
+held_failed : (errors : Errors) (memory : Memory) (fronts next : ℕ → Option HeldMessage) (span : Option Span) (now : Order)
+    → ((other : ℕ) → next other ≡ fronts other) → AreHeld errors fronts now → AreHeld errors next (with_failed memory span now)
+held_failed errors memory fronts next None now same are k small = held_still errors fronts next (numbered now k) (λ unwhole. same (numbered now k).client) (are k small)
+held_failed errors memory fronts next (Some span) now same are k small =
+    each_map (IsHeldBy errors fronts) (IsHeldBy errors next) (struck memory span) now by_test are k small
+  where
+    by_test : (entry : Entry) → IsHeldBy errors fronts entry → IsHeldBy errors next (struck memory span entry)
+    by_test entry was =
+        let still = held_still errors fronts next entry (λ unwhole. same entry.client) was in
+        elim (cases_Bool (not (has_ended entry) && shares span (acting_footprint memory entry.request))) [
+          | inl is ↦ rw is ((λ unwhole. held_struck errors (next entry.client) entry.request entry.spoiled (still.0 unwhole)), still.1)
+          | inr is ↦ rw is still
+        ]
 
 -- with any beat
 pub followed_next : (board : Board) (seen : ObservedBeat) (now : Order) → IsFollowed board now
@@ -343,7 +371,10 @@ followed_next board seen now follows =
         let begun = list_any (begun_to number) now in
         each_map (IsHeldBy board.errors (front_at board.clients)) (IsHeldBy board.errors next) (with_beat begun number beat.source) now
         (λ entry. held_beat board.errors (front_at board.clients) next begun number beat.source entry (λ other. front_replied board number other beat)) follows.held
-    by_seen (OnAxi beat) = follows.held
+    by_seen (OnAxi beat) =
+        let span = failed_span board.errors board.axi beat in
+        held_failed board.errors board.memory (front_at board.clients) (front_at (after_seen RealTime board (OnAxi beat)).clients) span now
+        (front_hit span (record board { axi = port_after RealTime board.axi beat })) follows.held
     by_seen Drained = follows.held
 
 -- with a list of beats
@@ -362,28 +393,45 @@ followed errors setup beats = followed_from beats (opening_with errors setup) []
 
 -- ---- what they may become after a beat, they may become before
 
-may_beat : (begun : Bool) (client source : ℕ) (entry : Entry) (q : WholeRequest) → MayBecome (with_beat begun client source entry) q → MayBecome entry q
-may_beat begun client source entry q =
+may_beat : (begun : Bool) (client source : ℕ) (entry : Entry) (fated : Bool) (q : WholeRequest) → MayBecome (as_fated fated (with_beat begun client source entry)) q
+    → MayBecome (as_fated fated entry) q
+may_beat begun client source entry fated q =
     elim (cases_Bool (is_due begun client source entry && entry.request.source == source)) [
       | inl is ↦ rw is (by_whole entry.whole)
       | inr is ↦ rw is (λ may. may)
     ]
   where
-    by_whole : (whole : Bool) → MayBecome (counted whole entry) q → MayBecome entry q
+    by_whole : (whole : Bool) → MayBecome (as_fated fated (counted whole entry)) q → MayBecome (as_fated fated entry) q
     by_whole true may = record { same = may.same; fields = may.fields; corrupt = may.corrupt; bytes = may.bytes; left = may.left }
     by_whole false may = record { same = may.same; fields = may.fields; corrupt = may.corrupt; bytes = may.bytes; left = may.left }
 
-may_request : (board : Board) (number : ℕ) (beat : ABeat) (now : Order) (requests : ℕ → WholeRequest) → IsFollowed board now
-    → MayBecomeAll (with_request board.errors number (slice_get board.clients number) beat now) requests → MayBecomeAll now requests
-may_request board number beat now requests follows = by_client (slice_get board.clients number) refl
+may_failed : (fate : ℕ → Bool) (memory : Memory) (span : Option Span) (now : Order) (requests : ℕ → WholeRequest)
+    → MayBecomeFated fate (with_failed memory span now) requests → MayBecomeFated fate now requests
+may_failed fate memory None now requests may k small = may k small
+may_failed fate memory (Some span) now requests may k small =
+    may_change fate (struck memory span) now requests (λ i below. by_test (fate i) (numbered now i) (requests i)) may k small
+  where
+    by_test : (fated : Bool) (entry : Entry) (r : WholeRequest) → MayBecome (as_fated fated (struck memory span entry)) r → MayBecome (as_fated fated entry) r
+    by_test fated entry r becomes =
+        let same : as_fated fated (struck memory span entry) ≡ as_fated fated entry =
+        elim (cases_Bool (not (has_ended entry) && shares span (acting_footprint memory entry.request))) [
+          | inl is ↦ rw is refl
+          | inr is ↦ rw is refl
+        ] in
+        subst (λ (e : Entry). MayBecome e r) same becomes
+
+may_request : (fate : ℕ → Bool) (board : Board) (number : ℕ) (beat : ABeat) (now : Order) (requests : ℕ → WholeRequest) → IsFollowed board now
+    → MayBecomeFated fate (with_request board.errors number (slice_get board.clients number) beat now) requests → MayBecomeFated fate now requests
+may_request fate board number beat now requests follows = by_client (slice_get board.clients number) refl
   where
     by_answer : (client : ClientBoard) (answer : Result Progress TlRule) → slice_get board.clients number ≡ Some client
         → answer_to RealTime client beat ≡ answer
-        → MayBecomeAll (with_answered board.errors number client.front (joined client.limits client.front beat) answer now) requests → MayBecomeAll now requests
+        → MayBecomeFated fate (with_answered board.errors number client.front (joined client.limits client.front beat) answer now) requests
+        → MayBecomeFated fate now requests
     by_answer client (Err rule) there is may = may
     by_answer client (Ok progress) there is may =
         may_progress board.errors client.limits beat (is_busy RealTime client.flights beat.source) number (front_at board.clients) (front_at board.clients) now
-        client.front progress requests (ap front_of there) well follows.held may
+        fate client.front progress requests (ap front_of there) well follows.held may
       where
         well : (held : HeldMessage) → client.front ≡ Some held → progress ≡ Whole → IsWell (request_of (with_more held beat))
         well held front whole =
@@ -391,25 +439,25 @@ may_request board number beat now requests follows = by_client (slice_get board.
             (sound_well client.limits (joined client.limits client.front beat)
             (whole_sound client beat (follows.fronts number client there) (is ∙ ap (λ (p : Progress). Ok p) whole)))
 
-    by_client : (found : Option ClientBoard) → slice_get board.clients number ≡ found → MayBecomeAll (with_request board.errors number found beat now) requests
-        → MayBecomeAll now requests
+    by_client : (found : Option ClientBoard) → slice_get board.clients number ≡ found
+        → MayBecomeFated fate (with_request board.errors number found beat now) requests → MayBecomeFated fate now requests
     by_client None there may = may
     by_client (Some client) there may = by_answer client (answer_to RealTime client beat) there refl may
 
-pub may_before : (board : Board) (seen : ObservedBeat) (now : Order) (requests : ℕ → WholeRequest) → IsFollowed board now
-    → MayBecomeAll (begun_next board seen now) requests → MayBecomeAll now requests
-may_before board (A number beat) now requests follows may k small = may_request board number beat now requests follows may k small
-may_before board (D number beat) now requests follows may k small =
-    let change : Entry → Entry = with_beat (list_any (begun_to number) now) number beat.source in
-    may_beat (list_any (begun_to number) now) number beat.source (numbered now k) (requests k)
-    (subst (λ (entry : Entry). MayBecome entry (requests k)) (numbered_map change now k small) (may k (omega (arith, small, length-map now change))))
-may_before board (OnAxi beat) now requests follows may k small = may k small
-may_before board Drained now requests follows may k small = may k small
+pub may_before : (fate : ℕ → Bool) (board : Board) (seen : ObservedBeat) (now : Order) (requests : ℕ → WholeRequest) → IsFollowed board now
+    → MayBecomeFated fate (begun_next board seen now) requests → MayBecomeFated fate now requests
+may_before fate board (A number beat) now requests follows may k small = may_request fate board number beat now requests follows may k small
+may_before fate board (D number beat) now requests follows may k small =
+    may_change fate (with_beat (list_any (begun_to number) now) number beat.source) now requests
+    (λ i below. may_beat (list_any (begun_to number) now) number beat.source (numbered now i) (fate i) (requests i)) may k small
+may_before fate board (OnAxi beat) now requests follows may k small =
+    may_failed fate board.memory (failed_span board.errors board.axi beat) now requests may k small
+may_before fate board Drained now requests follows may k small = may k small
 
 -- along a list of beats
-pub may_from : (beats : List ObservedBeat) (board : Board) (now : Order) (requests : ℕ → WholeRequest) → IsFollowed board now
-    → MayBecomeAll (begun_from board now beats) requests → MayBecomeAll now requests
-may_from [] board now requests follows may = may
-may_from (seen ∷ beats) board now requests follows may =
-    may_before board seen now requests follows
-    (may_from beats (after_seen RealTime board seen) (begun_next board seen now) requests (followed_next board seen now follows) may)
+pub may_from : (fate : ℕ → Bool) (beats : List ObservedBeat) (board : Board) (now : Order) (requests : ℕ → WholeRequest) → IsFollowed board now
+    → MayBecomeFated fate (begun_from board now beats) requests → MayBecomeFated fate now requests
+may_from fate [] board now requests follows may = may
+may_from fate (seen ∷ beats) board now requests follows may =
+    may_before fate board seen now requests follows
+    (may_from fate beats (after_seen RealTime board seen) (begun_next board seen now) requests (followed_next board seen now follows) may)

@@ -1,8 +1,8 @@
 -- A message begins on a board, and on its shadow the request that it becomes is carried out: the shadow is still ahead.
-use Rattle.std.proofs.Common.{◌≡◌, ℕ, Bool, true, false, not, List, [], map, set, Option, Some, None, ◌⊎◌, inl, inr, refl, sym, ◌∙◌, ap, subst, arith}
+use Rattle.std.proofs.Common.{◌≡◌, ℕ, Bool, true, false, ◌||◌, not, List, [], map, set, Option, Some, None, ◌⊎◌, inl, inr, refl, sym, ◌∙◌, ap, subst, arith}
 use Rattle.std.specs.Prelude.{option_map, slice_get}
 use Rattle.std.specs.List.{list_any}
-use Rattle.std.proofs.lemmas.Bool.{and_parts, cases_eq, or_parts, or_right}
+use Rattle.std.proofs.lemmas.Bool.{and_parts, both_ways, cases_eq, false_from_ne_true, or_parts, or_right}
 use Rattle.std.proofs.lemmas.List.{length-map, length-set}
 use Rattle.std.proofs.lemmas.Option.{slice_get-map, slice_get_within}
 use Rattle.bus_words.proofs.StoredPlaces.{get_set}
@@ -11,31 +11,35 @@ use Rattle.tl_messages.specs.Requests.{HeldMessage, WholeRequest, request_of}
 use Rattle.burst_plan.specs.declared.Region.{Region}
 use Rattle.responses.specs.Shown.{shown}
 use Rattle.subordinate.specs.Faults.{Faults}
-use Rattle.scoreboard.specs.Boards.{Board, ClientBoard, begun_on, client_beside, early_due, fails, flight_for, footprints_of, joining_on, place_on, with_accepted, with_client}
+use Rattle.scoreboard.specs.Boards.{Board, ClientBoard, begun_on, client_beside, early_due, fails, flight_for, footprints_of, is_spoiled, joining_on, place_on, with_accepted, with_client}
 use Rattle.scoreboard.specs.Flights.{Flights, Footprint, InFlight, is_of_source}
 use Rattle.scoreboard.specs.Orders.{Order}
 use Rattle.scoreboard.specs.Races.{after_given, after_joining, alone, beside, flight_beside, joining, may_write}
-use Rattle.scoreboard.specs.RealTime.{MayBecome, entry_of}
+use Rattle.scoreboard.specs.RealTime.{MayBecome}
+use Rattle.scoreboard.specs.declared.Errors.TheVariants.{Any}
 use Rattle.scoreboard.proofs.real_time.Acceptance.{other_flight, own_flight, sources_beside}
-use Rattle.scoreboard.proofs.real_time.Ahead.{HasBecome, HasBeside, IsAhead, IsBehind, IsComing, IsFinal, IsGiven, IsSame, IsWithin, Shadow, comes, shadow_of, shadow_touches, shadow_writes, touches, will_give, within_writes}
+use Rattle.scoreboard.proofs.real_time.Ahead.{HasBecome, HasBeside, IsAhead, IsBehind, IsComing, IsFinal, IsGiven, IsSame, IsWithin, NoneFated, Shadow, comes, shadow_of, shadow_touches, shadow_writes, touches, will_give, within_writes}
 use Rattle.scoreboard.proofs.real_time.AheadBeside.{behind_beside, coming_beside_it, none_beside, was_beside}
 use Rattle.scoreboard.proofs.real_time.Apart.{AreAll}
 use Rattle.scoreboard.proofs.real_time.Comings.{comes_beside, comes_other, comes_same, early_at, early_beside, early_other, early_same, footprints_front}
 use Rattle.scoreboard.proofs.real_time.Entries.{carry}
 use Rattle.scoreboard.proofs.real_time.Explained.{Explains, sources_with}
-use Rattle.scoreboard.proofs.real_time.Failures.{fails_flag, fails_keeps, fails_less, same_acting, same_place}
+use Rattle.scoreboard.proofs.real_time.Failures.{corrupt_as, fails_flag, fails_keeps, fails_less, same_acting, same_place}
 use Rattle.scoreboard.proofs.real_time.FlightLists.{HaveAllSources, are_all, sources_kept}
 use Rattle.scoreboard.proofs.real_time.FlightPlaces.{at_beside, coming_beside, coming_other, coming_same}
 use Rattle.scoreboard.proofs.real_time.Places.{Place, cases_place, coming_at, due_at, flight_at, flight_in, flights_kept, footprint_at}
 use Rattle.scoreboard.proofs.real_time.RequestActs.{IsWell, acts, own}
 use Rattle.scoreboard.proofs.real_time.ShadowJoins.{bytes_kept, certain_there, given_kept, given_there, still_certain, untouched_there}
 use Rattle.scoreboard.proofs.real_time.ShadowPlaces.{finals_other, finals_own, finals_with, free_there, none_here, none_there, nothing_begun, reply_same}
+use Rattle.scoreboard.proofs.real_time.StepOrders.{first_of}
 
 module _ (board : Board) (shadow : Shadow) (order : Order) (explains : Explains (shadow_of board shadow) order) (ahead : IsAhead board shadow)
-    (number : ℕ) (client other_client : ClientBoard) (message : HeldMessage) (bytes : List (Option ℕ)) (spoiled : Bool)
+    (number : ℕ) (client other_client : ClientBoard) (message : HeldMessage) (bytes : List (Option ℕ)) (spoiled : Bool) (n : ℕ) (fated : Bool)
     (there : slice_get board.clients number ≡ Some client) (there_too : slice_get shadow.clients number ≡ Some other_client) (front : client.front ≡ None)
     (free : list_any (is_of_source message.source) client.flights.due ≡ false)
-    (may : MayBecome (entry_of board.errors number (request_of message) false) (record (request_of message) { bytes = bytes; corrupt = spoiled }))
+    (may : MayBecome (record (first_of board.errors number (request_of message) false n) { spoiled = is_spoiled board.errors (request_of message) || fated })
+    (record (request_of message) { bytes = bytes; corrupt = spoiled }))
+    (any : fated ≡ true → board.errors ≡ Any)
     (silent : reply_has_data message.operation ≡ false) (well : IsWell (record (request_of message) { bytes = bytes; corrupt = spoiled })) where
   abbrev pub faults : Faults
   faults = board.memory.faults
@@ -75,6 +79,8 @@ module _ (board : Board) (shadow : Shadow) (order : Order) (explains : Explains 
         bytes = carry faults regions q shadow.bytes;
         indeterminate = after_joining shadow.indeterminate (footprints_of shadow.clients) theirs q.bytes;
         finals = finals_with shadow.finals number q;
+        fate = shadow.fate;
+        fates = shadow.fates;
       }
 
   abbrev pub own_place : Place
@@ -89,15 +95,18 @@ module _ (board : Board) (shadow : Shadow) (order : Order) (explains : Explains 
   abbrev beginning : Footprint
   beginning = joining board.indeterminate (footprints_of hearing.clients) (place_on board first) first
 
-  mine_acts : mine ≡ record (alone (λ x. false) (place_on board first) first) { failed = mine.failed; determined = mine.determined }
+  pub mine_acts : mine ≡ record (alone (λ x. false) (place_on board first) first) { failed = mine.failed; determined = mine.determined }
   mine_acts = fails_keeps failed beginning
 
   pub mine_failed : (joining_on (with_client number (record client { front = Some message }) board) (request_of message)).failed ≡ fails board.errors board.memory (request_of message)
   mine_failed = fails_flag failed beginning refl
 
+  corrupt : is_spoiled board.errors first ≡ false → first.corrupt ≡ true → q.corrupt ≡ true
+  corrupt = corrupt_as board.errors first q fated any may.corrupt
+
   acts_there : (own faults regions q).writes ≡ true → mine ≡ record (own faults regions q) { failed = mine.failed; determined = mine.determined }
   acts_there does =
-      mine_acts ∙ same_acting faults regions board.errors first q may.fields may.corrupt mine.failed mine.determined
+      mine_acts ∙ same_acting faults regions board.errors first q may.fields corrupt mine.failed mine.determined
       (or_right (own faults regions q).reads (own faults regions q).writes does)
 
   within : IsWithin theirs mine
@@ -127,8 +136,14 @@ module _ (board : Board) (shadow : Shadow) (order : Order) (explains : Explains 
   less x writes determined =
       let none : list_any (λ r. may_write r x) (footprints_of shadow.clients) ≡ false = are.none (λ r. may_write r x) (nobody_there x determined) in
       let beside_all = (fails_less failed beginning x determined).0 in
-      let place = same_place faults regions board.errors first q may.fields may.corrupt (or_right (own faults regions q).reads (own faults regions q).writes writes) in
+      let place = same_place faults regions board.errors first q may.fields corrupt (or_right (own faults regions q).reads (own faults regions q).writes writes) in
       grind (arith, beside_all, none, place, silent)
+
+  -- where it has failed nothing of it is determined
+  broken : (x : ℕ) → mine.failed ≡ true → mine.determined x ≡ false
+  broken x has =
+      false_from_ne_true (mine.determined x) (λ determined.
+      both_ways failed (fails_less failed beginning x determined).1 (sym mine_failed ∙ has))
 
   becomes : IsComing faults regions mine q flight
   becomes =
@@ -140,6 +155,7 @@ module _ (board : Board) (shadow : Shadow) (order : Order) (explains : Explains 
         acts = refl;
         less = less;
         beats = λ m. ap (shown q) (reply_same faults regions q shadow.bytes m silent);
+        broken = broken;
       }
 
   -- ---- what is in flight, and coming
@@ -214,7 +230,9 @@ module _ (board : Board) (shadow : Shadow) (order : Order) (explains : Explains 
       record {
         other = flight_beside theirs old.other;
         there = others_there place (elsewhere place old.other old.there) ∙ ap (option_map (flight_beside theirs)) old.there;
-        behind = subst (λ (f : InFlight). IsBehind f (flight_beside theirs old.other)) was.2 (behind_beside mine theirs within was.0 old.other old.behind);
+        behind =
+            subst (λ (f : InFlight). IsBehind (shadow.fates place) f (flight_beside theirs old.other)) was.2
+            (behind_beside mine theirs within (shadow.fates place) was.0 old.other old.behind);
       }
 
   abbrev pub Become : Footprint → ℕ → WholeRequest → Type 0
@@ -260,20 +278,23 @@ module _ (board : Board) (shadow : Shadow) (order : Order) (explains : Explains 
   nothing_given x = grind arith
 
   known : (x : ℕ) → now.indeterminate x ≡ false → ((c : ℕ) → comes now.clients c ≡ true → will_give faults regions (now_shadow.finals c) x ≡ false)
-      → IsSame now now_shadow x
-  known x certain none =
+      → NoneFated now.clients shadow.fates x → IsSame now now_shadow x
+  known x certain none unfated =
       let parts = or_parts (after_given board.indeterminate mine [] x) (list_any (touches mine x) (footprints_of hearing.clients)) certain in
       let own_none : will_give faults regions q x ≡ false =
       sym (ap (λ (final : WholeRequest). will_give faults regions final x) (finals_own shadow.finals number q)) ∙ none number comes_own in
       let same = ahead.known x (sym (nothing_given x) ∙ parts.0) (λ c begun.
       let apart = came_before c begun in
-      sym (ap (λ (final : WholeRequest). will_give faults regions final x) (finals_other shadow.finals number c q apart)) ∙ none c (comes_others c apart ∙ begun)) in
+      sym (ap (λ (final : WholeRequest). will_give faults regions final x) (finals_other shadow.finals number c q apart)) ∙ none c (comes_others c apart ∙ begun)) unfated_before in
       record {
         byte = bytes_kept board shadow order explains q well x own_none ∙ same.byte;
         certain =
             certain_there board shadow order explains q well x (still_certain board shadow order explains q well x own_none same.certain)
             (shadow_touches board shadow ahead theirs mine x within (sym (ap (list_any (touches mine x)) same_footprints) ∙ parts.1));
       }
+    where
+      unfated_before : NoneFated board.clients shadow.fates x
+      unfated_before place old is = unfated place (flight_beside mine old) (now_flight place ∙ ap (option_map (flight_beside mine)) is)
 
   -- ---- what has begun stands there
 

@@ -4,7 +4,8 @@ use Rattle.std.specs.Prelude.{is_some, option_map, slice_get}
 use Rattle.std.specs.Option.{option_flatten, option_or}
 use Rattle.std.proofs.lemmas.List.{drop-map}
 use Rattle.std.specs.List.{AllByRecursion, list_any}
-use Rattle.std.proofs.lemmas.Bool.{both_ways, leb-false, or_parts}
+use Rattle.std.proofs.lemmas.Bool.Decides.{nat_tests}
+use Rattle.std.proofs.lemmas.Bool.{both_ways, false_from_ne_true, leb-false, or_parts}
 use Rattle.bus_words.proofs.PlaceChanges.{all-map}
 use Rattle.tl_messages.specs.Requests.{WholeRequest, no_message, request_of}
 use Rattle.tl_messages.specs.declared.DBeat.{DBeat}
@@ -15,9 +16,11 @@ use Rattle.subordinate.specs.Faults.{Faults}
 use Rattle.meaning.specs.Meaning.{Bytes, acknowledged, bytes_after_all, meaning, zeros}
 use Rattle.setups.specs.Setups.{SetupLists, faults_of}
 use Rattle.scoreboard.specs.AxiPorts.{PortBoard}
-use Rattle.scoreboard.specs.Boards.{Board, ClientBoard, IsReached, after_all, after_seen, d_wrong, due_beat, early_flight, failed_beat, next_to, opening_board, opening_with, told_to, wrong_at, wrong_beat, wrong_by, wrong_reply, wrong_told}
+use Rattle.scoreboard.specs.Boards.{Board, ClientBoard, IsReached, hit_on, after_all, after_seen, d_wrong, due_beat, early_flight, failed_beat, next_to, opening_board, opening_with, told_to, wrong_at, wrong_beat, wrong_by, wrong_reply, wrong_told}
+use Rattle.scoreboard.specs.AxiPorts.{port_after}
+use Rattle.scoreboard.specs.FailedBursts.{Span, failed_span}
 use Rattle.scoreboard.specs.Flights.{Footprint, InFlight, next_reply}
-use Rattle.scoreboard.specs.Orders.{Asked, Entry, access_fails, known_request, IsWrongAs, IsWrongIn, Order, begun_to, board_after, due_beats, has_failed, is_due, is_due_in, left_of, meaning_on, reply_beats, shown_to}
+use Rattle.scoreboard.specs.Orders.{Asked, Entry, IsWrongAs, IsWrongIn, Order, access_fails, begun_to, board_after, due_beats, has_ended, has_failed, is_due, is_due_in, known_request, left_of, meaning_on, reply_beats, shown_to}
 use Rattle.scoreboard.specs.RealTime.{asked_on}
 use Rattle.scoreboard.specs.declared.Errors.{Errors}
 use Rattle.scoreboard.specs.declared.Errors.TheVariants.{Any, Strict}
@@ -29,21 +32,26 @@ use Rattle.scoreboard.specs.declared.ObservedBeat.{ObservedBeat}
 use Rattle.scoreboard.specs.declared.ObservedBeat.TheVariants.{A, D, Axi as OnAxi, Drained}
 use Rattle.scoreboard.specs.declared.Wrong.{Wrong}
 use Rattle.scoreboard.specs.declared.Wrong.TheVariants.{Axi, NoClient, Place as WrongPlace, Reply, Request}
-use Rattle.scoreboard.proofs.real_time.Ahead.{HasBeside, Shadow, comes, front_in, none_given, shadow_of}
+use Rattle.scoreboard.proofs.real_time.Ahead.{HasBeside, NoneFated, Shadow, comes, front_in, none_given, shadow_of}
 use Rattle.scoreboard.proofs.real_time.AlikeBeats.{left_alike}
 use Rattle.scoreboard.proofs.real_time.Entries.{Each, IsLive, Stands, carry, run}
 use Rattle.scoreboard.proofs.real_time.Explained.{explains_as, explains_opening, opening_at, opening_flights}
-use Rattle.scoreboard.proofs.real_time.Failures.{failed_at, fails_at, same_shapes, shape_of, silent_known, silent_shown}
-use Rattle.scoreboard.proofs.real_time.Follows.{Follows, IsFailing, IsFollowed, IsMarked, IsOpen, begun_here, begun_settled, follows_as, run_settled, settle, settled}
+use Rattle.scoreboard.proofs.real_time.Failures.{failed_any, failed_at, fails_at, same_shapes, shape_of, silent_known, silent_shown}
+use Rattle.scoreboard.proofs.MappedLists.{any_map}
+use Rattle.scoreboard.proofs.real_time.Entries.{place_of}
+use Rattle.scoreboard.proofs.real_time.Lengths.{some_beats}
+use Rattle.scoreboard.proofs.real_time.ReplyMoves.{waits_for}
+use Rattle.scoreboard.proofs.real_time.Follows.{Follows, IsFailing, IsFated, IsFollowed, IsMarked, IsOpen, begun_here, begun_settled, follows_as, run_settled, settle, settled, some_passes}
+use Rattle.scoreboard.proofs.real_time.FollowsHits.{follows_failed}
 use Rattle.scoreboard.proofs.real_time.FollowsReplies.{EarlyDue, WholeDue, due_cases, due_settled, due_whole, early_due_in, early_there, follows_reply, nobody_due}
 use Rattle.scoreboard.proofs.real_time.Comings.{early_at, early_in}
 use Rattle.scoreboard.proofs.real_time.FollowsRequests.{follows_request}
 use Rattle.scoreboard.proofs.real_time.Fronts.{AreFronts, fronts_next, fronts_opening}
-use Rattle.scoreboard.proofs.real_time.Places.{Place, coming_at, coming_in, flight_at, none_in}
+use Rattle.scoreboard.proofs.real_time.Places.{Place, begun_at, coming_at, coming_in, due_at, flight_at, none_in}
 use Rattle.scoreboard.proofs.real_time.ReplySeen.{next_is}
 use Rattle.scoreboard.proofs.real_time.ReplySteps.{IsAt, due_known, due_place, next_at, none_due}
 use Rattle.scoreboard.proofs.real_time.RequestActs.{AreBytes, acts, own}
-use Rattle.scoreboard.proofs.real_time.StepOrders.{BlamesByRule, GoesOn, IsOrderFrom, IsOrderOf, KnowsBytes}
+use Rattle.scoreboard.proofs.real_time.StepOrders.{BlamesByRule, HasFate, GoesOn, IsOrderFrom, IsOrderOf, KnowsBytes}
 use Rattle.scoreboard.proofs.real_time.Verdicts.{IsBroken, failed_broken, first_blamed, left_broken, left_told, sure_shown, sure_told, wrong_sure}
 
 -- ---- the reply that is due in an order
@@ -114,9 +122,71 @@ failed_as : (errors : Errors) (setup : SetupLists) (entry : Entry) → failed_at
 failed_as Strict setup entry = refl
 failed_as Any setup entry = refl
 
+-- ---- a board that is followed, when all beats have come
+
+-- what is known of an entry
+record Known (board : Board) (shadow : Shadow) (entry : Entry) : Type 0 where
+  marked : IsMarked board.clients entry
+  failing : IsFailing board entry
+  opened : entry.whole ≡ false → IsOpen board shadow entry
+  fated : IsFated shadow entry
+  spoiled : shadow.fate entry.number ≡ true → entry.spoiled ≡ true
+
+module _ (board : Board) (shadow : Shadow) (order : Order) (follows : Follows board shadow order) where
+  known_all : AllByRecursion (λ entry. shadow.fate entry.number ≡ true → entry.spoiled ≡ true) order → AllByRecursion (Known board shadow) order
+  known_all = known_in order follows.marked follows.failing follows.open_ones follows.fated
+    where
+      known_in : (some_order : Order) → AllByRecursion (IsMarked board.clients) some_order → AllByRecursion (IsFailing board) some_order
+          → AllByRecursion (λ entry. entry.whole ≡ false → IsOpen board shadow entry) some_order → AllByRecursion (IsFated shadow) some_order
+          → AllByRecursion (λ entry. shadow.fate entry.number ≡ true → entry.spoiled ≡ true) some_order → AllByRecursion (Known board shadow) some_order
+      known_in [] marked failing opened fated spoiled = tt
+      known_in (entry ∷ rest) marked failing opened fated spoiled = (
+        record { marked = marked.0; failing = failing.0; opened = opened.0; fated = fated.0; spoiled = spoiled.0 },
+        known_in rest marked.1 failing.1 opened.1 fated.1 spoiled.1,
+      )
+
+  -- one in flight that is fated has failed
+  fated_fails : (entry : Entry) → Known board shadow entry → entry.whole ≡ true → has_ended entry ≡ false → (flight : InFlight)
+      → flight_at board.clients (place_of entry) ≡ Some flight → shadow.fates (place_of entry) ≡ true → flight.footprint.failed ≡ true
+  fated_fails entry known whole alive flight there fated =
+      let fate = sym (known.fated whole alive) ∙ fated in
+      (known.failing whole alive flight there).0
+      ∙ failed_any board.errors board.memory.faults board.memory.regions entry (follows.any_fated entry.number fate) (known.spoiled fate)
+
+  -- each in flight is in the order
+  in_order : AllByRecursion (Known board shadow) order → (place : Place) (flight : InFlight) → flight_at board.clients place ≡ Some flight
+      → (entry : Entry) × Known board shadow entry × (has_ended entry ≡ false) × (place_of entry ≡ place)
+  in_order all place flight is = by_source place.source refl
+    where
+      there : is_some (flight_at shadow.clients place) ≡ true
+      there = ap (λ (o : Option InFlight). is_some o) (follows.ahead.placed place flight is).there
+
+      by_source : (source : Option ℕ) → place.source ≡ source → (entry : Entry) × Known board shadow entry × (has_ended entry ≡ false) × (place_of entry ≡ place)
+      by_source (Some source) own =
+          let at : place ≡ due_at place.client source = ap (λ (o : Option ℕ). record place { source = o }) own in
+          let waits = follows.explains.waiting place.client source (ap (λ (p : Place). is_some (flight_at shadow.clients p)) (sym at) ∙ there) in
+          let found = some_passes (Known board shadow) (λ entry. waits_for place.client source (settled entry)) order all
+          (sym (any_map (waits_for place.client source) settled order) ∙ waits) in
+          (found.0, found.1, grind (arith, nat_tests, found.2, some_beats found.0.request), grind (arith, nat_tests, found.2) ∙ sym at)
+      by_source None own =
+          let at : place ≡ begun_at place.client = ap (λ (o : Option ℕ). record place { source = o }) own in
+          let begins = follows.explains.begun place.client (ap (λ (p : Place). is_some (flight_at shadow.clients p)) (sym at) ∙ there) in
+          let found = some_passes (Known board shadow) (λ entry. begun_to place.client (settled entry)) order all
+          (sym (any_map (begun_to place.client) settled order) ∙ begins) in
+          (found.0, found.1, grind (arith, nat_tests, found.2), grind (arith, nat_tests, found.2) ∙ sym at)
+
+  -- so none is fated that hasn't failed
+  none_fated : AllByRecursion (λ entry. shadow.fate entry.number ≡ true → entry.spoiled ≡ true) order → (x : ℕ) → NoneFated board.clients shadow.fates x
+  none_fated ends x place flight is fated sound =
+      let (entry, known, alive, at) = in_order (known_all ends) place flight is in
+      let there = ap (flight_at board.clients) at ∙ is in
+      let whole = known.marked alive ∙ ap (λ (o : Option InFlight). is_some o) there in
+      absurd (both_ways flight.footprint.failed sound (fated_fails entry known whole alive flight there (ap shadow.fates at ∙ fated)))
+
 -- ---- a beat that is blamed, on a board that is followed
 
 module _ (setup : SetupLists) (board : Board) (shadow : Shadow) (order : Order) (number : ℕ) (beat : DBeat) (follows : Follows board shadow order)
+    (ends : AllByRecursion (λ entry. shadow.fate entry.number ≡ true → entry.spoiled ≡ true) order)
     (faults : board.memory.faults ≡ faults_of setup) (regions : board.memory.regions ≡ setup.regions) where
   abbrev begun : Bool
   begun = list_any (begun_to number) order
@@ -133,27 +203,15 @@ module _ (setup : SetupLists) (board : Board) (shadow : Shadow) (order : Order) 
   abbrev flights : Place → Option InFlight
   flights = flight_at shadow.clients
 
-  -- what is known of an entry
-  record Known (entry : Entry) : Type 0 where
-    marked : IsMarked board.clients entry
-    failing : IsFailing board entry
-    opened : entry.whole ≡ false → IsOpen board shadow entry
-
-  all_known : AllByRecursion Known order
-  all_known = known_in order follows.marked follows.failing follows.open_ones
-    where
-      known_in : (some_order : Order) → AllByRecursion (IsMarked board.clients) some_order → AllByRecursion (IsFailing board) some_order
-          → AllByRecursion (λ entry. entry.whole ≡ false → IsOpen board shadow entry) some_order → AllByRecursion Known some_order
-      known_in [] marked failing opened = tt
-      known_in (entry ∷ rest) marked failing opened =
-          (record { marked = marked.0; failing = failing.0; opened = opened.0 }, known_in rest marked.1 failing.1 opened.1)
+  all_known : AllByRecursion (Known board shadow) order
+  all_known = known_all board shadow order follows ends
 
   abbrev Searched : Type 0
-  Searched = Looked setup asked flights Known test order (due_beats setup order asked)
+  Searched = Looked setup asked flights (Known board shadow) test order (due_beats setup order asked)
 
   search_order : Searched
   search_order =
-      looked setup asked flights Known test order zeros (record { at = λ x. omega arith })
+      looked setup asked flights (Known board shadow) test order zeros (record { at = λ x. omega arith })
       (subst₂ (λ (f : Faults) (r : List Region). Each f r (Stands f r flights) zeros (settle order)) faults regions follows.explains.entries) all_known
 
   -- where nothing is due on the board, nor early
@@ -169,14 +227,14 @@ module _ (setup : SetupLists) (board : Board) (shadow : Shadow) (order : Order) 
     -- it is due in the order
     some_due : list_any test order ≡ true
     some_due =
-        sym (any_settled test order (all-map Known (λ entry. test (settled entry) ≡ test entry) order
+        sym (any_settled test order (all-map (Known board shadow) (λ entry. test (settled entry) ≡ test entry) order
         (λ entry known. due_settled board shadow order follows number beat.source due here entry known.marked known.opened) all_known))
         ∙ ap (λ (b : Bool). list_any (is_due b number beat.source) (settle order)) (sym (begun_settled board shadow order follows number))
         ∙ due_known (shadow_of board shadow) (settle order) follows.explains number beat.source
         (ap (λ (b : Bool). is_some (flight_at shadow.clients (next_at b number beat.source))) (begun_settled board shadow order follows number)
         ∙ ap (λ (o : Option InFlight). is_some o) beside.there)
 
-    module _ (found : Found setup asked flights Known test (due_beats setup order asked)) where
+    module _ (found : Found setup asked flights (Known board shadow) test (due_beats setup order asked)) where
       at : IsAt place found.entry
       at = due_place begun number beat.source found.entry found.passes
 
@@ -191,8 +249,15 @@ module _ (setup : SetupLists) (board : Board) (shadow : Shadow) (order : Order) 
 
       failed : due.footprint.failed ≡ has_failed board.errors setup found.entry
       failed =
-          found.holds.failing whole at.live due (ap (flight_at board.clients) at.there ∙ here)
+          (found.holds.failing whole at.live due (ap (flight_at board.clients) at.there ∙ here)).0
           ∙ ap₂ (λ (f : Faults) (r : List Region). failed_at board.errors f r found.entry) faults regions ∙ failed_as board.errors setup found.entry
+
+      -- one that hasn't failed isn't fated to
+      unfated : due.footprint.failed ≡ false → shadow.fates place ≡ false
+      unfated sound =
+          false_from_ne_true (shadow.fates place) (λ fated. both_ways due.footprint.failed sound
+          (fated_fails board shadow order follows found.entry found.holds whole at.live due (ap (flight_at board.clients) at.there ∙ here)
+          (ap shadow.fates at.there ∙ fated)))
 
       -- the beats that are left there
       abbrev raw : List DBeat
@@ -223,11 +288,11 @@ module _ (setup : SetupLists) (board : Board) (shadow : Shadow) (order : Order) 
           → IsBroken raw beat broken
       raw_broken sound broken told is =
           let acting : due.footprint ≡ record (own (faults_of setup) setup.regions found.entry.request) { determined = due.footprint.determined } =
-          beside.behind.sound sound ∙ ap (λ (f : InFlight). record f.footprint { determined = due.footprint.determined }) (sym same)
+          beside.behind.sound (unfated sound) sound ∙ ap (λ (f : InFlight). record f.footprint { determined = due.footprint.determined }) (sym same)
           ∙ ap (λ (r : Footprint). record r { determined = due.footprint.determined }) live.acting in
           let determined : (x : ℕ) → (own (faults_of setup) setup.regions found.entry.request).reads ≡ true → due.footprint.determined x ≡ true → live.made_of x ≡ found.before x =
           λ x reads certain. live.same x reads (ap (λ (f : InFlight). f.footprint.determined x) same
-          ∙ beside.behind.less x (ap (λ (r : Footprint). r.reads) acting ∙ reads) certain) in
+          ∙ beside.behind.less (unfated sound) x (ap (λ (r : Footprint). r.reads) acting ∙ reads) certain) in
           let alike = left_alike (faults_of setup) setup.regions found.entry.request due.footprint found.entry.came live.made_of found.before
           (leb-false (reply_beats found.entry.request) found.entry.came at.live) acting live.bytes found.bytes determined in
           left_broken due.footprint left_there raw beat broken told alike (sym (ap (λ (left : List DBeat). wrong_sure due.footprint left beat) their_beats) ∙ is)
@@ -243,7 +308,7 @@ module _ (setup : SetupLists) (board : Board) (shadow : Shadow) (order : Order) 
               raw_broken sound broken told (sym (ap (λ (beats : List DBeat). wrong_sure due.footprint beats beat) nothing) ∙ is)
           by_beats (first ∷ rest) some =
               let there = left_told due.footprint due.beats beside.other.beats beat broken told
-              (beside.behind.alike sound 0 (subst (λ (beats : List DBeat). 0 < length beats) (sym some) (omega arith))) beside.behind.long is in
+              (beside.behind.alike (unfated sound) sound 0 (subst (λ (beats : List DBeat). 0 < length beats) (sym some) (omega arith))) beside.behind.long is in
               raw_broken sound broken there.0 there.1
 
       found_broken : (broken : ReplyRule) (told : Option DBeat) → wrong_told due.footprint asked.told due.beats beat ≡ Some (Reply broken told)
@@ -275,7 +340,7 @@ module _ (setup : SetupLists) (board : Board) (shadow : Shadow) (order : Order) 
     early_is = ap early_in there ∙ early
 
     -- one that may be told in the order is that message
-    module _ (found : Found setup asked flights Known test (due_beats setup order asked)) where
+    module _ (found : Found setup asked flights (Known board shadow) test (due_beats setup order asked)) where
       record IsEarly : Type 0 where
         unwhole : found.entry.whole ≡ false
         may_come : found.entry.early ≡ true
@@ -423,34 +488,45 @@ module _ (setup : SetupLists) (board : Board) (shadow : Shadow) (order : Order) 
 -- ---- along lists of beats
 
 -- the port alone
-follows_port : (board : Board) (port : PortBoard) (order : Order) → IsFollowed board order → IsFollowed (record board { axi = port }) order
-follows_port board port order (shadow, follows) = (
+follows_port : (fate : ℕ → Bool) (board : Board) (port : PortBoard) (order : Order) → IsFollowed fate board order → IsFollowed fate (record board { axi = port }) order
+follows_port fate board port order (shadow, follows, is) = (
   shadow,
   follows_as board shadow board.clients port follows.ahead.sources refl (λ place. refl) (λ client. refl) (λ client. refl) (λ client. refl) order
       (explains_as (shadow_of board shadow) (settle order) shadow.clients port refl follows.explains.sources follows.explains.nothing follows.explains) follows,
+  is,
 )
 
-follows_next : (board : Board) (seen : ObservedBeat) (old new : Order) → GoesOn board seen old new → AreFronts board.clients → IsFollowed board old
-    → IsFollowed (after_seen RealTime board seen) new
-follows_next board (A client beat) old new goes fronts followed = follows_request board old new fronts followed client beat goes
-follows_next board (D client beat) old new goes fronts followed =
-    subst (IsFollowed (after_seen RealTime board (D client beat))) (sym goes) (follows_reply board old client beat followed)
-follows_next board (OnAxi beat) old new goes fronts followed =
-    subst (IsFollowed (after_seen RealTime board (OnAxi beat))) (sym goes) (follows_port board (after_seen RealTime board (OnAxi beat)).axi old followed)
-follows_next board Drained old new goes fronts followed =
-    subst (IsFollowed (after_seen RealTime board Drained)) (sym goes) (follows_port board (after_seen RealTime board Drained).axi old followed)
+follows_next : (fate : ℕ → Bool) (board : Board) (seen : ObservedBeat) (old new : Order) → GoesOn fate board seen old new → AllByRecursion (HasFate fate) new
+    → AreFronts board.clients → IsFollowed fate board old → IsFollowed fate (after_seen RealTime board seen) new
+follows_next fate board (A client beat) old new goes ends fronts followed = follows_request fate board old new fronts followed client beat ends goes
+follows_next fate board (D client beat) old new goes ends fronts followed =
+    subst (IsFollowed fate (after_seen RealTime board (D client beat))) (sym goes)
+    (follows_reply fate board old client beat followed (subst (AllByRecursion (HasFate fate)) goes ends))
+follows_next fate board (OnAxi beat) old new goes ends fronts followed =
+    subst (IsFollowed fate (after_seen RealTime board (OnAxi beat))) (sym goes)
+    (follows_failed fate board (port_after RealTime board.axi beat) old beat (follows_port fate board (port_after RealTime board.axi beat) old followed))
+follows_next fate board Drained old new goes ends fronts followed =
+    subst (IsFollowed fate (after_seen RealTime board Drained)) (sym goes) (follows_port fate board (after_seen RealTime board Drained).axi old followed)
 
-pub follows_all : (beats : List ObservedBeat) (board : Board) (now order : Order) → IsOrderFrom board now beats order
-    → AreFronts board.clients → IsFollowed board now → IsFollowed (after_all RealTime board beats) order
-follows_all [] board now order goes fronts followed = subst (IsFollowed board) (sym goes) followed
-follows_all (seen ∷ beats) board now order goes fronts followed =
-    follows_all beats (after_seen RealTime board seen) goes.0 order goes.2 (fronts_next board seen fronts)
-    (follows_next board seen now goes.0 goes.1 fronts followed)
+pub follows_all : (fate : ℕ → Bool) (beats : List ObservedBeat) (board : Board) (now order : Order) → IsOrderFrom fate board now beats order
+    → AreFronts board.clients → IsFollowed fate board now → IsFollowed fate (after_all RealTime board beats) order
+follows_all fate [] board now order goes fronts followed = subst (IsFollowed fate board) (sym goes) followed
+follows_all fate (seen ∷ beats) board now order goes fronts followed =
+    follows_all fate beats (after_seen RealTime board seen) goes.0 order goes.3 (fronts_next board seen fronts)
+    (follows_next fate board seen now goes.0 goes.1 goes.2 fronts followed)
 
 -- nothing has begun at the start
-follows_opening : (errors : Errors) (setup : SetupLists) → IsFollowed (opening_with errors setup) []
-follows_opening errors setup = (
-  record { clients = (opening_board setup).clients; bytes = zeros; indeterminate = λ x. false; finals = λ client. request_of no_message },
+follows_opening : (fate : ℕ → Bool) (errors : Errors) (setup : SetupLists) → ((number : ℕ) → fate number ≡ true → errors ≡ Any)
+    → IsFollowed fate (opening_with errors setup) []
+follows_opening fate errors setup any = (
+  record {
+    clients = (opening_board setup).clients;
+    bytes = zeros;
+    indeterminate = λ x. false;
+    finals = λ client. request_of no_message;
+    fate = fate;
+    fates = λ place. false;
+  },
   record {
     explains = explains_opening setup;
     ahead = record {
@@ -461,15 +537,18 @@ follows_opening errors setup = (
       begun = λ client some. absurd (cc (sym (none_begun client) ∙ some));
       others = λ place other is none. absurd (cc (sym (nothing place) ∙ is));
       waits = λ client some. absurd (cc (sym (none_begun client) ∙ some));
-      known = λ x certain none. record { byte = refl; certain = refl };
+      known = λ x certain none unfated. record { byte = refl; certain = refl };
       given = λ client x some determined gives_it. absurd (cc (sym (none_begun client) ∙ some));
     };
     marked = tt;
     failing = tt;
+    fated = tt;
+    any_fated = any;
     open_ones = tt;
     known = λ client some. absurd (cc (sym (none_begun client) ∙ some));
     early = λ client due is. absurd (cc (sym (none_early client) ∙ is));
   },
+  refl,
 )
   where
     nothing : (place : Place) → flight_at (opening_board setup).clients place ≡ None
@@ -499,7 +578,13 @@ record SameSetup (old new : Board) : Type 0 where
 next_setup : (board : Board) (seen : ObservedBeat) → SameSetup board (after_seen RealTime board seen)
 next_setup board (A number beat) = record { faults = grind arith; regions = grind arith }
 next_setup board (D number beat) = record { faults = grind arith; regions = grind arith }
-next_setup board (OnAxi beat) = record { faults = refl; regions = refl }
+next_setup board (OnAxi beat) =
+    let hit_setup = by_span (failed_span board.errors board.axi beat) (record board { axi = port_after RealTime board.axi beat }) in
+    record { faults = hit_setup.faults; regions = hit_setup.regions }
+  where
+    by_span : (span : Option Span) (old : Board) → SameSetup old (hit_on span old)
+    by_span None old = record { faults = refl; regions = refl }
+    by_span (Some span) old = record { faults = refl; regions = refl }
 next_setup board Drained = record { faults = refl; regions = refl }
 
 all_setup : (beats : List ObservedBeat) (board : Board) → SameSetup board (after_all RealTime board beats)
@@ -512,14 +597,17 @@ all_setup (seen ∷ beats) board =
 -- ---- the laws
 
 followed : (errors : Errors) (setup : SetupLists) (before : List ObservedBeat) (order : Order) → IsOrderOf errors setup before order
-    → IsFollowed (board_after errors setup before) order
-followed errors setup before order orders = follows_all before (opening_with errors setup) [] order orders (fronts_opening setup) (follows_opening errors setup)
+    → (shadow : Shadow) × Follows (board_after errors setup before) shadow order × AllByRecursion (λ entry. shadow.fate entry.number ≡ true → entry.spoiled ≡ true) order
+followed errors setup before order orders =
+    let (shadow, follows, is) =
+    follows_all orders.fate before (opening_with errors setup) [] order orders.from (fronts_opening setup) (follows_opening orders.fate errors setup orders.any) in
+    (shadow, follows, subst (λ (f : ℕ → Bool). AllByRecursion (λ entry. f entry.number ≡ true → entry.spoiled ≡ true) order) (sym is) orders.ends)
 
 pub blames_by_rule : BlamesByRule
 blames_by_rule errors setup before order client beat wrong orders blamed =
     let same = all_setup before (opening_with errors setup) in
-    let (shadow, follows) = followed errors setup before order orders in
-    blamed_as setup (board_after errors setup before) shadow order client beat follows same.faults same.regions wrong blamed
+    let (shadow, follows, ends) = followed errors setup before order orders in
+    blamed_as setup (board_after errors setup before) shadow order client beat follows ends same.faults same.regions wrong blamed
 
 -- what is wrong by a rule is wrong
 pub wrong_as_in : (setup : SetupLists) (order : Order) (asked : Asked) (wrong : Wrong) → IsWrongAs setup order asked wrong → IsWrongIn setup order asked
@@ -545,11 +633,11 @@ pub knows_bytes : KnowsBytes
 knows_bytes errors setup before order x orders certain awaited =
     let board = board_after errors setup before in
     let same = all_setup before (opening_with errors setup) in
-    let (shadow, follows) = followed errors setup before order orders in
+    let (shadow, follows, ends) = followed errors setup before order orders in
     let both = follows.ahead.known x certain (λ client some.
     let become = follows.ahead.begun client some in
     none_given board.memory.faults board.memory.regions (coming_at board.clients client) (shadow.finals client) become.other x become.becomes
-    (not_awaited x board.clients awaited client)) in
+    (not_awaited x board.clients awaited client)) (none_fated board shadow order follows ends x) in
     ap (λ (f : Bytes). f x) (run_all setup order zeros)
     ∙ sym (ap₂ (λ (f : Faults) (r : List Region). run f r zeros order x) same.faults same.regions)
     ∙ sym (ap (λ (f : Bytes). f x) (run_settled board.memory.faults board.memory.regions zeros order))

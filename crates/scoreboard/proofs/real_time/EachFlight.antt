@@ -13,15 +13,20 @@ use Rattle.tl_checker.specs.Ports.{joined}
 use Rattle.tl_checker.specs.declared.Progress.{Progress}
 use Rattle.tl_checker.specs.declared.Progress.TheVariants.{More, Whole}
 use Rattle.tl_checker.specs.declared.TlRule.{TlRule}
-use Rattle.scoreboard.specs.Boards.{Board, ClientBoard, after_a, after_d, after_seen, answer_to, answered_on, client_beside, coming_on, early_after, early_due, flight_for, has_replied, is_spoiled, joining_on, more_on, told_to, whole_on, with_accepted, with_client, with_whole}
+use Rattle.axi_checker.specs.declared.AxiBeat.{AxiBeat}
+use Rattle.scoreboard.specs.AxiPorts.{port_after}
+use Rattle.scoreboard.specs.Boards.{Board, ClientBoard, after_a, after_d, after_seen, answer_to, answered_on, client_beside, coming_on, early_after, early_due, flight_for, has_replied, hit_client, hit_on, is_spoiled, joining_on, more_on, told_to, whole_on, with_accepted, with_client, with_whole}
+use Rattle.scoreboard.specs.FailedBursts.{Span, failed_span, hit_flight}
 use Rattle.scoreboard.specs.Flights.{Footprint, InFlight, begun_after, flights_after, is_of_source, with_left}
 use Rattle.scoreboard.specs.Races.{flight_beside, unless_failed}
+use Rattle.scoreboard.specs.declared.Errors.{Errors}
+use Rattle.scoreboard.specs.declared.Errors.TheVariants.{Any, Strict}
 use Rattle.scoreboard.specs.declared.ObservedBeat.{ObservedBeat}
 use Rattle.scoreboard.specs.declared.ObservedBeat.TheVariants.{A, D, Axi as OnAxi, Drained}
 use Rattle.scoreboard.specs.declared.Policy.TheVariants.{RealTime}
 use Rattle.scoreboard.proofs.real_time.Explained.{each_client}
 use Rattle.scoreboard.proofs.real_time.FlightLists.{client_was}
-use Rattle.scoreboard.proofs.real_time.Fronts.{beside_at}
+use Rattle.scoreboard.proofs.real_time.Fronts.{beside_at, changed_from}
 
 -- of a client
 abbrev pub IsOfEach : (InFlight → Type 0) → ClientBoard → Type 0
@@ -85,7 +90,9 @@ module _ (P : InFlight → Type 0) (beside_kept : (footprint : Footprint) (fligh
 
   module _ (board : Board) (are : AreOfEach P board.clients)
       (joins : (q : WholeRequest) → P (flight_for board.memory (joining_on board q) q))
-      (comes : (coming : Footprint) (q : WholeRequest) → P (flight_for board.memory (coming_on board q coming) q)) where
+      (comes : (number : ℕ) (client : ClientBoard) → slice_get board.clients number ≡ Some client
+      → (q : WholeRequest) → P (flight_for board.memory (coming_on board q client.coming) q))
+      (hit_kept : board.errors ≡ Any → (span : Span) (flight : InFlight) → P flight → P (hit_flight span flight)) where
     more_each : (number : ℕ) (client : ClientBoard) (q : WholeRequest) (begun : Bool) (old : Board) → slice_get old.clients number ≡ Some client
         → AreOfEach P old.clients → AreOfEach P (more_on old number client q begun).clients
     more_each number client q true old there all =
@@ -103,7 +110,7 @@ module _ (P : InFlight → Type 0) (beside_kept : (footprint : Footprint) (fligh
         let flight = flight_for board.memory (coming_on board q client.coming) q in
         let all = are number client there in
         each_client (IsOfEach P) board.clients number client (with_whole (has_replied board.errors client) flight client) there are
-        (by_replied (has_replied board.errors client) flight (comes client.coming q) all)
+        (by_replied (has_replied board.errors client) flight (comes number client there q) all)
       where
         by_replied : (replied : Bool) (flight : InFlight) → P flight → IsOfEach P client → IsOfEach P (with_whole replied flight client)
         by_replied true flight own all = all
@@ -145,9 +152,39 @@ module _ (P : InFlight → Type 0) (beside_kept : (footprint : Footprint) (fligh
             each_client (IsOfEach P) board.clients number client (record client { flights = flights_after client.flights beat.source; early = early_after client beat.source; told = told }) there are
             (each_replied client beat.source told (are number client there))
 
+    -- with a beat on the AXI4 port, which may be an error response where errors are told in any way
+    axi_each : (beat : AxiBeat) → AreOfEach P (after_seen RealTime board (OnAxi beat)).clients
+    axi_each beat = by_errors board.errors refl
+      where
+        after : Board
+        after = record board { axi = port_after RealTime board.axi beat }
+
+        hit_each : board.errors ≡ Any → (span : Span) → AreOfEach P (hit_on (Some span) after).clients
+        hit_each any span number client is =
+            let was = changed_from (hit_client span) board.clients number client is in
+            let all = are number was.0 was.1 in
+            subst (IsOfEach P) was.2 (due_hit was.0.flights.due all.0, begun_hit was.0.flights.begun all.1)
+          where
+            due_hit : (due : List InFlight) → AllByRecursion P due → AllByRecursion P (map (hit_flight span) due)
+            due_hit [] all = tt
+            due_hit (flight ∷ due) all = (hit_kept any span flight all.0, due_hit due all.1)
+
+            begun_hit : (begun : Option InFlight) → AllByRecursion P (option_to_list begun)
+                → AllByRecursion P (option_to_list (option_map (hit_flight span) begun))
+            begun_hit None all = tt
+            begun_hit (Some flight) all = (hit_kept any span flight all.0, tt)
+
+        by_span : board.errors ≡ Any → (span : Option Span) → AreOfEach P (hit_on span after).clients
+        by_span any None = are
+        by_span any (Some span) = hit_each any span
+
+        by_errors : (errors : Errors) → board.errors ≡ errors → AreOfEach P (hit_on (failed_span errors board.axi beat) after).clients
+        by_errors Strict is = are
+        by_errors Any is = by_span is (failed_span Any board.axi beat)
+
     -- with any beat
     pub seen_each : (seen : ObservedBeat) → AreOfEach P (after_seen RealTime board seen).clients
     seen_each (A number beat) = request_each number beat
     seen_each (D number beat) = reply_each number beat
-    seen_each (OnAxi beat) = are
+    seen_each (OnAxi beat) = axi_each beat
     seen_each Drained = are

@@ -21,7 +21,7 @@ use Rattle.scoreboard.specs.Boards.{acting, fails, is_spoiled, tells_error}
 use Rattle.scoreboard.specs.Flights.{Footprint}
 use Rattle.scoreboard.specs.Orders.{Entry}
 use Rattle.scoreboard.specs.Races.{alone, unless_failed}
-use Rattle.scoreboard.specs.RealTime.{MayBecome, entry_of}
+use Rattle.scoreboard.specs.RealTime.{MayBecome}
 use Rattle.scoreboard.specs.SerialMemory.{Memory, on_good_page}
 use Rattle.scoreboard.specs.declared.Errors.{Errors}
 use Rattle.scoreboard.specs.declared.Errors.TheVariants.{Any, Strict}
@@ -29,15 +29,20 @@ use Rattle.scoreboard.proofs.MappedLists.{any_map}
 use Rattle.scoreboard.proofs.acceptance_order.Meanings.{meaning_none, meaning_some}
 use Rattle.scoreboard.proofs.real_time.AlikeBeats.{lacks_same, reply_of}
 use Rattle.scoreboard.proofs.real_time.ReplyBytes.{Fixed, Kind, Told, Tells, kind}
+use Rattle.scoreboard.proofs.real_time.StepOrders.{first_of}
 use Rattle.scoreboard.proofs.real_time.RequestActs.{IsWell, gives, own}
 
 -- ---- what a whole request may become
 
+-- one of a client, by its number, as one that may have been spoiled, be it later
+abbrev pub FatedOf : Errors → ℕ → WholeRequest → ℕ → Bool → Entry
+FatedOf errors client q number fated = record (first_of errors client q true number) { spoiled = is_spoiled errors q || fated }
+
 -- it is well
-pub well_as : (errors : Errors) (client : ℕ) (q r : WholeRequest) → MayBecome (entry_of errors client q true) r → IsWell q → IsWell r
-well_as errors client q r may well = by_spoiled (is_spoiled errors q) refl
+pub well_as : (errors : Errors) (client : ℕ) (q r : WholeRequest) (number : ℕ) (fated : Bool) → MayBecome (FatedOf errors client q number fated) r → IsWell q → IsWell r
+well_as errors client q r number fated may well = by_spoiled (is_spoiled errors q || fated) refl
   where
-    by_spoiled : (b : Bool) → is_spoiled errors q ≡ b → IsWell r
+    by_spoiled : (b : Bool) → (is_spoiled errors q || fated) ≡ b → IsWell r
     by_spoiled false sound = subst IsWell (sym (may.same refl sound)) well
     by_spoiled true spoiled =
         let left = may.left refl spoiled in
@@ -50,15 +55,33 @@ well_as errors client q r may well = by_spoiled (is_spoiled errors q) refl
         }
 
 -- it gives no byte that the request doesn't
-pub gives_less : (errors : Errors) (client : ℕ) (q r : WholeRequest) → MayBecome (entry_of errors client q true) r → (a x : ℕ)
+pub gives_less : (errors : Errors) (client : ℕ) (q r : WholeRequest) (number : ℕ) (fated : Bool) → MayBecome (FatedOf errors client q number fated) r → (a x : ℕ)
     → is_some (given_at r.bytes a x) ≡ true → is_some (given_at q.bytes a x) ≡ true
-gives_less errors client q r may a x some = by_spoiled (is_spoiled errors q) refl
+gives_less errors client q r number fated may a x some = by_spoiled (is_spoiled errors q || fated) refl
   where
-    by_spoiled : (b : Bool) → is_spoiled errors q ≡ b → is_some (given_at q.bytes a x) ≡ true
+    by_spoiled : (b : Bool) → (is_spoiled errors q || fated) ≡ b → is_some (given_at q.bytes a x) ≡ true
     by_spoiled false sound = sym (ap (λ (y : WholeRequest). is_some (given_at y.bytes a x)) (may.same refl sound)) ∙ some
     by_spoiled true spoiled =
         let within = (may.left refl spoiled).within (x - a) in
         grind (arith, nat_tests, some, within)
+
+-- it is what it is, where it isn't fated and wasn't spoiled
+pub same_as : (errors : Errors) (client : ℕ) (q r : WholeRequest) (number : ℕ) (fated : Bool) → MayBecome (FatedOf errors client q number fated) r → fated ≡ false
+    → is_spoiled errors q ≡ false → r ≡ q
+same_as errors client q r number fated may none sound = may.same refl (rw (none, sound) refl)
+
+-- and corrupt where it was, unless that may be told in any way
+pub corrupt_as : (errors : Errors) (q r : WholeRequest) (fated : Bool) → (fated ≡ true → errors ≡ Any)
+    → ((is_spoiled errors q || fated) ≡ false → q.corrupt ≡ true → r.corrupt ≡ true) → is_spoiled errors q ≡ false → q.corrupt ≡ true → r.corrupt ≡ true
+corrupt_as errors q r fated any corrupt sound is = by_errors errors refl
+  where
+    by_errors : (e : Errors) → errors ≡ e → r.corrupt ≡ true
+    by_errors Any same = absurd (cc (sym sound ∙ ap (λ (x : Errors). is_spoiled x q) same ∙ is))
+    by_errors Strict same = by_fated (cases_Bool fated)
+      where
+        by_fated : (fated ≡ true) ⊎ (fated ≡ false) → r.corrupt ≡ true
+        by_fated (inl fails) = let both = sym same ∙ any fails in absurd (cc (both))
+        by_fated (inr none) = corrupt (rw (sound, none) refl) is
 
 -- ---- where it acts
 
@@ -207,11 +230,47 @@ abbrev pub failed_at : Errors → Faults → List Region → Entry → Bool
 failed_at Strict faults regions entry = false
 failed_at Any faults regions entry = entry.spoiled || fails_at faults regions entry.request
 
+-- whatever it gives
+effect_bytes : (faults : Faults) (q : WholeRequest) (bytes : List (Option ℕ)) (m : Bytes) (a : ℕ) (op : Operation) (standing : Standing) (bad : Bool)
+    → (effect faults q m a op standing bad).reply ≡ (effect faults (record q { bytes = bytes }) m a op standing bad).reply
+effect_bytes faults q bytes m a PutFull IsGood bad = refl
+effect_bytes faults q bytes m a PutFull IsSlaveError bad = refl
+effect_bytes faults q bytes m a PutFull IsAbsent bad = refl
+effect_bytes faults q bytes m a PutPartial IsGood bad = refl
+effect_bytes faults q bytes m a PutPartial IsSlaveError bad = refl
+effect_bytes faults q bytes m a PutPartial IsAbsent bad = refl
+effect_bytes faults q bytes m a (Intent write) standing bad = refl
+effect_bytes faults q bytes m a (Atomic op) IsGood true = refl
+effect_bytes faults q bytes m a (Atomic op) IsGood false = refl
+effect_bytes faults q bytes m a (Atomic op) IsSlaveError bad = refl
+effect_bytes faults q bytes m a (Atomic op) IsAbsent bad = refl
+effect_bytes faults q bytes m a Get IsGood bad = refl
+effect_bytes faults q bytes m a Get IsSlaveError bad = refl
+effect_bytes faults q bytes m a Get IsAbsent bad = refl
+
+-- as another with these fields does
+fails_fields : (faults : Faults) (regions : List Region) (q r : WholeRequest) → r ≡ record q { bytes = r.bytes; corrupt = r.corrupt }
+    → fails_at faults regions q ≡ fails_at faults regions r
+fails_fields faults regions q r fields = by_address (address_of regions sound) refl ∙ sym (ap (fails_at faults regions) fields)
+  where
+    sound : WholeRequest
+    sound = record q { corrupt = false }
+
+    by_address : (o : Option ℕ) → address_of regions sound ≡ o → fails_at faults regions q ≡ fails_at faults regions (record q { bytes = r.bytes; corrupt = r.corrupt })
+    by_address None is =
+        ap (λ (e : Effect). tells_error (shown sound e.reply)) (meaning_none faults regions sound zeros is
+        ∙ sym (meaning_none faults regions (record sound { bytes = r.bytes }) zeros is))
+    by_address (Some a) is =
+        ap (λ (reply : Reply). tells_error (shown sound reply))
+        (ap (λ (e : Effect). e.reply) (meaning_some faults regions sound zeros a is)
+        ∙ effect_bytes faults sound r.bytes zeros a q.operation (standing_at faults a) (is_bad faults a)
+        ∙ sym (ap (λ (e : Effect). e.reply) (meaning_some faults regions (record sound { bytes = r.bytes }) zeros a is)))
+
 -- a request fails as what it becomes
-pub fails_as : (errors : Errors) (client : ℕ) (memory : Memory) (q r : WholeRequest) → MayBecome (entry_of errors client q true) r
-    → fails errors memory q ≡ failed_at errors memory.faults memory.regions (record (entry_of errors client q true) { request = r })
-fails_as Strict client memory q r may = refl
-fails_as Any client memory q r may = by_corrupt (cases_Bool q.corrupt)
+pub fails_as : (errors : Errors) (client : ℕ) (memory : Memory) (q r : WholeRequest) (whole : Bool) (number : ℕ) → r ≡ record q { bytes = r.bytes; corrupt = r.corrupt }
+    → fails errors memory q ≡ failed_at errors memory.faults memory.regions (record (first_of errors client q whole number) { request = r })
+fails_as Strict client memory q r whole number fields = refl
+fails_as Any client memory q r whole number fields = by_corrupt (cases_Bool q.corrupt)
   where
     by_corrupt : (q.corrupt ≡ true) ⊎ (q.corrupt ≡ false)
         → tells_error (shown q (meaning memory.faults memory.regions q memory.bytes).reply) ≡ (q.corrupt || fails_at memory.faults memory.regions r)
@@ -220,11 +279,10 @@ fails_as Any client memory q r may = by_corrupt (cases_Bool q.corrupt)
         ap (λ (e : Effect). tells_error (shown q e.reply)) (meaning_none memory.faults memory.regions q memory.bytes none) ∙ tells_denied q
         ∙ sym (ap (λ (c : Bool). c || fails_at memory.faults memory.regions r) is)
     by_corrupt (inr is) =
-        let same : r ≡ q = may.same refl is in
-        let whole : record q { corrupt = false } ≡ q = ap (λ (c : Bool). record q { corrupt = c }) (sym is) in
+        let sound : record q { corrupt = false } ≡ q = ap (λ (c : Bool). record q { corrupt = c }) (sym is) in
         tells_same memory.faults memory.regions q memory.bytes zeros
-        ∙ sym (ap (λ (x : WholeRequest). tells_error (shown x (meaning memory.faults memory.regions x zeros).reply)) whole)
-        ∙ sym (ap (fails_at memory.faults memory.regions) same)
+        ∙ sym (ap (λ (x : WholeRequest). tells_error (shown x (meaning memory.faults memory.regions x zeros).reply)) sound)
+        ∙ fails_fields memory.faults memory.regions q r fields
         ∙ sym (ap (λ (c : Bool). c || fails_at memory.faults memory.regions r) is)
 
 -- ---- the shape of a beat: what a failed request can't tell otherwise
@@ -310,29 +368,6 @@ silent_reply faults regions q r m n silent fields corrupt = by_address (address_
         ∙ effect_reply faults q r m n a q.operation (standing_at faults a) (is_bad faults a) silent
         ∙ ap (λ (op : Operation). (effect faults r n a op (standing_at faults a) (is_bad faults a)).reply) (sym operation)
         ∙ sym (ap (λ (e : Effect). e.reply) (meaning_some faults regions r n a (sym same_address ∙ is)))
-
--- one that has begun fails as what it becomes
-pub fails_begun : (errors : Errors) (client : ℕ) (memory : Memory) (q r : WholeRequest) → MayBecome (entry_of errors client q false) r → reply_has_data q.operation ≡ false
-    → fails errors memory q ≡ failed_at errors memory.faults memory.regions (record (entry_of errors client q false) { request = r })
-fails_begun Strict client memory q r may silent = refl
-fails_begun Any client memory q r may silent = by_corrupt (cases_Bool q.corrupt)
-  where
-    its_silent : reply_has_data r.operation ≡ false
-    its_silent = ap (λ (x : WholeRequest). reply_has_data x.operation) may.fields ∙ silent
-
-    by_corrupt : (q.corrupt ≡ true) ⊎ (q.corrupt ≡ false)
-        → tells_error (shown q (meaning memory.faults memory.regions q memory.bytes).reply) ≡ (q.corrupt || fails_at memory.faults memory.regions r)
-    by_corrupt (inl is) =
-        let none : address_of memory.regions q ≡ None = rw is refl in
-        ap (λ (e : Effect). tells_error (shown q e.reply)) (meaning_none memory.faults memory.regions q memory.bytes none) ∙ tells_denied q
-        ∙ sym (ap (λ (c : Bool). c || fails_at memory.faults memory.regions r) is)
-    by_corrupt (inr is) =
-        silent_tells q (meaning memory.faults memory.regions q memory.bytes).reply silent
-        ∙ ap (λ (reply : Reply). reply.denied)
-        (silent_reply memory.faults memory.regions q (record r { corrupt = false }) memory.bytes zeros silent
-        (ap (λ (x : WholeRequest). record x { corrupt = false }) may.fields) is)
-        ∙ sym (silent_tells (record r { corrupt = false }) (meaning memory.faults memory.regions (record r { corrupt = false }) zeros).reply its_silent)
-        ∙ sym (ap (λ (c : Bool). c || fails_at memory.faults memory.regions r) is)
 
 -- where the access of such a request doesn't fail its reply is an acknowledgement, on any bytes
 pub silent_known : (faults : Faults) (regions : List Region) (r : WholeRequest) (m : Bytes) → reply_has_data r.operation ≡ false → fails_at faults regions r ≡ false

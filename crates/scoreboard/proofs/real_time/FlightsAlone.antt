@@ -9,7 +9,8 @@ use Rattle.std.proofs.lemmas.Simd.{map-map}
 use Rattle.bus_words.proofs.MappedPlaces.{map_same}
 use Rattle.tl_messages.specs.Requests.{WholeRequest}
 use Rattle.setups.specs.Setups.{SetupLists}
-use Rattle.scoreboard.specs.Boards.{Board, ClientBoard, begun_on, client_beside, early_after, early_left, flight_for, given_on, has_replied, joined_on, opening_board, opening_client, told_to, with_accepted, with_client, with_taken, with_whole}
+use Rattle.scoreboard.specs.Boards.{Board, ClientBoard, begun_on, client_beside, early_after, early_left, flight_for, given_on, has_replied, hit_client, hit_on, joined_on, opening_board, opening_client, told_to, with_accepted, with_client, with_taken, with_whole}
+use Rattle.scoreboard.specs.FailedBursts.{Span, hit_flight}
 use Rattle.scoreboard.specs.Flights.{Flights, Footprint, InFlight, each_flight, flights_after, is_busy, is_of_source, next_reply, no_footprint}
 use Rattle.scoreboard.specs.Races.{flight_beside}
 use Rattle.scoreboard.specs.Wider.{board_alone, client_alone, flight_alone}
@@ -103,6 +104,22 @@ pub further_alone : (board : Board) (number : ℕ) (client : ClientBoard) (comin
 further_alone board number client coming =
     ap (with_clients board)
     (ap (map client_alone) (set-set board.clients number client (record client { coming = coming })) ∙ map-set client_alone board.clients number (record client { coming = coming }))
+
+-- with an error response
+hit_client_alone : (span : Span) (client : ClientBoard) → client_alone (hit_client span client) ≡ client_alone client
+hit_client_alone span client =
+    ap₂ {C = ClientBoard} (λ (due : List InFlight) (begun : Option InFlight). record client { flights = record { due = due; begun = begun }; coming = no_footprint; early = None })
+    (map-map flight_alone (hit_flight span) client.flights.due) (by_begun client.flights.begun)
+  where
+    by_begun : (begun : Option InFlight) → option_map flight_alone (option_map (hit_flight span) begun) ≡ option_map flight_alone begun
+    by_begun None = refl
+    by_begun (Some flight) = refl
+
+pub hit_alone : (span : Option Span) (board : Board) → board_alone (hit_on span board) ≡ board_alone board
+hit_alone None board = refl
+hit_alone (Some span) board =
+    ap (with_clients board)
+    (map-map client_alone (hit_client span) board.clients ∙ map_same (λ client. client_alone (hit_client span client)) client_alone board.clients (hit_client_alone span))
 
 -- where nothing may come early nothing may then
 pub none_left : (b : Bool) (source : ℕ) → (if b then None else early_left None source) ≡ None

@@ -25,7 +25,7 @@ use Rattle.scoreboard.proofs.real_time.Entries.{place_of}
 use Rattle.scoreboard.proofs.real_time.Explained.{Explains, sources_with}
 use Rattle.scoreboard.proofs.real_time.Failures.{failed_any}
 use Rattle.scoreboard.proofs.real_time.FlightPlaces.{coming_other, coming_same}
-use Rattle.scoreboard.proofs.real_time.Follows.{Follows, IsFailing, IsMarked, IsOpen, ahead_as, all_mapped, follows_as, replied_by, settle, settled}
+use Rattle.scoreboard.proofs.real_time.Follows.{ActsAs, Follows, IsFailing, IsFated, IsMarked, IsOpen, ahead_as, all_mapped, follows_as, replied_by, settle, settled}
 use Rattle.scoreboard.proofs.real_time.Places.{HaveSources, Place, coming_at, coming_in, due_at, flight_at, flight_in, flights_kept}
 use Rattle.scoreboard.proofs.real_time.StepOrders.{is_coming}
 
@@ -151,13 +151,16 @@ module _ (board : Board) (shadow : Shadow) (order : Order) (follows : Follows bo
           others = λ place its is_there none.
               let old = follows.ahead.others place its is_there (sym (flights place) ∙ none) in record { begun = comes_now place.client ∙ old.begun; there = old.there };
           waits = λ c some. flights (due_at c (shadow.finals c).source) ∙ follows.ahead.waits c (sym (comes_now c) ∙ some);
-          known = λ x certain none.
-              let old = follows.ahead.known x certain (λ c some. none c (comes_now c ∙ some)) in record { byte = old.byte; certain = old.certain };
+          known = λ x certain none unfated.
+              let old = follows.ahead.known x certain (λ c some. none c (comes_now c ∙ some)) (λ place flight its. unfated place flight (flights place ∙ its)) in
+              record { byte = old.byte; certain = old.certain };
           given = λ c x some determined gives_it.
               let old = less c x determined in follows.ahead.given c x (sym (comes_now c) ∙ some) old gives_it;
         };
         marked = all_mapped (IsMarked board.clients) (IsMarked (set board.clients number changed)) (heard board.errors number q) order marked follows.marked;
         failing = all_mapped (IsFailing board) (IsFailing now) (heard board.errors number q) order failing follows.failing;
+        fated = all_mapped (IsFated shadow) (IsFated shadow) (heard board.errors number q) order fated follows.fated;
+        any_fated = follows.any_fated;
         open_ones =
             all_mapped (λ entry. entry.whole ≡ false → IsOpen board shadow entry) (λ entry. entry.whole ≡ false → IsOpen now shadow entry) (heard board.errors number q) order
             opened follows.open_ones;
@@ -215,6 +218,7 @@ module _ (board : Board) (shadow : Shadow) (order : Order) (follows : Follows bo
                   acts = old.acts;
                   less = λ x writes determined. absurd (cc (determined));
                   beats = old.beats;
+                  broken = λ x failed. refl;
                 })
           ]
 
@@ -247,6 +251,21 @@ module _ (board : Board) (shadow : Shadow) (order : Order) (follows : Follows bo
               subst (IsFailing now) (sym (heard_not board.errors number q entry own))
               (λ whole alive flight there_now. was whole alive flight (sym (flights (place_of entry)) ∙ there_now))
 
+      fated : (entry : Entry) → IsFated shadow entry → IsFated shadow (heard board.errors number q entry)
+      fated entry was = by_coming (is_coming number entry) refl
+        where
+          by_coming : (b : Bool) → is_coming number entry ≡ b → IsFated shadow (heard board.errors number q entry)
+          by_coming true own = subst (IsFated shadow) (sym (heard_is board.errors number q entry own)) was
+          by_coming false own = subst (IsFated shadow) (sym (heard_not board.errors number q entry own)) was
+
+      -- it acts where it did
+      acting : (c : ℕ) (q : WholeRequest) → ActsAs board q (coming_at board.clients c) → ActsAs board q (coming_at (set board.clients number changed) c)
+      acting c q was =
+          elim (coming_now c) [
+            | inl same ↦ subst (ActsAs board q) (sym same) was
+            | inr fails_now ↦ subst (ActsAs board q) (sym fails_now) (λ any. ap (λ (r : Footprint). record r { failed = true; determined = λ x. false }) (was any))
+          ]
+
       opened : (entry : Entry) → (entry.whole ≡ false → IsOpen board shadow entry) → (heard board.errors number q entry).whole ≡ false
           → IsOpen now shadow (heard board.errors number q entry)
       opened entry was unwhole = by_coming (is_coming number entry) refl
@@ -263,6 +282,7 @@ module _ (board : Board) (shadow : Shadow) (order : Order) (follows : Follows bo
                 any = it.any;
                 early = early_now entry.client ∙ it.early;
                 replied = it.replied ∙ ap (replied_by board.errors) (sym (early_now entry.client));
+                acts = acting entry.client entry.request it.acts;
                 failed = ap (λ c. (coming_at (set board.clients number changed) c).failed) parts.0 ∙ ap (λ (r : Footprint). r.failed) own_coming
                     ∙ sym (failed_any board.errors board.memory.faults board.memory.regions (record entry { spoiled = entry.spoiled || is_spoiled board.errors q }) any
                     (or_right entry.spoiled (is_spoiled board.errors q) is));
@@ -280,5 +300,6 @@ module _ (board : Board) (shadow : Shadow) (order : Order) (follows : Follows bo
                 any = it.any;
                 early = early_now entry.client ∙ it.early;
                 replied = it.replied ∙ ap (replied_by board.errors) (sym (early_now entry.client));
+                acts = acting entry.client entry.request it.acts;
                 failed = ap (λ (r : Footprint). r.failed) (coming_other board.clients number entry.client changed differ) ∙ it.failed;
               })

@@ -1,5 +1,5 @@
 -- A request whose reply came before it was whole has ended with its last beat: the board, its shadow and the order go on together.
-use Rattle.std.proofs.Common.{◌≡◌, ℕ, ◌<◌, Bool, false, map, Option, Some, sym, ◌∙◌, ap, subst, arith}
+use Rattle.std.proofs.Common.{◌≡◌, ℕ, ◌<◌, Bool, true, false, map, Option, Some, refl, sym, ◌∙◌, ap, subst, arith}
 use Rattle.std.specs.Prelude.{is_some, slice_get}
 use Rattle.std.specs.List.{list_any}
 use Rattle.std.proofs.Math.Path.{fun_ext}
@@ -16,7 +16,7 @@ use Rattle.scoreboard.proofs.real_time.Ahead.{Shadow, comes, shadow_of}
 use Rattle.scoreboard.proofs.real_time.Comings.{early_at}
 use Rattle.scoreboard.proofs.real_time.Entries.{place_of}
 use Rattle.scoreboard.proofs.real_time.Explained.{Explains}
-use Rattle.scoreboard.proofs.real_time.Follows.{Follows, IsFailing, IsFollowed, IsMarked, IsOpen, all_mapped, replied_by, settle, settled}
+use Rattle.scoreboard.proofs.real_time.Follows.{ActsAs, Follows, IsFailing, IsFated, IsFollowed, IsMarked, IsOpen, all_mapped, replied_by, settle, settled}
 use Rattle.scoreboard.proofs.real_time.Places.{Place, coming_at, due_at, flight_at}
 use Rattle.scoreboard.proofs.real_time.Removed.{Ends, Over, Still, away_from, coming_less, comes_less, early_less, ended, ended_ahead, ends, explains_ended, kept_at, without}
 use Rattle.scoreboard.proofs.real_time.StepOrders.{is_coming}
@@ -91,18 +91,29 @@ module _ (board : Board) (shadow : Shadow) (order : Order) (follows : Follows bo
             early = early_now entry.client ∙ it.early;
             replied = it.replied ∙ ap (replied_by board.errors) (sym (early_now entry.client));
             failed = ap (λ (r : Footprint). r.failed) (coming_now entry.client) ∙ it.failed;
+            acts = subst (ActsAs board entry.request) (sym (coming_now entry.client)) it.acts;
           })
 
-  pub removed_follows : IsFollowed (with_client number (without source client) board) (map (ended number source) order)
-  removed_follows = (
+  fated : (entry : Entry) → IsFated shadow entry → IsFated now_shadow (ended number source entry)
+  fated entry was whole live =
+      let still = away_from number source entry live (ends number source entry) in
+      subst (λ (e : Entry). IsFated now_shadow e) (sym still.0) was whole live
+
+  -- where the one that ends has failed, if it is fated
+  pub removed_follows : ((flight : InFlight) → flight_at board.clients (due_at number source) ≡ Some flight → shadow.fates (due_at number source) ≡ true
+      → flight.footprint.failed ≡ true)
+      → IsFollowed shadow.fate (with_client number (without source client) board) (map (ended number source) order)
+  removed_follows spent = (
     now_shadow,
     record {
       explains =
           subst (Explains (shadow_of now now_shadow)) (sym settle_ended)
           (explains_ended (shadow_of board shadow) (settle order) follows.explains number source other there_too.1);
-      ahead = ended_ahead board shadow follows.ahead number source client other there there_too.1 (follows.explains.sources number other there_too.1) none;
+      ahead = ended_ahead board shadow follows.ahead number source client other there there_too.1 (follows.explains.sources number other there_too.1) none spent;
       marked = all_mapped (IsMarked board.clients) (IsMarked now.clients) (ended number source) order marked follows.marked;
       failing = all_mapped (IsFailing board) (IsFailing now) (ended number source) order failing follows.failing;
+      fated = all_mapped (IsFated shadow) (IsFated now_shadow) (ended number source) order fated follows.fated;
+      any_fated = follows.any_fated;
       open_ones =
           all_mapped (λ entry. entry.whole ≡ false → IsOpen board shadow entry) (λ entry. entry.whole ≡ false → IsOpen now now_shadow entry) (ended number source) order
           opened follows.open_ones;
@@ -112,6 +123,7 @@ module _ (board : Board) (shadow : Shadow) (order : Order) (follows : Follows bo
           ∙ follows.known c (sym (comes_now c) ∙ some);
       early = λ c due is. comes_now c ∙ follows.early c due (sym (early_now c) ∙ is);
     },
+    refl,
   )
     where
       coming_kept : (c : ℕ) (entry : Entry) → is_coming c (ended number source entry) ≡ is_coming c entry

@@ -18,10 +18,10 @@ use Rattle.scoreboard.specs.Boards.{Board, ClientBoard, after_d, early_after, ea
 use Rattle.scoreboard.specs.Flights.{Flights, Footprint, InFlight, begun_after, flights_after, is_of_source, next_reply, with_left}
 use Rattle.scoreboard.specs.Orders.{Entry, Order, after_beat, begun_to, counted, has_ended, is_due, with_beat}
 use Rattle.scoreboard.proofs.MappedLists.{any_map}
-use Rattle.scoreboard.proofs.real_time.Ahead.{IsAhead, Shadow, comes, shadow_of}
+use Rattle.scoreboard.proofs.real_time.Ahead.{IsAhead, IsFinal, Shadow, comes, fates_other, fates_own, fates_with, shadow_of}
 use Rattle.scoreboard.proofs.real_time.Entries.{Each, Stands, carry, place_of}
 use Rattle.scoreboard.proofs.real_time.Explained.{Explains}
-use Rattle.scoreboard.proofs.real_time.Follows.{Follows, IsFailing, IsFollowed, IsMarked, IsOpen, all_both, begun_here, begun_settled, begun_there, replied_by, settle, settled}
+use Rattle.scoreboard.proofs.real_time.Follows.{ActsAs, Follows, Knows, IsFailing, IsFated, IsFollowed, IsMarked, IsOpen, all_both, begun_here, begun_settled, begun_there, replied_by, settle, settled, some_passes}
 use Rattle.scoreboard.proofs.real_time.FollowsChanges.{client_ahead, client_follows, coming_changed, comes_changed, early_changed, there_too}
 use Rattle.scoreboard.proofs.real_time.Comings.{early_at, early_in, early_other, early_same}
 use Rattle.scoreboard.proofs.real_time.Places.{Place, begun_at, cases_place, coming_at, due_at, flight_at, flight_in, flights_kept}
@@ -29,9 +29,9 @@ use Rattle.scoreboard.proofs.real_time.RepliedAhead as replies
 use Rattle.scoreboard.proofs.real_time.ReplyBeats.{explains_own}
 use Rattle.scoreboard.proofs.real_time.ReplySeen.{are_moved, next_is}
 use Rattle.scoreboard.proofs.real_time.ReplyMoves.{AreMoved, goes_on, place_next}
-use Rattle.scoreboard.proofs.real_time.Failures.{failed_at, failed_by}
-use Rattle.scoreboard.proofs.real_time.ReplySteps.{due_place, next_at, none_due as none_at, place_due}
-use Rattle.scoreboard.proofs.real_time.StepOrders.{is_coming}
+use Rattle.scoreboard.proofs.real_time.Failures.{failed_any, failed_at, failed_by}
+use Rattle.scoreboard.proofs.real_time.ReplySteps.{IsAt, due_known, due_place, next_at, none_due as none_at, place_due}
+use Rattle.scoreboard.proofs.real_time.StepOrders.{HasFate, is_coming}
 
 -- ---- where a beat counts for none
 
@@ -49,6 +49,12 @@ flights_none source flights nothing = by_begun flights.begun refl
         let none : find (is_of_source source) flights.due ≡ None = grind (arith, is, nothing) in
         let due = without_none source flights.due none in
         grind (arith, is, none, due)
+
+-- an entry of the same request, that has failed as well
+abbrev IsKept : Board → Entry → Entry → Type 0
+IsKept board entry other =
+    (failed_at board.errors board.memory.faults board.memory.regions entry ≡ failed_at board.errors board.memory.faults board.memory.regions other)
+    × (other.request ≡ entry.request)
 
 -- an order of which none has the beat stays as it is
 none_counted : (begun : Bool) (number source : ℕ) (order : Order) → AllByRecursion (λ entry. is_due begun number source entry ≡ false) order
@@ -196,7 +202,8 @@ module _ (board : Board) (shadow : Shadow) (order : Order) (follows : Follows bo
 
   -- ---- the client is there
 
-  module _ (client : ClientBoard) (there : slice_get board.clients number ≡ Some client) where
+  module _ (client : ClientBoard) (there : slice_get board.clients number ≡ Some client)
+      (ends : AllByRecursion (HasFate shadow.fate) (after_beat order number source)) where
     abbrev changed : ClientBoard
     changed = record client { flights = flights_after client.flights source }
 
@@ -207,14 +214,15 @@ module _ (board : Board) (shadow : Shadow) (order : Order) (follows : Follows bo
     next = next_is board.clients number source client there begun (begun_here board shadow order follows number)
 
     -- nothing is due
-    quiet : flight_at board.clients from ≡ None → NoneEarly → IsFollowed now (after_beat order number source)
+    quiet : flight_at board.clients from ≡ None → NoneEarly → IsFollowed shadow.fate now (after_beat order number source)
     quiet nothing no_early =
         let still = flights_none source client.flights (sym next ∙ nothing) in
         let back = set_back board.clients number client there in
         let same : board ≡ now =
         ap {B = Board} (λ clients. record board { clients = clients }) (sym back)
         ∙ ap {B = Board} (λ (flights : Flights). record board { clients = set board.clients number (record client { flights = flights }) }) (sym still) in
-        subst (λ b. IsFollowed b (after_beat order number source)) same (subst (IsFollowed board) (sym (none_due nothing no_early)) (shadow, follows))
+        subst (λ b. IsFollowed shadow.fate b (after_beat order number source)) same
+        (subst (IsFollowed shadow.fate board) (sym (none_due nothing no_early)) (shadow, follows, refl))
 
     module _ (due : InFlight) (is_due_here : flight_at board.clients from ≡ Some due) where
       abbrev other : ClientBoard
@@ -224,11 +232,20 @@ module _ (board : Board) (shadow : Shadow) (order : Order) (follows : Follows bo
       other_there = (there_too board shadow order follows number client there).1
 
       abbrev now_shadow : Shadow
-      now_shadow = record shadow { clients = set shadow.clients number (record other { flights = flights_after other.flights source }) }
+      now_shadow =
+          record shadow {
+            clients = set shadow.clients number (record other { flights = flights_after other.flights source });
+            fates = fates_with shadow.fates (begun_at number) (shadow.fates from);
+          }
 
-      now_ahead : IsAhead now now_shadow
-      now_ahead =
-          replies.replied_ahead board shadow follows.ahead number source client other there other_there begun (begun_here board shadow order follows number)
+      others_now : (place : Place) (its : InFlight) → flight_at now_shadow.clients place ≡ Some its → flight_at now.clients place ≡ None → IsFinal now now_shadow place
+      others_now =
+          replies.others board shadow follows.ahead number source client other there other_there begun (begun_here board shadow order follows number)
+          (begun_there board shadow order follows number) follows.explains.sources due is_due_here
+
+      waits_now : (c : ℕ) → comes now.clients c ≡ true → flight_at now.clients (due_at c (shadow.finals c).source) ≡ None
+      waits_now =
+          replies.waits board shadow follows.ahead number source client other there other_there begun (begun_here board shadow order follows number)
           (begun_there board shadow order follows number) follows.explains.sources due is_due_here
 
       comes_now : (c : ℕ) → comes now.clients c ≡ comes board.clients c
@@ -317,6 +334,7 @@ module _ (board : Board) (shadow : Shadow) (order : Order) (follows : Follows bo
             early = early_now entry.client ∙ it.early;
             replied = it.replied ∙ ap (replied_by board.errors) (sym (early_now entry.client));
             failed = ap (λ (r : Footprint). r.failed) (coming_now entry.client) ∙ it.failed;
+            acts = subst (ActsAs board entry.request) (sym (coming_now entry.client)) it.acts;
           })
 
       -- a whole one is in flight on the board as on the shadow
@@ -330,7 +348,7 @@ module _ (board : Board) (shadow : Shadow) (order : Order) (follows : Follows bo
           by_flight : (step entry).whole ≡ true → (o : Option InFlight) → flight_at now.clients (place_of (step entry)) ≡ o → is_some o ≡ true
           by_flight whole (Some flight) is = refl
           by_flight whole None none =
-              let final = now_ahead.others (place_of (step entry)) (stands.live alive).flight (stands.live alive).there none in
+              let final = others_now (place_of (step entry)) (stands.live alive).flight (stands.live alive).there none in
               let before : comes board.clients (step entry).client ≡ true = sym (comes_now (step entry).client) ∙ final.begun in
               absurd (by_due before final.there (is_due begun number source entry && entry.request.source == source) refl)
             where
@@ -356,7 +374,7 @@ module _ (board : Board) (shadow : Shadow) (order : Order) (follows : Follows bo
               let place : place_of (step entry) ≡ due_at (step entry).client (shadow.finals (step entry).client).source =
               grind (arith, it.none_came, it.final) in
               sym (ap (λ (p : Place). is_some (flight_at now.clients p)) place
-              ∙ ap (λ (o : Option InFlight). is_some o) (now_ahead.waits (step entry).client it.begun))
+              ∙ ap (λ (o : Option InFlight). is_some o) (waits_now (step entry).client it.begun))
 
       now_marks : (some_order : Order) (m : Bytes) → AllByRecursion (IsMarked board.clients) some_order
           → AllByRecursion (λ entry. entry.whole ≡ false → IsOpen board shadow entry) some_order
@@ -390,24 +408,38 @@ module _ (board : Board) (shadow : Shadow) (order : Order) (follows : Follows bo
           by_source false other_source = let same : Some flight ≡ Some after = rw other_source at is in
               let it : flight ≡ after = cc (same) in ap (λ (f : InFlight). f.footprint) (sym it)
 
+      -- one that has begun is the one to which the beat is due
+      begun_from : (entry : Entry) → IsMarked board.clients entry → entry.whole ≡ true → has_ended entry ≡ false → place_of entry ≡ begun_at number → begun_at number ≡ from
+      begun_from entry marked was_whole live_before here =
+          let has : begun ≡ true =
+          begun_here board shadow order follows number
+          ∙ ap (λ (p : Place). is_some (flight_at board.clients p)) (sym here) ∙ sym (marked live_before) ∙ was_whole in
+          ap (λ (b : Bool). next_at b number source) (sym has)
+
       -- whether one has failed stays
       now_failing : (entry : Entry) → IsMarked board.clients entry → (entry.whole ≡ false → IsOpen board shadow entry) → IsFailing board entry → IsFailing now (step entry)
       now_failing entry marked opened was whole alive flight there_now = by_counted (is_due begun number source entry && entry.request.source == source) refl
         where
-          same_failed : failed_at board.errors board.memory.faults board.memory.regions entry ≡ failed_at board.errors board.memory.faults board.memory.regions (step entry)
-          same_failed = by_due (is_due begun number source entry && entry.request.source == source) refl
+          same_step : IsKept board entry (step entry)
+          same_step = by_due (is_due begun number source entry && entry.request.source == source) refl
             where
-              by_whole : (b : Bool) → failed_at board.errors board.memory.faults board.memory.regions entry ≡ failed_at board.errors board.memory.faults board.memory.regions (counted b entry)
-              by_whole true = failed_by board.errors board.memory.faults board.memory.regions entry (counted true entry) refl refl
-              by_whole false = failed_by board.errors board.memory.faults board.memory.regions entry (counted false entry) refl refl
+              by_whole : (b : Bool) → IsKept board entry (counted b entry)
+              by_whole true = (failed_by board.errors board.memory.faults board.memory.regions entry (counted true entry) refl refl, refl)
+              by_whole false = (failed_by board.errors board.memory.faults board.memory.regions entry (counted false entry) refl refl, refl)
 
-              by_due : (b : Bool) → (is_due begun number source entry && entry.request.source == source) ≡ b
-                  → failed_at board.errors board.memory.faults board.memory.regions entry ≡ failed_at board.errors board.memory.faults board.memory.regions (step entry)
-              by_due false is = rw is refl
+              by_due : (b : Bool) → (is_due begun number source entry && entry.request.source == source) ≡ b → IsKept board entry (step entry)
+              by_due false is = rw is (refl, refl)
               by_due true is = rw is (by_whole entry.whole)
 
-          by_counted : (b : Bool) → (is_due begun number source entry && entry.request.source == source) ≡ b
-              → flight.footprint.failed ≡ failed_at board.errors board.memory.faults board.memory.regions (step entry)
+          -- it is what was known of one with its footprint
+          known_of : (before : InFlight) → flight.footprint ≡ before.footprint
+              → Knows board entry before.footprint → Knows board (step entry) flight.footprint
+          known_of before same its = (
+            ap (λ (f : Footprint). f.failed) same ∙ its.0 ∙ same_step.0,
+            subst (λ (q : WholeRequest). ActsAs board q flight.footprint) (sym same_step.1) (subst (ActsAs board entry.request) (sym same) its.1),
+          )
+
+          by_counted : (b : Bool) → (is_due begun number source entry && entry.request.source == source) ≡ b → Knows board (step entry) flight.footprint
           by_counted true counted =
               let is = (and_parts (is_due begun number source entry) (entry.request.source == source) counted).0 in
               let at = due_place begun number source entry is in
@@ -415,9 +447,7 @@ module _ (board : Board) (shadow : Shadow) (order : Order) (follows : Follows bo
               let place : place_of (step entry) ≡ begun_at number = place_next begun number source entry whole_is counted in
               let after : begun_after (Some due) source ≡ Some flight =
               ap (λ (o : Option InFlight). begun_after o source) (sym is_due_here) ∙ sym are.next ∙ ap (flight_at now.clients) (sym place) ∙ there_now in
-              ap (λ (f : Footprint). f.failed) (begun_kept due flight after)
-              ∙ was whole_is at.live due (ap (flight_at board.clients) at.there ∙ is_due_here)
-              ∙ same_failed
+              known_of due (begun_kept due flight after) (was whole_is at.live due (ap (flight_at board.clients) at.there ∙ is_due_here))
           by_counted false none =
               let still : step entry ≡ entry = rw none refl in
               let alive_before = sym (ap (λ (e : Entry). has_ended e) still) ∙ alive in
@@ -425,17 +455,15 @@ module _ (board : Board) (shadow : Shadow) (order : Order) (follows : Follows bo
               by_places still alive_before whole_before (cases_place (place_of entry) from) (cases_place (place_of entry) (begun_at number))
             where
               by_places : step entry ≡ entry → has_ended entry ≡ false → entry.whole ≡ true → (place_of entry ≡ from) ⊎ (place_of entry ≡ from → ⊥)
-                  → (place_of entry ≡ begun_at number) ⊎ (place_of entry ≡ begun_at number → ⊥)
-                  → flight.footprint.failed ≡ failed_at board.errors board.memory.faults board.memory.regions (step entry)
+                  → (place_of entry ≡ begun_at number) ⊎ (place_of entry ≡ begun_at number → ⊥) → Knows board (step entry) flight.footprint
               by_places still live_before was_whole (inr away) (inr apart) =
-                  was was_whole live_before flight
-                  (sym (are.others (place_of entry) away apart) ∙ ap (λ (e : Entry). flight_at now.clients (place_of e)) (sym still) ∙ there_now)
-                  ∙ same_failed
+                  known_of flight refl
+                  (was was_whole live_before flight
+                  (sym (are.others (place_of entry) away apart) ∙ ap (λ (e : Entry). flight_at now.clients (place_of e)) (sym still) ∙ there_now))
               by_places still live_before was_whole (inl same) other = its_own still live_before was_whole same
                 where
                   by_from : step entry ≡ entry → has_ended entry ≡ false → entry.whole ≡ true → place_of entry ≡ from → is_due begun number source entry ≡ true
-                      → (from ≡ begun_at number) ⊎ (from ≡ begun_at number → ⊥)
-                      → flight.footprint.failed ≡ failed_at board.errors board.memory.faults board.memory.regions (step entry)
+                      → (from ≡ begun_at number) ⊎ (from ≡ begun_at number → ⊥) → Knows board (step entry) flight.footprint
                   by_from same_entry lives is_whole place due_so (inr away) =
                       absurd (cc (sym (are.gone away) ∙ ap (flight_at now.clients) (sym place)
                       ∙ ap (λ (e : Entry). flight_at now.clients (place_of e)) (sym same_entry) ∙ there_now))
@@ -443,20 +471,156 @@ module _ (board : Board) (shadow : Shadow) (order : Order) (follows : Follows bo
                       let after : begun_after (Some due) source ≡ Some flight =
                       ap (λ (o : Option InFlight). begun_after o source) (sym is_due_here) ∙ sym are.next ∙ ap (flight_at now.clients) (sym (place ∙ here))
                       ∙ ap (λ (e : Entry). flight_at now.clients (place_of e)) (sym same_entry) ∙ there_now in
-                      ap (λ (f : Footprint). f.failed) (begun_kept due flight after)
-                      ∙ was is_whole lives due (ap (flight_at board.clients) place ∙ is_due_here)
-                      ∙ same_failed
+                      known_of due (begun_kept due flight after) (was is_whole lives due (ap (flight_at board.clients) place ∙ is_due_here))
 
-                  its_own : step entry ≡ entry → has_ended entry ≡ false → entry.whole ≡ true → place_of entry ≡ from
-                      → flight.footprint.failed ≡ failed_at board.errors board.memory.faults board.memory.regions (step entry)
+                  its_own : step entry ≡ entry → has_ended entry ≡ false → entry.whole ≡ true → place_of entry ≡ from → Knows board (step entry) flight.footprint
                   its_own same_entry lives is_whole place =
                       let due_so = place_due begun number source entry is_whole (record { live = lives; there = place }) in
                       by_from same_entry lives is_whole place due_so (cases_place from (begun_at number))
-              by_places still live_before was_whole (inr away) (inl here) =
-                  let has : begun ≡ true =
-                  begun_here board shadow order follows number
-                  ∙ ap (λ (p : Place). is_some (flight_at board.clients p)) (sym here) ∙ sym (marked live_before) ∙ was_whole in
-                  absurd (away (here ∙ ap (λ (b : Bool). next_at b number source) (sym has)))
+              by_places still live_before was_whole (inr away) (inl here) = absurd (away (here ∙ begun_from entry marked was_whole live_before here))
+
+      -- whether one is fated stays
+      now_fated : (entry : Entry) → IsMarked board.clients entry → (entry.whole ≡ false → IsOpen board shadow entry) → IsFated shadow entry → IsFated now_shadow (step entry)
+      now_fated entry marked opened was whole alive = by_counted (is_due begun number source entry && entry.request.source == source) refl
+        where
+          by_counted : (b : Bool) → (is_due begun number source entry && entry.request.source == source) ≡ b
+              → now_shadow.fates (place_of (step entry)) ≡ shadow.fate (step entry).number
+          by_counted true counted =
+              let is = (and_parts (is_due begun number source entry) (entry.request.source == source) counted).0 in
+              let at = due_place begun number source entry is in
+              let whole_is = due_whole due is_due_here entry marked opened is in
+              ap now_shadow.fates (place_next begun number source entry whole_is counted) ∙ fates_own shadow.fates (begun_at number) (shadow.fates from)
+              ∙ ap shadow.fates (sym at.there) ∙ was whole_is at.live
+              ∙ sym (ap (λ (e : Entry). shadow.fate e.number) (goes_on begun number source entry whole_is counted))
+          by_counted false none =
+              let still : step entry ≡ entry = rw none refl in
+              let alive_before = sym (ap (λ (e : Entry). has_ended e) still) ∙ alive in
+              let whole_before = sym (ap (λ (e : Entry). e.whole) still) ∙ whole in
+              ap (λ (e : Entry). now_shadow.fates (place_of e)) still
+              ∙ elim (cases_place (place_of entry) (begun_at number)) [
+                | inl here ↦
+                    ap now_shadow.fates here ∙ fates_own shadow.fates (begun_at number) (shadow.fates from)
+                    ∙ ap shadow.fates (sym (here ∙ begun_from entry marked whole_before alive_before here)) ∙ was whole_before alive_before
+                | inr apart ↦ fates_other shadow.fates (begun_at number) (shadow.fates from) (place_of entry) apart ∙ was whole_before alive_before
+              ]
+              ∙ sym (ap (λ (e : Entry). shadow.fate e.number) still)
+
+      now_fates : (some_order : Order) → AllByRecursion (IsMarked board.clients) some_order
+          → AllByRecursion (λ entry. entry.whole ≡ false → IsOpen board shadow entry) some_order → AllByRecursion (IsFated shadow) some_order
+          → AllByRecursion (IsFated now_shadow) (map step some_order)
+      now_fates [] marked opened fated = tt
+      now_fates (entry ∷ rest) marked opened fated = (now_fated entry marked.0 opened.0 fated.0, now_fates rest marked.1 opened.1 fated.1)
+
+      -- ---- one that ends with the beat
+
+      -- what is known of an entry
+      record IsKnown (entry : Entry) : Type 0 where
+        marked : IsMarked board.clients entry
+        opened : entry.whole ≡ false → IsOpen board shadow entry
+        failing : IsFailing board entry
+        fated : IsFated shadow entry
+        marked_then : IsMarked now.clients (step entry)
+        ends_then : HasFate shadow.fate (step entry)
+
+      all_known : (some_order : Order) → AllByRecursion (IsMarked board.clients) some_order → AllByRecursion (λ entry. entry.whole ≡ false → IsOpen board shadow entry) some_order
+          → AllByRecursion (IsFailing board) some_order → AllByRecursion (IsFated shadow) some_order → AllByRecursion (IsMarked now.clients) (map step some_order)
+          → AllByRecursion (HasFate shadow.fate) (map step some_order) → AllByRecursion IsKnown some_order
+      all_known [] marked opened failing fated later ending = tt
+      all_known (entry ∷ rest) marked opened failing fated later ending = (
+        record { marked = marked.0; opened = opened.0; failing = failing.0; fated = fated.0; marked_then = later.0; ends_then = ending.0 },
+        all_known rest marked.1 opened.1 failing.1 fated.1 later.1 ending.1,
+      )
+
+      -- it is in the order
+      due_there : list_any (λ (entry : Entry). is_due begun number source (settled entry)) order ≡ true
+      due_there =
+          sym (any_map (is_due begun number source) settled order)
+          ∙ subst (λ (b : Bool). list_any (is_due b number source) (settle order) ≡ true) (begun_settled board shadow order follows number)
+          (due_known (shadow_of board shadow) (settle order) follows.explains number source
+          (ap (λ (b : Bool). is_some (flight_at shadow.clients (next_at b number source))) (begun_settled board shadow order follows number)
+          ∙ ap (λ (o : Option InFlight). is_some o) (follows.ahead.placed from due is_due_here).there))
+
+      -- where it is fated it has failed
+      spent : begun_after (Some due) source ≡ None → shadow.fates (next_at (list_any (begun_to number) order) number source) ≡ true → due.footprint.failed ≡ true
+      spent over fated = by_entry found.0 found.1 found.2
+        where
+          found : (entry : Entry) × IsKnown entry × (is_due begun number source (settled entry) ≡ true)
+          found =
+              some_passes IsKnown (λ (entry : Entry). is_due begun number source (settled entry)) order
+              (all_known order follows.marked follows.open_ones follows.failing follows.fated (now_marks order zeros follows.marked follows.open_ones now_explains.entries) ends)
+              due_there
+
+          gone : flight_at now.clients (begun_at number) ≡ None
+          gone = are.next ∙ ap (λ (o : Option InFlight). begun_after o source) is_due_here ∙ over
+
+          by_entry : (entry : Entry) → IsKnown entry → is_due begun number source (settled entry) ≡ true → due.footprint.failed ≡ true
+          by_entry entry known test =
+              (known.failing whole at.live due (ap (flight_at board.clients) at.there ∙ is_due_here)).0
+              ∙ failed_any board.errors board.memory.faults board.memory.regions entry (follows.any_fated entry.number fate) spoiled
+            where
+              is : is_due begun number source entry ≡ true
+              is = sym (due_settled due is_due_here entry known.marked known.opened) ∙ test
+
+              at : IsAt from entry
+              at = due_place begun number source entry is
+
+              whole : entry.whole ≡ true
+              whole = due_whole due is_due_here entry known.marked known.opened is
+
+              fate : shadow.fate entry.number ≡ true
+              fate = sym (known.fated whole at.live) ∙ ap shadow.fates at.there ∙ fated
+
+              same_number : (step entry).number ≡ entry.number
+              same_number = by_due (is_due begun number source entry && entry.request.source == source) refl
+                where
+                  by_whole : (b : Bool) → (counted b entry).number ≡ entry.number
+                  by_whole true = refl
+                  by_whole false = refl
+
+                  by_due : (b : Bool) → (is_due begun number source entry && entry.request.source == source) ≡ b → (step entry).number ≡ entry.number
+                  by_due false none = rw none refl
+                  by_due true counts = rw counts (by_whole entry.whole)
+
+              same_spoiled : (step entry).spoiled ≡ entry.spoiled
+              same_spoiled = by_due (is_due begun number source entry && entry.request.source == source) refl
+                where
+                  by_whole : (b : Bool) → (counted b entry).spoiled ≡ entry.spoiled
+                  by_whole true = refl
+                  by_whole false = refl
+
+                  by_due : (b : Bool) → (is_due begun number source entry && entry.request.source == source) ≡ b → (step entry).spoiled ≡ entry.spoiled
+                  by_due false none = rw none refl
+                  by_due true counts = rw counts (by_whole entry.whole)
+
+              -- nothing of it is in flight any more
+              nowhere : flight_at now.clients (place_of (step entry)) ≡ None
+              nowhere = by_counted (is_due begun number source entry && entry.request.source == source) refl
+                where
+                  by_counted : (b : Bool) → (is_due begun number source entry && entry.request.source == source) ≡ b → flight_at now.clients (place_of (step entry)) ≡ None
+                  by_counted true counted = ap (flight_at now.clients) (place_next begun number source entry whole counted) ∙ gone
+                  by_counted false none =
+                      let still : step entry ≡ entry = rw none refl in
+                      ap (λ (e : Entry). flight_at now.clients (place_of e)) still ∙ ap (flight_at now.clients) at.there
+                      ∙ elim (cases_place from (begun_at number)) [
+                        | inl here ↦ ap (flight_at now.clients) here ∙ gone
+                        | inr away ↦ are.gone away
+                      ]
+
+              over_then : has_ended (step entry) ≡ true
+              over_then = by_ended (has_ended (step entry)) refl
+                where
+                  by_ended : (b : Bool) → has_ended (step entry) ≡ b → has_ended (step entry) ≡ true
+                  by_ended true ended = ended
+                  by_ended false alive =
+                      absurd (cc (sym whole ∙ sym (step_whole entry) ∙ known.marked_then alive ∙ ap (λ (o : Option InFlight). is_some o) nowhere))
+
+              spoiled : entry.spoiled ≡ true
+              spoiled = sym same_spoiled ∙ known.ends_then over_then (ap shadow.fate same_number ∙ fate)
+
+      now_ahead : IsAhead now now_shadow
+      now_ahead =
+          replies.replied_ahead board shadow follows.ahead number source client other there other_there begun (begun_here board shadow order follows number)
+          (begun_there board shadow order follows number) follows.explains.sources due is_due_here spent
 
       now_fails : (some_order : Order) → AllByRecursion (IsMarked board.clients) some_order
           → AllByRecursion (λ entry. entry.whole ≡ false → IsOpen board shadow entry) some_order → AllByRecursion (IsFailing board) some_order
@@ -464,7 +628,7 @@ module _ (board : Board) (shadow : Shadow) (order : Order) (follows : Follows bo
       now_fails [] marked opened failing = tt
       now_fails (entry ∷ rest) marked opened failing = (now_failing entry marked.0 opened.0 failing.0, now_fails rest marked.1 opened.1 failing.1)
 
-      moved : IsFollowed now (after_beat order number source)
+      moved : IsFollowed shadow.fate now (after_beat order number source)
       moved = (
         now_shadow,
         record {
@@ -472,12 +636,15 @@ module _ (board : Board) (shadow : Shadow) (order : Order) (follows : Follows bo
           ahead = now_ahead;
           marked = now_marks order zeros follows.marked follows.open_ones now_explains.entries;
           failing = now_fails order follows.marked follows.open_ones follows.failing;
+          fated = now_fates order follows.marked follows.open_ones follows.fated;
+          any_fated = follows.any_fated;
           open_ones = now_opens order follows.marked follows.open_ones;
           known = λ c some.
               any_map (is_coming c) step order ∙ ap (λ (test : Entry → Bool). list_any test order) (fun_ext (λ entry. coming_same c entry))
               ∙ follows.known c (sym (comes_now c) ∙ some);
           early = λ c due_early is. comes_now c ∙ follows.early c due_early (sym (early_now c) ∙ is);
         },
+        refl,
       )
         where
           coming_same : (c : ℕ) (entry : Entry) → is_coming c (step entry) ≡ is_coming c entry
@@ -493,12 +660,12 @@ module _ (board : Board) (shadow : Shadow) (order : Order) (follows : Follows bo
 
     -- one in flight has it
     pub replied : (due : InFlight) → next_reply client.flights source ≡ Some due
-        → IsFollowed (with_client number (record client { flights = flights_after client.flights source }) board) (after_beat order number source)
+        → IsFollowed shadow.fate (with_client number (record client { flights = flights_after client.flights source }) board) (after_beat order number source)
     replied due is = moved due (next ∙ is)
 
     -- none in flight has it, and none early
     pub none_replied : next_reply client.flights source ≡ None → ((due : DBeat) → client.early ≡ Some due → (due.source == source) ≡ false)
-        → IsFollowed (with_client number (record client { flights = flights_after client.flights source }) board) (after_beat order number source)
+        → IsFollowed shadow.fate (with_client number (record client { flights = flights_after client.flights source }) board) (after_beat order number source)
     none_replied nothing no_early = quiet (next ∙ nothing) (λ due is. no_early due (sym (ap early_in there) ∙ is))
 
     -- the message that has begun has it, before it is whole
@@ -624,6 +791,7 @@ module _ (board : Board) (shadow : Shadow) (order : Order) (follows : Follows bo
                       early = early_other_is ∙ it.early;
                       replied = it.replied ∙ ap (replied_by board.errors) (sym early_other_is);
                       failed = ap (λ (r : Footprint). r.failed) (coming_heard entry.client) ∙ it.failed;
+                      acts = subst (ActsAs board entry.request) (sym (coming_heard entry.client)) it.acts;
                     },
               )
 
@@ -647,6 +815,7 @@ module _ (board : Board) (shadow : Shadow) (order : Order) (follows : Follows bo
                   replied = sym (ap (λ (e : Errors). replied_by e (early_at heard.clients entry.client)) any ∙ ap (λ (o : Option DBeat). is_none o) early_none);
                   failed = ap (λ (r : Footprint). r.failed) (coming_heard entry.client) ∙ it.failed
                       ∙ failed_by board.errors board.memory.faults board.memory.regions entry (counted false entry) refl refl;
+                  acts = subst (ActsAs board entry.request) (sym (coming_heard entry.client)) it.acts;
                 },
               )
 
@@ -666,7 +835,24 @@ module _ (board : Board) (shadow : Shadow) (order : Order) (follows : Follows bo
       all_turned P Q one (entry ∷ rest) marked failing opened =
           (one entry marked.0 failing.0 opened.0, all_turned P Q one rest marked.1 failing.1 opened.1)
 
-      pub early_replied : IsFollowed (with_client number (record client { early = None }) board) (after_beat order number source)
+      -- whether it is fated stays
+      fated_turned : (some_order : Order) → AllByRecursion (IsMarked board.clients) some_order
+          → AllByRecursion (λ entry. entry.whole ≡ false → IsOpen board shadow entry) some_order → AllByRecursion (IsFated shadow) some_order
+          → AllByRecursion (IsFated shadow) (map turn some_order)
+      fated_turned [] marked opened fated = tt
+      fated_turned (entry ∷ rest) marked opened fated = (by_whole entry.whole refl, fated_turned rest marked.1 opened.1 fated.1)
+        where
+          by_due : entry.whole ≡ false → (b : Bool) → (is_due begun number source entry && entry.request.source == source) ≡ b → IsFated shadow (turn entry)
+          by_due unwhole false is = rw is (fated.0)
+          by_due unwhole true is =
+              let turned : turn entry ≡ counted false entry = rw (is, unwhole) refl in
+              subst (IsFated shadow) (sym turned) (λ whole. absurd (cc (sym unwhole ∙ whole)))
+
+          by_whole : (b : Bool) → entry.whole ≡ b → IsFated shadow (turn entry)
+          by_whole true whole = subst (IsFated shadow) (sym (whole_still entry marked.0 opened.0 whole)) (fated.0)
+          by_whole false unwhole = by_due unwhole (is_due begun number source entry && entry.request.source == source) refl
+
+      pub early_replied : IsFollowed shadow.fate (with_client number (record client { early = None }) board) (after_beat order number source)
       early_replied = (
         shadow,
         record {
@@ -674,6 +860,8 @@ module _ (board : Board) (shadow : Shadow) (order : Order) (follows : Follows bo
           ahead = ahead_heard;
           marked = all_turned (IsMarked board.clients) (IsMarked heard.clients) (λ entry marked failing opened. (each_turned entry marked failing opened).0)
               order follows.marked follows.failing follows.open_ones;
+          fated = fated_turned order follows.marked follows.open_ones follows.fated;
+          any_fated = follows.any_fated;
           failing = all_turned (IsFailing board) (IsFailing heard) (λ entry marked failing opened. (each_turned entry marked failing opened).1)
               order follows.marked follows.failing follows.open_ones;
           open_ones = all_turned (IsFailing board) (λ entry. entry.whole ≡ false → IsOpen heard shadow entry)
@@ -686,6 +874,7 @@ module _ (board : Board) (shadow : Shadow) (order : Order) (follows : Follows bo
             | inr differ ↦ comes_heard c ∙ follows.early c due (sym (early_other board.clients number c told differ) ∙ is)
           ];
         },
+        refl,
       )
         where
           coming_same : (c : ℕ) (entry : Entry) → is_coming c (turn entry) ≡ is_coming c entry
@@ -699,10 +888,16 @@ module _ (board : Board) (shadow : Shadow) (order : Order) (follows : Follows bo
               by_due false is = rw is refl
               by_due true is = rw is (by_whole entry.whole)
 
-pub follows_reply : (board : Board) (order : Order) (number : ℕ) (beat : DBeat) → IsFollowed board order
-    → IsFollowed (after_d board number (slice_get board.clients number) beat) (after_beat order number beat.source)
-follows_reply board order number beat followed = by_client (slice_get board.clients number) refl
+pub follows_reply : (fate : ℕ → Bool) (board : Board) (order : Order) (number : ℕ) (beat : DBeat) → IsFollowed fate board order
+    → AllByRecursion (HasFate fate) (after_beat order number beat.source)
+    → IsFollowed fate (after_d board number (slice_get board.clients number) beat) (after_beat order number beat.source)
+follows_reply fate board order number beat followed ending =
+    subst (λ (f : ℕ → Bool). IsFollowed f (after_d board number (slice_get board.clients number) beat) (after_beat order number beat.source)) followed.2
+    (by_client (slice_get board.clients number) refl)
   where
+    ends : AllByRecursion (HasFate followed.0.fate) (after_beat order number beat.source)
+    ends = subst (λ (f : ℕ → Bool). AllByRecursion (HasFate f) (after_beat order number beat.source)) (sym followed.2) ending
+
     none_of : slice_get board.clients number ≡ None → (due : DBeat) → early_at board.clients number ≡ Some due → (due.source == beat.source) ≡ false
     none_of none due is = absurd (cc (sym (ap early_in none) ∙ is))
 
@@ -710,10 +905,10 @@ follows_reply board order number beat followed = by_client (slice_get board.clie
     module_told : (client : ClientBoard) → slice_get board.clients number ≡ Some client → (changed : ClientBoard) → slice_get (set board.clients number changed) number ≡ Some changed
     module_told client there changed = get_set board.clients number changed (slice_get_within board.clients number client there)
 
-    by_client : (o : Option ClientBoard) → slice_get board.clients number ≡ o → IsFollowed (after_d board number o beat) (after_beat order number beat.source)
+    by_client : (o : Option ClientBoard) → slice_get board.clients number ≡ o → IsFollowed followed.0.fate (after_d board number o beat) (after_beat order number beat.source)
     by_client None none =
-        subst (IsFollowed board)
-        (sym (none_due board followed.0 order followed.1 number beat.source (none_at board.clients (list_any (begun_to number) order) number beat.source none) (none_of none))) followed
+        subst (IsFollowed followed.0.fate board)
+        (sym (none_due board followed.0 order followed.1 number beat.source (none_at board.clients (list_any (begun_to number) order) number beat.source none) (none_of none))) (followed.0, followed.1, refl)
     by_client (Some client) there = by_next (next_reply client.flights beat.source) refl
       where
         told : Bool
@@ -730,41 +925,41 @@ follows_reply board order number beat followed = by_client (slice_get board.clie
 
         -- the client as it is then
         as_then : (early : Option DBeat) → early ≡ early_after client beat.source
-            → IsFollowed (record board { clients = set (set board.clients number heard) number (record heard { flights = flights_after client.flights beat.source; early = early }) })
+            → IsFollowed followed.0.fate (record board { clients = set (set board.clients number heard) number (record heard { flights = flights_after client.flights beat.source; early = early }) })
             (after_beat order number beat.source)
-            → IsFollowed (after_d board number (Some client) beat) (after_beat order number beat.source)
+            → IsFollowed followed.0.fate (after_d board number (Some client) beat) (after_beat order number beat.source)
         as_then early is after =
-            subst (λ (clients : List ClientBoard). IsFollowed (record board { clients = clients }) (after_beat order number beat.source))
+            subst (λ (clients : List ClientBoard). IsFollowed followed.0.fate (record board { clients = clients }) (after_beat order number beat.source))
             (set-set board.clients number heard (record heard { flights = flights_after client.flights beat.source; early = early })
             ∙ ap (λ (e : Option DBeat). set board.clients number (record heard { flights = flights_after client.flights beat.source; early = e })) is) after
 
-        by_next : (o : Option InFlight) → next_reply client.flights beat.source ≡ o → IsFollowed (after_d board number (Some client) beat) (after_beat order number beat.source)
+        by_next : (o : Option InFlight) → next_reply client.flights beat.source ≡ o → IsFollowed followed.0.fate (after_d board number (Some client) beat) (after_beat order number beat.source)
         by_next (Some due) is =
             as_then client.early (sym (ap (λ (o : Option InFlight). if is_some o then client.early else early_left client.early beat.source) is))
-            (replied (with_client number heard board) followed.0 order heard_follows number beat.source heard heard_there due is)
+            (replied (with_client number heard board) followed.0 order heard_follows number beat.source heard heard_there ends due is)
         by_next None nothing = by_early client.early refl
           where
             still : early_after client beat.source ≡ early_left client.early beat.source
             still = ap (λ (o : Option InFlight). if is_some o then client.early else early_left client.early beat.source) nothing
 
             none_has_it : early_left client.early beat.source ≡ client.early → ((due : DBeat) → client.early ≡ Some due → (due.source == beat.source) ≡ false)
-                → IsFollowed (after_d board number (Some client) beat) (after_beat order number beat.source)
+                → IsFollowed followed.0.fate (after_d board number (Some client) beat) (after_beat order number beat.source)
             none_has_it same no_early =
                 as_then client.early (sym (still ∙ same))
-                (none_replied (with_client number heard board) followed.0 order heard_follows number beat.source heard heard_there nothing no_early)
+                (none_replied (with_client number heard board) followed.0 order heard_follows number beat.source heard heard_there ends nothing no_early)
 
             by_source : (due : DBeat) → client.early ≡ Some due → (b : Bool) → (due.source == beat.source) ≡ b
-                → IsFollowed (after_d board number (Some client) beat) (after_beat order number beat.source)
+                → IsFollowed followed.0.fate (after_d board number (Some client) beat) (after_beat order number beat.source)
             by_source due is false other =
                 none_has_it (ap (λ (o : Option DBeat). early_left o beat.source) is ∙ rw other (sym is))
                 (λ its its_is. let one : Some due ≡ Some its = sym is ∙ its_is in let same : due ≡ its = cc (one) in sym (ap (λ (d : DBeat). d.source == beat.source) same) ∙ other)
             by_source due is true own =
                 as_then None (sym (still ∙ ap (λ (o : Option DBeat). early_left o beat.source) is ∙ rw own refl))
-                (subst (λ (flights : Flights). IsFollowed (record board { clients = set (set board.clients number heard) number (record heard { flights = flights; early = None }) })
+                (subst (λ (flights : Flights). IsFollowed followed.0.fate (record board { clients = set (set board.clients number heard) number (record heard { flights = flights; early = None }) })
                 (after_beat order number beat.source)) (sym (flights_none beat.source client.flights nothing))
-                (early_replied (with_client number heard board) followed.0 order heard_follows number beat.source heard heard_there nothing due is own))
+                (early_replied (with_client number heard board) followed.0 order heard_follows number beat.source heard heard_there ends nothing due is own))
 
-            by_early : (o : Option DBeat) → client.early ≡ o → IsFollowed (after_d board number (Some client) beat) (after_beat order number beat.source)
+            by_early : (o : Option DBeat) → client.early ≡ o → IsFollowed followed.0.fate (after_d board number (Some client) beat) (after_beat order number beat.source)
             by_early None is =
                 none_has_it (ap (λ (o : Option DBeat). early_left o beat.source) is ∙ sym is) (λ due its. absurd (cc (sym is ∙ its)))
             by_early (Some due) is = by_source due is (due.source == beat.source) refl

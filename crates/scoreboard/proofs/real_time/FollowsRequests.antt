@@ -1,5 +1,5 @@
 -- A beat on channel A: the board, its shadow and an order go on together.
-use Rattle.std.proofs.Common.{◌≡◌, ℕ, Bool, true, false, List, [], ◌∷◌, ◌++◌, map, set, Option, Some, None, if◌then◌else◌, ◌&&◌, ◌==◌, Result, Ok, Err, ◌⊎◌, inl, inr, refl, sym, ◌∙◌, ap, subst, subst₂, arith}
+use Rattle.std.proofs.Common.{◌≡◌, ℕ, Bool, true, false, List, [], ◌∷◌, ◌++◌, map, set, length, Option, Some, None, if◌then◌else◌, ◌&&◌, ◌||◌, ◌==◌, Result, Ok, Err, ◌⊎◌, inl, inr, refl, sym, ◌∙◌, ap, ap₂, subst, subst₂, arith}
 use Rattle.std.specs.Prelude.{is_some, slice_get}
 use Rattle.std.specs.List.{AllByRecursion, list_any}
 use Rattle.std.proofs.Math.Path.{fun_ext}
@@ -23,7 +23,7 @@ use Rattle.tl_checker.specs.declared.Progress.TheVariants.{More, Whole}
 use Rattle.tl_checker.specs.declared.TlRule.{TlRule}
 use Rattle.scoreboard.specs.Boards.{Board, ClientBoard, after_a, answer_to, answered_on, begun_on, coming_on, continued_on, early_due, flight_for, given_on, has_replied, is_spoiled, joined_on, joining_on, more_on, whole_on, with_accepted, with_client, with_whole}
 use Rattle.scoreboard.specs.Flights.{Flights, Footprint, InFlight, no_footprint, due_to, is_busy, is_of_source}
-use Rattle.scoreboard.specs.Orders.{Entry, Order, has_ended}
+use Rattle.scoreboard.specs.Orders.{Entry, Order, has_ended, reply_beats}
 use Rattle.scoreboard.specs.RealTime.{GivesBytes, MayBecome, entry_of, heard, may_reply}
 use Rattle.scoreboard.specs.SerialMemory.{carried_out}
 use Rattle.scoreboard.specs.declared.Errors.TheVariants.{Any, Strict}
@@ -35,17 +35,17 @@ use Rattle.scoreboard.specs.declared.Errors.{Errors}
 use Rattle.scoreboard.specs.declared.Policy.TheVariants.{RealTime}
 use Rattle.scoreboard.proofs.MappedLists.{any_map}
 use Rattle.scoreboard.proofs.real_time.Acceptance.{explains_joined}
-use Rattle.scoreboard.proofs.real_time.Ahead.{Shadow, comes, front_in, shadow_of}
+use Rattle.scoreboard.proofs.real_time.Ahead.{Shadow, comes, fates_other, fates_own, fates_with, front_in, shadow_of}
 use Rattle.scoreboard.proofs.real_time.AheadBeside.{was_beside}
 use Rattle.scoreboard.proofs.real_time.BegunAhead as begins
 use Rattle.scoreboard.proofs.real_time.CheckedRequests.{joined_free, sound_well, whole_sound}
 use Rattle.scoreboard.proofs.real_time.Comings.{comes_same, early_at, early_in, early_same}
-use Rattle.scoreboard.proofs.real_time.Entries.{all_with, any_here, any_with, place_of}
+use Rattle.scoreboard.proofs.real_time.Entries.{AreDistinct, Differ, all_with, any_here, any_with, place_of}
 use Rattle.scoreboard.proofs.real_time.Explained.{Explains}
-use Rattle.scoreboard.proofs.real_time.Failures.{failed_at, failed_by, fails_as, fails_begun, well_as}
+use Rattle.scoreboard.proofs.real_time.Failures.{FatedOf, failed_any, failed_at, fails_as, fails_at, well_as}
 use Rattle.scoreboard.proofs.real_time.FirstBeats.{more_no_data_back, more_put}
 use Rattle.scoreboard.proofs.real_time.FlightLists.{none_found}
-use Rattle.scoreboard.proofs.real_time.Follows.{Follows, IsFailing, IsFollowed, IsMarked, IsOpen, all_both, all_mapped, replied_by, settle, settled, some_passes}
+use Rattle.scoreboard.proofs.real_time.Follows.{ActsAs, Follows, IsFailing, IsFated, IsFollowed, acts_as, acts_beside, IsMarked, IsOpen, all_both, all_mapped, replied_by, settle, settled, some_passes}
 use Rattle.scoreboard.proofs.real_time.FollowsChanges as changes
 use Rattle.scoreboard.proofs.real_time.FollowsChanges.{coming_parts, goes_further, heard_same, spoils}
 use Rattle.scoreboard.proofs.real_time.FollowsEnded.{removed_follows}
@@ -54,19 +54,21 @@ use Rattle.scoreboard.proofs.real_time.Lengths.{some_beats}
 use Rattle.scoreboard.proofs.real_time.Fronts.{AreFronts}
 use Rattle.scoreboard.proofs.real_time.GivenAhead as gives
 use Rattle.scoreboard.proofs.real_time.OnceAhead as joins
-use Rattle.scoreboard.proofs.real_time.Places.{Place, cases_place, coming_at, due_at, flight_at, flights_in}
+use Rattle.scoreboard.proofs.real_time.Places.{Place, cases_place, coming_at, coming_in, due_at, flight_at, flights_in}
 use Rattle.scoreboard.proofs.real_time.ShadowPlaces.{finals_other, finals_own, free_there, none_here}
-use Rattle.scoreboard.proofs.real_time.StepOrders.{GoesOnAnswered, GoesOnRequest, GoesOnTaken, finished, is_coming}
+use Rattle.burst_plan.specs.declared.Region.{Region}
+use Rattle.subordinate.specs.Faults.{Faults}
+use Rattle.scoreboard.proofs.real_time.StepOrders.{HasFate, fated_of, first_of, GoesOnAnswered, GoesOnRequest, GoesOnTaken, finished, is_coming}
 use Rattle.scoreboard.proofs.real_time.RequestActs.{IsWell, well_put}
 
 -- ---- an entry that is whole with its last beat
 
 -- it is whole with its last beat, whether or not its reply came before
 abbrev pub made_whole : Errors → ℕ → WholeRequest → Entry → Entry
-made_whole errors client q entry = if is_coming client entry then record entry { whole = true; spoiled = is_spoiled errors q; early = false } else entry
+made_whole errors client q entry = if is_coming client entry then record entry { whole = true; spoiled = entry.spoiled || is_spoiled errors q; early = false } else entry
 
 made_is : (errors : Errors) (client : ℕ) (q : WholeRequest) (entry : Entry) → is_coming client entry ≡ true
-    → made_whole errors client q entry ≡ record entry { whole = true; spoiled = is_spoiled errors q; early = false }
+    → made_whole errors client q entry ≡ record entry { whole = true; spoiled = entry.spoiled || is_spoiled errors q; early = false }
 made_is errors client q entry is = rw is refl
 
 made_not : (errors : Errors) (client : ℕ) (q : WholeRequest) (entry : Entry) → is_coming client entry ≡ false → made_whole errors client q entry ≡ entry
@@ -89,6 +91,50 @@ settle_made errors client q order =
 coming_made : (errors : Errors) (client other : ℕ) (q : WholeRequest) (entry : Entry) → (other ≡ client → ⊥)
     → is_coming other (made_whole errors client q entry) ≡ is_coming other entry
 coming_made errors client other q entry differ = grind (arith, nat_tests, differ)
+
+-- it has failed if it had before, or fails as it is whole
+both_failed : (errors : Errors) (faults : Faults) (regions : List Region) (one : Entry) (q : WholeRequest) (client number : ℕ)
+    → (failed_at errors faults regions one || failed_at errors faults regions (record (first_of errors client q true number) { request = one.request }))
+    ≡ failed_at errors faults regions (record one { whole = true; spoiled = one.spoiled || is_spoiled errors q; early = false })
+both_failed Strict faults regions one q client number = refl
+both_failed Any faults regions one q client number = three one.spoiled (fails_at faults regions one.request) q.corrupt
+  where
+    three : (a b c : Bool) → ((a || b) || (c || b)) ≡ ((a || c) || b)
+    three true b c = refl
+    three false true true = refl
+    three false true false = refl
+    three false false true = refl
+    three false false false = refl
+
+-- where an entry isn't whole, in the place of all such, it is the only one
+one_more : (number : ℕ) (place : Place) (entry : Entry) (order : Order) → AllByRecursion (Differ (settled entry)) (settle order)
+    → (is_coming number entry ≡ true → (has_ended entry ≡ false) × (place_of entry ≡ place))
+    → AllByRecursion (λ other. is_coming number other ≡ true → (has_ended other ≡ false) × (place_of other ≡ place)) order
+    → ((n : ℕ) × AllByRecursion (λ other. is_coming number other ≡ true → other.number ≡ n) order)
+    → (b : Bool) → is_coming number entry ≡ b
+    → (n : ℕ) × (((is_coming number entry ≡ true) → entry.number ≡ n) × AllByRecursion (λ other. is_coming number other ≡ true → other.number ≡ n) order)
+one_more number place entry order distinct own at rest false none = (rest.0, ((λ its. absurd (cc (sym none ∙ its))), rest.1))
+one_more number place entry order distinct own at rest true is = (entry.number, ((λ its. refl), none_behind order distinct at))
+  where
+    none_behind : (some_order : Order) → AllByRecursion (Differ (settled entry)) (settle some_order)
+        → AllByRecursion (λ other. is_coming number other ≡ true → (has_ended other ≡ false) × (place_of other ≡ place)) some_order
+        → AllByRecursion (λ other. is_coming number other ≡ true → other.number ≡ entry.number) some_order
+    none_behind [] differ at_it = tt
+    none_behind (other ∷ rest_order) differ at_it = (
+      λ its. absurd (differ.0 (own is).0 (at_it.0 its).0 ((own is).1 ∙ sym (at_it.0 its).1)),
+      none_behind rest_order differ.1 at_it.1,
+    )
+
+-- of a client's entries that aren't whole, which are in one place, there is one
+one_number : (number : ℕ) (place : Place) (order : Order) → AreDistinct (settle order)
+    → AllByRecursion (λ entry. is_coming number entry ≡ true → (has_ended entry ≡ false) × (place_of entry ≡ place)) order
+    → (n : ℕ) × AllByRecursion (λ entry. is_coming number entry ≡ true → entry.number ≡ n) order
+one_number number place [] distinct at = (0, tt)
+one_number number place (entry ∷ order) distinct at = one_more number place entry order distinct.0 at.0 at.1 (one_number number place order distinct.1 at.1) (is_coming number entry) refl
+
+-- a client's entry that isn't whole has failed in flight once it is
+abbrev HasFailed : ℕ → ℕ → InFlight → Entry → Type 0
+HasFailed client number flight entry = is_coming client entry ≡ true → entry.number ≡ number → flight.footprint.failed ≡ true
 
 -- one more at the end, of which no other is
 without_last : (source : ℕ) (due : List InFlight) (flight : InFlight) → list_any (is_of_source source) due ≡ false → flight.source ≡ source
@@ -116,8 +162,11 @@ module _ (board : Board) (shadow : Shadow) (order : Order) (follows : Follows bo
     none_settled = any_map has_ended settled after ∙ none
 
     -- a message begins
-    module _ (message : HeldMessage) (bytes : List (Option ℕ)) (spoiled : Bool) (free : list_any (is_of_source message.source) client.flights.due ≡ false)
-        (may : MayBecome (entry_of board.errors number (request_of message) false) (record (request_of message) { bytes = bytes; corrupt = spoiled })) (silent : reply_has_data message.operation ≡ false)
+    module _ (message : HeldMessage) (bytes : List (Option ℕ)) (spoiled : Bool) (n : ℕ) (fated : Bool)
+        (free : list_any (is_of_source message.source) client.flights.due ≡ false)
+        (may : MayBecome (record (first_of board.errors number (request_of message) false n) { spoiled = is_spoiled board.errors (request_of message) || fated })
+        (record (request_of message) { bytes = bytes; corrupt = spoiled }))
+        (any : fated ≡ true → board.errors ≡ Any) (silent : reply_has_data message.operation ≡ false)
         (well : IsWell (record (request_of message) { bytes = bytes; corrupt = spoiled })) where
       abbrev q : WholeRequest
       q = record (request_of message) { bytes = bytes; corrupt = spoiled }
@@ -133,11 +182,10 @@ module _ (board : Board) (shadow : Shadow) (order : Order) (follows : Follows bo
 
       abbrev now_shadow : Shadow
       now_shadow =
-          begins.now_shadow board shadow (settle order) follows.explains follows.ahead number client other message bytes spoiled there there_too.1 front free may
-          silent well
+          begins.now_shadow board shadow (settle order) follows.explains follows.ahead number client other message bytes spoiled n fated there there_too.1 front free may any silent well
 
       abbrev entry : Entry
-      entry = record (entry_of board.errors number (request_of message) false) { request = q }
+      entry = record (first_of board.errors number (request_of message) false n) { request = q }
 
       free_too : list_any (is_of_source message.source) other.flights.due ≡ false
       free_too = free_there board shadow follows.ahead number message.source client there front free other there_too.1
@@ -145,29 +193,28 @@ module _ (board : Board) (shadow : Shadow) (order : Order) (follows : Follows bo
       same_flights : (i : Place) → is_some (flight_at now.clients i) ≡ is_some (flight_at board.clients i)
       same_flights i =
           ap (λ (o : Option InFlight). is_some o)
-          (begins.now_flight board shadow (settle order) follows.explains follows.ahead number client other message bytes spoiled there there_too.1 front free may silent
-          well i) ∙ grind arith
+          (begins.now_flight board shadow (settle order) follows.explains follows.ahead number client other message bytes spoiled n fated there there_too.1 front free may any silent well i) ∙ grind arith
 
       comes_own : comes now.clients number ≡ true
       comes_own =
-          begins.comes_own board shadow (settle order) follows.explains follows.ahead number client other message bytes spoiled there there_too.1 front free may silent well
+          begins.comes_own board shadow (settle order) follows.explains follows.ahead number client other message bytes spoiled n fated there there_too.1 front free may any silent well
 
       comes_others : (c : ℕ) → (c ≡ number → ⊥) → comes now.clients c ≡ comes board.clients c
       comes_others =
-          begins.comes_others board shadow (settle order) follows.explains follows.ahead number client other message bytes spoiled there there_too.1 front free may silent well
+          begins.comes_others board shadow (settle order) follows.explains follows.ahead number client other message bytes spoiled n fated there there_too.1 front free may any silent well
 
       came_before : (c : ℕ) → comes board.clients c ≡ true → c ≡ number → ⊥
       came_before =
-          begins.came_before board shadow (settle order) follows.explains follows.ahead number client other message bytes spoiled there there_too.1 front free may silent well
+          begins.came_before board shadow (settle order) follows.explains follows.ahead number client other message bytes spoiled n fated there there_too.1 front free may any silent well
 
       early_others : (c : ℕ) → (c ≡ number → ⊥) → early_at now.clients c ≡ early_at board.clients c
       early_others =
-          begins.early_others board shadow (settle order) follows.explains follows.ahead number client other message bytes spoiled there there_too.1 front free may silent well
+          begins.early_others board shadow (settle order) follows.explains follows.ahead number client other message bytes spoiled n fated there there_too.1 front free may any silent well
 
       coming_others : (c : ℕ) → (c ≡ number → ⊥)
           → coming_at now.clients c ≡ beside (coming_at board.clients c) (joining_on (with_client number listening board) (request_of message))
       coming_others =
-          begins.coming_others board shadow (settle order) follows.explains follows.ahead number client other message bytes spoiled there there_too.1 front free may silent well
+          begins.coming_others board shadow (settle order) follows.explains follows.ahead number client other message bytes spoiled n fated there there_too.1 front free may any silent well
 
       -- its own: its reply may come where errors are told in any way
       own_open : IsOpen now now_shadow entry
@@ -177,14 +224,17 @@ module _ (board : Board) (shadow : Shadow) (order : Order) (follows : Follows bo
             final = sym (finals_own shadow.finals number q);
             none_came = refl;
             any = any_early board.errors;
-            early = begins.early_own board shadow (settle order) follows.explains follows.ahead number client other message bytes spoiled there there_too.1 front free may silent well
+            early = begins.early_own board shadow (settle order) follows.explains follows.ahead number client other message bytes spoiled n fated there there_too.1 front free may any silent well
                 ∙ its_early board.errors;
-            replied = its_reply board.errors ∙ ap (replied_by board.errors) (sym (begins.early_own board shadow (settle order) follows.explains follows.ahead number client other
-                message bytes spoiled there there_too.1 front free may silent well));
+            replied = its_reply board.errors ∙ ap (replied_by board.errors) (sym (begins.early_own board shadow (settle order) follows.explains follows.ahead number client other message bytes spoiled n fated there there_too.1 front free may any silent well));
             failed = ap (λ (r : Footprint). r.failed)
-                (begins.coming_own board shadow (settle order) follows.explains follows.ahead number client other message bytes spoiled there there_too.1 front free may silent well)
-                ∙ begins.mine_failed board shadow (settle order) follows.explains follows.ahead number client other message bytes spoiled there there_too.1 front free may silent well
-                ∙ fails_begun board.errors number board.memory (request_of message) q may silent;
+                (begins.coming_own board shadow (settle order) follows.explains follows.ahead number client other message bytes spoiled n fated there there_too.1 front free may any silent well)
+                ∙ begins.mine_failed board shadow (settle order) follows.explains follows.ahead number client other message bytes spoiled n fated there there_too.1 front free may any silent well
+                ∙ fails_as board.errors number board.memory (request_of message) q false n may.fields;
+            acts = subst (ActsAs board q)
+                (sym (begins.coming_own board shadow (settle order) follows.explains follows.ahead number client other message bytes spoiled n fated there there_too.1 front free may any silent well))
+                (acts_as board (request_of message) q (joining_on (with_client number listening board) (request_of message)) may.fields
+                (begins.mine_acts board shadow (settle order) follows.explains follows.ahead number client other message bytes spoiled n fated there there_too.1 front free may any silent well));
           }
         where
           any_early : (e : Errors) → may_reply e false ≡ true → e ≡ Any
@@ -210,34 +260,36 @@ module _ (board : Board) (shadow : Shadow) (order : Order) (follows : Follows bo
             early = early_others one.client apart ∙ was.early;
             replied = was.replied ∙ ap (replied_by board.errors) (sym (early_others one.client apart));
             failed = ap (λ (r : Footprint). r.failed) (coming_others one.client apart) ∙ was.failed;
+            acts = subst (ActsAs board one.request) (sym (coming_others one.client apart))
+                (acts_beside board one.request (coming_at board.clients one.client) (joining_on (with_client number listening board) (request_of message)) was.acts);
           }
 
       still_failing : (one : Entry) → IsFailing board one → IsFailing now one
       still_failing one was whole alive flight there_now =
           let before_it = was_beside (joining_on (with_client number listening board) (request_of message)) (flight_at board.clients (place_of one)) flight
-          (sym (begins.now_flight board shadow (settle order) follows.explains follows.ahead number client other message bytes spoiled there there_too.1 front free may silent
-          well (place_of one)) ∙ there_now) in
-          sym (ap (λ (f : InFlight). f.footprint.failed) before_it.2) ∙ was whole alive before_it.0 before_it.1
+          (sym (begins.now_flight board shadow (settle order) follows.explains follows.ahead number client other message bytes spoiled n fated there there_too.1 front free may any silent well (place_of one)) ∙ there_now) in
+          let known = was whole alive before_it.0 before_it.1 in
+          subst (λ (f : InFlight). (f.footprint.failed ≡ failed_at board.errors board.memory.faults board.memory.regions one) × ActsAs board one.request f.footprint) before_it.2
+          (known.0, acts_beside board one.request before_it.0.footprint (joining_on (with_client number listening board) (request_of message)) known.1)
 
       own_marked : IsMarked now.clients entry
       own_marked alive =
           sym (same_flights (due_at number message.source)
           ∙ ap (λ (o : Option InFlight). is_some o) (none_here board shadow follows.ahead number message.source client there front free))
 
-      pub begun_follows : IsFollowed
+      pub begun_follows : IsFollowed shadow.fate
           (begun_on (with_client number (record client { front = Some message }) board) number
           (record client { front = Some message; early = early_due board.errors (request_of message) })
           (joining_on (with_client number (record client { front = Some message }) board) (request_of message)))
-          (before ++ record (entry_of board.errors number (request_of message) false) { request = record (request_of message) { bytes = bytes; corrupt = spoiled } } ∷ after)
+          (before ++ record (first_of board.errors number (request_of message) false n) { request = record (request_of message) { bytes = bytes; corrupt = spoiled } } ∷ after)
       begun_follows = (
         now_shadow,
         record {
           explains =
               subst (Explains (shadow_of now now_shadow)) (sym (settle_put before after entry))
-              (explains_joined (shadow_of board shadow) number other q there_too.1 free_too (settle before) (settle after) well none_settled explains_parts);
+              (explains_joined (shadow_of board shadow) number other q there_too.1 free_too n (settle before) (settle after) well none_settled explains_parts);
           ahead =
-              begins.begun_ahead board shadow (settle order) follows.explains follows.ahead number client other message bytes spoiled there there_too.1 front free
-              may silent well;
+              begins.begun_ahead board shadow (settle order) follows.explains follows.ahead number client other message bytes spoiled n fated there there_too.1 front free may any silent well;
           marked =
               all_with (IsMarked now.clients) before after entry
               (all-map (IsMarked board.clients) (IsMarked now.clients) (before ++ after)
@@ -246,6 +298,8 @@ module _ (board : Board) (shadow : Shadow) (order : Order) (follows : Follows bo
               all_with (IsFailing now) before after entry
               (all-map (IsFailing board) (IsFailing now) (before ++ after) still_failing (subst (AllByRecursion (IsFailing board)) parts follows.failing))
               (λ unwhole. absurd (cc (unwhole)));
+          fated = all_with (IsFated shadow) before after entry (subst (AllByRecursion (IsFated shadow)) parts follows.fated) (λ unwhole. absurd (cc (unwhole)));
+          any_fated = follows.any_fated;
           open_ones =
               all_with (λ one. one.whole ≡ false → IsOpen now now_shadow one) before after entry
               (all-map (λ one. one.whole ≡ false → IsOpen board shadow one) (λ one. one.whole ≡ false → IsOpen now now_shadow one) (before ++ after)
@@ -255,6 +309,7 @@ module _ (board : Board) (shadow : Shadow) (order : Order) (follows : Follows bo
           known = λ c some. known c some (cases_eq c number);
           early = λ c due is. early c due is (cases_eq c number);
         },
+        refl,
       )
         where
           early : (c : ℕ) (due : DBeat) → early_at now.clients c ≡ Some due → (c ≡ number) ⊎ (c ≡ number → ⊥) → comes now.clients c ≡ true
@@ -268,8 +323,11 @@ module _ (board : Board) (shadow : Shadow) (order : Order) (follows : Follows bo
               (ap (list_any (is_coming c)) (sym parts) ∙ follows.known c (sym (comes_others c differ) ∙ some))
 
     -- a request of one beat
-    module _ (q r : WholeRequest) (free : list_any (is_of_source q.source) client.flights.due ≡ false) (well : IsWell q)
-        (may : MayBecome (entry_of board.errors number q true) r) where
+    module _ (q r : WholeRequest) (n : ℕ) (free : list_any (is_of_source q.source) client.flights.due ≡ false) (well : IsWell q)
+        (may : MayBecome (FatedOf board.errors number q n (shadow.fate n)) r) where
+      any_fated : shadow.fate n ≡ true → board.errors ≡ Any
+      any_fated = follows.any_fated n
+
       abbrev once_other : ClientBoard
       once_other = there_too.0
 
@@ -278,10 +336,10 @@ module _ (board : Board) (shadow : Shadow) (order : Order) (follows : Follows bo
 
       abbrev once_shadow : Shadow
       once_shadow =
-          joins.now_shadow board shadow (settle order) follows.explains follows.ahead number client once_other q r there there_too.1 front free well may
+          joins.now_shadow board shadow (settle order) follows.explains follows.ahead number client once_other q r n (shadow.fate n) there there_too.1 front free well may any_fated
 
       abbrev once_entry : Entry
-      once_entry = record (entry_of board.errors number q true) { request = r }
+      once_entry = record (first_of board.errors number q true n) { request = r }
 
       once_source : q.source ≡ r.source
       once_source = sym (ap (λ (x : WholeRequest). x.source) may.fields)
@@ -292,27 +350,27 @@ module _ (board : Board) (shadow : Shadow) (order : Order) (follows : Follows bo
           (free_there board shadow follows.ahead number q.source client there front free once_other there_too.1)
 
       once_comes : (c : ℕ) → (c ≡ number → ⊥) → comes once_now.clients c ≡ comes board.clients c
-      once_comes = joins.comes_others board shadow (settle order) follows.explains follows.ahead number client once_other q r there there_too.1 front free well may
+      once_comes = joins.comes_others board shadow (settle order) follows.explains follows.ahead number client once_other q r n (shadow.fate n) there there_too.1 front free well may any_fated
 
       once_before : (c : ℕ) → comes board.clients c ≡ true → c ≡ number → ⊥
-      once_before = joins.apart_before board shadow (settle order) follows.explains follows.ahead number client once_other q r there there_too.1 front free well may
+      once_before = joins.apart_before board shadow (settle order) follows.explains follows.ahead number client once_other q r n (shadow.fate n) there there_too.1 front free well may any_fated
 
       once_apart : (c : ℕ) → comes once_now.clients c ≡ true → c ≡ number → ⊥
-      once_apart = joins.apart_now board shadow (settle order) follows.explains follows.ahead number client once_other q r there there_too.1 front free well may
+      once_apart = joins.apart_now board shadow (settle order) follows.explains follows.ahead number client once_other q r n (shadow.fate n) there there_too.1 front free well may any_fated
 
       once_early : (c : ℕ) → (c ≡ number → ⊥) → early_at once_now.clients c ≡ early_at board.clients c
-      once_early = joins.early_others board shadow (settle order) follows.explains follows.ahead number client once_other q r there there_too.1 front free well may
+      once_early = joins.early_others board shadow (settle order) follows.explains follows.ahead number client once_other q r n (shadow.fate n) there there_too.1 front free well may any_fated
 
       once_coming : (c : ℕ) → (c ≡ number → ⊥) → coming_at once_now.clients c ≡ beside (coming_at board.clients c) (joining_on board q)
-      once_coming = joins.coming_others board shadow (settle order) follows.explains follows.ahead number client once_other q r there there_too.1 front free well may
+      once_coming = joins.coming_others board shadow (settle order) follows.explains follows.ahead number client once_other q r n (shadow.fate n) there there_too.1 front free well may any_fated
 
-      once_own : flight_at once_now.clients (due_at number q.source) ≡ Some (joins.flight board shadow (settle order) follows.explains follows.ahead number client once_other q r there there_too.1 front free well may)
-      once_own = joins.own_here board shadow (settle order) follows.explains follows.ahead number client once_other q r there there_too.1 front free well may
+      once_own : flight_at once_now.clients (due_at number q.source) ≡ Some (joins.flight board shadow (settle order) follows.explains follows.ahead number client once_other q r n (shadow.fate n) there there_too.1 front free well may any_fated)
+      once_own = joins.own_here board shadow (settle order) follows.explains follows.ahead number client once_other q r n (shadow.fate n) there there_too.1 front free well may any_fated
 
       once_flights : (i : Place) → (i ≡ due_at number q.source → ⊥) → is_some (flight_at once_now.clients i) ≡ is_some (flight_at board.clients i)
       once_flights i differ =
           ap (λ (o : Option InFlight). is_some o)
-          (joins.others_here board shadow (settle order) follows.explains follows.ahead number client once_other q r there there_too.1 front free well may i differ) ∙ grind arith
+          (joins.others_here board shadow (settle order) follows.explains follows.ahead number client once_other q r n (shadow.fate n) there there_too.1 front free well may any_fated i differ) ∙ grind arith
 
       once_marked : (one : Entry) → IsMarked board.clients one → (one.whole ≡ false → IsOpen board shadow one) → IsMarked once_now.clients one
       once_marked one was open_one alive = by_place (cases_place (place_of one) (due_at number q.source))
@@ -329,12 +387,14 @@ module _ (board : Board) (shadow : Shadow) (order : Order) (follows : Follows bo
       once_failing one was marked whole alive flight there_now = by_place (cases_place (place_of one) (due_at number q.source))
         where
           by_place : (place_of one ≡ due_at number q.source) ⊎ (place_of one ≡ due_at number q.source → ⊥)
-              → flight.footprint.failed ≡ failed_at board.errors board.memory.faults board.memory.regions one
+              → (flight.footprint.failed ≡ failed_at board.errors board.memory.faults board.memory.regions one) × ActsAs board one.request flight.footprint
           by_place (inr differ) =
               let before_it = was_beside (joining_on board q) (flight_at board.clients (place_of one)) flight
-              (sym (joins.others_here board shadow (settle order) follows.explains follows.ahead number client once_other q r there there_too.1 front free well may (place_of one) differ)
+              (sym (joins.others_here board shadow (settle order) follows.explains follows.ahead number client once_other q r n (shadow.fate n) there there_too.1 front free well may any_fated (place_of one) differ)
               ∙ there_now) in
-              sym (ap (λ (f : InFlight). f.footprint.failed) before_it.2) ∙ was whole alive before_it.0 before_it.1
+              let known = was whole alive before_it.0 before_it.1 in
+              subst (λ (f : InFlight). (f.footprint.failed ≡ failed_at board.errors board.memory.faults board.memory.regions one) × ActsAs board one.request f.footprint) before_it.2
+              (known.0, acts_beside board one.request before_it.0.footprint (joining_on board q) known.1)
           by_place (inl same) =
               let unwhole : one.whole ≡ false =
               marked alive ∙ ap (λ (p : Place). is_some (flight_at board.clients p)) same
@@ -344,22 +404,38 @@ module _ (board : Board) (shadow : Shadow) (order : Order) (follows : Follows bo
       own_failing : IsFailing once_now once_entry
       own_failing whole alive flight there_now =
           let own_place : place_of once_entry ≡ due_at number q.source = ap (due_at number) (sym once_source) in
-          let one : Some (joins.flight board shadow (settle order) follows.explains follows.ahead number client once_other q r there there_too.1 front free well may) ≡ Some flight =
+          let one : Some (joins.flight board shadow (settle order) follows.explains follows.ahead number client once_other q r n (shadow.fate n) there there_too.1 front free well may any_fated) ≡ Some flight =
           sym once_own ∙ ap (flight_at once_now.clients) (sym own_place) ∙ there_now in
-          let it : joins.flight board shadow (settle order) follows.explains follows.ahead number client once_other q r there there_too.1 front free well may ≡ flight = cc (one) in
-          sym (ap (λ (f : InFlight). f.footprint.failed) it)
-          ∙ joins.mine_failed board shadow (settle order) follows.explains follows.ahead number client once_other q r there there_too.1 front free well may
-          ∙ fails_as board.errors number board.memory q r may
+          let it : joins.flight board shadow (settle order) follows.explains follows.ahead number client once_other q r n (shadow.fate n) there there_too.1 front free well may any_fated ≡ flight = cc (one) in
+          subst (λ (f : InFlight). (f.footprint.failed ≡ failed_at board.errors board.memory.faults board.memory.regions once_entry) × ActsAs board r f.footprint) it (
+            joins.mine_failed board shadow (settle order) follows.explains follows.ahead number client once_other q r n (shadow.fate n) there there_too.1 front free well may any_fated ∙ fails_as board.errors number board.memory q r true n may.fields,
+            acts_as board q r (joining_on board q) may.fields (joins.mine_acts board shadow (settle order) follows.explains follows.ahead number client once_other q r n (shadow.fate n) there there_too.1 front free well may any_fated),
+          )
 
-      pub once_follows : IsFollowed (joined_on board number client q (joining_on board q)) (before ++ record (entry_of board.errors number q true) { request = r } ∷ after)
+      once_fated : (one : Entry) → IsFated shadow one → IsMarked board.clients one → IsFated once_shadow one
+      once_fated one was marked whole alive = by_place (cases_place (place_of one) (due_at number q.source))
+        where
+          by_place : (place_of one ≡ due_at number q.source) ⊎ (place_of one ≡ due_at number q.source → ⊥) → once_shadow.fates (place_of one) ≡ shadow.fate one.number
+          by_place (inr differ) = fates_other shadow.fates (due_at number q.source) (shadow.fate n) (place_of one) differ ∙ was whole alive
+          by_place (inl same) =
+              let unwhole : one.whole ≡ false =
+              marked alive ∙ ap (λ (p : Place). is_some (flight_at board.clients p)) same
+              ∙ ap (λ (o : Option InFlight). is_some o) (none_here board shadow follows.ahead number q.source client there front free) in
+              absurd (cc (sym whole ∙ unwhole))
+
+      own_fated : IsFated once_shadow once_entry
+      own_fated whole alive = ap once_shadow.fates (ap (due_at number) (sym once_source)) ∙ fates_own shadow.fates (due_at number q.source) (shadow.fate n)
+
+      pub once_follows : IsFollowed shadow.fate (joined_on board number client q (joining_on board q))
+          (before ++ record (first_of board.errors number q true n) { request = r } ∷ after)
       once_follows = (
         once_shadow,
         record {
           explains =
               subst (Explains (shadow_of once_now once_shadow)) (sym (settle_put before after once_entry))
-              (explains_joined (shadow_of board shadow) number once_other r there_too.1 once_free (settle before) (settle after)
-              (well_as board.errors number q r may well) none_settled explains_parts);
-          ahead = joins.once_ahead board shadow (settle order) follows.explains follows.ahead number client once_other q r there there_too.1 front free well may;
+              (explains_joined (shadow_of board shadow) number once_other r there_too.1 once_free n (settle before) (settle after)
+              (well_as board.errors number q r n (shadow.fate n) may well) none_settled explains_parts);
+          ahead = joins.once_ahead board shadow (settle order) follows.explains follows.ahead number client once_other q r n (shadow.fate n) there there_too.1 front free well may any_fated;
           marked =
               all_with (IsMarked once_now.clients) before after once_entry
               (all_both (IsMarked board.clients) (λ one. one.whole ≡ false → IsOpen board shadow one) (IsMarked once_now.clients) (before ++ after) once_marked
@@ -370,6 +446,11 @@ module _ (board : Board) (shadow : Shadow) (order : Order) (follows : Follows bo
               all_with (IsFailing once_now) before after once_entry
               (all_both (IsFailing board) (IsMarked board.clients) (IsFailing once_now) (before ++ after) once_failing
               (subst (AllByRecursion (IsFailing board)) parts follows.failing) (subst (AllByRecursion (IsMarked board.clients)) parts follows.marked)) own_failing;
+          fated =
+              all_with (IsFated once_shadow) before after once_entry
+              (all_both (IsFated shadow) (IsMarked board.clients) (IsFated once_shadow) (before ++ after) once_fated
+              (subst (AllByRecursion (IsFated shadow)) parts follows.fated) (subst (AllByRecursion (IsMarked board.clients)) parts follows.marked)) own_fated;
+          any_fated = follows.any_fated;
           open_ones =
               all_with (λ one. one.whole ≡ false → IsOpen once_now once_shadow one) before after once_entry
               (all-map (λ one. one.whole ≡ false → IsOpen board shadow one) (λ one. one.whole ≡ false → IsOpen once_now once_shadow one) (before ++ after)
@@ -384,6 +465,8 @@ module _ (board : Board) (shadow : Shadow) (order : Order) (follows : Follows bo
                 early = once_early one.client apart ∙ it.early;
                 replied = it.replied ∙ ap (replied_by board.errors) (sym (once_early one.client apart));
                 failed = ap (λ (r : Footprint). r.failed) (once_coming one.client apart) ∙ it.failed;
+                acts = subst (ActsAs board one.request) (sym (once_coming one.client apart))
+                    (acts_beside board one.request (coming_at board.clients one.client) (joining_on board q) it.acts);
               })
               (subst (AllByRecursion (λ one. one.whole ≡ false → IsOpen board shadow one)) parts follows.open_ones))
               (λ unwhole. absurd (cc (unwhole)));
@@ -393,16 +476,19 @@ module _ (board : Board) (shadow : Shadow) (order : Order) (follows : Follows bo
           early = λ c due is. elim (cases_eq c number) [
             | inl same ↦
                 absurd (cc (sym (ap (early_at once_now.clients) same
-                ∙ joins.early_own board shadow (settle order) follows.explains follows.ahead number client once_other q r there there_too.1 front free well may) ∙ is))
+                ∙ joins.early_own board shadow (settle order) follows.explains follows.ahead number client once_other q r n (shadow.fate n) there there_too.1 front free well may any_fated) ∙ is))
             | inr differ ↦ once_comes c differ ∙ follows.early c due (sym (once_early c differ) ∙ is)
           ];
         },
+        refl,
       )
 
   -- ---- a request that had begun is whole
 
   module _ (q : WholeRequest) (some : is_some client.front ≡ true) (free : list_any (is_of_source q.source) client.flights.due ≡ false)
-      (well : IsWell q) (becomes : AllByRecursion (λ entry. is_coming number entry ≡ true → MayBecome (entry_of board.errors number q true) entry.request) order) where
+      (well : IsWell q)
+      (becomes : AllByRecursion (λ entry. is_coming number entry ≡ true → MayBecome (fated_of shadow.fate board.errors number q true entry.number) entry.request) order)
+      (ends : AllByRecursion (HasFate shadow.fate) (map (finished board.errors number q) order)) where
     -- it is in flight, whether or not its reply came before
     abbrev given_now : Board
     given_now =
@@ -419,38 +505,77 @@ module _ (board : Board) (shadow : Shadow) (order : Order) (follows : Follows bo
     abbrev final : WholeRequest
     final = shadow.finals number
 
-    may : MayBecome (entry_of board.errors number q true) final
-    may =
-        let found = some_passes (λ entry. (entry.whole ≡ false → IsOpen board shadow entry) × (is_coming number entry ≡ true → MayBecome (entry_of board.errors number q true) entry.request))
-        (is_coming number) order
-        (all_both (λ entry. entry.whole ≡ false → IsOpen board shadow entry) (λ entry. is_coming number entry ≡ true → MayBecome (entry_of board.errors number q true) entry.request)
-        (λ entry. (entry.whole ≡ false → IsOpen board shadow entry) × (is_coming number entry ≡ true → MayBecome (entry_of board.errors number q true) entry.request)) order
-        (λ entry one other. (one, other)) follows.open_ones becomes) (follows.known number comes_it) in
-        let parts = coming_parts number found.0 found.2 in
-        subst (MayBecome (entry_of board.errors number q true)) ((found.1.0 parts.1).final ∙ ap shadow.finals parts.0) (found.1.1 found.2)
+    -- where one in the order is that isn't whole
+    coming_there : (entry : Entry) → (entry.whole ≡ false → IsOpen board shadow entry)
+        → (is_coming number entry ≡ true → MayBecome (fated_of shadow.fate board.errors number q true entry.number) entry.request) → is_coming number entry ≡ true
+        → (has_ended entry ≡ false) × (place_of entry ≡ due_at number q.source)
+    coming_there entry opened becoming is =
+        let parts = coming_parts number entry is in
+        let came = (opened parts.1).none_came in
+        let source = ap (λ (x : WholeRequest). x.source) (becoming is).fields in
+        (grind (arith, nat_tests, came, some_beats entry.request), grind (arith, nat_tests, parts.0, came, source))
 
-    given_own : flight_at given_now.clients (due_at number q.source) ≡ Some (gives.flight board shadow follows.ahead number client q final there comes_it refl may well free)
-    given_own = gives.own_here board shadow follows.ahead number client q final there comes_it refl may well free
+    -- there is one, and no other
+    numbers : (n : ℕ) × AllByRecursion (λ entry. is_coming number entry ≡ true → entry.number ≡ n) order
+    numbers =
+        one_number number (due_at number q.source) order follows.explains.distinct
+        (all_both (λ entry. entry.whole ≡ false → IsOpen board shadow entry) (λ entry. is_coming number entry ≡ true → MayBecome (fated_of shadow.fate board.errors number q true entry.number) entry.request)
+        (λ entry. is_coming number entry ≡ true → (has_ended entry ≡ false) × (place_of entry ≡ due_at number q.source)) order coming_there follows.open_ones becomes)
+
+    record IsIt (entry : Entry) : Type 0 where
+      is_open : entry.whole ≡ false → IsOpen board shadow entry
+      may_become : is_coming number entry ≡ true → MayBecome (fated_of shadow.fate board.errors number q true entry.number) entry.request
+      numbered : is_coming number entry ≡ true → entry.number ≡ numbers.0
+
+    all_it : (some_order : Order) → AllByRecursion (λ entry. entry.whole ≡ false → IsOpen board shadow entry) some_order
+        → AllByRecursion (λ entry. is_coming number entry ≡ true → MayBecome (fated_of shadow.fate board.errors number q true entry.number) entry.request) some_order
+        → AllByRecursion (λ entry. is_coming number entry ≡ true → entry.number ≡ numbers.0) some_order → AllByRecursion IsIt some_order
+    all_it [] opened becoming ones = tt
+    all_it (entry ∷ rest) opened becoming ones =
+        (record { is_open = opened.0; may_become = becoming.0; numbered = ones.0 }, all_it rest opened.1 becoming.1 ones.1)
+
+    found : (entry : Entry) × IsIt entry × (is_coming number entry ≡ true)
+    found = some_passes IsIt (is_coming number) order (all_it order follows.open_ones becomes numbers.1) (follows.known number comes_it)
+
+    abbrev n : ℕ
+    n = numbers.0
+
+    fated_any : shadow.fate numbers.0 ≡ true → board.errors ≡ Any
+    fated_any = follows.any_fated numbers.0
+
+    may : MayBecome (FatedOf board.errors number q numbers.0 (shadow.fate numbers.0)) final
+    may =
+        let parts = coming_parts number found.0 found.2 in
+        subst (λ (k : ℕ). MayBecome (fated_of shadow.fate board.errors number q true k) final) (found.1.numbered found.2)
+        (subst (MayBecome (fated_of shadow.fate board.errors number q true found.0.number)) ((found.1.is_open parts.1).final ∙ ap shadow.finals parts.0)
+        (found.1.may_become found.2))
+
+    -- the shadow knows then whether it is fated
+    abbrev given_shadow : Shadow
+    given_shadow = record shadow { fates = fates_with shadow.fates (due_at number q.source) (shadow.fate numbers.0) }
+
+    given_own : flight_at given_now.clients (due_at number q.source) ≡ Some (gives.flight board shadow follows.ahead number client q final numbers.0 (shadow.fate numbers.0) there comes_it refl may fated_any well free)
+    given_own = gives.own_here board shadow follows.ahead number client q final numbers.0 (shadow.fate numbers.0) there comes_it refl may fated_any well free
 
     given_others : (i : Place) → (i ≡ due_at number q.source → ⊥) → flight_at given_now.clients i ≡ flight_at board.clients i
-    given_others = gives.others_here board shadow follows.ahead number client q final there comes_it refl may well free
+    given_others = gives.others_here board shadow follows.ahead number client q final numbers.0 (shadow.fate numbers.0) there comes_it refl may fated_any well free
 
     given_apart : (c : ℕ) → comes given_now.clients c ≡ true → c ≡ number → ⊥
-    given_apart = gives.apart_now board shadow follows.ahead number client q final there comes_it refl may well free
+    given_apart = gives.apart_now board shadow follows.ahead number client q final numbers.0 (shadow.fate numbers.0) there comes_it refl may fated_any well free
 
     given_comes : (c : ℕ) → (c ≡ number → ⊥) → comes given_now.clients c ≡ comes board.clients c
-    given_comes = gives.comes_others board shadow follows.ahead number client q final there comes_it refl may well free
+    given_comes = gives.comes_others board shadow follows.ahead number client q final numbers.0 (shadow.fate numbers.0) there comes_it refl may fated_any well free
 
     given_early : (c : ℕ) → (c ≡ number → ⊥) → early_at given_now.clients c ≡ early_at board.clients c
-    given_early = gives.early_others board shadow follows.ahead number client q final there comes_it refl may well free
+    given_early = gives.early_others board shadow follows.ahead number client q final numbers.0 (shadow.fate numbers.0) there comes_it refl may fated_any well free
 
     given_coming : (c : ℕ) → (c ≡ number → ⊥) → coming_at given_now.clients c ≡ coming_at board.clients c
-    given_coming = gives.coming_others board shadow follows.ahead number client q final there comes_it refl may well free
+    given_coming = gives.coming_others board shadow follows.ahead number client q final numbers.0 (shadow.fate numbers.0) there comes_it refl may fated_any well free
 
     none_due : flight_at board.clients (due_at number q.source) ≡ None
     none_due = ap (λ (f : Flights). due_to f q.source) (ap flights_in there) ∙ none_found q.source client.flights.due free
 
-    given_marked : (entry : Entry) → IsMarked board.clients entry → (entry.whole ≡ false → IsOpen board shadow entry) → (is_coming number entry ≡ true → MayBecome (entry_of board.errors number q true) entry.request)
+    given_marked : (entry : Entry) → IsMarked board.clients entry → (entry.whole ≡ false → IsOpen board shadow entry) → (is_coming number entry ≡ true → MayBecome (fated_of shadow.fate board.errors number q true entry.number) entry.request)
         → IsMarked given_now.clients (made_whole board.errors number q entry)
     given_marked entry was open_one becoming = by_coming (is_coming number entry) refl
       where
@@ -479,13 +604,13 @@ module _ (board : Board) (shadow : Shadow) (order : Order) (follows : Follows bo
             subst (IsMarked given_now.clients) (sym (made_not board.errors number q entry is)) (λ alive. by_place is alive (cases_place (place_of entry) (due_at number q.source)))
 
     given_failing : (entry : Entry) → IsFailing board entry → IsMarked board.clients entry → (entry.whole ≡ false → IsOpen board shadow entry)
-        → (is_coming number entry ≡ true → MayBecome (entry_of board.errors number q true) entry.request) → IsFailing given_now (made_whole board.errors number q entry)
+        → (is_coming number entry ≡ true → MayBecome (fated_of shadow.fate board.errors number q true entry.number) entry.request) → IsFailing given_now (made_whole board.errors number q entry)
     given_failing entry was marked opened becoming = by_coming (is_coming number entry) refl
       where
         by_place : is_coming number entry ≡ false → entry.whole ≡ true → has_ended entry ≡ false → (flight : InFlight)
             → flight_at given_now.clients (place_of entry) ≡ Some flight
             → (place_of entry ≡ due_at number q.source) ⊎ (place_of entry ≡ due_at number q.source → ⊥)
-            → flight.footprint.failed ≡ failed_at board.errors board.memory.faults board.memory.regions entry
+            → (flight.footprint.failed ≡ failed_at board.errors board.memory.faults board.memory.regions entry) × ActsAs board entry.request flight.footprint
         by_place none whole alive flight there_now (inr differ) = was whole alive flight (sym (given_others (place_of entry) differ) ∙ there_now)
         by_place none whole alive flight there_now (inl same) =
             let unwhole : entry.whole ≡ false =
@@ -503,27 +628,31 @@ module _ (board : Board) (shadow : Shadow) (order : Order) (follows : Follows bo
             let came = (opened parts.1).none_came in
             let source = ap (λ (x : WholeRequest). x.source) (becoming is).fields in
             let its_place : place_of entry ≡ due_at number q.source = grind (arith, nat_tests, parts.0, came, source) in
-            let one : Some (gives.flight board shadow follows.ahead number client q final there comes_it refl may well free) ≡ Some flight =
+            let one : Some (gives.flight board shadow follows.ahead number client q final numbers.0 (shadow.fate numbers.0) there comes_it refl may fated_any well free) ≡ Some flight =
             sym given_own ∙ ap (flight_at given_now.clients) (sym its_place) ∙ there_now in
-            let it : gives.flight board shadow follows.ahead number client q final there comes_it refl may well free ≡ flight = cc (one) in
-            sym (ap (λ (f : InFlight). f.footprint.failed) it)
-            ∙ gives.kept_failed board shadow follows.ahead number client q final there comes_it refl may well free
-            ∙ fails_as board.errors number board.memory q entry.request (becoming is)
-            ∙ failed_by board.errors board.memory.faults board.memory.regions (record (entry_of board.errors number q true) { request = entry.request })
-            (record entry { whole = true; spoiled = is_spoiled board.errors q; early = false }) refl refl)
-
+            let it : gives.flight board shadow follows.ahead number client q final numbers.0 (shadow.fate numbers.0) there comes_it refl may fated_any well free ≡ flight = cc (one) in
+            let opens = opened parts.1 in
+            let own_coming : client.coming.failed ≡ failed_at board.errors board.memory.faults board.memory.regions entry =
+            sym (ap (λ (o : Option ClientBoard). (coming_in o).failed) there) ∙ sym (ap (λ c. (coming_at board.clients c).failed) parts.0) ∙ opens.failed in
+            subst (λ (f : InFlight). (f.footprint.failed ≡ failed_at board.errors board.memory.faults board.memory.regions
+            (record entry { whole = true; spoiled = entry.spoiled || is_spoiled board.errors q; early = false })) × ActsAs board entry.request f.footprint) it (
+              gives.kept_failed board shadow follows.ahead number client q final numbers.0 (shadow.fate numbers.0) there comes_it refl may fated_any well free
+                  ∙ ap₂ (λ (a b : Bool). a || b) own_coming (fails_as board.errors number board.memory q entry.request true n (becoming is).fields)
+                  ∙ both_failed board.errors board.memory.faults board.memory.regions entry q number n,
+              acts_as board q entry.request (coming_on board q client.coming) (becoming is).fields (gives.kept_acts board shadow follows.ahead number client q final numbers.0 (shadow.fate numbers.0) there comes_it refl may fated_any well free),
+            ))
     given_open : (entry : Entry) → (entry.whole ≡ false → IsOpen board shadow entry) → (made_whole board.errors number q entry).whole ≡ false
-        → IsOpen given_now shadow (made_whole board.errors number q entry)
+        → IsOpen given_now given_shadow (made_whole board.errors number q entry)
     given_open entry was unwhole = by_coming (is_coming number entry) refl
       where
-        by_coming : (b : Bool) → is_coming number entry ≡ b → IsOpen given_now shadow (made_whole board.errors number q entry)
+        by_coming : (b : Bool) → is_coming number entry ≡ b → IsOpen given_now given_shadow (made_whole board.errors number q entry)
         by_coming true is = absurd (cc (sym (ap (λ (e : Entry). e.whole) (made_is board.errors number q entry is)) ∙ unwhole))
         by_coming false is =
             let still = made_not board.errors number q entry is in
             let not_whole = sym (ap (λ (e : Entry). e.whole) still) ∙ unwhole in
             let it = was not_whole in
             let differ : entry.client ≡ number → ⊥ = λ same. grind (arith, nat_tests, is, same, not_whole) in
-            subst (IsOpen given_now shadow) (sym still)
+            subst (IsOpen given_now given_shadow) (sym still)
             (record {
               begun = given_comes entry.client differ ∙ it.begun;
               final = it.final;
@@ -532,17 +661,40 @@ module _ (board : Board) (shadow : Shadow) (order : Order) (follows : Follows bo
               early = given_early entry.client differ ∙ it.early;
               replied = it.replied ∙ ap (replied_by board.errors) (sym (given_early entry.client differ));
               failed = ap (λ (r : Footprint). r.failed) (given_coming entry.client differ) ∙ it.failed;
+              acts = subst (ActsAs board entry.request) (sym (given_coming entry.client differ)) it.acts;
             })
 
-    whole_follows : Follows given_now shadow (map (made_whole board.errors number q) order)
+    given_fated : (entry : Entry) → IsFated shadow entry → IsMarked board.clients entry → (entry.whole ≡ false → IsOpen board shadow entry)
+        → (is_coming number entry ≡ true → MayBecome (fated_of shadow.fate board.errors number q true entry.number) entry.request)
+        → (is_coming number entry ≡ true → entry.number ≡ numbers.0) → IsFated given_shadow (made_whole board.errors number q entry)
+    given_fated entry was marked opened becoming one = by_coming (is_coming number entry) refl
+      where
+        by_coming : (b : Bool) → is_coming number entry ≡ b → IsFated given_shadow (made_whole board.errors number q entry)
+        by_coming true is =
+            subst (IsFated given_shadow) (sym (made_is board.errors number q entry is))
+            (λ whole alive. ap given_shadow.fates (coming_there entry opened becoming is).1
+            ∙ fates_own shadow.fates (due_at number q.source) (shadow.fate numbers.0) ∙ ap shadow.fate (sym (one is)))
+        by_coming false is =
+            subst (IsFated given_shadow) (sym (made_not board.errors number q entry is))
+            (λ whole alive. elim (cases_place (place_of entry) (due_at number q.source)) [
+              | inl same ↦
+                  let unwhole : entry.whole ≡ false =
+                  marked alive ∙ ap (λ (p : Place). is_some (flight_at board.clients p)) same ∙ ap (λ (o : Option InFlight). is_some o) none_due in
+                  absurd (cc (sym whole ∙ unwhole))
+              | inr differ ↦ fates_other shadow.fates (due_at number q.source) (shadow.fate numbers.0) (place_of entry) differ ∙ was whole alive
+            ])
+
+    whole_follows : Follows given_now given_shadow (map (made_whole board.errors number q) order)
     whole_follows =
         record {
           explains = subst (Explains (shadow_of board shadow)) (sym (settle_made board.errors number q order)) follows.explains;
-          ahead = gives.given_ahead board shadow follows.ahead number client q final there comes_it refl may well free;
+          ahead = gives.given_ahead board shadow follows.ahead number client q final numbers.0 (shadow.fate numbers.0) there comes_it refl may fated_any well free;
           marked = given_marks order follows.marked follows.open_ones becomes;
           failing = given_fails order follows.failing follows.marked follows.open_ones becomes;
+          fated = given_fates order follows.fated follows.marked follows.open_ones becomes numbers.1;
+          any_fated = follows.any_fated;
           open_ones =
-              all_mapped (λ entry. entry.whole ≡ false → IsOpen board shadow entry) (λ entry. entry.whole ≡ false → IsOpen given_now shadow entry) (made_whole board.errors number q) order
+              all_mapped (λ entry. entry.whole ≡ false → IsOpen board shadow entry) (λ entry. entry.whole ≡ false → IsOpen given_now given_shadow entry) (made_whole board.errors number q) order
               given_open follows.open_ones;
           known = λ c comes_now.
               let differ = given_apart c comes_now in
@@ -557,15 +709,24 @@ module _ (board : Board) (shadow : Shadow) (order : Order) (follows : Follows bo
         }
       where
         given_marks : (some_order : Order) → AllByRecursion (IsMarked board.clients) some_order → AllByRecursion (λ entry. entry.whole ≡ false → IsOpen board shadow entry) some_order
-            → AllByRecursion (λ entry. is_coming number entry ≡ true → MayBecome (entry_of board.errors number q true) entry.request) some_order
+            → AllByRecursion (λ entry. is_coming number entry ≡ true → MayBecome (fated_of shadow.fate board.errors number q true entry.number) entry.request) some_order
             → AllByRecursion (IsMarked given_now.clients) (map (made_whole board.errors number q) some_order)
         given_marks [] marked opened becoming = tt
         given_marks (entry ∷ rest) marked opened becoming =
             (given_marked entry marked.0 opened.0 becoming.0, given_marks rest marked.1 opened.1 becoming.1)
 
+        given_fates : (some_order : Order) → AllByRecursion (IsFated shadow) some_order → AllByRecursion (IsMarked board.clients) some_order
+            → AllByRecursion (λ entry. entry.whole ≡ false → IsOpen board shadow entry) some_order
+            → AllByRecursion (λ entry. is_coming number entry ≡ true → MayBecome (fated_of shadow.fate board.errors number q true entry.number) entry.request) some_order
+            → AllByRecursion (λ entry. is_coming number entry ≡ true → entry.number ≡ numbers.0) some_order
+            → AllByRecursion (IsFated given_shadow) (map (made_whole board.errors number q) some_order)
+        given_fates [] fates marked opened becoming ones = tt
+        given_fates (entry ∷ rest) fates marked opened becoming ones =
+            (given_fated entry fates.0 marked.0 opened.0 becoming.0 ones.0, given_fates rest fates.1 marked.1 opened.1 becoming.1 ones.1)
+
         given_fails : (some_order : Order) → AllByRecursion (IsFailing board) some_order → AllByRecursion (IsMarked board.clients) some_order
             → AllByRecursion (λ entry. entry.whole ≡ false → IsOpen board shadow entry) some_order
-            → AllByRecursion (λ entry. is_coming number entry ≡ true → MayBecome (entry_of board.errors number q true) entry.request) some_order
+            → AllByRecursion (λ entry. is_coming number entry ≡ true → MayBecome (fated_of shadow.fate board.errors number q true entry.number) entry.request) some_order
             → AllByRecursion (IsFailing given_now) (map (made_whole board.errors number q) some_order)
         given_fails [] failing marked opened becoming = tt
         given_fails (entry ∷ rest) failing marked opened becoming =
@@ -606,7 +767,7 @@ module _ (board : Board) (shadow : Shadow) (order : Order) (follows : Follows bo
     -- where it did
     finished_ended : has_replied board.errors client ≡ true → (some_order : Order) → AllByRecursion (IsMarked board.clients) some_order
         → AllByRecursion (λ entry. entry.whole ≡ false → IsOpen board shadow entry) some_order
-        → AllByRecursion (λ entry. is_coming number entry ≡ true → MayBecome (entry_of board.errors number q true) entry.request) some_order
+        → AllByRecursion (λ entry. is_coming number entry ≡ true → MayBecome (fated_of shadow.fate board.errors number q true entry.number) entry.request) some_order
         → map (ended number q.source) (map (made_whole board.errors number q) some_order) ≡ map (finished board.errors number q) some_order
     finished_ended some_reply [] marked opened becoming = refl
     finished_ended some_reply (entry ∷ rest) marked opened becoming =
@@ -643,7 +804,46 @@ module _ (board : Board) (shadow : Shadow) (order : Order) (follows : Follows bo
 
     -- ---- the board with it
 
-    pub given_follows : IsFollowed (given_on board number client q (coming_on board q client.coming)) (map (finished board.errors number q) order)
+    -- where its reply came before, the order tells that it is spoiled, if it is fated
+    spent : has_replied board.errors client ≡ true → (flight : InFlight) → flight_at given_now.clients (due_at number q.source) ≡ Some flight
+        → given_shadow.fates (due_at number q.source) ≡ true → flight.footprint.failed ≡ true
+    spent some_reply flight there_now fates =
+        by_failing (all_ended order whole_follows.failing becomes follows.open_ones ends) (follows.known number comes_it)
+      where
+        fate_is : shadow.fate numbers.0 ≡ true
+        fate_is = sym (fates_own shadow.fates (due_at number q.source) (shadow.fate numbers.0)) ∙ fates
+
+        one : (entry : Entry) → IsFailing given_now (made_whole board.errors number q entry)
+            → (is_coming number entry ≡ true → MayBecome (fated_of shadow.fate board.errors number q true entry.number) entry.request)
+            → (entry.whole ≡ false → IsOpen board shadow entry) → HasFate shadow.fate (finished board.errors number q entry) → HasFailed number numbers.0 flight entry
+        one entry failing becoming opened fated is number_is =
+            let at = coming_there entry opened becoming is in
+            let made = made_is board.errors number q entry is in
+            let came : entry.replied ≡ true = own_replied entry opened is ∙ some_reply in
+            let over : finished board.errors number q entry
+            ≡ record entry { whole = true; spoiled = entry.spoiled || is_spoiled board.errors q; early = false; came = reply_beats entry.request } = rw (is, came) refl in
+            let spoiled : (entry.spoiled || is_spoiled board.errors q) ≡ true =
+            subst (HasFate shadow.fate) over fated (grind (arith, nat_tests)) (ap shadow.fate number_is ∙ fate_is) in
+            let known = subst (IsFailing given_now) made failing refl at.0 flight (ap (flight_at given_now.clients) at.1 ∙ there_now) in
+            known.0 ∙ failed_any board.errors board.memory.faults board.memory.regions
+            (record entry { whole = true; spoiled = entry.spoiled || is_spoiled board.errors q; early = false }) (fated_any fate_is) spoiled
+
+        all_ended : (some_order : Order) → AllByRecursion (IsFailing given_now) (map (made_whole board.errors number q) some_order)
+            → AllByRecursion (λ entry. is_coming number entry ≡ true → MayBecome (fated_of shadow.fate board.errors number q true entry.number) entry.request) some_order
+            → AllByRecursion (λ entry. entry.whole ≡ false → IsOpen board shadow entry) some_order
+            → AllByRecursion (HasFate shadow.fate) (map (finished board.errors number q) some_order) → AllByRecursion (HasFailed number numbers.0 flight) some_order
+        all_ended [] failing becoming opened fated = tt
+        all_ended (entry ∷ rest) failing becoming opened fated =
+            (one entry failing.0 becoming.0 opened.0 fated.0, all_ended rest failing.1 becoming.1 opened.1 fated.1)
+
+        by_failing : AllByRecursion (HasFailed number numbers.0 flight) order → list_any (is_coming number) order ≡ true → flight.footprint.failed ≡ true
+        by_failing all some_one =
+            let its = some_passes (λ entry. HasFailed number numbers.0 flight entry × (is_coming number entry ≡ true → entry.number ≡ numbers.0)) (is_coming number) order
+            (all_both (HasFailed number numbers.0 flight) (λ entry. is_coming number entry ≡ true → entry.number ≡ numbers.0)
+            (λ entry. HasFailed number numbers.0 flight entry × (is_coming number entry ≡ true → entry.number ≡ numbers.0)) order (λ entry first second. (first, second)) all numbers.1) some_one in
+            its.1.0 its.2 (its.1.1 its.2)
+
+    pub given_follows : IsFollowed shadow.fate (given_on board number client q (coming_on board q client.coming)) (map (finished board.errors number q) order)
     given_follows = by_replied (has_replied board.errors client) refl
       where
         given_by : Bool → Board
@@ -657,13 +857,14 @@ module _ (board : Board) (shadow : Shadow) (order : Order) (follows : Follows bo
         accepted_there : slice_get given_now.clients number ≡ Some (with_accepted flight_now client)
         accepted_there = get_set board.clients number (with_accepted flight_now client) (slice_get_within board.clients number client there)
 
-        by_replied : (b : Bool) → has_replied board.errors client ≡ b → IsFollowed (given_on board number client q (coming_on board q client.coming)) (map (finished board.errors number q) order)
+        by_replied : (b : Bool) → has_replied board.errors client ≡ b → IsFollowed shadow.fate (given_on board number client q (coming_on board q client.coming)) (map (finished board.errors number q) order)
         by_replied false none =
-            subst₂ IsFollowed (ap given_by (sym none)) (finished_same none order follows.open_ones) (shadow, whole_follows)
+            subst₂ (IsFollowed shadow.fate) (ap given_by (sym none)) (finished_same none order follows.open_ones) (given_shadow, whole_follows, refl)
         by_replied true some_reply =
-            let after = removed_follows given_now shadow (map (made_whole board.errors number q) order) whole_follows number q.source
-            (with_accepted flight_now client) accepted_there (comes_same board.clients number client (with_accepted flight_now client) there) in
-            subst₂ IsFollowed
+            let after = removed_follows given_now given_shadow (map (made_whole board.errors number q) order) whole_follows number q.source
+            (with_accepted flight_now client) accepted_there (comes_same board.clients number client (with_accepted flight_now client) there)
+            (spent some_reply) in
+            subst₂ (IsFollowed shadow.fate)
             (ap {B = Board} (λ (clients : List ClientBoard). record given_now { clients = clients })
             (set-set board.clients number (with_accepted flight_now client) (without q.source (with_accepted flight_now client)) ∙ ap (set board.clients number) without_it)
             ∙ ap given_by (sym some_reply))
@@ -671,10 +872,11 @@ module _ (board : Board) (shadow : Shadow) (order : Order) (follows : Follows bo
 
 -- ---- any beat on channel A
 
-module _ (board : Board) (order new : Order) (fronts : AreFronts board.clients) (followed : IsFollowed board order) (number : ℕ) (beat : ABeat) where
+module _ (board : Board) (order new : Order) (fronts : AreFronts board.clients) (shadow : Shadow) (follows : Follows board shadow order) (number : ℕ) (beat : ABeat)
+    (ends : AllByRecursion (HasFate shadow.fate) new) where
   by_taken : (client : ClientBoard) (front : Option HeldMessage) (progress : Progress) → slice_get board.clients number ≡ Some client → client.front ≡ front
-      → answer_to RealTime client beat ≡ Ok progress → GoesOnTaken board.errors number front (request_of (joined client.limits client.front beat)) progress order new
-      → IsFollowed (answered_on RealTime board number client (joined client.limits client.front beat) (Ok progress)) new
+      → answer_to RealTime client beat ≡ Ok progress → GoesOnTaken shadow.fate board.errors number front (request_of (joined client.limits client.front beat)) progress order new
+      → IsFollowed shadow.fate (answered_on RealTime board number client (joined client.limits client.front beat) (Ok progress)) new
   by_taken client None More there front is goes =
       let message = joined client.limits client.front beat in
       let right = fronts number client there in
@@ -690,59 +892,69 @@ module _ (board : Board) (order new : Order) (fronts : AreFronts board.clients) 
       (more_no_data_back client.limits beat (is_busy RealTime client.flights beat.source)
       (subst (λ (o : Option HeldMessage). judged client.limits o beat (is_busy RealTime client.flights beat.source) ≡ Ok More) front is)) in
       let well = well_put (record (request_of message) { bytes = becomes.bytes; corrupt = becomes.corrupt }) (subst GivesBytes may.fields (may.bytes refl)) no_atomic in
-      let after = begun_follows board followed.0 order followed.1 number client there put.0 put.1 put.2 put.3 front message becomes.bytes becomes.corrupt
+      let after = begun_follows board shadow order follows number client there put.0 put.1 put.2 put.3 front message becomes.bytes becomes.corrupt
+      (length order) (shadow.fate (length order))
       (joined_free client beat More right is)
-      (subst (MayBecome (entry_of board.errors number (request_of message) false)) may.fields may) silent well in
-      subst₂ IsFollowed (ap (λ (o : Option HeldMessage). continued_on RealTime (with_client number (record client { front = Some message }) board) number
+      (subst (MayBecome (fated_of shadow.fate board.errors number (request_of message) false (length order))) may.fields may) (follows.any_fated (length order)) silent well in
+      subst₂ (IsFollowed shadow.fate) (ap (λ (o : Option HeldMessage). continued_on RealTime (with_client number (record client { front = Some message }) board) number
       (record client { front = Some message }) message (is_some o)) (sym front))
-      (ap (λ (r : WholeRequest). put.0 ++ record (entry_of board.errors number (request_of message) false) { request = r } ∷ put.1) (sym may.fields) ∙ sym put.4) after
+      (ap (λ (r : WholeRequest). put.0 ++ record (first_of board.errors number (request_of message) false (length order)) { request = r } ∷ put.1) (sym may.fields) ∙ sym put.4) after
   by_taken client None Whole there front is goes =
       let message = joined client.limits client.front beat in
       let right = fronts number client there in
       let put = goes.2 in
-      let after = once_follows board followed.0 order followed.1 number client there put.0 put.1 put.2 put.3 front (request_of message) goes.0
+      let after = once_follows board shadow order follows number client there put.0 put.1 put.2 put.3 front (request_of message) goes.0 (length order)
       (joined_free client beat Whole right is) (sound_well client.limits message (whole_sound client beat right is)) goes.1 in
-      subst₂ IsFollowed (ap (λ (o : Option HeldMessage). whole_on board number client (request_of message) (is_some o)) (sym front)) (sym put.4) after
+      subst₂ (IsFollowed shadow.fate) (ap (λ (o : Option HeldMessage). whole_on board number client (request_of message) (is_some o)) (sym front)) (sym put.4) after
   by_taken client (Some held) More there front is goes =
       let message = joined client.limits client.front beat in
       let some = ap (λ (o : Option HeldMessage). is_some o) front in
-      let further = goes_further board followed.0 order followed.1 number client there message some in
+      let further = goes_further board shadow order follows number client there message some in
       let heard_client : ClientBoard = record client { front = Some message } in
       let here : slice_get (set board.clients number heard_client) number ≡ Some heard_client =
       get_set board.clients number heard_client (slice_get_within board.clients number client there) in
-      subst₂ IsFollowed
+      subst₂ (IsFollowed shadow.fate)
       (ap (λ (o : Option HeldMessage). more_on (with_client number heard_client board) number heard_client (request_of message) (is_some o)) (sym front)) (sym goes)
       (by_spoiled heard_client (request_of message) further here (is_spoiled board.errors (request_of message)) refl)
     where
-      by_spoiled : (changed : ClientBoard) (q : WholeRequest) → Follows (with_client number changed board) followed.0 order
+      by_spoiled : (changed : ClientBoard) (q : WholeRequest) → Follows (with_client number changed board) shadow order
           → slice_get (set board.clients number changed) number ≡ Some changed → (b : Bool) → is_spoiled board.errors q ≡ b
-          → IsFollowed (more_on (with_client number changed board) number changed q true) (map (heard board.errors number q) order)
+          → IsFollowed shadow.fate (more_on (with_client number changed board) number changed q true) (map (heard board.errors number q) order)
       by_spoiled changed q further here true corrupt =
-          subst (λ (b : Bool). IsFollowed (with_client number (record changed { coming = unless_failed b changed.coming }) (with_client number changed board)) (map (heard board.errors number q) order))
-          (sym corrupt) (followed.0, spoils (with_client number changed board) followed.0 order further number changed here q corrupt)
+          subst (λ (b : Bool). IsFollowed shadow.fate (with_client number (record changed { coming = unless_failed b changed.coming }) (with_client number changed board)) (map (heard board.errors number q) order))
+          (sym corrupt) (shadow, spoils (with_client number changed board) shadow order further number changed here q corrupt, refl)
       by_spoiled changed q further here false sound =
-          subst₂ IsFollowed
+          subst₂ (IsFollowed shadow.fate)
           (ap {B = Board} (λ (clients : List ClientBoard). record board { clients = clients }) (sym (set-set board.clients number changed changed))
           ∙ ap (λ (b : Bool). with_client number (record changed { coming = unless_failed b changed.coming }) (with_client number changed board)) (sym sound))
-          (sym (heard_same board.errors number q order sound)) (followed.0, further)
+          (sym (heard_same board.errors number q order sound)) (shadow, further, refl)
   by_taken client (Some held) Whole there front is goes =
       let message = joined client.limits client.front beat in
       let right = fronts number client there in
-      let after = given_follows board followed.0 order followed.1 number client there (request_of message) (ap (λ (o : Option HeldMessage). is_some o) front)
-      (joined_free client beat Whole right is) (sound_well client.limits message (whole_sound client beat right is)) goes.1 in
-      subst₂ IsFollowed (ap (λ (o : Option HeldMessage). whole_on board number client (request_of message) (is_some o)) (sym front)) (sym goes.0) after
+      let after = given_follows board shadow order follows number client there (request_of message) (ap (λ (o : Option HeldMessage). is_some o) front)
+      (joined_free client beat Whole right is) (sound_well client.limits message (whole_sound client beat right is)) goes.1
+      (subst (AllByRecursion (HasFate shadow.fate)) goes.0 ends) in
+      subst₂ (IsFollowed shadow.fate) (ap (λ (o : Option HeldMessage). whole_on board number client (request_of message) (is_some o)) (sym front)) (sym goes.0) after
 
   by_answer : (client : ClientBoard) (answer : Result Progress TlRule) → slice_get board.clients number ≡ Some client → answer_to RealTime client beat ≡ answer
-      → GoesOnAnswered board.errors number client.front (joined client.limits client.front beat) answer order new
-      → IsFollowed (answered_on RealTime board number client (joined client.limits client.front beat) answer) new
-  by_answer client (Err rule) there is goes = subst (IsFollowed board) (sym goes) followed
+      → GoesOnAnswered shadow.fate board.errors number client.front (joined client.limits client.front beat) answer order new
+      → IsFollowed shadow.fate (answered_on RealTime board number client (joined client.limits client.front beat) answer) new
+  by_answer client (Err rule) there is goes = subst (IsFollowed shadow.fate board) (sym goes) (shadow, follows, refl)
   by_answer client (Ok progress) there is goes = by_taken client client.front progress there refl is goes
 
-  by_client : (found : Option ClientBoard) → slice_get board.clients number ≡ found → GoesOnRequest board.errors number found beat order new
-      → IsFollowed (after_a RealTime board number found beat) new
-  by_client None there goes = subst (IsFollowed board) (sym goes) followed
+  by_client : (found : Option ClientBoard) → slice_get board.clients number ≡ found → GoesOnRequest shadow.fate board.errors number found beat order new
+      → IsFollowed shadow.fate (after_a RealTime board number found beat) new
+  by_client None there goes = subst (IsFollowed shadow.fate board) (sym goes) (shadow, follows, refl)
   by_client (Some client) there goes = by_answer client (answer_to RealTime client beat) there refl goes
 
-  pub follows_request : GoesOnRequest board.errors number (slice_get board.clients number) beat order new
-      → IsFollowed (after_a RealTime board number (slice_get board.clients number) beat) new
-  follows_request goes = by_client (slice_get board.clients number) refl goes
+  followed_on : GoesOnRequest shadow.fate board.errors number (slice_get board.clients number) beat order new
+      → IsFollowed shadow.fate (after_a RealTime board number (slice_get board.clients number) beat) new
+  followed_on goes = by_client (slice_get board.clients number) refl goes
+
+pub follows_request : (fate : ℕ → Bool) (board : Board) (order new : Order) → AreFronts board.clients → IsFollowed fate board order → (number : ℕ) (beat : ABeat)
+    → AllByRecursion (HasFate fate) new → GoesOnRequest fate board.errors number (slice_get board.clients number) beat order new
+    → IsFollowed fate (after_a RealTime board number (slice_get board.clients number) beat) new
+follows_request fate board order new fronts followed number beat =
+    subst (λ (f : ℕ → Bool). AllByRecursion (HasFate f) new → GoesOnRequest f board.errors number (slice_get board.clients number) beat order new
+    → IsFollowed f (after_a RealTime board number (slice_get board.clients number) beat) new) followed.2
+    (λ ends goes. followed_on board order new fronts followed.0 followed.1 number beat ends goes)

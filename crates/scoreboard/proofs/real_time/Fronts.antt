@@ -14,7 +14,9 @@ use Rattle.tl_checker.specs.declared.Progress.{Progress}
 use Rattle.tl_checker.specs.declared.Progress.TheVariants.{More, Whole}
 use Rattle.tl_checker.specs.declared.TlRule.{TlRule}
 use Rattle.setups.specs.Setups.{SetupLists}
-use Rattle.scoreboard.specs.Boards.{Board, ClientBoard, after_a, after_d, after_seen, answer_to, answered_on, client_beside, coming_on, early_after, early_due, flight_for, has_replied, is_spoiled, joining_on, more_on, opening_board, told_to, whole_on, with_accepted, with_client, with_whole}
+use Rattle.scoreboard.specs.AxiPorts.{port_after}
+use Rattle.scoreboard.specs.Boards.{Board, ClientBoard, after_a, after_d, after_seen, answer_to, answered_on, client_beside, coming_on, early_after, early_due, flight_for, has_replied, hit_client, hit_on, is_spoiled, joining_on, more_on, opening_board, told_to, whole_on, with_accepted, with_client, with_whole}
+use Rattle.scoreboard.specs.FailedBursts.{Span, failed_span, hit_flight}
 use Rattle.scoreboard.specs.Flights.{Footprint, InFlight, flights_after, is_of_source}
 use Rattle.scoreboard.specs.InsideBoards.{front_after}
 use Rattle.scoreboard.specs.Races.{flight_beside, unless_failed}
@@ -118,11 +120,30 @@ fronts_reply board number beat are = by_client (slice_get board.clients number) 
         each_client IsFrontRight board.clients number client (record client { flights = flights_after client.flights beat.source; early = early_after client beat.source; told = unwrap_or (told_to client) beat.denied }) there are
         (record { heard = right.heard; free = still client client.front right.free })
 
+-- ---- an error response
+
+-- each client that a change leaves was one before
+pub changed_from : (change : ClientBoard → ClientBoard) (clients : List ClientBoard) (number : ℕ) (client : ClientBoard) → slice_get (map change clients) number ≡ Some client
+    → (was : ClientBoard) × (slice_get clients number ≡ Some was) × (change was ≡ client)
+changed_from change [] number client is = absurd (cc (is))
+changed_from change (first ∷ clients) zero client is = (first, refl, cc (is))
+changed_from change (first ∷ clients) (suc number) client is = changed_from change clients number client is
+
+fronts_hit : (span : Option Span) (board : Board) → AreFronts board.clients → AreFronts (hit_on span board).clients
+fronts_hit None board are number client is = are number client is
+fronts_hit (Some span) board are number client is =
+    let was = changed_from (hit_client span) board.clients number client is in
+    let right = are number was.0 was.1 in
+    subst IsFrontRight was.2 (record {
+      heard = right.heard;
+      free = IfSome_then was.0.front right.free (λ held free. any_map (is_of_source held.source) (hit_flight span) was.0.flights.due ∙ free);
+    })
+
 -- with any beat
 pub fronts_next : (board : Board) (seen : ObservedBeat) → AreFronts board.clients → AreFronts (after_seen RealTime board seen).clients
 fronts_next board (A number beat) are = fronts_request board number beat are
 fronts_next board (D number beat) are = fronts_reply board number beat are
-fronts_next board (OnAxi beat) are = are
+fronts_next board (OnAxi beat) are = fronts_hit (failed_span board.errors board.axi beat) (record board { axi = port_after RealTime board.axi beat }) are
 fronts_next board Drained are = are
 
 -- at the start nothing has begun
@@ -214,3 +235,12 @@ front_replied board number other beat = by_client (slice_get board.clients numbe
     by_client None there = refl
     by_client (Some client) there =
         front_kept board.clients number other client (record client { flights = flights_after client.flights beat.source; early = early_after client beat.source; told = unwrap_or (told_to client) beat.denied }) there refl
+
+-- with an error response
+pub front_hit : (span : Option Span) (board : Board) (other : ℕ) → front_at (hit_on span board).clients other ≡ front_at board.clients other
+front_hit None board other = refl
+front_hit (Some span) board other = ap front_of (slice_get-map (hit_client span) board.clients other) ∙ by_client (slice_get board.clients other)
+  where
+    by_client : (o : Option ClientBoard) → front_of (option_map (hit_client span) o) ≡ front_of o
+    by_client None = refl
+    by_client (Some client) = refl

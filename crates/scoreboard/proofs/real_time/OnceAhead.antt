@@ -2,38 +2,40 @@
 use Rattle.std.proofs.Common.{◌≡◌, ℕ, ◌<◌, ◌+◌, ◌^◌, Bool, nat_le, nat_lt, true, false, ◌&&◌, ◌||◌, not, List, drop, map, set, length, Option, Some, None, ◌⊎◌, inl, inr, refl, sym, ◌∙◌, ap, subst}
 use Rattle.std.specs.Prelude.{is_some, option_map, slice_get}
 use Rattle.std.specs.List.{list_all, list_any, range_with_len}
-use Rattle.std.proofs.lemmas.Bool.{and_parts, both_ways, false_from_ne_true, not-false, not-true, or_parts, or_right}
+use Rattle.std.proofs.lemmas.Bool.{and_parts, both_ways, cases_Bool, false_from_ne_true, not-false, not-true, or_parts, or_right}
 use Rattle.std.proofs.lemmas.List.{length-map, length-set}
 use Rattle.std.proofs.lemmas.Option.{slice_get-map}
+use Rattle.bus_words.specs.Lanes.{given_at}
 use Rattle.tl_messages.specs.Operations.{reply_has_data}
 use Rattle.tl_messages.specs.Requests.{WholeRequest}
 use Rattle.burst_plan.specs.declared.Region.{Region}
 use Rattle.responses.specs.Shown.{shown}
 use Rattle.subordinate.specs.Faults.{Faults}
 use Rattle.meaning.specs.Meaning.{meaning}
-use Rattle.scoreboard.specs.Boards.{Board, ClientBoard, client_beside, fails, flight_for, footprints_of, joined_on, joining_on, place_on, with_accepted}
+use Rattle.scoreboard.specs.Boards.{Board, ClientBoard, client_beside, fails, flight_for, footprints_of, is_spoiled, joined_on, joining_on, place_on, with_accepted}
 use Rattle.scoreboard.specs.Flights.{Footprint, InFlight, is_of_source}
 use Rattle.scoreboard.specs.Orders.{Order}
 use Rattle.scoreboard.specs.Races.{after_given, after_joining, alone as alone_of, beside, covers, flight_beside, is_fixed, joining, may_write}
-use Rattle.scoreboard.specs.RealTime.{MayBecome, entry_of}
+use Rattle.scoreboard.specs.RealTime.{MayBecome}
 use Rattle.scoreboard.specs.SerialMemory.{place_in}
+use Rattle.scoreboard.specs.declared.Errors.TheVariants.{Any}
 use Rattle.scoreboard.proofs.MappedLists.{any_map}
 use Rattle.scoreboard.proofs.real_time.Acceptance.{other_flight, own_flight, sources_beside}
-use Rattle.scoreboard.proofs.real_time.Ahead.{HasBecome, HasBeside, IsAhead, IsBehind, IsFinal, IsGiven, IsSame, IsWithin, Shadow, comes, none_given, shadow_of, shadow_touches, shadow_writes, touches, will_give, within_writes}
+use Rattle.scoreboard.proofs.real_time.Ahead.{HasBecome, HasBeside, IsAhead, IsBehind, IsFinal, IsGiven, IsSame, IsWithin, NoneFated, Shadow, comes, fates_other, fates_own, fates_with, none_given, shadow_of, shadow_touches, shadow_writes, touches, will_give, within_writes}
 use Rattle.scoreboard.proofs.real_time.AheadBeside.{behind_beside, coming_beside_it, none_beside, was_beside}
 use Rattle.scoreboard.proofs.real_time.AlikeBeats.{LeftAlike, left_alike}
 use Rattle.scoreboard.proofs.real_time.Apart.{AreAll, determined_fixed, fixed_determined}
 use Rattle.scoreboard.proofs.real_time.Comings.{comes_beside, comes_other, comes_same, early_at, early_beside, early_other, early_same}
 use Rattle.scoreboard.proofs.real_time.Entries.{carry}
 use Rattle.scoreboard.proofs.real_time.Explained.{Explains, sources_with}
-use Rattle.scoreboard.proofs.real_time.Failures.{acting_same, fails_flag, fails_keeps, fails_less, gives_less, gives_there, same_acting, same_shapes, shape_of, sound_spoils, well_as}
-use Rattle.scoreboard.proofs.real_time.FlightLists.{HaveAllSources, are_all, each_coming, sources_kept}
+use Rattle.scoreboard.proofs.real_time.Failures.{FatedOf, acting_same, corrupt_as, fails_flag, fails_keeps, fails_less, gives_less, gives_there, same_acting, same_as, same_shapes, shape_of, sound_spoils, well_as}
+use Rattle.scoreboard.proofs.real_time.FlightLists.{HaveAllSources, are_all, each_coming, each_of, sources_kept}
 use Rattle.scoreboard.proofs.real_time.FlightPlaces.{coming_beside, coming_other, sources_more}
 use Rattle.scoreboard.proofs.real_time.Lengths.{length-shown}
-use Rattle.scoreboard.proofs.real_time.Places.{Place, cases_place, coming_at, due_at, flight_at, footprint_at}
+use Rattle.scoreboard.proofs.real_time.Places.{Place, cases_place, coming_at, due_at, flight_at, footprint_at, footprint_in}
 use Rattle.scoreboard.proofs.real_time.RequestActs.{IsWell, acts, gives, own}
 use Rattle.scoreboard.proofs.real_time.ShadowJoins.{bytes_kept, certain_there, given_kept, still_certain}
-use Rattle.scoreboard.proofs.real_time.ShadowPlaces.{free_there, none_there, nothing_begun}
+use Rattle.scoreboard.proofs.real_time.ShadowPlaces.{free_there, none_here, none_there, nothing_begun}
 
 -- ---- whether a byte is determined, by what may be its doubt
 
@@ -54,9 +56,10 @@ still_determined true false acts shows doubt doubt_there others others_there det
 still_determined false before acts shows doubt doubt_there others others_there determined certain none = absurd (cc (determined))
 
 module _ (board : Board) (shadow : Shadow) (order : Order) (explains : Explains (shadow_of board shadow) order) (ahead : IsAhead board shadow)
-    (number : ℕ) (client other_client : ClientBoard) (q r : WholeRequest)
+    (number : ℕ) (client other_client : ClientBoard) (q r : WholeRequest) (n : ℕ) (fated : Bool)
     (there : slice_get board.clients number ≡ Some client) (there_too : slice_get shadow.clients number ≡ Some other_client) (front : client.front ≡ None)
-    (free : list_any (is_of_source q.source) client.flights.due ≡ false) (well : IsWell q) (may : MayBecome (entry_of board.errors number q true) r) where
+    (free : list_any (is_of_source q.source) client.flights.due ≡ false) (well : IsWell q) (may : MayBecome (FatedOf board.errors number q n fated) r)
+    (any : fated ≡ true → board.errors ≡ Any) where
   abbrev pub faults : Faults
   faults = board.memory.faults
 
@@ -78,6 +81,9 @@ module _ (board : Board) (shadow : Shadow) (order : Order) (explains : Explains 
   abbrev pub other_flight_for : InFlight
   other_flight_for = flight_for (shadow_of board shadow).memory theirs r
 
+  abbrev pub own_place : Place
+  own_place = due_at number q.source
+
   abbrev pub now_shadow : Shadow
   now_shadow =
       record {
@@ -85,10 +91,9 @@ module _ (board : Board) (shadow : Shadow) (order : Order) (explains : Explains 
         bytes = carry faults regions r shadow.bytes;
         indeterminate = after_joining shadow.indeterminate (footprints_of shadow.clients) theirs r.bytes;
         finals = shadow.finals;
+        fate = shadow.fate;
+        fates = fates_with shadow.fates own_place fated;
       }
-
-  abbrev pub own_place : Place
-  own_place = due_at number q.source
 
   -- ---- the footprints of both
 
@@ -100,17 +105,20 @@ module _ (board : Board) (shadow : Shadow) (order : Order) (explains : Explains 
   beginning = joining board.indeterminate (footprints_of board.clients) (place_on board q) q
 
   well_there : IsWell r
-  well_there = well_as board.errors number q r may well
+  well_there = well_as board.errors number q r n fated may well
 
-  mine_acts : mine ≡ record (alone_of (λ x. false) (place_on board q) q) { failed = mine.failed; determined = mine.determined }
+  pub mine_acts : mine ≡ record (alone_of (λ x. false) (place_on board q) q) { failed = mine.failed; determined = mine.determined }
   mine_acts = fails_keeps failed beginning
 
   pub mine_failed : (joining_on board q).failed ≡ fails board.errors board.memory q
   mine_failed = fails_flag failed beginning refl
 
-  -- where it hasn't failed it becomes what it is
-  is_same : failed ≡ false → r ≡ q
-  is_same sound = may.same refl (sound_spoils board.errors board.memory q sound)
+  -- where it isn't fated and hasn't failed it becomes what it is
+  is_same : fated ≡ false → failed ≡ false → r ≡ q
+  is_same unfated sound = same_as board.errors number q r n fated may unfated (sound_spoils board.errors board.memory q sound)
+
+  corrupt : is_spoiled board.errors q ≡ false → q.corrupt ≡ true → r.corrupt ≡ true
+  corrupt = corrupt_as board.errors q r fated any may.corrupt
 
   its_place : failed ≡ false → place_on board q ≡ place_in board.memory q
   its_place sound = ap (place_in board.memory) (acting_same board.errors q (sound_spoils board.errors board.memory q sound))
@@ -119,7 +127,7 @@ module _ (board : Board) (shadow : Shadow) (order : Order) (explains : Explains 
   same_source = sym (ap (λ (x : WholeRequest). x.source) may.fields)
 
   acts_there : (theirs.reads || theirs.writes) ≡ true → mine ≡ record theirs { failed = mine.failed; determined = mine.determined }
-  acts_there does = mine_acts ∙ same_acting faults regions board.errors q r may.fields may.corrupt mine.failed mine.determined does
+  acts_there does = mine_acts ∙ same_acting faults regions board.errors q r may.fields corrupt mine.failed mine.determined does
 
   within : IsWithin theirs mine
   within =
@@ -148,17 +156,35 @@ module _ (board : Board) (shadow : Shadow) (order : Order) (explains : Explains 
       let become = ahead.begun c some in
       none_given faults regions (coming_at board.clients c) (shadow.finals c) become.other x become.becomes (each_coming (λ r. may_write r x) refl board.clients nobody c)
 
+  -- nor may one write there that is fated
+  none_fated : (x : ℕ) → list_any (λ r. may_write r x) (footprints_of board.clients) ≡ false → NoneFated board.clients shadow.fates x
+  none_fated x nobody place old is fated_it sound =
+      ap (λ (o : Option InFlight). may_write (footprint_in o) x) (sym is) ∙ each_of (λ r. may_write r x) refl board.clients nobody place.client place.source
+
   -- what it reads and is determined both know
   read_same : (x : ℕ) → mine.reads ≡ true → mine.determined x ≡ true → IsSame board shadow x
   read_same x reads determined =
       ahead.known x (was_certain (nat_le beginning.address x) (nat_lt x (beginning.address + 2 ^ q.size)) (is_some (place_on board q)) (reply_has_data q.operation)
       (board.indeterminate x) (list_any (λ f. may_write f x) (footprints_of board.clients)) (sym (ap (λ (f : Footprint). f.reads) mine_acts) ∙ reads)
-      (fails_less failed beginning x determined).0) (nothing_coming x (alone x determined))
+      (fails_less failed beginning x determined).0) (nothing_coming x (alone x determined)) (none_fated x (alone x determined))
 
-  less : (x : ℕ) → mine.determined x ≡ true → theirs.determined x ≡ true
-  less x determined =
+  -- what is determined of it is among its bytes
+  its_bytes : (x : ℕ) → mine.determined x ≡ true → covers mine x ≡ true
+  its_bytes x determined =
+      ap (λ (f : Footprint). covers f x) mine_acts
+      ∙ covered (nat_le beginning.address x) (nat_lt x (beginning.address + 2 ^ q.size))
+      (not (is_some (place_on board q) && reply_has_data q.operation && board.indeterminate x))
+      (not (list_any (λ f. may_write f x) (footprints_of board.clients))) (fails_less failed beginning x determined).0
+    where
+      covered : (after before certain apart : Bool) → ((after && before && certain) && apart) ≡ true → (after && before) ≡ true
+      covered true true certain apart is = refl
+      covered true false certain apart is = absurd (cc (is))
+      covered false before certain apart is = absurd (cc (is))
+
+  less : fated ≡ false → (x : ℕ) → mine.determined x ≡ true → theirs.determined x ≡ true
+  less unfated x determined =
       let parts = fails_less failed beginning x determined in
-      subst (λ (y : WholeRequest). (joining_on (shadow_of board shadow) y).determined x ≡ true) (sym (is_same parts.1))
+      subst (λ (y : WholeRequest). (joining_on (shadow_of board shadow) y).determined x ≡ true) (sym (is_same unfated parts.1))
       (subst (λ (place : Option ℕ). (joining shadow.indeterminate (footprints_of shadow.clients) place q).determined x ≡ true) (its_place parts.1)
       (still_determined (nat_le beginning.address x) (nat_lt x (beginning.address + 2 ^ q.size)) (is_some (place_on board q)) (reply_has_data q.operation)
       (board.indeterminate x) (shadow.indeterminate x) (list_any (λ f. may_write f x) (footprints_of board.clients)) (list_any (λ f. may_write f x) (footprints_of shadow.clients))
@@ -175,31 +201,33 @@ module _ (board : Board) (shadow : Shadow) (order : Order) (explains : Explains 
   shapes : map shape_of flight.beats ≡ map shape_of other_flight_for.beats
   shapes = same_shapes q r (meaning faults regions q board.memory.bytes).reply (meaning faults regions r shadow.bytes).reply may.fields
 
-  behind : IsBehind flight other_flight_for
+  behind : IsBehind fated flight other_flight_for
   behind =
       record {
         source = same_source;
         acts = acts_there;
-        sound = λ sound.
-            mine_sound sound ∙ ap (λ (y : WholeRequest). record (own faults regions y) { determined = mine.determined }) (sym (is_same (sym mine_failed ∙ sound)));
-        less = λ x reads. less x;
+        sound = λ unfated sound.
+            mine_sound sound
+            ∙ ap (λ (y : WholeRequest). record (own faults regions y) { determined = mine.determined }) (sym (is_same unfated (sym mine_failed ∙ sound)));
+        less = λ unfated x reads. less unfated x;
         long = sym (length-map flight.beats shape_of) ∙ ap length shapes ∙ length-map other_flight_for.beats shape_of;
         shapes = shapes;
         alike = alike;
       }
     where
       -- of the request as it is
-      as_it_is : mine.failed ≡ false → (n : ℕ) → n < length (shown q (meaning faults regions q shadow.bytes).reply)
-          → LeftAlike mine (drop n flight.beats) (drop n (shown q (meaning faults regions q shadow.bytes).reply))
-      as_it_is sound n below =
-          left_alike faults regions q mine n board.memory.bytes shadow.bytes
-          (subst (λ (k : ℕ). n < k) (length-shown q (meaning faults regions q shadow.bytes).reply) below) (mine_sound sound) ahead.small explains.small
+      as_it_is : mine.failed ≡ false → (k : ℕ) → k < length (shown q (meaning faults regions q shadow.bytes).reply)
+          → LeftAlike mine (drop k flight.beats) (drop k (shown q (meaning faults regions q shadow.bytes).reply))
+      as_it_is sound k below =
+          left_alike faults regions q mine k board.memory.bytes shadow.bytes
+          (subst (λ (l : ℕ). k < l) (length-shown q (meaning faults regions q shadow.bytes).reply) below) (mine_sound sound) ahead.small explains.small
           (λ x reads determined. sym (read_same x (ap (λ (f : Footprint). f.reads) (mine_sound sound) ∙ reads) determined).byte)
 
-      alike : mine.failed ≡ false → (n : ℕ) → n < length other_flight_for.beats → LeftAlike mine (drop n flight.beats) (drop n other_flight_for.beats)
-      alike sound =
-          subst (λ (y : WholeRequest). (n : ℕ) → n < length (shown y (meaning faults regions y shadow.bytes).reply)
-          → LeftAlike mine (drop n flight.beats) (drop n (shown y (meaning faults regions y shadow.bytes).reply))) (sym (is_same (sym mine_failed ∙ sound))) (as_it_is sound)
+      alike : fated ≡ false → mine.failed ≡ false → (k : ℕ) → k < length other_flight_for.beats → LeftAlike mine (drop k flight.beats) (drop k other_flight_for.beats)
+      alike unfated sound =
+          subst (λ (y : WholeRequest). (k : ℕ) → k < length (shown y (meaning faults regions y shadow.bytes).reply)
+          → LeftAlike mine (drop k flight.beats) (drop k (shown y (meaning faults regions y shadow.bytes).reply)))
+          (sym (is_same unfated (sym mine_failed ∙ sound))) (as_it_is sound)
 
   -- ---- what is in flight, and coming
 
@@ -267,14 +295,22 @@ module _ (board : Board) (shadow : Shadow) (order : Order) (explains : Explains 
       by_place (inl same) =
           let one : Some flight ≡ Some after = sym own_here ∙ ap (flight_at now.clients) (sym same) ∙ is in
           let it : flight ≡ after = cc (one) in
-          record { other = other_flight_for; there = ap (flight_at now_shadow.clients) same ∙ own_there; behind = subst (λ (f : InFlight). IsBehind f other_flight_for) it behind }
+          let fate : now_shadow.fates place ≡ fated = ap now_shadow.fates same ∙ fates_own shadow.fates own_place fated in
+          record {
+            other = other_flight_for;
+            there = ap (flight_at now_shadow.clients) same ∙ own_there;
+            behind = subst (λ (b : Bool). IsBehind b after other_flight_for) (sym fate) (subst (λ (f : InFlight). IsBehind fated f other_flight_for) it behind);
+          }
       by_place (inr differ) =
           let was = was_beside mine (flight_at board.clients place) after (sym (others_here place differ) ∙ is) in
           let old = ahead.placed place was.0 was.1 in
           record {
             other = flight_beside theirs old.other;
             there = others_there place differ ∙ ap (option_map (flight_beside theirs)) old.there;
-            behind = subst (λ (f : InFlight). IsBehind f (flight_beside theirs old.other)) was.2 (behind_beside mine theirs within was.0 old.other old.behind);
+            behind =
+                subst (λ (b : Bool). IsBehind b after (flight_beside theirs old.other)) (sym (fates_other shadow.fates own_place fated place differ))
+                (subst (λ (f : InFlight). IsBehind (shadow.fates place) f (flight_beside theirs old.other)) was.2
+                (behind_beside mine theirs within (shadow.fates place) was.0 old.other old.behind));
           }
 
   begun : (c : ℕ) → comes now.clients c ≡ true → HasBecome faults regions now_shadow.clients (coming_at now.clients c) c (shadow.finals c)
@@ -300,15 +336,25 @@ module _ (board : Board) (shadow : Shadow) (order : Order) (explains : Explains 
           record { begun = comes_others place.client (apart_before place.client old.begun) ∙ old.begun; there = old.there }
 
   known : (x : ℕ) → now.indeterminate x ≡ false → ((c : ℕ) → comes now.clients c ≡ true → will_give faults regions (shadow.finals c) x ≡ false)
-      → IsSame now now_shadow x
-  known x certain none = by_given (gives mine q.bytes x) refl
+      → NoneFated now.clients now_shadow.fates x → IsSame now now_shadow x
+  known x certain none unfated = by_given (gives mine q.bytes x) refl
     where
+      -- no other that is fated may write it
+      unfated_before : NoneFated board.clients shadow.fates x
+      unfated_before place old is fated_it sound =
+          unfated place (flight_beside mine old) (others_here place differ ∙ ap (option_map (flight_beside mine)) is)
+          (fates_other shadow.fates own_place fated place differ ∙ fated_it) sound
+        where
+          differ : place ≡ own_place → ⊥
+          differ same =
+              absurd (cc (sym (none_here board shadow ahead number q.source client there front free) ∙ ap (flight_at board.clients) (sym same) ∙ is))
+
       -- what isn't given is given neither here nor there
       given_none : gives mine q.bytes x ≡ false → will_give faults regions r x ≡ false
       given_none not_given =
           false_from_ne_true (will_give faults regions r x) (λ gives_it.
           both_ways (gives mine q.bytes x) not_given
-          (gives_there faults regions board.errors q r may.fields may.corrupt mine mine_acts (gives_less board.errors number q r may) x gives_it))
+          (gives_there faults regions board.errors q r may.fields corrupt mine mine_acts (gives_less board.errors number q r n fated may) x gives_it))
 
       own_none : gives mine q.bytes x ≡ false → will_give faults regions q x ≡ false
       own_none not_given =
@@ -330,28 +376,28 @@ module _ (board : Board) (shadow : Shadow) (order : Order) (explains : Explains 
             certain = certain_there board shadow order explains r well_there x own_certain (shadow_touches board shadow ahead theirs mine x within parts.1);
           }
 
-      by_given : (b : Bool) → gives mine q.bytes x ≡ b → IsSame now now_shadow x
-      by_given false not_given =
-          let same = ahead.known x (rw not_given at parts.0) none_before_it in
-          same_with
-          (bytes_kept board shadow order explains r well_there x (given_none not_given) ∙ same.byte
-          ∙ sym ((acts faults regions q well).keeps board.memory.bytes x (own_none not_given)))
-          (still_certain board shadow order explains r well_there x (given_none not_given) same.certain)
-      by_given true gives_it =
-          let doubt : not (mine.determined x && is_fixed mine) ≡ false = rw gives_it at parts.0 in
-          let both = and_parts (mine.determined x) (is_fixed mine) (not-false (mine.determined x && is_fixed mine) doubt) in
-          let sound = (fails_less failed beginning x both.0).1 in
+      -- one that is fated may not write it, so it doesn't give it
+      not_fated : fated ≡ true → failed ≡ false → mine.determined x ≡ true → gives mine q.bytes x ≡ true → ⊥
+      not_fated is_fated sound determined gives_it =
+          let none = unfated own_place flight own_here (fates_own shadow.fates own_place fated ∙ is_fated) (mine_failed ∙ sound) in
+          let covered : covers mine x ≡ true = its_bytes x determined in
+          let writes = (and_parts mine.writes (is_some (given_at q.bytes mine.address x)) gives_it).0 in
+          let may_it : may_write mine x ≡ true = rw (writes, covered) refl in
+          absurd (cc (sym none ∙ may_it))
+
+      as_given : fated ≡ false → gives mine q.bytes x ≡ true → failed ≡ false → (mine.determined x ≡ true) × (is_fixed mine ≡ true) → IsSame now now_shadow x
+      as_given is_unfated gives_it sound both =
           let as_own = mine_sound (mine_failed ∙ sound) in
           let gives_so : will_give faults regions q x ≡ true = sym (ap (λ (f : Footprint). gives f q.bytes x) as_own) ∙ gives_it in
-          let gives_too : will_give faults regions r x ≡ true = ap (λ (y : WholeRequest). will_give faults regions y x) (is_same sound) ∙ gives_so in
+          let gives_too : will_give faults regions r x ≡ true = ap (λ (y : WholeRequest). will_give faults regions y x) (is_same is_unfated sound) ∙ gives_so in
           let all_read : mine.reads ≡ true → (y : ℕ) → covers mine y ≡ true → mine.determined y ≡ true =
           λ reads y covered. fixed_determined mine y both.1 reads covered in
           same_with
-          (ap (λ (y : WholeRequest). carry faults regions y shadow.bytes x) (is_same sound)
+          (ap (λ (y : WholeRequest). carry faults regions y shadow.bytes x) (is_same is_unfated sound)
           ∙ (acts faults regions q well).same shadow.bytes board.memory.bytes x gives_so (λ reads y covered.
           let does = ap (λ (f : Footprint). f.reads) as_own ∙ reads in
           (read_same y does (all_read does y (ap (λ (f : Footprint). covers f y) as_own ∙ covered))).byte))
-          (rw gives_too (ap not (fixed_there (less x both.0) (fixed_less (behind.sound (mine_failed ∙ sound)) all_read))))
+          (rw gives_too (ap not (fixed_there (less is_unfated x both.0) (fixed_less (behind.sound is_unfated (mine_failed ∙ sound)) all_read))))
         where
           fixed_less : mine ≡ record theirs { determined = mine.determined } → (mine.reads ≡ true → (y : ℕ) → covers mine y ≡ true → mine.determined y ≡ true)
               → is_fixed theirs ≡ true
@@ -361,10 +407,26 @@ module _ (board : Board) (shadow : Shadow) (order : Order) (explains : Explains 
               by_reads false reads =
                   let none : theirs.reads ≡ false = sym (ap (λ (f : Footprint). f.reads) same) ∙ reads in
                   ap (λ (b : Bool). not b || list_all (λ i. theirs.determined (theirs.address + i)) (range_with_len 0 (2 ^ theirs.size))) none
-              by_reads true reads = determined_fixed theirs (λ y covered. less y (all_read reads y (ap (λ (f : Footprint). covers f y) same ∙ covered)))
+              by_reads true reads = determined_fixed theirs (λ y covered. less is_unfated y (all_read reads y (ap (λ (f : Footprint). covers f y) same ∙ covered)))
 
           fixed_there : theirs.determined x ≡ true → is_fixed theirs ≡ true → (theirs.determined x && is_fixed theirs) ≡ true
           fixed_there here fixed = rw (here, fixed) refl
+
+      by_given : (b : Bool) → gives mine q.bytes x ≡ b → IsSame now now_shadow x
+      by_given false not_given =
+          let same = ahead.known x (rw not_given at parts.0) none_before_it unfated_before in
+          same_with
+          (bytes_kept board shadow order explains r well_there x (given_none not_given) ∙ same.byte
+          ∙ sym ((acts faults regions q well).keeps board.memory.bytes x (own_none not_given)))
+          (still_certain board shadow order explains r well_there x (given_none not_given) same.certain)
+      by_given true gives_it =
+          let doubt : not (mine.determined x && is_fixed mine) ≡ false = rw gives_it at parts.0 in
+          let both = and_parts (mine.determined x) (is_fixed mine) (not-false (mine.determined x && is_fixed mine) doubt) in
+          let sound = (fails_less failed beginning x both.0).1 in
+          elim (cases_Bool fated) [
+            | inl is_fated ↦ absurd (not_fated is_fated sound both.0 gives_it)
+            | inr is_unfated ↦ as_given is_unfated gives_it sound both
+          ]
 
   given : (c x : ℕ) → comes now.clients c ≡ true → (coming_at now.clients c).determined x ≡ true → will_give faults regions (shadow.finals c) x ≡ true
       → IsGiven faults regions now_shadow.bytes now_shadow.indeterminate (shadow.finals c) x

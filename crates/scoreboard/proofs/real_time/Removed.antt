@@ -313,8 +313,10 @@ module _ (board : Board) (shadow : Shadow) (ahead : IsAhead board shadow) (numbe
   others_place : (c s : ℕ) → (c ≡ number → ⊥) → due_at c s ≡ due_at number source → ⊥
   others_place c s differ same = differ (ap (λ (p : Place). p.client) same)
 
-  pub ended_ahead : IsAhead (with_client number (without source client) board) (record shadow { clients = set shadow.clients number (without source other) })
-  ended_ahead =
+  pub ended_ahead : (spent : (flight : InFlight) → flight_at board.clients (due_at number source) ≡ Some flight → shadow.fates (due_at number source) ≡ true
+      → flight.footprint.failed ≡ true)
+      → IsAhead (with_client number (without source client) board) (record shadow { clients = set shadow.clients number (without source other) })
+  ended_ahead spent =
       record {
         sources = sources_with board.clients number client (without source client) there ahead.sources (sources_less board.clients number source client there own_sources);
         small = ahead.small;
@@ -343,8 +345,13 @@ module _ (board : Board) (shadow : Shadow) (ahead : IsAhead board shadow) (numbe
         waits = λ c some.
             let before = sym (comes_less c) ∙ some in
             kept_mine (due_at c (shadow.finals c).source) (others_place c (shadow.finals c).source (apart c before)) ∙ ahead.waits c before;
-        known = λ x certain nothing.
-            let same = ahead.known x certain (λ c some. nothing c (comes_less c ∙ some)) in record { byte = same.byte; certain = same.certain };
+        known = λ x certain nothing unfated.
+            let same = ahead.known x certain (λ c some. nothing c (comes_less c ∙ some)) (λ place flight is. elim (cases_place place (due_at number source)) [
+              | inl same ↦ λ fated sound.
+                  absurd (cc (sym sound ∙ spent flight (ap (flight_at board.clients) (sym same) ∙ is) (ap shadow.fates (sym same) ∙ fated)))
+              | inr away ↦ unfated place flight (kept_mine place away ∙ is)
+            ]) in
+            record { byte = same.byte; certain = same.certain };
         given = λ c x some determined gives_it.
             ahead.given c x (sym (comes_less c) ∙ some) (sym (ap (λ (r : Footprint). r.determined x) (coming_less c)) ∙ determined) gives_it;
       }

@@ -6,7 +6,8 @@ use Rattle.std.proofs.lemmas.List.{drop-drop, drop-map, length-drop, length-set}
 use Rattle.tl_messages.specs.declared.DBeat.{DBeat}
 use Rattle.scoreboard.specs.Boards.{Board, ClientBoard, with_client}
 use Rattle.scoreboard.specs.Flights.{Footprint, InFlight, begun_after, flights_after, with_left}
-use Rattle.scoreboard.proofs.real_time.Ahead.{HasBecome, HasBeside, IsAhead, IsBehind, IsFinal, Shadow, comes, front_in}
+use Rattle.scoreboard.specs.Races.{may_write}
+use Rattle.scoreboard.proofs.real_time.Ahead.{HasBecome, HasBeside, IsAhead, IsBehind, IsFinal, NoneFated, Shadow, comes, fates_other, fates_own, fates_with, front_in}
 use Rattle.scoreboard.proofs.real_time.AlikeBeats.{LeftAlike}
 use Rattle.scoreboard.proofs.real_time.Comings.{comes_other, comes_same}
 use Rattle.scoreboard.proofs.real_time.Explained.{sources_with}
@@ -19,8 +20,9 @@ use Rattle.scoreboard.proofs.real_time.ReplySteps.{next_at}
 
 -- ---- a beat fewer is left of both
 
-behind_next : (mine theirs : InFlight) → IsBehind mine theirs → IsBehind (record mine { beats = drop 1 mine.beats }) (record theirs { beats = drop 1 theirs.beats })
-behind_next mine theirs is =
+behind_next : (fated : Bool) (mine theirs : InFlight) → IsBehind fated mine theirs
+    → IsBehind fated (record mine { beats = drop 1 mine.beats }) (record theirs { beats = drop 1 theirs.beats })
+behind_next fated mine theirs is =
     record {
       source = is.source;
       acts = is.acts;
@@ -28,27 +30,29 @@ behind_next mine theirs is =
       less = is.less;
       long = length-drop 1 mine.beats ∙ ap (λ (n : ℕ). n - 1) is.long ∙ sym (length-drop 1 theirs.beats);
       shapes = sym (drop-map shape_of 1 mine.beats) ∙ ap (λ (beats : List DBeat). drop 1 beats) is.shapes ∙ drop-map shape_of 1 theirs.beats;
-      alike = λ sound n below.
+      alike = λ unfated sound n below.
           subst (λ (beats : List DBeat). LeftAlike mine.footprint beats (drop n (drop 1 theirs.beats))) (sym (drop-drop n 1 mine.beats))
           (subst (λ (beats : List DBeat). LeftAlike mine.footprint (drop (1 + n) mine.beats) beats) (sym (drop-drop n 1 theirs.beats))
-          (is.alike sound (1 + n) (omega (arith, below, length-drop 1 theirs.beats))));
+          (is.alike unfated sound (1 + n) (omega (arith, below, length-drop 1 theirs.beats))));
     }
 
 -- what is left of one where something is left of the other
-record LeftBeside (theirs : InFlight) (left : Option InFlight) (mine : InFlight) : Type 0 where
+record LeftBeside (fated : Bool) (theirs : InFlight) (left : Option InFlight) (mine : InFlight) : Type 0 where
   other : InFlight
   is : left ≡ Some other
-  behind : IsBehind mine other
+  behind : IsBehind fated mine other
 
-left_beside : (mine theirs after : InFlight) (beats others : List DBeat) → with_left mine beats ≡ Some after → length beats ≡ length others
-    → IsBehind (record mine { beats = beats }) (record theirs { beats = others }) → LeftBeside theirs (with_left theirs others) after
-left_beside mine theirs after [] others is long behind = absurd (cc (is))
-left_beside mine theirs after (beat ∷ beats) [] is long behind = absurd (cc (long))
-left_beside mine theirs after (beat ∷ beats) (other ∷ others) is long behind =
+left_beside : (fated : Bool) (mine theirs after : InFlight) (beats others : List DBeat) → with_left mine beats ≡ Some after → length beats ≡ length others
+    → IsBehind fated (record mine { beats = beats }) (record theirs { beats = others }) → LeftBeside fated theirs (with_left theirs others) after
+left_beside fated mine theirs after [] others is long behind = absurd (cc (is))
+left_beside fated mine theirs after (beat ∷ beats) [] is long behind = absurd (cc (long))
+left_beside fated mine theirs after (beat ∷ beats) (other ∷ others) is long behind =
     record {
       other = record theirs { beats = other ∷ others };
       is = refl;
-      behind = let same : record mine { beats = beat ∷ beats } ≡ after = cc (is) in subst (λ (f : InFlight). IsBehind f (record theirs { beats = other ∷ others })) same behind;
+      behind =
+          let same : record mine { beats = beat ∷ beats } ≡ after = cc (is) in
+          subst (λ (f : InFlight). IsBehind fated f (record theirs { beats = other ∷ others })) same behind;
     }
 
 -- where nothing is left of one nothing is left of the other
@@ -57,20 +61,36 @@ none_left mine theirs [] [] is long = refl
 none_left mine theirs [] (other ∷ others) is long = absurd (cc (long))
 none_left mine theirs (beat ∷ beats) others is long = absurd (cc (is))
 
-module _ (source : ℕ) (mine theirs : InFlight) (is : IsBehind mine theirs) where
-  after_beside : (after : InFlight) → begun_after (Some mine) source ≡ Some after → LeftBeside theirs (begun_after (Some theirs) source) after
+-- a beat fewer is left of the same request
+same_left : (flight after : InFlight) (beats : List DBeat) → with_left flight beats ≡ Some after → after.footprint ≡ flight.footprint
+same_left flight after [] is = absurd (cc (is))
+same_left flight after (beat ∷ beats) is =
+    let same : record flight { beats = beat ∷ beats } ≡ after = cc (is) in sym (ap (λ (f : InFlight). f.footprint) same)
+
+same_after : (source : ℕ) (flight after : InFlight) → begun_after (Some flight) source ≡ Some after → after.footprint ≡ flight.footprint
+same_after source flight after is = by_source (flight.source == source) refl
+  where
+    by_source : (b : Bool) → (flight.source == source) ≡ b → after.footprint ≡ flight.footprint
+    by_source true own = same_left flight after (drop 1 flight.beats) (rw own at is)
+    by_source false own =
+        let one : Some flight ≡ Some after = rw own at is in
+        let same : flight ≡ after = cc (one) in
+        sym (ap (λ (f : InFlight). f.footprint) same)
+
+module _ (source : ℕ) (fated : Bool) (mine theirs : InFlight) (is : IsBehind fated mine theirs) where
+  after_beside : (after : InFlight) → begun_after (Some mine) source ≡ Some after → LeftBeside fated theirs (begun_after (Some theirs) source) after
   after_beside after some = by_source (mine.source == source) refl
     where
-      by_source : (b : Bool) → (mine.source == source) ≡ b → LeftBeside theirs (begun_after (Some theirs) source) after
+      by_source : (b : Bool) → (mine.source == source) ≡ b → LeftBeside fated theirs (begun_after (Some theirs) source) after
       by_source true own =
           let its : (theirs.source == source) ≡ true = ap (λ (s : ℕ). s == source) (sym is.source) ∙ own in
-          let next = behind_next mine theirs is in
-          rw its (left_beside mine theirs after (drop 1 mine.beats) (drop 1 theirs.beats) (rw own at some) next.long next)
+          let next = behind_next fated mine theirs is in
+          rw its (left_beside fated mine theirs after (drop 1 mine.beats) (drop 1 theirs.beats) (rw own at some) next.long next)
       by_source false own =
           let its : (theirs.source == source) ≡ false = ap (λ (s : ℕ). s == source) (sym is.source) ∙ own in
           let same : Some mine ≡ Some after = rw own at some in
           let it : mine ≡ after = cc (same) in
-          rw its (record { other = theirs; is = refl; behind = subst (λ (f : InFlight). IsBehind f theirs) it is })
+          rw its (record { other = theirs; is = refl; behind = subst (λ (f : InFlight). IsBehind fated f theirs) it is })
 
   after_none : begun_after (Some mine) source ≡ None → begun_after (Some theirs) source ≡ None
   after_none none = by_source (mine.source == source) refl
@@ -78,7 +98,7 @@ module _ (source : ℕ) (mine theirs : InFlight) (is : IsBehind mine theirs) whe
       by_source : (b : Bool) → (mine.source == source) ≡ b → begun_after (Some theirs) source ≡ None
       by_source true own =
           let its : (theirs.source == source) ≡ true = ap (λ (s : ℕ). s == source) (sym is.source) ∙ own in
-          rw its (none_left mine theirs (drop 1 mine.beats) (drop 1 theirs.beats) (rw own at none) (behind_next mine theirs is).long)
+          rw its (none_left mine theirs (drop 1 mine.beats) (drop 1 theirs.beats) (rw own at none) (behind_next fated mine theirs is).long)
       by_source false own = absurd (cc (rw own at none))
 
 -- ---- both boards
@@ -95,7 +115,11 @@ module _ (board : Board) (shadow : Shadow) (ahead : IsAhead board shadow) (numbe
   now = with_client number changed board
 
   abbrev pub now_shadow : Shadow
-  now_shadow = record shadow { clients = set shadow.clients number (record other_client { flights = flights_after other_client.flights source }) }
+  now_shadow =
+      record shadow {
+        clients = set shadow.clients number (record other_client { flights = flights_after other_client.flights source });
+        fates = fates_with shadow.fates (begun_at number) (shadow.fates (next_at begun number source));
+      }
 
   abbrev pub from : Place
   from = next_at begun number source
@@ -120,13 +144,24 @@ module _ (board : Board) (shadow : Shadow) (ahead : IsAhead board shadow) (numbe
     where
       by_places : (place ≡ begun_at number) ⊎ (place ≡ begun_at number → ⊥) → (place ≡ from) ⊎ (place ≡ from → ⊥) → HasBeside now_shadow place after
       by_places (inl same) other =
-          let left = after_beside source due beside.other beside.behind after (sym next_here ∙ ap (flight_at now.clients) (sym same) ∙ is) in
-          record { other = left.other; there = ap (flight_at now_shadow.clients) same ∙ next_there ∙ left.is; behind = left.behind }
+          let left = after_beside source (shadow.fates from) due beside.other beside.behind after (sym next_here ∙ ap (flight_at now.clients) (sym same) ∙ is) in
+          let fate : now_shadow.fates place ≡ shadow.fates from =
+          ap now_shadow.fates same ∙ fates_own shadow.fates (begun_at number) (shadow.fates from) in
+          record {
+            other = left.other;
+            there = ap (flight_at now_shadow.clients) same ∙ next_there ∙ left.is;
+            behind = subst (λ (b : Bool). IsBehind b after left.other) (sym fate) left.behind;
+          }
       by_places (inr differ) (inl same) =
           absurd (cc (sym (are.gone (λ here. differ (same ∙ here))) ∙ ap (flight_at now.clients) (sym same) ∙ is))
       by_places (inr differ) (inr away) =
           let old = ahead.placed place after (sym (are.others place away differ) ∙ is) in
-          record { other = old.other; there = are_there.others place away differ ∙ old.there; behind = old.behind }
+          record {
+            other = old.other;
+            there = are_there.others place away differ ∙ old.there;
+            behind =
+                subst (λ (b : Bool). IsBehind b after old.other) (sym (fates_other shadow.fates (begun_at number) (shadow.fates from) place differ)) old.behind;
+          }
 
   pub comes_now : (c : ℕ) → comes now.clients c ≡ comes board.clients c
   comes_now c =
@@ -164,12 +199,12 @@ module _ (board : Board) (shadow : Shadow) (ahead : IsAhead board shadow) (numbe
         becomes = old.becomes;
       })
 
-  others : (place : Place) (other : InFlight) → flight_at now_shadow.clients place ≡ Some other → flight_at now.clients place ≡ None → IsFinal now now_shadow place
+  pub others : (place : Place) (other : InFlight) → flight_at now_shadow.clients place ≡ Some other → flight_at now.clients place ≡ None → IsFinal now now_shadow place
   others place other is none = by_places (cases_place place (begun_at number)) (cases_place place from)
     where
       by_places : (place ≡ begun_at number) ⊎ (place ≡ begun_at number → ⊥) → (place ≡ from) ⊎ (place ≡ from → ⊥) → IsFinal now now_shadow place
       by_places (inl same) away =
-          let gone = after_none source due beside.other beside.behind (sym next_here ∙ ap (flight_at now.clients) (sym same) ∙ none) in
+          let gone = after_none source (shadow.fates from) due beside.other beside.behind (sym next_here ∙ ap (flight_at now.clients) (sym same) ∙ none) in
           absurd (cc (sym gone ∙ sym next_there ∙ ap (flight_at now_shadow.clients) (sym same) ∙ is))
       by_places (inr differ) (inl same) =
           absurd (cc (sym (are_there.gone (λ here. differ (same ∙ here))) ∙ ap (flight_at now_shadow.clients) (sym same) ∙ is))
@@ -177,14 +212,46 @@ module _ (board : Board) (shadow : Shadow) (ahead : IsAhead board shadow) (numbe
           let old = ahead.others place other (sym (are_there.others place away differ) ∙ is) (sym (are.others place away differ) ∙ none) in
           record { begun = comes_now place.client ∙ old.begun; there = old.there }
 
-  waits : (c : ℕ) → comes now.clients c ≡ true → flight_at now.clients (due_at c (shadow.finals c).source) ≡ None
+  pub waits : (c : ℕ) → comes now.clients c ≡ true → flight_at now.clients (due_at c (shadow.finals c).source) ≡ None
   waits c some =
       let before = sym (comes_now c) ∙ some in
       are.others (due_at c (shadow.finals c).source) (away_from c before) (not_begun c (shadow.finals c).source) ∙ ahead.waits c before
 
-  pub replied_ahead : IsAhead (with_client number (record client { flights = flights_after client.flights source }) board)
-      (record shadow { clients = set shadow.clients number (record other_client { flights = flights_after other_client.flights source }) })
-  replied_ahead =
+  -- the one that goes on is fated as before, and where it has ended it has failed if it was
+  unfated_before : (begun_after (Some due) source ≡ None → shadow.fates (next_at begun number source) ≡ true → due.footprint.failed ≡ true) → (x : ℕ)
+      → NoneFated now.clients now_shadow.fates x → NoneFated board.clients shadow.fates x
+  unfated_before spent x unfated place flight is fated sound = by_places (cases_place place from) (cases_place place (begun_at number))
+    where
+      by_next : (o : Option InFlight) → begun_after (Some due) source ≡ o → flight ≡ due → shadow.fates from ≡ true → may_write flight.footprint x ≡ false
+      by_next None ends it its_fate = absurd (cc (sym sound ∙ ap (λ (f : InFlight). f.footprint.failed) it ∙ spent ends its_fate))
+      by_next (Some after) left it its_fate =
+          let same : after.footprint ≡ flight.footprint = same_after source due after left ∙ ap (λ (f : InFlight). f.footprint) (sym it) in
+          ap (λ (f : Footprint). may_write f x) (sym same)
+          ∙ unfated (begun_at number) after (next_here ∙ left) (fates_own shadow.fates (begun_at number) (shadow.fates from) ∙ its_fate)
+          (ap (λ (f : Footprint). f.failed) same ∙ sound)
+
+      begun_there : (b : Bool) → begun ≡ b → place ≡ begun_at number → place ≡ next_at b number source
+      begun_there true has same = same
+      begun_there false none same =
+          absurd (cc (sym none ∙ flag ∙ ap (λ (p : Place). is_some (flight_at board.clients p)) (sym same) ∙ ap (λ (o : Option InFlight). is_some o) is))
+
+      by_places : (place ≡ from) ⊎ (place ≡ from → ⊥) → (place ≡ begun_at number) ⊎ (place ≡ begun_at number → ⊥) → may_write flight.footprint x ≡ false
+      by_places (inl same) other =
+          let one : Some flight ≡ Some due = sym is ∙ ap (flight_at board.clients) same ∙ is_due in
+          by_next (begun_after (Some due) source) refl (cc (one)) (ap shadow.fates (sym same) ∙ fated)
+      by_places (inr away) (inl same) =
+          absurd (away (begun_there begun refl same))
+      by_places (inr away) (inr differ) =
+          unfated place flight (are.others place away differ ∙ is)
+          (fates_other shadow.fates (begun_at number) (shadow.fates from) place differ ∙ fated) sound
+
+  pub replied_ahead : (begun_after (Some due) source ≡ None → shadow.fates (next_at begun number source) ≡ true → due.footprint.failed ≡ true)
+      → IsAhead (with_client number (record client { flights = flights_after client.flights source }) board)
+      (record shadow {
+        clients = set shadow.clients number (record other_client { flights = flights_after other_client.flights source });
+        fates = fates_with shadow.fates (begun_at number) (shadow.fates (next_at begun number source));
+      })
+  replied_ahead spent =
       record {
         sources = sources_with board.clients number client changed there ahead.sources (sources_after source client.flights (ahead.sources number client there));
         small = ahead.small;
@@ -194,8 +261,8 @@ module _ (board : Board) (shadow : Shadow) (ahead : IsAhead board shadow) (numbe
         begun = become;
         others = others;
         waits = waits;
-        known = λ x certain none.
-            let same = ahead.known x certain (λ c some. none c (comes_now c ∙ some)) in record { byte = same.byte; certain = same.certain };
+        known = λ x certain none unfated.
+            let same = ahead.known x certain (λ c some. none c (comes_now c ∙ some)) (unfated_before spent x unfated) in record { byte = same.byte; certain = same.certain };
         given = λ c x some determined gives_it.
             ahead.given c x (sym (comes_now c) ∙ some) (sym (ap (λ (r : Footprint). r.determined x) (coming_now c)) ∙ determined) gives_it;
       }

@@ -19,7 +19,9 @@ use Rattle.tl_checker.specs.declared.Progress.{Progress}
 use Rattle.tl_checker.specs.declared.Progress.TheVariants.{More, Whole}
 use Rattle.tl_checker.specs.declared.TlRule.{TlRule}
 use Rattle.responses.specs.Shown.{Reply, beat_of_word, lacks_a_byte, shown}
-use Rattle.scoreboard.specs.Boards.{Board, ClientBoard, IsReached, a_wrong, after_a, after_all, after_d, after_seen, answer_to, answered_on, client_beside, coming_on, d_wrong, due_beat, early_after, early_due, early_flight, failed_beat, flight_for, has_replied, is_spoiled, joining_on, more_on, opening_board, opening_with, told_to, whole_on, with_accepted, with_client, with_whole, wrong_at, wrong_beat, wrong_reply, wrong_told}
+use Rattle.scoreboard.specs.AxiPorts.{port_after}
+use Rattle.scoreboard.specs.Boards.{Board, ClientBoard, IsReached, a_wrong, after_a, after_all, after_d, after_seen, answer_to, answered_on, client_beside, coming_on, d_wrong, due_beat, early_after, early_due, early_flight, failed_beat, flight_for, has_replied, hit_client, hit_on, is_spoiled, joining_on, more_on, opening_board, opening_with, told_to, whole_on, with_accepted, with_client, with_whole, wrong_at, wrong_beat, wrong_reply, wrong_told}
+use Rattle.scoreboard.specs.FailedBursts.{Span, failed_span}
 use Rattle.scoreboard.specs.Flights.{Footprint, InFlight, begun_after, flights_after, is_of_source, next_reply, with_left}
 use Rattle.scoreboard.specs.Races.{unless_failed}
 use Rattle.scoreboard.specs.Wider.{LetsRightPass, board_alone, client_alone, flight_alone, tells_apart}
@@ -35,7 +37,7 @@ use Rattle.scoreboard.proofs.real_time.EachFlight.{AreOfEach, IsOfEach, seen_eac
 use Rattle.scoreboard.proofs.real_time.Explained.{each_client, opening_at}
 use Rattle.scoreboard.proofs.real_time.FlightLists.{client_was}
 use Rattle.scoreboard.proofs.real_time.FlightsAlone.{next_alone, opens_alone}
-use Rattle.scoreboard.proofs.real_time.Fronts.{beside_at}
+use Rattle.scoreboard.proofs.real_time.Fronts.{beside_at, changed_from}
 use Rattle.scoreboard.proofs.real_time.Verdicts.{sure_told}
 use Rattle.scoreboard.proofs.real_time.WiderRuns.{IsOn, IsWaiting, after_on}
 use Rattle.scoreboard.proofs.real_time.WiderVerdicts.{a_told, axi_told, none_told, told_less}
@@ -136,6 +138,21 @@ plain_beside errors footprint client plain = record { told = told client.flights
 all_beside : (errors : Errors) (footprint : Footprint) (clients : List ClientBoard) → ArePlain errors clients → ArePlain errors (map (client_beside footprint) clients)
 all_beside errors footprint clients are number client is =
     let was = client_was footprint clients number client is in subst (IsPlain errors) was.2 (plain_beside errors footprint was.0 (are number was.0 was.1))
+
+-- with an error response
+plain_hit : (errors : Errors) (span : Span) (client : ClientBoard) → IsPlain errors client → IsPlain errors (hit_client span client)
+plain_hit errors span client plain = record { told = told client.flights.begun refl; waits = λ in_front. replied_same errors (hit_client span client) client refl ∙ plain.waits in_front }
+  where
+    told : (begun : Option InFlight) → client.flights.begun ≡ begun
+        → (flight : InFlight) → (hit_client span client).flights.begun ≡ Some flight → AllByRecursion (IsTelling client.told) flight.beats
+    told None is flight some = absurd (cc (is, some))
+    told (Some own) is flight some =
+        let beats : own.beats ≡ flight.beats = cc (is, some) in subst (AllByRecursion (IsTelling client.told)) beats (plain.told own is)
+
+all_hit : (errors : Errors) (span : Option Span) (board : Board) → ArePlain errors board.clients → ArePlain errors (hit_on span board).clients
+all_hit errors None board are number client is = are number client is
+all_hit errors (Some span) board are number client is =
+    let was = changed_from (hit_client span) board.clients number client is in subst (IsPlain errors) was.2 (plain_hit errors span was.0 (are number was.0 was.1))
 
 -- where its message is whole
 whole_plain : (errors : Errors) (replied : Bool) (flight : InFlight) (client : ClientBoard) → IsPlain errors client → IsPlain errors (with_whole replied flight client)
@@ -304,7 +321,8 @@ plain_request board (D number beat) plain none = by_client (slice_get board.clie
         plain.plain
         (reply_plain board.errors client beat (plain.alike number client there) (plain.plain number client there)
         (ap (λ (o : Option ClientBoard). d_wrong AcceptanceOrder o beat) (sym (slice_get-map client_alone board.clients number ∙ ap (option_map client_alone) there)) ∙ none))
-plain_request board (OnAxi beat) plain none = plain.plain
+plain_request board (OnAxi beat) plain none =
+    all_hit board.errors (failed_span board.errors board.axi beat) (record board { axi = port_after RealTime board.axi beat }) plain.plain
 plain_request board Drained plain none = plain.plain
 
 plain_next : (board : Board) (seen : ObservedBeat) → IsPlainBoard board → wrong_at AcceptanceOrder (board_alone board) seen ≡ None
@@ -312,7 +330,7 @@ plain_next : (board : Board) (seen : ObservedBeat) → IsPlainBoard board → wr
 plain_next board seen plain none =
     record {
       alike = seen_each TellAlike (λ footprint flight tells. tells) (λ flight tells. (tells.0, left_alike tells.0 flight.beats tells.1)) board plain.alike
-          (λ q. (_, shown_tells q _)) (λ coming q. (_, shown_tells q _)) seen;
+          (λ q. (_, shown_tells q _)) (λ number client there q. (_, shown_tells q _)) (λ any span flight tells. tells) seen;
       plain = subst (λ (errors : Errors). ArePlain errors (after_seen RealTime board seen).clients) (sym (errors_kept board seen)) (plain_request board seen plain none);
     }
 

@@ -1,6 +1,6 @@
 -- Orders of requests that have begun, step by step as beats come: with its first beat a request is put in behind all whose whole reply came, as what it
 -- becomes; with its last beat it is whole. It is the proof's own way to go along a list of beats; Arranged gets to it from the orders that keep real time.
-use Rattle.std.proofs.Common.{◌≡◌, ℕ, ◌==◌, Bool, true, false, ◌&&◌, not, List, [], ◌∷◌, ◌++◌, map, Option, Some, None, Result, Ok, Err, if◌then◌else◌}
+use Rattle.std.proofs.Common.{◌≡◌, ℕ, ◌==◌, Bool, true, false, ◌&&◌, ◌||◌, not, List, [], ◌∷◌, ◌++◌, map, length, Option, Some, None, Result, Ok, Err, if◌then◌else◌}
 use Rattle.std.specs.Prelude.{slice_get}
 use Rattle.std.specs.List.{AllByRecursion, list_any}
 use Rattle.tl_messages.specs.Requests.{HeldMessage, WholeRequest, request_of}
@@ -13,8 +13,10 @@ use Rattle.tl_checker.specs.declared.TlRule.{TlRule}
 use Rattle.setups.specs.Setups.{SetupLists}
 use Rattle.scoreboard.specs.Boards.{Board, ClientBoard, after_seen, answer_to, is_spoiled, opening_with, wrong_at}
 use Rattle.scoreboard.specs.Orders.{Entry, IsWrongAs, Order, after_beat, board_after, byte_left, has_ended, reply_beats}
-use Rattle.scoreboard.specs.RealTime.{MayBecome, asked_on, entry_of, heard, is_awaited}
+use Rattle.scoreboard.specs.RealTime.{MayBecome, asked_on, entry_of, heard, is_awaited, with_failed}
+use Rattle.scoreboard.specs.FailedBursts.{failed_span}
 use Rattle.scoreboard.specs.declared.Errors.{Errors}
+use Rattle.scoreboard.specs.declared.Errors.TheVariants.{Any}
 use Rattle.scoreboard.specs.declared.Policy.TheVariants.{RealTime}
 use Rattle.scoreboard.specs.declared.ObservedBeat.{ObservedBeat}
 use Rattle.scoreboard.specs.declared.ObservedBeat.TheVariants.{A, D, Axi as OnAxi, Drained}
@@ -37,48 +39,68 @@ finished errors client q entry =
     if is_coming client entry
     then record entry {
       whole = true;
-      spoiled = is_spoiled errors q;
+      spoiled = entry.spoiled || is_spoiled errors q;
       early = false;
       came = if entry.replied then reply_beats entry.request else entry.came;
     }
     else entry
 
--- with a beat that a port takes, by what had begun there: a request is put in with its first beat; and with the last one of several it is what it became
-abbrev pub GoesOnTaken : Errors → ℕ → Option HeldMessage → WholeRequest → Progress → Order → Order → Type 0
-GoesOnTaken errors client None q More old new =
-    (becomes : WholeRequest) × MayBecome (entry_of errors client q false) becomes × IsPutIn (record (entry_of errors client q false) { request = becomes }) old new
-GoesOnTaken errors client None q Whole old new =
-    (becomes : WholeRequest) × MayBecome (entry_of errors client q true) becomes × IsPutIn (record (entry_of errors client q true) { request = becomes }) old new
-GoesOnTaken errors client (Some held) q More old new = new ≡ map (heard errors client q) old
-GoesOnTaken errors client (Some held) q Whole old new =
-    (new ≡ map (finished errors client q) old) × AllByRecursion (λ entry. is_coming client entry ≡ true → MayBecome (entry_of errors client q true) entry.request) old
+-- one that has just begun, with its number
+abbrev pub first_of : Errors → ℕ → WholeRequest → Bool → ℕ → Entry
+first_of errors client q whole number = record (entry_of errors client q whole) { number = number }
+
+-- and as one that may have been spoiled, be it later
+abbrev pub fated_of : (ℕ → Bool) → Errors → ℕ → WholeRequest → Bool → ℕ → Entry
+fated_of fate errors client q whole number = record (first_of errors client q whole number) { spoiled = is_spoiled errors q || fate number }
+
+-- with a beat that a port takes, by what had begun there: a request is put in with its first beat; and with the last one of several it is what it became.
+-- What it may become is known by which requests are fated to be spoiled before their replies end
+abbrev pub GoesOnTaken : (ℕ → Bool) → Errors → ℕ → Option HeldMessage → WholeRequest → Progress → Order → Order → Type 0
+GoesOnTaken fate errors client None q More old new =
+    (becomes : WholeRequest) × MayBecome (fated_of fate errors client q false (length old)) becomes
+    × IsPutIn (record (first_of errors client q false (length old)) { request = becomes }) old new
+GoesOnTaken fate errors client None q Whole old new =
+    (becomes : WholeRequest) × MayBecome (fated_of fate errors client q true (length old)) becomes
+    × IsPutIn (record (first_of errors client q true (length old)) { request = becomes }) old new
+GoesOnTaken fate errors client (Some held) q More old new = new ≡ map (heard errors client q) old
+GoesOnTaken fate errors client (Some held) q Whole old new =
+    (new ≡ map (finished errors client q) old)
+    × AllByRecursion (λ entry. is_coming client entry ≡ true → MayBecome (fated_of fate errors client q true entry.number) entry.request) old
 
 -- with a port's answer
-abbrev pub GoesOnAnswered : Errors → ℕ → Option HeldMessage → HeldMessage → Result Progress TlRule → Order → Order → Type 0
-GoesOnAnswered errors client front message (Err broken) old new = new ≡ old
-GoesOnAnswered errors client front message (Ok progress) old new = GoesOnTaken errors client front (request_of message) progress old new
+abbrev pub GoesOnAnswered : (ℕ → Bool) → Errors → ℕ → Option HeldMessage → HeldMessage → Result Progress TlRule → Order → Order → Type 0
+GoesOnAnswered fate errors client front message (Err broken) old new = new ≡ old
+GoesOnAnswered fate errors client front message (Ok progress) old new = GoesOnTaken fate errors client front (request_of message) progress old new
 
 -- with a beat on channel A
-abbrev pub GoesOnRequest : Errors → ℕ → Option ClientBoard → ABeat → Order → Order → Type 0
-GoesOnRequest errors number None beat old new = new ≡ old
-GoesOnRequest errors number (Some client) beat old new =
-    GoesOnAnswered errors number client.front (joined client.limits client.front beat) (answer_to RealTime client beat) old new
+abbrev pub GoesOnRequest : (ℕ → Bool) → Errors → ℕ → Option ClientBoard → ABeat → Order → Order → Type 0
+GoesOnRequest fate errors number None beat old new = new ≡ old
+GoesOnRequest fate errors number (Some client) beat old new =
+    GoesOnAnswered fate errors number client.front (joined client.limits client.front beat) (answer_to RealTime client beat) old new
 
 -- how an order goes on with a beat, on a board on which it comes
-abbrev pub GoesOn : Board → ObservedBeat → Order → Order → Type 0
-GoesOn board (A client beat) old new = GoesOnRequest board.errors client (slice_get board.clients client) beat old new
-GoesOn board (D client beat) old new = new ≡ after_beat old client beat.source
-GoesOn board (OnAxi beat) old new = new ≡ old
-GoesOn board Drained old new = new ≡ old
+abbrev pub GoesOn : (ℕ → Bool) → Board → ObservedBeat → Order → Order → Type 0
+GoesOn fate board (A client beat) old new = GoesOnRequest fate board.errors client (slice_get board.clients client) beat old new
+GoesOn fate board (D client beat) old new = new ≡ after_beat old client beat.source
+GoesOn fate board (OnAxi beat) old new = new ≡ with_failed board.memory (failed_span board.errors board.axi beat) old
+GoesOn fate board Drained old new = new ≡ old
+
+-- a request whose whole reply came was spoiled before, if it is fated to be
+abbrev pub HasFate : (ℕ → Bool) → Entry → Type 0
+HasFate fate entry = has_ended entry ≡ true → fate entry.number ≡ true → entry.spoiled ≡ true
 
 -- the orders of what begins in a list of beats, on a board and behind an order of what had begun before
-abbrev pub IsOrderFrom : Board → Order → List ObservedBeat → Order → Type 0
-IsOrderFrom board now [] order = order ≡ now
-IsOrderFrom board now (seen ∷ rest) order = (next : Order) × GoesOn board seen now next × IsOrderFrom (after_seen RealTime board seen) next rest order
+abbrev pub IsOrderFrom : (ℕ → Bool) → Board → Order → List ObservedBeat → Order → Type 0
+IsOrderFrom fate board now [] order = order ≡ now
+IsOrderFrom fate board now (seen ∷ rest) order =
+    (next : Order) × GoesOn fate board seen now next × AllByRecursion (HasFate fate) next × IsOrderFrom fate (after_seen RealTime board seen) next rest order
 
--- the orders of what begins in all beats since the start
-abbrev pub IsOrderOf : Errors → SetupLists → List ObservedBeat → Order → Type 0
-IsOrderOf errors setup beats order = IsOrderFrom (opening_with errors setup) [] beats order
+-- the orders of what begins in all beats since the start: those are fated that were spoiled in the end, as none is but where errors may be told in any way
+pub record IsOrderOf (errors : Errors) (setup : SetupLists) (beats : List ObservedBeat) (order : Order) : Type 0 where
+  pub fate : ℕ → Bool
+  pub any : (number : ℕ) → fate number ≡ true → errors ≡ Any
+  pub ends : AllByRecursion (λ entry. fate entry.number ≡ true → entry.spoiled ≡ true) order
+  pub from : IsOrderFrom fate (opening_with errors setup) [] beats order
 
 -- ---- what is blamed, by these orders
 

@@ -1,6 +1,6 @@
 -- Boards of both policies that get the same beats hold the same, but for what is known of requests that race, until one is of a busy source or a W
 -- beat without a write.
-use Rattle.std.proofs.Common.{◌≡◌, ℕ, Bool, true, false, List, [], ◌∷◌, map, Option, Some, None, if◌then◌else◌, Result, Ok, Err, refl, sym, ◌∙◌, ap, ap₂, subst, arith}
+use Rattle.std.proofs.Common.{◌≡◌, ℕ, Bool, true, false, ◌||◌, List, [], ◌∷◌, map, Option, Some, None, if◌then◌else◌, Result, Ok, Err, refl, sym, ◌∙◌, ap, ap₂, subst, arith}
 use Rattle.std.specs.Prelude.{is_some, slice_get, unwrap_or}
 use Rattle.std.specs.Option.{option_map}
 use Rattle.std.proofs.lemmas.Option.{slice_get-map}
@@ -13,12 +13,13 @@ use Rattle.tl_checker.specs.declared.Progress.{Progress}
 use Rattle.tl_checker.specs.declared.Progress.TheVariants.{More, Whole}
 use Rattle.tl_checker.specs.declared.TlRule.{TlRule}
 use Rattle.axi_checker.specs.declared.AxiBeat.{AxiBeat}
-use Rattle.scoreboard.specs.AxiPorts.{PortBoard, after_in_order, after_with_early, tells_no_write, wrong_in_order}
-use Rattle.scoreboard.specs.Boards.{Board, ClientBoard, a_wrong, after_a, after_all, after_d, after_seen, answer_to, answered_on, client_beside, coming_on, early_after, early_due, early_left, fails, flight_for, footprints_of, has_replied, is_spoiled, joining_on, more_on, opening_board, place_on, told_to, whole_on, with_accepted, with_client, with_taken, with_whole, wrong_at}
+use Rattle.scoreboard.specs.AxiPorts.{PortBoard, port_after, after_in_order, after_with_early, tells_no_write, wrong_in_order}
+use Rattle.scoreboard.specs.Boards.{Board, ClientBoard, a_wrong, after_a, after_all, after_d, after_seen, answer_to, answered_on, client_beside, coming_on, early_after, early_due, early_left, fails, flight_for, footprints_of, has_replied, hit_on, is_spoiled, joining_on, more_on, opening_board, place_on, told_to, whole_on, with_accepted, with_client, with_taken, with_whole, wrong_at}
+use Rattle.scoreboard.specs.FailedBursts.{Span, failed_span}
 use Rattle.scoreboard.specs.Flights.{Flights, Footprint, InFlight, flights_after, next_reply, no_footprint}
 use Rattle.scoreboard.specs.Races.{alone, joining, unless_failed}
 use Rattle.scoreboard.specs.declared.Errors.{Errors}
-use Rattle.scoreboard.specs.declared.Errors.TheVariants.{Strict}
+use Rattle.scoreboard.specs.declared.Errors.TheVariants.{Any, Strict}
 use Rattle.scoreboard.specs.Wider.{AreTogether, IsWiderAlong, TellsNoMore, board_alone, client_alone, tells_apart, tells_busy}
 use Rattle.scoreboard.specs.declared.Policy.TheVariants.{AcceptanceOrder, RealTime}
 use Rattle.scoreboard.specs.declared.ObservedBeat.{ObservedBeat}
@@ -32,7 +33,7 @@ use Rattle.scoreboard.proofs.real_time.Fronts.{beside_at}
 use Rattle.std.proofs.lemmas.Option.{slice_get_within}
 use Rattle.bus_words.proofs.StoredPlaces.{get_set}
 use Rattle.scoreboard.proofs.real_time.Failures.{fails_flag}
-use Rattle.scoreboard.proofs.real_time.FlightsAlone.{begun_alone, client_changed_alone, early_alone, flights_alone, further_alone, given_alone, joined_alone, none_left, opens_alone, told_alone}
+use Rattle.scoreboard.proofs.real_time.FlightsAlone.{begun_alone, client_changed_alone, early_alone, flights_alone, further_alone, given_alone, hit_alone, joined_alone, none_left, opens_alone, told_alone}
 use Rattle.scoreboard.proofs.real_time.WiderVerdicts.{IsUnfailed, nothing_early, same_answer, tells_no_more}
 
 -- a board of real time holds what one of acceptance order does, and nothing is early
@@ -112,24 +113,33 @@ after_on old (A client beat) waits none free =
 after_on old (D client beat) waits none free = rw (slice_get-map client_alone old.clients client) (reply_on old client (slice_get old.clients client) beat none)
 after_on old (OnAxi beat) waits none free =
     let same = port_on old.axi beat none (grind (arith, free)) in
-    record { holds = ap (λ (port : PortBoard). record (board_alone old) { axi = port }) same; early = ap (λ (port : PortBoard). port.early) same ∙ none }
+    let after : Board = record old { axi = port_after RealTime old.axi beat } in
+    let span = failed_span old.errors old.axi beat in
+    record {
+      holds = hit_alone span after ∙ ap (λ (port : PortBoard). record (board_alone old) { axi = port }) same;
+      early = by_span span after ∙ ap (λ (port : PortBoard). port.early) same ∙ none;
+    }
+  where
+    by_span : (span : Option Span) (board : Board) → (hit_on span board).axi.early ≡ board.axi.early
+    by_span None board = refl
+    by_span (Some span) board = refl
 after_on old Drained waits none free = record { holds = refl; early = refl }
 
 -- ---- no request in flight has failed, where errors are told as this project's bridge tells them
 
+-- nothing may come early, and what has begun hasn't failed
+abbrev IsLate : ClientBoard → Type 0
+IsLate client = (client.early ≡ None) × (client.coming.failed ≡ false)
+
 record IsStrict (board : Board) : Type 0 where
   errors : board.errors ≡ Strict
   unfailed : AreOfEach IsUnfailed board.clients
-  none_early : (number : ℕ) (client : ClientBoard) → slice_get board.clients number ≡ Some client → client.early ≡ None
-
--- nothing may come early
-abbrev IsLate : ClientBoard → Type 0
-IsLate client = client.early ≡ None
+  late : (number : ℕ) (client : ClientBoard) → slice_get board.clients number ≡ Some client → IsLate client
 
 late_beside : (footprint : Footprint) (clients : List ClientBoard) → ((number : ℕ) (client : ClientBoard) → slice_get clients number ≡ Some client → IsLate client)
     → (number : ℕ) (client : ClientBoard) → slice_get (map (client_beside footprint) clients) number ≡ Some client → IsLate client
 late_beside footprint clients are number client is =
-    let was = client_was footprint clients number client is in sym (ap (λ (c : ClientBoard). c.early) was.2) ∙ are number was.0 was.1
+    let was = client_was footprint clients number client is in subst IsLate was.2 (are number was.0 was.1)
 
 late_request : (board : Board) (number : ℕ) (beat : ABeat) → board.errors ≡ Strict
     → ((other : ℕ) (client : ClientBoard) → slice_get board.clients other ≡ Some client → IsLate client)
@@ -137,19 +147,24 @@ late_request : (board : Board) (number : ℕ) (beat : ABeat) → board.errors �
 late_request board number beat strict are = by_client (slice_get board.clients number) refl
   where
     whole_late : (replied : Bool) (flight : InFlight) (client : ClientBoard) → IsLate (with_whole replied flight client)
-    whole_late true flight client = refl
-    whole_late false flight client = refl
+    whole_late true flight client = (refl, refl)
+    whole_late false flight client = (refl, refl)
 
     more : (old : Board) (client : ClientBoard) (q : WholeRequest) (begun : Bool) → old.errors ≡ Strict → slice_get old.clients number ≡ Some client → IsLate client
         → ((other : ℕ) (one : ClientBoard) → slice_get old.clients other ≡ Some one → IsLate one)
         → (other : ℕ) (one : ClientBoard) → slice_get (more_on old number client q begun).clients other ≡ Some one → IsLate one
     more old client q true errors there late all =
-        each_client IsLate old.clients number client (record client { coming = unless_failed (is_spoiled old.errors q) client.coming }) there all late
+        each_client IsLate old.clients number client (record client { coming = unless_failed (is_spoiled old.errors q) client.coming }) there all
+        (late.0, ap (λ e. (unless_failed (is_spoiled e q) client.coming).failed) errors ∙ late.1)
     more old client q false errors there late all =
         let footprint = joining_on old q in
         each_client IsLate (map (client_beside footprint) old.clients) number (client_beside footprint client)
         (record (client_beside footprint client) { coming = footprint; early = early_due old.errors q }) (beside_at footprint old.clients number client there)
-        (late_beside footprint old.clients all) (ap (λ e. early_due e q) errors)
+        (late_beside footprint old.clients all) (
+          ap (λ e. early_due e q) errors,
+          fails_flag (fails old.errors old.memory q) (joining old.indeterminate (footprints_of old.clients) (place_on old q) q) refl
+              ∙ ap (λ e. fails e old.memory q) errors,
+        )
 
     whole : (client : ClientBoard) (q : WholeRequest) (begun : Bool) → slice_get board.clients number ≡ Some client
         → (other : ℕ) (one : ClientBoard) → slice_get (whole_on board number client q begun).clients other ≡ Some one → IsLate one
@@ -161,7 +176,7 @@ late_request board number beat strict are = by_client (slice_get board.clients n
         let footprint = joining_on board q in
         each_client IsLate (map (client_beside footprint) board.clients) number (client_beside footprint client)
         (with_accepted (flight_for board.memory footprint q) (client_beside footprint client)) (beside_at footprint board.clients number client there)
-        (late_beside footprint board.clients are) refl
+        (late_beside footprint board.clients are) (refl, refl)
 
     by_answer : (client : ClientBoard) (answer : Result Progress TlRule) → slice_get board.clients number ≡ Some client
         → (other : ℕ) (one : ClientBoard) → slice_get (answered_on RealTime board number client (joined client.limits client.front beat) answer).clients other ≡ Some one → IsLate one
@@ -188,16 +203,20 @@ late_reply board number beat are = by_client (slice_get board.clients number) re
     by_client None there = are
     by_client (Some client) there =
         each_client IsLate board.clients number client
-        (record client { flights = flights_after client.flights beat.source; early = early_after client beat.source; told = unwrap_or (told_to client) beat.denied }) there are
-        (ap (λ (o : Option DBeat). if is_some (next_reply client.flights beat.source) then o else early_left o beat.source) (are number client there)
-        ∙ none_left (is_some (next_reply client.flights beat.source)) beat.source)
+        (record client { flights = flights_after client.flights beat.source; early = early_after client beat.source; told = unwrap_or (told_to client) beat.denied }) there are (
+          ap (λ (o : Option DBeat). if is_some (next_reply client.flights beat.source) then o else early_left o beat.source) (are number client there).0
+              ∙ none_left (is_some (next_reply client.flights beat.source)) beat.source,
+          (are number client there).1,
+        )
 
 late_next : (board : Board) (seen : ObservedBeat) → board.errors ≡ Strict → ((other : ℕ) (client : ClientBoard) → slice_get board.clients other ≡ Some client → IsLate client)
     → (other : ℕ) (client : ClientBoard) → slice_get (after_seen RealTime board seen).clients other ≡ Some client → IsLate client
-late_next board (A number beat) strict are = late_request board number beat strict are
-late_next board (D number beat) strict are = late_reply board number beat are
-late_next board (OnAxi beat) strict are = are
-late_next board Drained strict are = are
+late_next board (A number beat) strict are other client is = late_request board number beat strict are other client is
+late_next board (D number beat) strict are other client is = late_reply board number beat are other client is
+late_next board (OnAxi beat) strict are other client is =
+    are other client
+    (sym (ap (λ errors. slice_get (hit_on (failed_span errors board.axi beat) (record board { axi = port_after RealTime board.axi beat })).clients other) strict) ∙ is)
+late_next board Drained strict are other client is = are other client is
 
 strict_next : (board : Board) (seen : ObservedBeat) → IsStrict board → IsStrict (after_seen RealTime board seen)
 strict_next board seen strict =
@@ -205,10 +224,15 @@ strict_next board seen strict =
       errors = errors_kept board seen ∙ strict.errors;
       unfailed = seen_each IsUnfailed (λ footprint flight sound. sound) (λ flight sound. sound) board strict.unfailed
           (λ q. fails_flag (fails board.errors board.memory q) (joining board.indeterminate (footprints_of board.clients) (place_on board q) q) refl ∙ sound q)
-          (λ coming q. fails_flag (fails board.errors board.memory q) (alone board.indeterminate (place_on board q) q) refl ∙ sound q) seen;
-      none_early = late_next board seen strict.errors strict.none_early;
+          (λ number client there q. ap₂ (λ (one other : Bool). one || other) (strict.late number client there).1
+          (fails_flag (fails board.errors board.memory q) (alone board.indeterminate (place_on board q) q) refl ∙ sound q))
+          (λ any. absurd (differ (sym strict.errors ∙ any))) seen;
+      late = late_next board seen strict.errors strict.late;
     }
   where
+    differ : Strict ≡ Any → ⊥
+    differ is = cc (is)
+
     sound : (q : WholeRequest) → fails board.errors board.memory q ≡ false
     sound q = ap (λ errors. fails errors board.memory q) strict.errors
 
@@ -218,7 +242,7 @@ strict_opens setup =
       errors = refl;
       unfailed = λ number client is.
           let found = opening_at setup.config 0 setup.config.clients number client is in subst (IsOfEach IsUnfailed) (sym found.1) (tt, tt);
-      none_early = λ number client is. ap (λ (c : ClientBoard). c.early) (opening_at setup.config 0 setup.config.clients number client is).1;
+      late = λ number client is. subst IsLate (sym (opening_at setup.config 0 setup.config.clients number client is).1) (refl, refl);
     }
 
 strict_all : (beats : List ObservedBeat) (board : Board) → IsStrict board → IsStrict (after_all RealTime board beats)
@@ -243,5 +267,5 @@ is_wider board seen setup before is told =
     record {
       holds = on.holds;
       tells = subst (λ (compared : Board). TellsNoMore (wrong_at AcceptanceOrder compared seen) (wrong_at RealTime board seen)) on.holds
-          (tells_no_more board seen (λ number client there. record { unfailed = strict.unfailed number client there; none_early = strict.none_early number client there }) on.early);
+          (tells_no_more board seen (λ number client there. record { unfailed = strict.unfailed number client there; none_early = (strict.late number client there).0 }) on.early);
     }

@@ -4,7 +4,8 @@ use Rattle.std.specs.Option.{option_len, option_to_list}
 use Rattle.std.specs.Vec.{with_items}
 use Rattle.std.proofs.lemmas.Grind.{common_steps}
 use Rattle.scoreboard.specs.InsideBoards.{AreDue, HaveRoom, footprint_of}
-use Rattle.scoreboard.proofs.held.Sources.{due_beside}
+use Rattle.scoreboard.specs.Races.{beside}
+use Rattle.scoreboard.proofs.held.Sources.{due_changed}
 use Rattle.scoreboard.proofs.flights.Flights.give_way.Goals.{in-Some, in_default}
 use Rattle.scoreboard.proofs.flights.Flights.give_way.Goals as goal
 
@@ -16,7 +17,7 @@ invariant_of-self c =
     let many : length new ≡ c.self.inside.due.len = omega (arith, c.give_way_each.auto.due, c.deref_mut.ensures.len, c.self.inside.due.ok) in
     let items : (with_items c.self.inside.due new).items ≡ new = grind (arith, common_steps, many, c.self.inside.due.ok) in
     let due : AreDue room (with_items c.self.inside.due new).items =
-    rw items (due_beside room old new (footprint_of c.args.other.now) (rw c.deref_mut.ensures.value c.self.invariant.0) c.give_way_each.ensures.flights (c.give_way_each.ensures.rooms room)) in
+    rw items (due_changed room old new (λ one. beside one (footprint_of c.args.other.now)) (rw c.deref_mut.ensures.value c.self.invariant.0) c.give_way_each.ensures.flights (c.give_way_each.ensures.rooms room)) in
     let count : length (with_items c.self.inside.due new).items ≡ length c.self.inside.due.items = omega (arith, ap length items, many, c.self.inside.due.ok) in
     elim c.match-self.branch [
       | in-Some w ↦

@@ -1,5 +1,5 @@
 -- One byte more; and at the end all of them.
-use Rattle.std.proofs.Common.{◌≡◌, ◌<◌, ◌^◌, ◌+◌, ◌&&◌, ap, refl, ◌∙◌, below_more, arith}
+use Rattle.std.proofs.Common.{◌≡◌, ◌<◌, ◌^◌, ◌+◌, ◌&&◌, ◌||◌, Bool, ap, refl, ◌∙◌, below_more, arith}
 use Rattle.scoreboard.specs.InsideBoards.{FootprintState, determined_in, footprint_of}
 use Rattle.scoreboard.proofs.held.FootprintBytes.{determined_at, kept}
 use Rattle.scoreboard.proofs.footprint.Footprint.keep.Goals as goal
@@ -21,4 +21,8 @@ loop-i-preserved c =
 
 pub returns-clause-footprint : goal.returns-clause-footprint
 returns-clause-footprint c =
-    kept c.args.self.now c.loop-i.self (footprint_of c.args.coming.now) c.loop-i.invariant.0 (λ k below. c.loop-i.invariant.1 k (omega arith))
+    let old = c.args.self.now in
+    let failed = λ (b : Bool) (r : FootprintState). record r { failed = r.failed || b } in
+    let new = failed c.args.coming.now.failed c.loop-i.self in
+    ap footprint_of (ap (failed c.coming.inside.failed) c.self.view_is ∙ ap (λ (r : FootprintState). failed r.failed c.loop-i.self) c.coming.view_is)
+    ∙ kept old new (footprint_of c.args.coming.now) (ap (failed c.args.coming.now.failed) c.loop-i.invariant.0) (λ k below. c.loop-i.invariant.1 k (omega arith))
