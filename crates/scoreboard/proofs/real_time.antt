@@ -20,11 +20,14 @@ pub mod FlightLists
 pub mod FlightPlaces
 pub mod FlightsAlone
 pub mod Follows
+pub mod FollowsBegins
 pub mod FollowsChanges
+pub mod FollowsEarly
 pub mod FollowsEnded
 pub mod FollowsHits
 pub mod FollowsReplies
 pub mod FollowsRequests
+pub mod FollowsWhole
 pub mod Fronts
 pub mod GivenAhead
 pub mod Insertion

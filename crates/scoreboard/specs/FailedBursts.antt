@@ -1,6 +1,6 @@
 -- Error responses on the AXI4 port: where errors are told in any way, each request may have failed with one that shares a byte with the burst that was
 -- answered, from its first beat to the last of its reply.
-use Rattle.std.specs.Prelude.{ℕ, ◌+◌, ◌^◌, Bool, ◌&&◌, ◌||◌, List, Option, Some, None, is_none, if◌then◌else◌, nat_le, nat_lt, option_map}
+use Rattle.std.specs.Prelude.{ℕ, ◌+◌, ◌^◌, Bool, ◌&&◌, ◌||◌, List, Option, None, is_none, if◌then◌else◌, nat_le, nat_lt, option_map}
 use Rattle.std.specs.List.{list_any}
 use Rattle.axi_beats.specs.Responses.{is_okay}
 use Rattle.axi_beats.specs.Transfers.{last_byte}

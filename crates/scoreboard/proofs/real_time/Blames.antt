@@ -42,8 +42,9 @@ use Rattle.scoreboard.proofs.real_time.Entries.{place_of}
 use Rattle.scoreboard.proofs.real_time.Lengths.{some_beats}
 use Rattle.scoreboard.proofs.real_time.ReplyMoves.{waits_for}
 use Rattle.scoreboard.proofs.real_time.Follows.{Follows, IsFailing, IsFated, IsFollowed, IsMarked, IsOpen, begun_here, begun_settled, follows_as, run_settled, settle, settled, some_passes}
+use Rattle.scoreboard.proofs.real_time.FollowsEarly.{follows_reply}
 use Rattle.scoreboard.proofs.real_time.FollowsHits.{follows_failed}
-use Rattle.scoreboard.proofs.real_time.FollowsReplies.{EarlyDue, WholeDue, due_cases, due_settled, due_whole, early_due_in, early_there, follows_reply, nobody_due}
+use Rattle.scoreboard.proofs.real_time.FollowsReplies.{EarlyDue, WholeDue, due_cases, due_settled, due_whole, early_due_in, early_there, nobody_due}
 use Rattle.scoreboard.proofs.real_time.Comings.{early_at, early_in}
 use Rattle.scoreboard.proofs.real_time.FollowsRequests.{follows_request}
 use Rattle.scoreboard.proofs.real_time.Fronts.{AreFronts, fronts_next, fronts_opening}

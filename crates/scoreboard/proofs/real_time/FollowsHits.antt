@@ -1,7 +1,7 @@
 -- An error response on the AXI4 port: the requests that share a byte with its burst have failed on the board, and in the order; the shadow knew it.
-use Rattle.std.proofs.Common.{◌≡◌, ℕ, zero, suc, ◌+◌, ◌^◌, Bool, true, false, ◌&&◌, ◌||◌, not, List, [], ◌∷◌, map, length, Option, Some, None, if◌then◌else◌, nat_le, nat_lt, inl, inr, refl, sym, ◌∙◌, ap, ap₂, subst, arith}
-use Rattle.std.specs.Prelude.{is_some, slice_get}
-use Rattle.std.specs.List.{AllByRecursion, list_any}
+use Rattle.std.proofs.Common.{◌≡◌, ℕ, zero, suc, Bool, true, false, ◌&&◌, not, List, [], ◌∷◌, map, Option, Some, None, refl, sym, ◌∙◌, ap, subst, arith}
+use Rattle.std.specs.Prelude.{is_some}
+use Rattle.std.specs.List.{list_any}
 use Rattle.std.specs.Option.{option_map}
 use Rattle.std.proofs.Math.Path.{fun_ext}
 use Rattle.std.proofs.lemmas.Bool.{or_parts}
@@ -13,22 +13,21 @@ use Rattle.tl_messages.specs.Requests.{WholeRequest}
 use Rattle.axi_checker.specs.declared.AxiBeat.{AxiBeat}
 use Rattle.scoreboard.specs.AxiPorts.{PortBoard}
 use Rattle.scoreboard.specs.Boards.{Board, ClientBoard, footprints_of, hit_client, hit_on}
-use Rattle.scoreboard.specs.FailedBursts.{Span, after_hit, failed_span, hit, hit_flight, shares}
-use Rattle.scoreboard.specs.Flights.{Flights, Footprint, InFlight, due_to, each_flight, is_of_source, no_footprint}
+use Rattle.scoreboard.specs.FailedBursts.{Span, failed_span, hit, hit_flight, shares}
+use Rattle.scoreboard.specs.Flights.{Flights, Footprint, InFlight, each_flight, is_of_source}
 use Rattle.scoreboard.specs.Orders.{Entry, Order, has_ended}
 use Rattle.scoreboard.specs.Races.{may_write, unless_failed}
 use Rattle.scoreboard.specs.RealTime.{acting_footprint, struck, with_failed}
-use Rattle.scoreboard.specs.SerialMemory.{Memory}
 use Rattle.scoreboard.specs.declared.Errors.{Errors}
 use Rattle.scoreboard.specs.declared.Errors.TheVariants.{Any, Strict}
 use Rattle.scoreboard.proofs.MappedLists.{any_map, find_map}
-use Rattle.scoreboard.proofs.real_time.Ahead.{HasBecome, HasBeside, IsAhead, IsBehind, IsComing, IsFinal, IsSame, NoneFated, Shadow, comes, shadow_of, will_give}
+use Rattle.scoreboard.proofs.real_time.Ahead.{HasBeside, IsAhead, IsBehind, IsComing, NoneFated, Shadow, comes, shadow_of}
 use Rattle.scoreboard.proofs.real_time.Comings.{early_at}
 use Rattle.scoreboard.proofs.real_time.Entries.{place_of}
 use Rattle.scoreboard.proofs.real_time.Explained.{Explains}
-use Rattle.scoreboard.proofs.real_time.Failures.{failed_any, failed_at}
-use Rattle.scoreboard.proofs.real_time.FlightLists.{HaveAllSources, each_coming, each_of}
-use Rattle.scoreboard.proofs.real_time.Follows.{ActsAs, Follows, IsFailing, IsFated, IsFollowed, IsMarked, IsOpen, Knows, all_mapped, may_act, replied_by, settle, settled}
+use Rattle.scoreboard.proofs.real_time.Failures.{failed_any}
+use Rattle.scoreboard.proofs.real_time.FlightLists.{each_of}
+use Rattle.scoreboard.proofs.real_time.Follows.{ActsAs, Follows, IsFailing, IsFated, IsFollowed, IsMarked, IsOpen, Knows, all_mapped, replied_by, settle, settled}
 use Rattle.scoreboard.proofs.real_time.Fronts.{changed_from}
 use Rattle.scoreboard.proofs.real_time.Lengths.{some_beats}
 use Rattle.scoreboard.proofs.real_time.Places.{HaveSources, Place, coming_at, due_at, flight_at, flight_in, flights_at, footprint_in}
