@@ -17,9 +17,9 @@ use Rattle.scoreboard.specs.declared.Wrong.TheVariants.{NoClient, Request, Reply
 
 -- ---- requests that have begun
 
--- a request of a client, with its number in the order of first beats, of which at least one beat came; whether it is whole; whether it was spoiled, where that may be told in any way: a beat of it was
--- corrupt, or an error response came to a burst that shares a byte with it; whether
--- its reply may come though it isn't whole, and whether it came so; and how many beats of its reply came since it is whole, all if it came before
+-- a request of a client, of which at least one beat came, with its number in the order of first beats; whether it is whole; whether it was spoiled, where
+-- that may be told in any way: a beat of it was corrupt, or an error response came to a burst that shares a byte with it; whether its reply may come
+-- though it isn't whole, and whether it came so; and how many beats of its reply came since it is whole, all if it came before
 pub record Entry : Type 0 where
   pub number : ℕ
   pub client : ℕ
