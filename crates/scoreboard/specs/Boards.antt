@@ -342,6 +342,7 @@ after_d old number (Some client) beat =
 
 -- ---- an error response
 
+-- a client's requests, in flight and begun, when a burst was answered with an error
 abbrev pub hit_client : Span → ClientBoard → ClientBoard
 hit_client span client = record client { flights = each_flight (hit_flight span) client.flights; coming = hit span client.coming }
 

@@ -19,10 +19,11 @@ pub record Span : Type 0 where
   pub first : ℕ
   pub last : ℕ
 
+-- those of a burst by its address
 abbrev pub span_of : BurstAddress → Span
 span_of address = record { first = address.start; last = last_byte address.start address.len address.size }
 
--- those of the burst that a response is to, the oldest of its ID
+-- those of the burst to which a response comes that is an error: the oldest of its ID
 abbrev pub answered_span : OpenBursts → AxiBeat → Option Span
 answered_span open_bursts (OnB b) =
     if is_okay b.resp then None else option_map (λ (write : OpenWrite). span_of (address_of_write write.aw)) (oldest_write b.id open_bursts)
@@ -40,13 +41,14 @@ abbrev pub shares : Span → Footprint → Bool
 shares span footprint =
     (footprint.reads || footprint.writes) && nat_le footprint.address span.last && nat_lt span.first (footprint.address + 2 ^ footprint.size)
 
--- it may have failed then
+-- the footprint of a request when a burst was answered with an error: where it shares a byte with that it may have failed
 abbrev pub hit : Span → Footprint → Footprint
 hit span footprint = unless_failed (shares span footprint) footprint
 
+-- the same of one in flight
 abbrev pub hit_flight : Span → InFlight → InFlight
 hit_flight span flight = record flight { footprint = hit span flight.footprint }
 
--- and what it may write is indeterminate
+-- the indeterminate bytes then: those too that may be written by a request which shares a byte with the burst
 abbrev pub after_hit : (ℕ → Bool) → Span → List Footprint → ℕ → Bool
 after_hit indeterminate span footprints x = indeterminate x || list_any (λ footprint. shares span footprint && may_write footprint x) footprints

@@ -98,6 +98,7 @@ abbrev pub struck : Memory → Span → Entry → Entry
 struck memory span entry =
     if not (has_ended entry) && shares span (acting_footprint memory entry.request) then record entry { spoiled = true } else entry
 
+-- the same of all that have begun, if a burst was answered so
 abbrev pub with_failed : Memory → Option Span → Order → Order
 with_failed memory None old = old
 with_failed memory (Some span) old = map (struck memory span) old
