@@ -3,6 +3,9 @@ use Rattle.std.proofs.Common.{◌≡◌, ℕ, zero, suc, true, false, List, [], 
 use Rattle.std.proofs.lemmas.Bool.{false≢true}
 use Rattle.std.proofs.lemmas.Option.{none-some}
 use Rattle.std.specs.Prelude.{replicate}
+use Rattle.axi_beats.specs.declared.Resp.{Resp}
+use Rattle.axi_beats.specs.declared.Resp.TheVariants.{Okay, SlvErr}
+use Rattle.axi_checker.specs.declared.AxiBeat.TheVariants.{Aw as OnAw, W as OnW, B as OnB}
 use Rattle.tl_messages.specs.Requests.{WholeRequest}
 use Rattle.tl_messages.specs.declared.ABeat.{ABeat}
 use Rattle.tl_messages.specs.declared.DBeat.{DBeat}
@@ -14,7 +17,7 @@ use Rattle.scoreboard.specs.Boards.{after_all, opening_board, wrong_at}
 use Rattle.scoreboard.specs.Right.{IsRight}
 use Rattle.scoreboard.specs.declared.ReplyRule.TheVariants.{Corrupt, Denied, Payload, Unasked}
 use Rattle.scoreboard.specs.declared.ObservedBeat.{ObservedBeat}
-use Rattle.scoreboard.specs.declared.ObservedBeat.TheVariants.{A, D}
+use Rattle.scoreboard.specs.declared.ObservedBeat.TheVariants.{A, D, Axi}
 use Rattle.scoreboard.specs.declared.Wrong.TheVariants.{Reply}
 use Rattle.scoreboard.specs.Orders.{Asked, board_after, due_beats}
 use Rattle.scoreboard.specs.declared.Errors.TheVariants.{Any, Strict}
@@ -247,6 +250,85 @@ carried_or_not : (due_beats setup (arranged Any setup in_doubt carried (0 ∷ 1 
     × (due_beats setup (arranged Any setup in_doubt (as_begun Any setup in_doubt) (0 ∷ 1 ∷ [])) (asked_by 1 (told 0)) ≡ told 0 ∷ [])
 unfolding zero_words
 carried_or_not = (refl, refl)
+
+-- ---- a put whose burst fails
+
+-- client 0 puts the word at 8, which goes to the memory as a burst, and that answers with an error
+abbrev put_word : ObservedBeat
+put_word = A 0 (a 0 0 3 5 0x08 0xff 0xaa000000)
+
+abbrev answered : ℕ → Resp → List ObservedBeat
+answered address resp =
+    Axi (OnAw (record { id = 0; len = 0; size = 3; burst = 1; address = address }))
+    ∷ Axi (OnW (record { payload = 0xaa000000; strobes = 0xff; last = true }))
+    ∷ Axi (OnB (record { id = 0; resp = resp }))
+    ∷ []
+
+abbrev put_failed : List ObservedBeat
+put_failed = put_word ∷ answered 0x10008 SlvErr
+
+-- it may be denied, or acknowledged, by the board and by the one order that there is; where errors are told as this project's bridge tells them it isn't
+-- denied, since nothing of it fails by the set-up
+failed_answer : (wrong_at RealTime (board_after Any setup put_failed) (D 0 denied_word) ≡ None)
+    × (wrong_at RealTime (board_after Any setup put_failed) (D 0 acknowledged_word) ≡ None)
+    × (due_beats setup (arranged Any setup put_failed (as_begun Any setup put_failed) (0 ∷ [])) (asked_by 0 denied_word) ≡ denied_word ∷ [])
+    × (due_beats setup (arranged Any setup put_failed (as_begun Any setup put_failed) (0 ∷ [])) (asked_by 0 acknowledged_word) ≡ acknowledged_word ∷ [])
+    × (wrong_at RealTime (board_after Strict setup put_failed) (D 0 denied_word) ≡ Some (Reply Denied (Some acknowledged_word)))
+unfolding zero_words
+failed_answer = (refl, refl, refl, refl, refl)
+
+-- an answer that isn't an error tells nothing, nor does one to a burst of the word before or behind, one of no write, or one before the put came
+no_error : (wrong_at RealTime (board_after Any setup (put_word ∷ answered 0x10008 Okay)) (D 0 denied_word) ≡ Some (Reply Denied (Some acknowledged_word)))
+    × (wrong_at RealTime (board_after Any setup (put_word ∷ answered 0x10000 SlvErr)) (D 0 denied_word) ≡ Some (Reply Denied (Some acknowledged_word)))
+    × (wrong_at RealTime (board_after Any setup (put_word ∷ answered 0x10010 SlvErr)) (D 0 denied_word) ≡ Some (Reply Denied (Some acknowledged_word)))
+    × (wrong_at RealTime (board_after Any setup (put_word ∷ Axi (OnB (record { id = 0; resp = SlvErr })) ∷ [])) (D 0 denied_word)
+    ≡ Some (Reply Denied (Some acknowledged_word)))
+    × (wrong_at RealTime (board_after Any setup (answered 0x10008 SlvErr ++ put_word ∷ [])) (D 0 denied_word)
+    ≡ Some (Reply Denied (Some acknowledged_word)))
+unfolding zero_words
+no_error = (refl, refl, refl, refl, refl)
+
+-- a get behind its reply
+abbrev after_failed : List ObservedBeat
+after_failed = put_failed ++ D 0 denied_word ∷ get ∷ []
+
+-- nobody knows what was written, and the get may be told anything, but not that it failed
+failed_in_doubt : ((board_after Any setup after_failed).indeterminate 0x10008 ≡ true)
+    × ((board_after Any setup after_failed).indeterminate 0x1000f ≡ true)
+    × ((board_after Any setup after_failed).indeterminate 0x10010 ≡ false)
+    × (wrong_at RealTime (board_after Any setup after_failed) (D 1 (told 0xaa000000)) ≡ None)
+    × (wrong_at RealTime (board_after Any setup after_failed) (D 1 (told 0)) ≡ None)
+    × (wrong_at RealTime (board_after Any setup after_failed) (D 1 (told 0xbb000000)) ≡ None)
+    × (wrong_at RealTime (board_after Any setup after_failed) (D 1 (record (told 0) { denied = true; corrupt = true }))
+    ≡ Some (Reply Denied (Some (told 0xaa000000))))
+    × ((board_after Strict setup after_failed).indeterminate 0x10008 ≡ false)
+    × (wrong_at RealTime (board_after Strict setup after_failed) (D 1 (told 0)) ≡ Some (Reply Payload (Some (told 0xaa000000))))
+unfolding zero_words
+failed_in_doubt = (refl, refl, refl, refl, refl, refl, refl, refl, refl)
+
+-- the put as it isn't carried out at all
+abbrev dropped : ℕ → WholeRequest
+dropped zero = record (as_begun Any setup after_failed 0) { corrupt = true }
+dropped (suc number) = as_begun Any setup after_failed (suc number)
+
+-- it may become that
+may_be_dropped : MayBecomeAll (begun_in Any setup after_failed) dropped
+may_be_dropped zero below =
+    let left = (nothing_more Any setup after_failed 0 below).left refl refl
+    in record {
+      same = λ whole sound. absurd (false≢true (sym sound));
+      fields = refl;
+      corrupt = λ sound spoilt. absurd (false≢true (sym sound));
+      bytes = λ unwhole. absurd (false≢true (sym unwhole));
+      left = λ whole spoilt. record { bytes = record { count = left.bytes.count; small = left.bytes.small }; within = left.within; full = left.full };
+    }
+may_be_dropped (suc number) below = nothing_more Any setup after_failed (suc number) below
+
+-- the get is told what was there, or what the put gave
+dropped_or_not : (due_beats setup (arranged Any setup after_failed dropped (0 ∷ 1 ∷ [])) (asked_by 1 (told 0)) ≡ told 0 ∷ [])
+    × (due_beats setup (arranged Any setup after_failed (as_begun Any setup after_failed) (0 ∷ 1 ∷ [])) (asked_by 1 (told 0)) ≡ told 0xaa000000 ∷ [])
+unfolding zero_words
+dropped_or_not = (refl, refl)
 
 -- ---- a put that is replied to before it is whole
 
