@@ -9,6 +9,7 @@ For each of them it prints how many runs were told wrong, and after how many bea
 exactly where the right bridge is never blamed and each fault is told in some run, with 1 where not, with 2 for words that it doesn't
 know, with 3 where a simulator or tlscore can't do its work, and with 4 where there is no simulator. --bridge streaming_bridge has
 another one judged, which tells errors in its own way: it asks for --profile tilelink --errors any, or with --calm for the first alone.
+By --errors any, without --calm, the memory whose good pages fail by lot is among them.
 
 --right has both bridges judged as they are, each by what it promises, N runs in all, and prints a table of them.
 """
@@ -37,6 +38,7 @@ PROFILES = ("bridge", "tilelink")
 ERRORS = ("strict", "any")
 HABITS = ("EARLY", "QUIET")  # of the streaming bridge
 MEMORIES = ("ANY_ORDER", "IN_ORDER", "AS_BEATS_COME", "SLOW")
+FAILING = "FAILING"  # bursts to good pages fail by lot, which no set-up can say: for errors any alone
 RIGHT = "NONE"
 BUGS = ("LANE_SWAPPED", "STROBE_LOST", "OTHER_SOURCE", "REPLY_TWICE", "WLAST_EARLY", "PAGE_CROSSED", "REGION_UNASKED")
 WRONG = re.compile(r"^= wrong (\d+) (.*?)(?: expected .*)?$", re.MULTILINE)
@@ -56,6 +58,10 @@ class Asked(NamedTuple):
     @property
     def setup(self):
         return f"{SETUP}profile {self.profile}\nerrors {self.errors}\n"
+
+    @property
+    def memories(self):
+        return (*MEMORIES, FAILING) if self.errors == "any" else MEMORIES
 
 
 class Bench(NamedTuple):
@@ -192,14 +198,17 @@ def tried(plan, given, folder):
 def benches(bridge, asked, is_calm=False, habit=HABITS[0]):
     """The bridge in front of each memory, and with each fault that is planted in it; of a calm run none is looked for."""
     bugs = BUGS if bridge == BRIDGES[0] and not is_calm else ()
-    right = [Bench(bridge, asked, memory, habit=habit, is_calm=is_calm) for memory in MEMORIES]
+    memories = MEMORIES if is_calm else asked.memories
+    right = [Bench(bridge, asked, memory, habit=habit, is_calm=is_calm) for memory in memories]
     return right + [Bench(bridge, asked, bug=bug) for bug in bugs]
 
 
 def right_plan(seeds):
-    """Both bridges as they are, in front of each memory, by what each promises: each gets a seed in turn."""
-    judged_as = [(BRIDGES[0], HABITS[0], Asked())] + [(BRIDGES[1], habit, Asked("tilelink", "any")) for habit in HABITS]
-    right = [Bench(bridge, asked, memory, habit=habit) for bridge, habit, asked in judged_as for memory in MEMORIES]
+    """Both bridges as they are, in front of each memory, by what each promises, but by errors any where good pages fail: each gets a
+    seed in turn."""
+    strict, free = Asked(), Asked("tilelink", "any")
+    right = [Bench(BRIDGES[0], strict, memory) for memory in strict.memories] + [Bench(BRIDGES[0], free, FAILING)]
+    right += [Bench(BRIDGES[1], free, memory, habit=habit) for habit in HABITS for memory in free.memories]
     return [(bench, seeds[at :: len(right)]) for at, bench in enumerate(right)]
 
 
