@@ -96,8 +96,17 @@ BY_ANY = {
         D 0 0 0 3 5 1 0 0 -> reply 5 DENIED expected D 0 0 0 3 5 0 0000000000000000 0
         A 0 0 0 3 5 18 ff 0 0
         D 0 0 0 3 5 1 0 0 -> reply 5 DENIED expected D 0 0 0 3 5 0 0000000000000000 0
-        A 0 5 0 3 5 3000 ff 0 0
+        -> outstanding 0 open 0
+        """,
+    "an Intent of a good page isn't denied, not even of a bad word, and nothing that it tells is compared": """
+        A 0 5 0 3 5 8 ff 0 0
         D 0 2 0 3 5 1 0 0 -> reply 5 DENIED expected D 0 2 0 3 5 0 0000000000000000 0
+        A 0 5 1 3 5 18 ff 0 0
+        D 0 2 0 3 5 1 0 0 -> reply 5 DENIED expected D 0 2 0 3 5 0 0000000000000000 0
+        A 0 5 0 3 5 8 ff 0 0
+        D 0 2 0 3 5 0 0 1 -> reply 6 CORRUPT expected D 0 2 0 3 5 0 0000000000000000 0
+        A 0 5 0 3 5 8 ff 0 0
+        D 0 2 0 3 5 0 7 0
         -> outstanding 0 open 0
         """,
     "of two words, of which one is bad, neither is compared": """
@@ -128,6 +137,21 @@ BY_ANY = {
         D 0 2 0 3 5 1 0 0
         A 0 5 0 3 5 5000 ff 0 0
         D 0 2 0 3 5 1 0 1 -> reply 6 CORRUPT expected D 0 2 0 3 5 1 0000000000000000 0
+        -> outstanding 0 open 0
+        """,
+    "an Intent whose page isn't good is denied or not, as a Get that reads ahead": """
+        A 0 5 0 3 5 2000 ff 0 0
+        D 0 2 0 3 5 1 0 0
+        A 0 5 0 3 5 2000 ff 0 0
+        D 0 2 0 3 5 0 0 0
+        A 0 5 1 3 5 3000 ff 0 0
+        D 0 2 0 3 5 1 0 0
+        A 0 5 1 3 5 3000 ff 0 0
+        D 0 2 0 3 5 0 0 0
+        A 0 5 0 3 5 2000 ff 0 0
+        D 0 2 0 3 5 1 0 1 -> reply 6 CORRUPT expected D 0 2 0 3 5 1 0000000000000000 0
+        A 0 5 0 3 5 3000 ff 0 0
+        D 0 0 0 3 5 1 0 0 -> reply 3 OPCODE expected D 0 2 0 3 5 1 0000000000000000 0
         -> outstanding 0 open 0
         """,
     # What a request may have written that failed is in doubt, until a request alone writes it again.
@@ -569,8 +593,8 @@ BEFORE_WHOLE = {
         """,
 }
 
-# By errors any too: error responses on the AXI4 port. A read burst of one transfer, by its address, length and size, beside a Get of the
-# eight bytes from 8 on, and whether they share a byte.
+# By errors any too: error responses on the AXI4 port. A read burst of one transfer, by its address, length and size, beside a Get or an
+# Intent of the eight bytes from 8 on, and whether they share a byte.
 BURSTS = {
     "10000 0 3": ("of the eight bytes before", False),
     "10007 0 0": ("of the byte before", False),
@@ -585,6 +609,7 @@ BURSTS = {
 }
 
 NOT_DENIED = "D 0 1 0 3 6 1 0 1 -> reply 5 DENIED expected D 0 1 0 3 6 0 0000000000000000 0"
+HINT_NOT_DENIED = "D 0 2 0 3 6 1 0 0 -> reply 5 DENIED expected D 0 2 0 3 6 0 0000000000000000 0"
 
 # Responses that break a rule, each to the burst of a Get, or of nobody.
 BROKEN = {
@@ -604,6 +629,18 @@ FAILED_BURSTS = {
         {NOT_DENIED.partition(" ->")[0] if shares else NOT_DENIED}
         A 0 4 0 3 6 8 ff 0 0
         D 0 1 0 3 6 0 1 0 -> reply 7 PAYLOAD expected D 0 1 0 3 6 0 0000000000000000 0
+        -> outstanding 0 open 0
+        """
+        for burst, (why, shares) in BURSTS.items()
+    },
+    **{
+        f"a read burst {why} fails beside an Intent: {'it may have failed' if shares else 'it has not'}": f"""
+        A 0 5 0 3 6 8 ff 0 0
+        AR 0 {burst} 1
+        R 0 0 SLVERR 1
+        {HINT_NOT_DENIED.partition(" ->")[0] if shares else HINT_NOT_DENIED}
+        A 0 5 0 3 6 8 ff 0 0
+        {HINT_NOT_DENIED}
         -> outstanding 0 open 0
         """
         for burst, (why, shares) in BURSTS.items()
@@ -804,12 +841,61 @@ FAILED_BURSTS = {
         D 1 1 0 3 7 0 1122334455667788 0
         -> outstanding 0 open 0
         """,
-    "an Intent doesn't fail with a burst, and a Put that isn't permitted writes nothing all the same": """
+    "an Intent whose burst fails is denied or not, and never corrupt": """
         A 0 5 0 3 5 8 ff 0 0
+        AR 0 10008 0 3 1
+        R 0 0 SLVERR 1
+        D 0 2 0 3 5 0 0 0
+        A 0 5 1 3 5 8 ff 0 0
+        AR 0 10008 0 3 1
+        R 0 0 DECERR 1
+        D 0 2 0 3 5 1 0 0
+        A 0 5 0 3 5 8 ff 0 0
+        AR 0 10008 0 3 1
+        R 0 0 SLVERR 1
+        D 0 2 0 3 5 1 0 1 -> reply 6 CORRUPT expected D 0 2 0 3 5 1 0000000000000000 0
+        -> outstanding 0 open 0
+        """,
+    "an Intent that is denied before the response, and one that came after it": f"""
+        A 0 5 0 3 6 8 ff 0 0
+        AR 0 10008 0 3 1
+        {HINT_NOT_DENIED}
+        R 0 0 SLVERR 1
+        A 0 5 0 3 6 8 ff 0 0
+        {HINT_NOT_DENIED}
+        -> outstanding 0 open 0
+        """,
+    "an Intent of a bad word fails with the response that tells of it": f"""
+        A 0 5 0 3 6 18 ff 0 0
+        {HINT_NOT_DENIED}
+        A 0 5 0 3 6 18 ff 0 0
+        AR 0 10018 0 3 1
+        R 0 0 SLVERR 1
+        {HINT_NOT_DENIED.partition(" ->")[0]}
+        -> outstanding 0 open 0
+        """,
+    "an Intent may fail with a write, and one whose burst fails leaves the memory as it is": """
+        A 0 5 1 3 5 8 ff 0 0
+        A 1 0 0 3 6 8 ff 1 0
+        AW 0 10008 0 3 1
+        W 1 ff 1
+        B 0 SLVERR
+        D 0 2 0 3 5 1 0 0
+        D 1 0 0 3 6 0 0 0
+        A 1 0 0 3 6 8 ff 2 0
+        D 1 0 0 3 6 0 0 0
+        A 0 5 1 3 5 8 ff 0 0
+        AR 0 10008 0 3 1
+        R 0 0 SLVERR 1
+        D 0 2 0 3 5 1 0 0
+        A 1 4 0 3 7 8 ff 0 0
+        D 1 1 0 3 7 0 1 0 -> reply 7 PAYLOAD expected D 1 1 0 3 7 0 0000000000000002 0
+        -> outstanding 0 open 0
+        """,
+    "a Put that isn't permitted writes nothing, though a burst of its bytes fails": """
         A 1 0 0 3 6 8008 ff 1 0
         AR 0 10008 0 3 1
         R 0 0 SLVERR 1
-        D 0 2 0 3 5 1 0 0 -> reply 5 DENIED expected D 0 2 0 3 5 0 0000000000000000 0
         D 1 0 0 3 6 0 0 0
         A 1 4 0 3 7 8 ff 0 0
         D 1 1 0 3 7 0 1 0 -> reply 7 PAYLOAD expected D 1 1 0 3 7 0 0000000000000000 0
@@ -890,6 +976,10 @@ BY_STRICT = {
         D 1 1 0 3 7 0 22 0 -> reply 7 PAYLOAD expected D 1 1 0 3 7 0 0000000000000000 0
         A 0 5 0 3 5 5000 ff 0 0
         D 0 2 0 3 5 0 0 0 -> reply 5 DENIED expected D 0 2 0 3 5 1 0000000000000000 0
+        A 0 5 0 3 5 2000 ff 0 0
+        D 0 2 0 3 5 1 0 0 -> reply 5 DENIED expected D 0 2 0 3 5 0 0000000000000000 0
+        A 0 5 0 3 5 3000 ff 0 0
+        D 0 2 0 3 5 1 0 0 -> reply 5 DENIED expected D 0 2 0 3 5 0 0000000000000000 0
         -> outstanding 0 open 0
         """,
     "a Put whose first beat is corrupt writes nothing from there on": """
@@ -916,11 +1006,15 @@ BY_STRICT = {
         D 0 0 0 4 5 1 0 0
         -> outstanding 0 open 0
         """,
-    "error responses on the AXI4 port": """
+    "error responses on the AXI4 port": f"""
         A 0 4 0 3 6 8 ff 0 0
         AR 0 10008 0 3 1
         R 0 0 SLVERR 1
-        D 0 1 0 3 6 1 0 1 -> reply 5 DENIED expected D 0 1 0 3 6 0 0000000000000000 0
+        {NOT_DENIED}
+        A 0 5 0 3 6 8 ff 0 0
+        AR 0 10008 0 3 1
+        R 0 0 SLVERR 1
+        {HINT_NOT_DENIED}
         A 0 0 0 3 5 8 ff 2 0
         AW 0 10008 0 3 1
         W 2 ff 1

@@ -99,10 +99,11 @@ abbrev pub differs_in : Footprint → ℕ → ℕ → ℕ → ℕ → Bool
 differs_in footprint k due payload lane =
     footprint.determined (word_address footprint.address + 8 * k + lane) && not (lane_byte due lane == lane_byte payload lane)
 
--- whether a beat, as beat k of a reply, tells of a determined byte something else than the one that is due; corrupt beats tell of none
+-- whether a beat, as beat k of a reply, tells of a determined byte something else than the one that is due; corrupt beats tell of none, nor do those
+-- without data
 abbrev pub tells_otherwise : Footprint → ℕ → DBeat → DBeat → Bool
 tells_otherwise footprint k due beat =
-    footprint.reads && not due.corrupt && list_any (differs_in footprint k due.payload beat.payload) (range_with_len 0 8)
+    footprint.reads && due.opcode == 1 && not due.corrupt && list_any (differs_in footprint k due.payload beat.payload) (range_with_len 0 8)
 
 abbrev pub is_payload : ReplyRule → Bool
 is_payload Payload = true
@@ -211,10 +212,12 @@ with_taken board number client q footprint =
 abbrev pub tells_error : List DBeat → Bool
 tells_error beats = list_any (λ beat. beat.denied || beat.corrupt) beats
 
--- whether a request has failed, where that may be told in any way: its reply would tell an error, since a beat of it was corrupt or its access fails
+-- whether a request has failed, where that may be told in any way: it would act on no good page, corrupt or not, or its reply would tell an error, since a
+-- beat of it was corrupt or its access fails. The reply to an Intent doesn't tell that its page isn't good; but it may be carried out as a read, which fails
+-- there
 abbrev pub fails : Errors → Memory → WholeRequest → Bool
 fails Strict memory q = false
-fails Any memory q = tells_error (shown q (meaning_in memory q).reply)
+fails Any memory q = is_none (place_in memory (record q { corrupt = false })) || tells_error (shown q (meaning_in memory q).reply)
 
 -- a request as it may act: where errors are told in any way, one that is corrupt may be carried out all the same
 abbrev pub acting : Errors → WholeRequest → WholeRequest

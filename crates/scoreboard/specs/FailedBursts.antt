@@ -36,7 +36,7 @@ abbrev pub failed_span : Errors → PortBoard → AxiBeat → Option Span
 failed_span Strict port beat = None
 failed_span Any port beat = if is_none (axi_fault port.limits port.open_bursts beat) then answered_span port.open_bursts beat else None
 
--- whether a request that reads or writes shares a byte with a burst
+-- whether a request that may read or write shares a byte with a burst
 abbrev pub shares : Span → Footprint → Bool
 shares span footprint =
     (footprint.reads || footprint.writes) && nat_le footprint.address span.last && nat_lt span.first (footprint.address + 2 ^ footprint.size)

@@ -1,6 +1,6 @@
 -- A board as it is held: of each request in flight a list of flags, of which those of its bytes count; and the memory's pages again, whose bytes aren't
 -- zero where they are indeterminate.
-use Rattle.std.specs.Prelude.{ℕ, ◌≡◌, ◌+◌, ◌-◌, ◌^◌, ◌<◌, ◌==◌, ⊤, Bool, true, false, ◌&&◌, not, List, length, map, Option, Some, None, Result, Ok, Err, IsSome, if◌then◌else◌, nat_le, nat_lt, slice_index_or}
+use Rattle.std.specs.Prelude.{ℕ, ◌≡◌, ◌+◌, ◌-◌, ◌^◌, ◌<◌, ◌==◌, ⊤, Bool, true, false, ◌&&◌, ◌||◌, not, List, length, map, Option, Some, None, is_none, Result, Ok, Err, IsSome, if◌then◌else◌, nat_le, nat_lt, slice_index_or}
 use Rattle.std.specs.List.{AllByRecursion, list_any}
 use Rattle.std.specs.Option.{option_map}
 use Rattle.bus_words.specs.Places.{AreDistinct}
@@ -126,10 +126,10 @@ early_of (Some due) source = if due.source == source then Some due else None
 
 -- ---- a request that has failed
 
--- whether it has, where that may be told in any way, by the beats of its reply
-abbrev pub fails_by : Errors → List DBeat → Bool
-fails_by Strict beats = false
-fails_by Any beats = tells_error beats
+-- whether it has, where that may be told in any way, by where it may act and by the beats of its reply
+abbrev pub fails_by : Errors → Option ℕ → List DBeat → Bool
+fails_by Strict place beats = false
+fails_by Any place beats = is_none place || tells_error beats
 
 -- the bytes of the burst that an error response is to, where that may tell of other requests, whether or not it breaks a rule
 abbrev pub span_told : Policy → Errors → OpenBursts → AxiBeat → Option Span

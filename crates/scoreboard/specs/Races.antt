@@ -4,6 +4,7 @@ use Rattle.std.specs.List.{list_all, list_any, range_with_len}
 use Rattle.bus_words.specs.Lanes.{given_at}
 use Rattle.tl_messages.specs.Operations.{has_data, reply_has_data}
 use Rattle.tl_messages.specs.Requests.{WholeRequest}
+use Rattle.tl_messages.specs.declared.Operation.{Operation}
 use Rattle.scoreboard.specs.Flights.{Footprint, InFlight}
 
 -- whether a byte is among those of a request
@@ -13,17 +14,21 @@ covers footprint x = nat_le footprint.address x && nat_lt x (footprint.address +
 abbrev pub may_write : Footprint → ℕ → Bool
 may_write footprint x = footprint.writes && covers footprint x
 
--- a request that is alone: all of its bytes are determined, but those that it reads and that are indeterminate. One that acts on no good page neither
+-- whether an operation may be carried out as a read: a Get and an atomic are, and an Intent may be, as a prefetch of which nothing is told; a Put isn't
+abbrev pub may_read : Operation → Bool
+may_read operation = reply_has_data operation || not (has_data operation)
+
+-- a request that is alone: all of its bytes are determined, but those that it may read and that are indeterminate. One that acts on no good page neither
 -- reads nor writes
 abbrev pub alone : (ℕ → Bool) → Option ℕ → WholeRequest → Footprint
 alone indeterminate place q =
     record {
-      reads = is_some place && reply_has_data q.operation;
+      reads = is_some place && may_read q.operation;
       writes = is_some place && has_data q.operation;
       address = unwrap_or place 0;
       size = q.size;
       failed = false;
-      determined = λ x. nat_le (unwrap_or place 0) x && nat_lt x (unwrap_or place 0 + 2 ^ q.size) && not (is_some place && reply_has_data q.operation && indeterminate x);
+      determined = λ x. nat_le (unwrap_or place 0) x && nat_lt x (unwrap_or place 0 + 2 ^ q.size) && not (is_some place && may_read q.operation && indeterminate x);
     }
 
 -- where it has failed nothing of it is determined

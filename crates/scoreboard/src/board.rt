@@ -595,7 +595,7 @@ impl Scoreboard {
         joining.start_footprint(indeterminate, place, request);
         clients[client].keep(joining);
         joining.carry_out(serial, request);
-        joining.fail_by(*errors);
+        joining.fail_by(*errors, place);
         mark_own(indeterminate, joining.footprint(), request);
     }
 
@@ -625,7 +625,7 @@ impl Scoreboard {
         joining.start_footprint(indeterminate, place, request);
         limit(joining, clients);
         joining.carry_out(serial, request);
-        joining.fail_by(*errors);
+        joining.fail_by(*errors, place);
         let footprint = joining.footprint();
         mark_written(indeterminate, clients, footprint, request);
         give_way(clients, footprint);

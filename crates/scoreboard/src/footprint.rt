@@ -7,13 +7,13 @@ ghost use Rattle.scoreboard.specs.InsideBoards.{is_marked, footprint_of, determi
 ghost use Rattle.scoreboard.specs.Boards.{kept_from};
 ghost use Rattle.scoreboard.specs.FailedBursts.{hit, shares};
 ghost use Rattle.scoreboard.specs.Flights.{no_footprint};
-ghost use Rattle.scoreboard.specs.Races.{alone, beside, covers, is_fixed, meets, unless_failed};
+ghost use Rattle.scoreboard.specs.Races.{alone, beside, covers, is_fixed, may_read, meets, unless_failed};
 
 use crate::failed_bursts::Span;
 use std::alloc::{AllocError, Global};
 use std::marker::Model;
 use subordinate::Pages;
-use tl_messages::Request;
+use tl_messages::{Operation, Request};
 
 /// What a request does to the memory: whether it may read, and write, the `2^size` bytes at an address, whether it has failed, and
 /// which of the bytes are determined. All room is taken by `new`.
@@ -50,6 +50,13 @@ impl Drop for Footprint {
             determined: _,
         } = self;
     }
+}
+
+/// Whether an operation may be carried out as a read: an Intent may, though its reply tells nothing of it; a Put isn't.
+fn may_read(operation: Operation) -> bool
+    ensures { result ≡ may_read operation }
+{
+    operation.reply_has_data() || !operation.has_data()
 }
 
 /// Whether the byte at an address is indeterminate.
@@ -154,7 +161,7 @@ impl Footprint {
         u64::from(self.address) < other_end && u64::from(other.address) < end
     }
 
-    /// Whether it reads or writes, and a burst has one of its bytes.
+    /// Whether it may read or write, and a burst has one of its bytes.
     pub(crate) fn shares(&self, span: Span) -> bool
         ensures { result ≡ shares span (footprint_of self.now) }
     {
@@ -172,7 +179,7 @@ impl Footprint {
         ensures footprint { footprint_of self.new ≡ alone (is_marked marks.now) place (request_of request.now) }
     {
         let operation = request.operation();
-        self.reads = place.is_some() && operation.reply_has_data();
+        self.reads = place.is_some() && may_read(operation);
         self.writes = place.is_some() && operation.has_data();
         self.address = place.unwrap_or(0);
         self.size = request.size();
@@ -192,7 +199,7 @@ impl Footprint {
         self.determined[i as usize] = determined;
     }
 
-    /// Whether its byte `i`, from 0, isn't both read and indeterminate.
+    /// Whether its byte `i`, from 0, isn't both one that it may read and indeterminate.
     fn is_known(&self, marks: &Pages, i: u32) -> bool
         requires { i < 2 ^ self.now.size }
         ensures { result ≡ not (self.now.reads && is_marked marks.now (self.now.address + i)) }
@@ -208,7 +215,7 @@ impl Footprint {
         self.is_determined(i) && !other.covers(self.address_of(i))
     }
 
-    /// All of its bytes are determined, but those that it reads and that are indeterminate.
+    /// All of its bytes are determined, but those that it may read and that are indeterminate.
     fn determine(&mut self, marks: &Pages)
         ensures room { length self.new.determined ≡ length self.old.determined }
         ensures footprint { footprint_of self.new ≡ record (footprint_of self.old) {

@@ -92,11 +92,12 @@ fn differs_in(footprint: &Footprint, k: u16, due: u64, payload: u64, lane: u8) -
     footprint.is_determined(place - first) && lane_byte(due, lane) != lane_byte(payload, lane)
 }
 
-/// Whether a beat, as beat `k` of a reply, tells of a determined byte something else than the one that is due.
+/// Whether a beat, as beat `k` of a reply, tells of a determined byte something else than the one that is due: beats without data
+/// tell of none.
 fn tells_otherwise(footprint: &Footprint, k: u16, due: &DBeat, beat: &DBeat) -> bool
     ensures { result ≡ tells_otherwise (footprint_of footprint.now) k due.now beat.now }
 {
-    if !footprint.reads() || due.corrupt {
+    if !footprint.reads() || due.opcode != 1 || due.corrupt {
         return false;
     }
     for lane in 0..8u8 {
@@ -289,13 +290,14 @@ impl InFlight {
         self.footprint.fail_if(failed);
     }
 
-    /// Where errors may be told in any way it has failed if its reply tells one.
-    pub(crate) fn fail_by(&mut self, errors: Errors)
-        ensures footprint { footprint_of self.new.footprint ≡ unless_failed (fails_by errors self.old.beats) (footprint_of self.old.footprint) }
+    /// Where errors may be told in any way it has failed if it has no address of a good page at which it may act, or its reply tells an
+    /// error.
+    pub(crate) fn fail_by(&mut self, errors: Errors, place: Option<u32>)
+        ensures footprint { footprint_of self.new.footprint ≡ unless_failed (fails_by errors place self.old.beats) (footprint_of self.old.footprint) }
         ensures room { length self.new.footprint.determined ≡ length self.old.footprint.determined }
         ensures rest { self.new ≡ record self.old { footprint = record self.old.footprint { failed = self.new.footprint.failed; determined = self.new.footprint.determined } } }
     {
-        self.fail_if(errors == Errors::Any && self.tells_error());
+        self.fail_if(errors == Errors::Any && (place.is_none() || self.tells_error()));
     }
 
     /// What is wrong with a beat on channel D, whose next it may be, by whether the reply that has begun was denied.

@@ -41,8 +41,8 @@ pub enum Errors {
     Strict,
     /// In any way that TileLink allows: a request of which a beat was corrupt, or whose access fails by the page map or a bad word,
     /// may be denied or not, its data may be corrupt or not, and what it may have written is in doubt; so may one be that shares a
-    /// byte with a burst to which a response came that is an error (AXI4, A3.4.4) before the last beat of its reply. A reply is due
-    /// from its request's first beat on.
+    /// byte with a burst to which a response came that is an error (AXI4, A3.4.4) before the last beat of its reply. An Intent fails
+    /// as a read of its bytes would, but by a bad word only with such a response. A reply is due from its request's first beat on.
     Any,
 }
 

@@ -5,7 +5,6 @@ use Rattle.std.specs.Prelude.{is_some, slice_get}
 use Rattle.std.specs.List.{list_any}
 use Rattle.std.proofs.lemmas.Bool.{and_parts, cases_Bool}
 use Rattle.std.proofs.lemmas.Bool.Decides.{nat_tests}
-use Rattle.tl_messages.specs.Operations.{reply_has_data}
 use Rattle.tl_messages.specs.Requests.{HeldMessage, WholeRequest}
 use Rattle.burst_plan.specs.declared.Region.{Region}
 use Rattle.responses.specs.Shown.{shown}
@@ -13,7 +12,7 @@ use Rattle.subordinate.specs.Faults.{Faults}
 use Rattle.meaning.specs.Meaning.{Bytes, meaning}
 use Rattle.scoreboard.specs.Boards.{Board, ClientBoard, footprints_of}
 use Rattle.scoreboard.specs.Flights.{Footprint, InFlight, no_footprint}
-use Rattle.scoreboard.specs.Races.{covers, depends_on, may_write}
+use Rattle.scoreboard.specs.Races.{covers, depends_on, may_read, may_write}
 use Rattle.scoreboard.proofs.real_time.AlikeBeats.{LeftAlike}
 use Rattle.scoreboard.specs.declared.Errors.TheVariants.{Strict}
 use Rattle.scoreboard.proofs.real_time.Entries.{carry}
@@ -42,7 +41,7 @@ pub record IsBehind (fated : Bool) (mine theirs : InFlight) : Type 0 where
 pub record IsComing (faults : Faults) (regions : List Region) (coming : Footprint) (q : WholeRequest) (theirs : InFlight) : Type 0 where
   pub source : theirs.source ≡ q.source
   pub well : IsWell q
-  pub silent : reply_has_data q.operation ≡ false
+  pub silent : may_read q.operation ≡ false
   pub same : (own faults regions q).writes ≡ true → coming ≡ record (own faults regions q) { failed = coming.failed; determined = coming.determined }
   pub acts : theirs.footprint ≡ record (own faults regions q) { determined = theirs.footprint.determined }
   pub less : (x : ℕ) → (own faults regions q).writes ≡ true → coming.determined x ≡ true → theirs.footprint.determined x ≡ true

@@ -6,7 +6,6 @@ use Rattle.std.proofs.lemmas.Bool.{and_parts, both_ways, cases_eq, false_from_ne
 use Rattle.std.proofs.lemmas.List.{length-map, length-set}
 use Rattle.std.proofs.lemmas.Option.{slice_get-map, slice_get_within}
 use Rattle.bus_words.proofs.StoredPlaces.{get_set}
-use Rattle.tl_messages.specs.Operations.{reply_has_data}
 use Rattle.tl_messages.specs.Requests.{HeldMessage, WholeRequest, request_of}
 use Rattle.burst_plan.specs.declared.Region.{Region}
 use Rattle.responses.specs.Shown.{shown}
@@ -14,7 +13,7 @@ use Rattle.subordinate.specs.Faults.{Faults}
 use Rattle.scoreboard.specs.Boards.{Board, ClientBoard, begun_on, client_beside, early_due, fails, flight_for, footprints_of, is_spoiled, joining_on, place_on, with_accepted, with_client}
 use Rattle.scoreboard.specs.Flights.{Flights, Footprint, InFlight, is_of_source}
 use Rattle.scoreboard.specs.Orders.{Order}
-use Rattle.scoreboard.specs.Races.{after_given, after_joining, alone, beside, flight_beside, joining, may_write}
+use Rattle.scoreboard.specs.Races.{after_given, after_joining, alone, beside, flight_beside, joining, may_read, may_write}
 use Rattle.scoreboard.specs.RealTime.{MayBecome}
 use Rattle.scoreboard.specs.declared.Errors.TheVariants.{Any}
 use Rattle.scoreboard.proofs.real_time.Acceptance.{other_flight, own_flight, sources_beside}
@@ -25,6 +24,7 @@ use Rattle.scoreboard.proofs.real_time.Comings.{comes_beside, comes_other, comes
 use Rattle.scoreboard.proofs.real_time.Entries.{carry}
 use Rattle.scoreboard.proofs.real_time.Explained.{Explains, sources_with}
 use Rattle.scoreboard.proofs.real_time.Failures.{corrupt_as, fails_flag, fails_keeps, fails_less, same_acting, same_place}
+use Rattle.scoreboard.proofs.real_time.FirstBeats.{no_data_back}
 use Rattle.scoreboard.proofs.real_time.FlightLists.{HaveAllSources, are_all, sources_kept}
 use Rattle.scoreboard.proofs.real_time.FlightPlaces.{at_beside, coming_beside, coming_other, coming_same}
 use Rattle.scoreboard.proofs.real_time.Places.{Place, cases_place, coming_at, due_at, flight_at, flight_in, flights_kept, footprint_at}
@@ -40,7 +40,7 @@ module _ (board : Board) (shadow : Shadow) (order : Order) (explains : Explains 
     (may : MayBecome (record (first_of board.errors number (request_of message) false n) { spoiled = is_spoiled board.errors (request_of message) || fated })
     (record (request_of message) { bytes = bytes; corrupt = spoiled }))
     (any : fated ≡ true → board.errors ≡ Any)
-    (silent : reply_has_data message.operation ≡ false) (well : IsWell (record (request_of message) { bytes = bytes; corrupt = spoiled })) where
+    (silent : may_read message.operation ≡ false) (well : IsWell (record (request_of message) { bytes = bytes; corrupt = spoiled })) where
   abbrev pub faults : Faults
   faults = board.memory.faults
 
@@ -154,7 +154,7 @@ module _ (board : Board) (shadow : Shadow) (order : Order) (explains : Explains 
         same = acts_there;
         acts = refl;
         less = less;
-        beats = λ m. ap (shown q) (reply_same faults regions q shadow.bytes m silent);
+        beats = λ m. ap (shown q) (reply_same faults regions q shadow.bytes m (no_data_back q.operation silent));
         broken = broken;
       }
 

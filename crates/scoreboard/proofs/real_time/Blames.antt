@@ -24,7 +24,7 @@ use Rattle.scoreboard.specs.Orders.{Asked, Entry, IsWrongAs, IsWrongIn, Order, a
 use Rattle.scoreboard.specs.RealTime.{asked_on}
 use Rattle.scoreboard.specs.declared.Errors.{Errors}
 use Rattle.scoreboard.specs.declared.Errors.TheVariants.{Any, Strict}
-use Rattle.scoreboard.specs.Races.{may_write}
+use Rattle.scoreboard.specs.Races.{may_read, may_write}
 use Rattle.scoreboard.specs.declared.Policy.TheVariants.{RealTime}
 use Rattle.scoreboard.specs.declared.ReplyRule.{ReplyRule}
 use Rattle.scoreboard.specs.declared.ReplyRule.TheVariants.{Unasked}
@@ -37,6 +37,7 @@ use Rattle.scoreboard.proofs.real_time.AlikeBeats.{left_alike}
 use Rattle.scoreboard.proofs.real_time.Entries.{Each, IsLive, Stands, carry, run}
 use Rattle.scoreboard.proofs.real_time.Explained.{explains_as, explains_opening, opening_at, opening_flights}
 use Rattle.scoreboard.proofs.real_time.Failures.{failed_any, failed_at, fails_at, same_shapes, shape_of, silent_known, silent_shown}
+use Rattle.scoreboard.proofs.real_time.FirstBeats.{no_data_back}
 use Rattle.scoreboard.proofs.MappedLists.{any_map}
 use Rattle.scoreboard.proofs.real_time.Entries.{place_of}
 use Rattle.scoreboard.proofs.real_time.Lengths.{some_beats}
@@ -365,8 +366,8 @@ module _ (setup : SetupLists) (board : Board) (shadow : Shadow) (order : Order) 
 
       silent : reply_has_data found.entry.request.operation ≡ false
       silent =
-          ap (λ (x : WholeRequest). reply_has_data x.operation) it.final
-          ∙ (follows.ahead.begun found.entry.client it.begun).becomes.silent
+          no_data_back found.entry.request.operation
+          (ap (λ (x : WholeRequest). may_read x.operation) it.final ∙ (follows.ahead.begun found.entry.client it.begun).becomes.silent)
 
       failed_early : client.coming.failed ≡ has_failed board.errors setup found.entry
       failed_early =

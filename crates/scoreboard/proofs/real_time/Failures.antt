@@ -1,8 +1,9 @@
 -- Requests of which a beat was corrupt, or whose access fails: what they may leave, where they act, and that they tell an error on any bytes alike.
 use Rattle.std.proofs.Common.{◌≡◌, ℕ, zero, suc, ◌-◌, ◌^◌, ◌<◌, Bool, true, false, ◌||◌, List, [], ◌∷◌, map, Option, Some, None, if◌then◌else◌, inl, inr, ◌⊎◌, refl, sym, ◌∙◌, ap, subst, arith}
-use Rattle.std.specs.Prelude.{is_some}
+use Rattle.std.specs.Prelude.{is_none, is_some}
 use Rattle.std.specs.List.{list_any, range_with_len}
-use Rattle.std.proofs.lemmas.Bool.{and_from, and_parts, cases_Bool}
+use Rattle.std.proofs.Math.Bool.{or-true}
+use Rattle.std.proofs.lemmas.Bool.{and_from, and_parts, cases_Bool, or_parts}
 use Rattle.std.proofs.lemmas.Bool.Decides.{nat_tests}
 use Rattle.std.proofs.lemmas.Simd.{map-map}
 use Rattle.bus_words.specs.Lanes.{given_at, payload_of}
@@ -22,7 +23,7 @@ use Rattle.scoreboard.specs.Flights.{Footprint}
 use Rattle.scoreboard.specs.Orders.{Entry}
 use Rattle.scoreboard.specs.Races.{alone, unless_failed}
 use Rattle.scoreboard.specs.RealTime.{MayBecome}
-use Rattle.scoreboard.specs.SerialMemory.{Memory, on_good_page}
+use Rattle.scoreboard.specs.SerialMemory.{Memory, on_good_page, place_in}
 use Rattle.scoreboard.specs.declared.Errors.{Errors}
 use Rattle.scoreboard.specs.declared.Errors.TheVariants.{Any, Strict}
 use Rattle.scoreboard.proofs.MappedLists.{any_map}
@@ -219,11 +220,17 @@ sound_spoils Any memory q sound = by_corrupt (cases_Bool q.corrupt)
     by_corrupt (inr is) = is
     by_corrupt (inl is) =
         let none : address_of memory.regions q ≡ None = rw is refl in
-        absurd (cc (sym sound ∙ ap (λ (e : Effect). tells_error (shown q e.reply)) (meaning_none memory.faults memory.regions q memory.bytes none) ∙ tells_denied q))
+        let told = (or_parts (is_none (place_in memory (record q { corrupt = false }))) (tells_error (shown q (meaning memory.faults memory.regions q memory.bytes).reply)) sound).1 in
+        absurd (cc (sym told ∙ ap (λ (e : Effect). tells_error (shown q e.reply)) (meaning_none memory.faults memory.regions q memory.bytes none) ∙ tells_denied q))
+
+-- whether a request would act on no good page, were it not corrupt
+abbrev pub lacks_place : Faults → List Region → WholeRequest → Bool
+lacks_place faults regions q = is_none (on_good_page faults (address_of regions (record q { corrupt = false })))
 
 -- whether the access of a request fails, by the pages and where regions lead
 abbrev pub fails_at : Faults → List Region → WholeRequest → Bool
-fails_at faults regions q = tells_error (shown (record q { corrupt = false }) (meaning faults regions (record q { corrupt = false }) zeros).reply)
+fails_at faults regions q =
+    lacks_place faults regions q || tells_error (shown (record q { corrupt = false }) (meaning faults regions (record q { corrupt = false }) zeros).reply)
 
 -- whether an entry has failed
 abbrev pub failed_at : Errors → Faults → List Region → Entry → Bool
@@ -258,10 +265,10 @@ fails_fields faults regions q r fields = by_address (address_of regions sound) r
 
     by_address : (o : Option ℕ) → address_of regions sound ≡ o → fails_at faults regions q ≡ fails_at faults regions (record q { bytes = r.bytes; corrupt = r.corrupt })
     by_address None is =
-        ap (λ (e : Effect). tells_error (shown sound e.reply)) (meaning_none faults regions sound zeros is
+        ap (λ (e : Effect). lacks_place faults regions q || tells_error (shown sound e.reply)) (meaning_none faults regions sound zeros is
         ∙ sym (meaning_none faults regions (record sound { bytes = r.bytes }) zeros is))
     by_address (Some a) is =
-        ap (λ (reply : Reply). tells_error (shown sound reply))
+        ap (λ (reply : Reply). lacks_place faults regions q || tells_error (shown sound reply))
         (ap (λ (e : Effect). e.reply) (meaning_some faults regions sound zeros a is)
         ∙ effect_bytes faults sound r.bytes zeros a q.operation (standing_at faults a) (is_bad faults a)
         ∙ sym (ap (λ (e : Effect). e.reply) (meaning_some faults regions (record sound { bytes = r.bytes }) zeros a is)))
@@ -273,15 +280,19 @@ fails_as Strict client memory q r whole number fields = refl
 fails_as Any client memory q r whole number fields = by_corrupt (cases_Bool q.corrupt)
   where
     by_corrupt : (q.corrupt ≡ true) ⊎ (q.corrupt ≡ false)
-        → tells_error (shown q (meaning memory.faults memory.regions q memory.bytes).reply) ≡ (q.corrupt || fails_at memory.faults memory.regions r)
+        → (lacks_place memory.faults memory.regions q || tells_error (shown q (meaning memory.faults memory.regions q memory.bytes).reply))
+        ≡ (q.corrupt || fails_at memory.faults memory.regions r)
     by_corrupt (inl is) =
         let none : address_of memory.regions q ≡ None = rw is refl in
-        ap (λ (e : Effect). tells_error (shown q e.reply)) (meaning_none memory.faults memory.regions q memory.bytes none) ∙ tells_denied q
+        ap (λ (b : Bool). lacks_place memory.faults memory.regions q || b)
+        (ap (λ (e : Effect). tells_error (shown q e.reply)) (meaning_none memory.faults memory.regions q memory.bytes none) ∙ tells_denied q)
+        ∙ or-true (lacks_place memory.faults memory.regions q)
         ∙ sym (ap (λ (c : Bool). c || fails_at memory.faults memory.regions r) is)
     by_corrupt (inr is) =
         let sound : record q { corrupt = false } ≡ q = ap (λ (c : Bool). record q { corrupt = c }) (sym is) in
-        tells_same memory.faults memory.regions q memory.bytes zeros
-        ∙ sym (ap (λ (x : WholeRequest). tells_error (shown x (meaning memory.faults memory.regions x zeros).reply)) sound)
+        ap (λ (b : Bool). lacks_place memory.faults memory.regions q || b)
+        (tells_same memory.faults memory.regions q memory.bytes zeros
+        ∙ sym (ap (λ (x : WholeRequest). tells_error (shown x (meaning memory.faults memory.regions x zeros).reply)) sound))
         ∙ fails_fields memory.faults memory.regions q r fields
         ∙ sym (ap (λ (c : Bool). c || fails_at memory.faults memory.regions r) is)
 
@@ -376,7 +387,8 @@ silent_known faults regions r m silent sound =
     let q : WholeRequest = record r { corrupt = false } in
     let granted : (meaning faults regions q m).reply.denied ≡ false =
     ap (λ (reply : Reply). reply.denied) (silent_reply faults regions q q m zeros silent refl refl)
-    ∙ sym (silent_tells q (meaning faults regions q zeros).reply silent) ∙ sound in
+    ∙ sym (silent_tells q (meaning faults regions q zeros).reply silent)
+    ∙ (or_parts (lacks_place faults regions r) (tells_error (shown q (meaning faults regions q zeros).reply)) sound).1 in
     silent_shown r (meaning faults regions q m).reply silent
     ∙ ap (λ (b : Bool). record { opcode = reply_opcode r.operation; param = 0; size = r.size; source = r.source; denied = b; payload = 0; corrupt = false } ∷ []) granted
 

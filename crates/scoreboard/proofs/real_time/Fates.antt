@@ -217,9 +217,10 @@ goes_failed : (errors : Errors) (memory : Memory) (span : Option Span) (now : Or
 goes_failed errors memory None now any is = goes_same errors now is
 goes_failed errors memory (Some span) now any is = goes_map errors (struck memory span) now (struck_keeps errors memory span (any span refl)) is
 
-failed_any : (errors : Errors) (port : PortBoard) (beat : AxiBeat) (span : Span) → failed_span errors port beat ≡ Some span → errors ≡ Any
-failed_any Strict port beat span is = absurd (cc (is))
-failed_any Any port beat span is = refl
+-- errors are told in any way where a response tells of one
+pub told_any : (errors : Errors) (port : PortBoard) (beat : AxiBeat) (span : Span) → failed_span errors port beat ≡ Some span → errors ≡ Any
+told_any Strict port beat span is = absurd (cc (is))
+told_any Any port beat span is = refl
 
 pub goes_next : (board : Board) (seen : ObservedBeat) (now : Order) → IsCounted board.errors now → GrowsTo board.errors now (begun_next board seen now)
 goes_next board (A number beat) now is = by_client (slice_get board.clients number)
@@ -236,7 +237,7 @@ goes_next board (D client beat) now is =
     goes_map board.errors (with_beat (list_any (begun_to client) now) client beat.source) now
     (beat_keeps board.errors (list_any (begun_to client) now) client beat.source) is
 goes_next board (OnAxi beat) now is =
-    goes_failed board.errors board.memory (failed_span board.errors board.axi beat) now (failed_any board.errors board.axi beat) is
+    goes_failed board.errors board.memory (failed_span board.errors board.axi beat) now (told_any board.errors board.axi beat) is
 goes_next board Drained now is = goes_same board.errors now is
 
 -- ---- lists of beats

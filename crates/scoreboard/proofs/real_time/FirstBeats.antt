@@ -1,6 +1,7 @@
--- A first beat that a port takes, of a message of several: the message has data and is no atomic, so its reply has none.
+-- A first beat that a port takes, of a message of several: the message has data and is no atomic, so it reads nothing, and its reply has no data.
 use Rattle.std.proofs.Common.{◌≡◌, ℕ, zero, suc, ◌<◌, ◌==◌, Bool, true, false, None, Ok, if◌then◌else◌, refl, sym, ◌∙◌, ap, arith}
-use Rattle.std.specs.Prelude.{◌||◌, nat_le}
+use Rattle.std.specs.Prelude.{◌||◌, nat_le, not}
+use Rattle.std.proofs.lemmas.Bool.{or_parts}
 use Rattle.std.proofs.lemmas.Bool.Decides.{nat_tests}
 use Rattle.tl_messages.specs.Operations.{atomic_opcode, beats_of, has_data, opcode_of, reply_has_data}
 use Rattle.tl_messages.specs.Requests.{begun, is_whole}
@@ -12,6 +13,7 @@ use Rattle.tl_messages.specs.declared.Operation.TheVariants.{PutFull, PutPartial
 use Rattle.tl_checker.specs.Ports.{judged, progress_of}
 use Rattle.tl_checker.specs.RequestRules.{TlPortLimits, first_fault}
 use Rattle.tl_checker.specs.declared.Progress.TheVariants.{More, Whole}
+use Rattle.scoreboard.specs.Races.{may_read}
 use Rattle.tl_checker.proofs.BeatRules.{first_none, right_named}
 use Rattle.tl_checker.proofs.Taking.{answered_parts}
 
@@ -49,14 +51,23 @@ more_put limits beat busy is op atomic =
     let large = (more_beats limits beat busy is).1 in
     grind (arith, nat_tests, test, large, right.atomic_size)
 
-no_data_back : (operation : Operation) → has_data operation ≡ true → ((op : AtomicOp) → operation ≡ Atomic op → ⊥) → reply_has_data operation ≡ false
-no_data_back PutFull has other = refl
-no_data_back PutPartial has other = refl
-no_data_back (Atomic op) has other = absurd (other op refl)
-no_data_back Get has other = absurd (cc (has))
-no_data_back (Intent write) has other = refl
+reads_none : (operation : Operation) → has_data operation ≡ true → ((op : AtomicOp) → operation ≡ Atomic op → ⊥) → may_read operation ≡ false
+reads_none PutFull has other = refl
+reads_none PutPartial has other = refl
+reads_none (Atomic op) has other = absurd (other op refl)
+reads_none Get has other = absurd (cc (has))
+reads_none (Intent write) has other = absurd (cc (has))
+
+-- one that reads nothing tells nothing
+pub no_data_back : (operation : Operation) → may_read operation ≡ false → reply_has_data operation ≡ false
+no_data_back operation none = (or_parts (reply_has_data operation) (not (has_data operation)) none).0
+
+-- it reads nothing
+pub more_reads_none : (limits : TlPortLimits) (beat : ABeat) (busy : Bool) → judged limits None beat busy ≡ Ok More
+    → may_read (begun limits.client beat).operation ≡ false
+more_reads_none limits beat busy is = reads_none (begun limits.client beat).operation (more_beats limits beat busy is).0 (more_put limits beat busy is)
 
 -- and its reply has no data
 pub more_no_data_back : (limits : TlPortLimits) (beat : ABeat) (busy : Bool) → judged limits None beat busy ≡ Ok More
     → reply_has_data (begun limits.client beat).operation ≡ false
-more_no_data_back limits beat busy is = no_data_back (begun limits.client beat).operation (more_beats limits beat busy is).0 (more_put limits beat busy is)
+more_no_data_back limits beat busy is = no_data_back (begun limits.client beat).operation (more_reads_none limits beat busy is)

@@ -6,7 +6,6 @@ use Rattle.std.proofs.lemmas.Bool.{cases_eq}
 use Rattle.std.proofs.lemmas.Bool.Decides.{nat_tests}
 use Rattle.std.proofs.lemmas.List.{map-append}
 use Rattle.bus_words.proofs.PlaceChanges.{all-map}
-use Rattle.tl_messages.specs.Operations.{reply_has_data}
 use Rattle.tl_messages.specs.Requests.{HeldMessage, WholeRequest, request_of}
 use Rattle.tl_messages.specs.declared.DBeat.{DBeat}
 use Rattle.scoreboard.specs.Boards.{Board, ClientBoard, begun_on, early_due, is_spoiled, joined_on, joining_on, with_client}
@@ -14,7 +13,7 @@ use Rattle.scoreboard.specs.Flights.{Footprint, InFlight, is_of_source}
 use Rattle.scoreboard.specs.Orders.{Entry, Order, has_ended}
 use Rattle.scoreboard.specs.RealTime.{MayBecome, may_reply}
 use Rattle.scoreboard.specs.declared.Errors.TheVariants.{Any, Strict}
-use Rattle.scoreboard.specs.Races.{beside}
+use Rattle.scoreboard.specs.Races.{beside, may_read}
 use Rattle.responses.specs.Shown.{beat_without_data}
 use Rattle.meaning.specs.Meaning.{acknowledged}
 use Rattle.scoreboard.specs.declared.Errors.{Errors}
@@ -29,7 +28,6 @@ use Rattle.scoreboard.proofs.real_time.Explained.{Explains}
 use Rattle.scoreboard.proofs.real_time.Failures.{FatedOf, failed_at, fails_as, well_as}
 use Rattle.scoreboard.proofs.real_time.Follows.{ActsAs, Follows, IsFailing, IsFated, IsFollowed, acts_as, acts_beside, IsMarked, IsOpen, all_both, replied_by, settle, settled}
 use Rattle.scoreboard.proofs.real_time.FollowsChanges as changes
-use Rattle.scoreboard.proofs.real_time.FollowsChanges.{coming_parts, goes_further, heard_same, spoils}
 use Rattle.scoreboard.proofs.real_time.OnceAhead as joins
 use Rattle.scoreboard.proofs.real_time.Places.{Place, cases_place, coming_at, due_at, flight_at}
 use Rattle.scoreboard.proofs.real_time.ShadowPlaces.{finals_other, finals_own, free_there, none_here}
@@ -60,7 +58,7 @@ module _ (board : Board) (shadow : Shadow) (order : Order) (follows : Follows bo
         (free : list_any (is_of_source message.source) client.flights.due ≡ false)
         (may : MayBecome (record (first_of board.errors number (request_of message) false n) { spoiled = is_spoiled board.errors (request_of message) || fated })
         (record (request_of message) { bytes = bytes; corrupt = spoiled }))
-        (any : fated ≡ true → board.errors ≡ Any) (silent : reply_has_data message.operation ≡ false)
+        (any : fated ≡ true → board.errors ≡ Any) (silent : may_read message.operation ≡ false)
         (well : IsWell (record (request_of message) { bytes = bytes; corrupt = spoiled })) where
       abbrev q : WholeRequest
       q = record (request_of message) { bytes = bytes; corrupt = spoiled }

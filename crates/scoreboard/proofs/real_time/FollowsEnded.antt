@@ -4,10 +4,8 @@ use Rattle.std.specs.Prelude.{is_some, slice_get}
 use Rattle.std.specs.List.{list_any}
 use Rattle.std.proofs.Math.Path.{fun_ext}
 use Rattle.std.proofs.lemmas.Bool.Decides.{nat_tests}
-use Rattle.std.proofs.lemmas.Option.{slice_get_within}
 use Rattle.std.proofs.lemmas.Simd.{map-map}
 use Rattle.bus_words.proofs.MappedPlaces.{map_same}
-use Rattle.bus_words.proofs.StoredPlaces.{there_is}
 use Rattle.scoreboard.specs.Boards.{Board, ClientBoard, with_client}
 use Rattle.scoreboard.specs.Flights.{Footprint, InFlight}
 use Rattle.scoreboard.specs.Orders.{Entry, Order, has_ended}
@@ -17,6 +15,7 @@ use Rattle.scoreboard.proofs.real_time.Comings.{early_at}
 use Rattle.scoreboard.proofs.real_time.Entries.{place_of}
 use Rattle.scoreboard.proofs.real_time.Explained.{Explains}
 use Rattle.scoreboard.proofs.real_time.Follows.{ActsAs, Follows, IsFailing, IsFated, IsFollowed, IsMarked, IsOpen, all_mapped, replied_by, settle, settled}
+use Rattle.scoreboard.proofs.real_time.FollowsChanges as changes
 use Rattle.scoreboard.proofs.real_time.Places.{Place, coming_at, due_at, flight_at}
 use Rattle.scoreboard.proofs.real_time.Removed.{Ends, Over, Still, away_from, coming_less, comes_less, early_less, ended, ended_ahead, ends, explains_ended, kept_at, without}
 use Rattle.scoreboard.proofs.real_time.StepOrders.{is_coming}
@@ -25,9 +24,7 @@ module _ (board : Board) (shadow : Shadow) (order : Order) (follows : Follows bo
     (there : slice_get board.clients number ≡ Some client) (none : comes board.clients number ≡ false) where
   -- the same client on the shadow
   there_too : (other : ClientBoard) × (slice_get shadow.clients number ≡ Some other)
-  there_too =
-      there_is shadow.clients number
-      (subst (λ (n : ℕ). number < n) (sym follows.ahead.many) (slice_get_within board.clients number client there))
+  there_too = changes.there_too board shadow order follows number client there
 
   abbrev other : ClientBoard
   other = there_too.0

@@ -18,14 +18,14 @@ use Rattle.scoreboard.specs.Flights.{Flights, Footprint, InFlight, each_flight, 
 use Rattle.scoreboard.specs.Orders.{Entry, Order, has_ended}
 use Rattle.scoreboard.specs.Races.{may_write, unless_failed}
 use Rattle.scoreboard.specs.RealTime.{acting_footprint, struck, with_failed}
-use Rattle.scoreboard.specs.declared.Errors.{Errors}
-use Rattle.scoreboard.specs.declared.Errors.TheVariants.{Any, Strict}
+use Rattle.scoreboard.specs.declared.Errors.TheVariants.{Any}
 use Rattle.scoreboard.proofs.MappedLists.{any_map, find_map}
 use Rattle.scoreboard.proofs.real_time.Ahead.{HasBeside, IsAhead, IsBehind, IsComing, NoneFated, Shadow, comes, shadow_of}
 use Rattle.scoreboard.proofs.real_time.Comings.{early_at}
 use Rattle.scoreboard.proofs.real_time.Entries.{place_of}
 use Rattle.scoreboard.proofs.real_time.Explained.{Explains}
 use Rattle.scoreboard.proofs.real_time.Failures.{failed_any}
+use Rattle.scoreboard.proofs.real_time.Fates.{told_any}
 use Rattle.scoreboard.proofs.real_time.FlightLists.{each_of}
 use Rattle.scoreboard.proofs.real_time.Follows.{ActsAs, Follows, IsFailing, IsFated, IsFollowed, IsMarked, IsOpen, Knows, all_mapped, replied_by, settle, settled}
 use Rattle.scoreboard.proofs.real_time.Fronts.{changed_from}
@@ -338,11 +338,6 @@ module _ (board : Board) (shadow : Shadow) (order : Order) (follows : Follows bo
   )
 
 -- ---- any response
-
--- none fails where errors are told as this project's bridge tells them
-told_any : (errors : Errors) (port : PortBoard) (beat : AxiBeat) (span : Span) → failed_span errors port beat ≡ Some span → errors ≡ Any
-told_any Any port beat span is = refl
-told_any Strict port beat span is = absurd (cc (is))
 
 pub follows_failed : (fate : ℕ → Bool) (board : Board) (port : PortBoard) (order : Order) (beat : AxiBeat) → IsFollowed fate (record board { axi = port }) order
     → IsFollowed fate (hit_on (failed_span board.errors board.axi beat) (record board { axi = port })) (with_failed board.memory (failed_span board.errors board.axi beat) order)

@@ -5,7 +5,6 @@ use Rattle.std.specs.List.{AllByRecursion}
 use Rattle.std.proofs.lemmas.List.{set-set}
 use Rattle.bus_words.proofs.StoredPlaces.{get_set}
 use Rattle.std.proofs.lemmas.Option.{slice_get_within}
-use Rattle.tl_messages.specs.Operations.{reply_has_data}
 use Rattle.tl_messages.specs.Requests.{HeldMessage, WholeRequest, request_of}
 use Rattle.tl_messages.specs.declared.ABeat.{ABeat}
 use Rattle.tl_messages.specs.declared.AtomicOp.{AtomicOp}
@@ -18,11 +17,11 @@ use Rattle.scoreboard.specs.Boards.{Board, ClientBoard, after_a, answer_to, answ
 use Rattle.scoreboard.specs.Flights.{is_busy}
 use Rattle.scoreboard.specs.Orders.{Order}
 use Rattle.scoreboard.specs.RealTime.{GivesBytes, MayBecome, heard}
-use Rattle.scoreboard.specs.Races.{unless_failed}
+use Rattle.scoreboard.specs.Races.{may_read, unless_failed}
 use Rattle.scoreboard.specs.declared.Policy.TheVariants.{RealTime}
 use Rattle.scoreboard.proofs.real_time.Ahead.{Shadow}
 use Rattle.scoreboard.proofs.real_time.CheckedRequests.{joined_free, sound_well, whole_sound}
-use Rattle.scoreboard.proofs.real_time.FirstBeats.{more_no_data_back, more_put}
+use Rattle.scoreboard.proofs.real_time.FirstBeats.{more_put, more_reads_none}
 use Rattle.scoreboard.proofs.real_time.Follows.{Follows, IsFollowed}
 use Rattle.scoreboard.proofs.real_time.FollowsChanges.{goes_further, heard_same, spoils}
 use Rattle.scoreboard.proofs.real_time.Fronts.{AreFronts}
@@ -48,9 +47,9 @@ module _ (board : Board) (order new : Order) (fronts : AreFronts board.clients) 
       subst (λ (o : Option HeldMessage). (op : AtomicOp) → (joined client.limits o beat).operation ≡ Atomic op → ⊥) (sym front)
       (more_put client.limits beat (is_busy RealTime client.flights beat.source)
       (subst (λ (o : Option HeldMessage). judged client.limits o beat (is_busy RealTime client.flights beat.source) ≡ Ok More) front is)) in
-      let silent : reply_has_data message.operation ≡ false =
-      subst (λ (o : Option HeldMessage). reply_has_data (joined client.limits o beat).operation ≡ false) (sym front)
-      (more_no_data_back client.limits beat (is_busy RealTime client.flights beat.source)
+      let silent : may_read message.operation ≡ false =
+      subst (λ (o : Option HeldMessage). may_read (joined client.limits o beat).operation ≡ false) (sym front)
+      (more_reads_none client.limits beat (is_busy RealTime client.flights beat.source)
       (subst (λ (o : Option HeldMessage). judged client.limits o beat (is_busy RealTime client.flights beat.source) ≡ Ok More) front is)) in
       let well = well_put (record (request_of message) { bytes = becomes.bytes; corrupt = becomes.corrupt }) (subst GivesBytes may.fields (may.bytes refl)) no_atomic in
       let after = begun_follows board shadow order follows number client there put.0 put.1 put.2 put.3 front message becomes.bytes becomes.corrupt

@@ -5,7 +5,6 @@ use Rattle.std.specs.List.{list_any}
 use Rattle.std.proofs.lemmas.Bool.{and_parts, and_right, both_ways, cases_Bool, cases_eq, false_from_ne_true, not-false, or_from, or_parts}
 use Rattle.std.proofs.lemmas.List.{length-map, length-set}
 use Rattle.bus_words.specs.Lanes.{given_at}
-use Rattle.tl_messages.specs.Operations.{reply_has_data}
 use Rattle.tl_messages.specs.Requests.{WholeRequest}
 use Rattle.burst_plan.specs.declared.Region.{Region}
 use Rattle.responses.specs.Shown.{shown}
@@ -13,7 +12,7 @@ use Rattle.subordinate.specs.Faults.{Faults}
 use Rattle.meaning.specs.Meaning.{meaning}
 use Rattle.scoreboard.specs.Boards.{Board, ClientBoard, coming_on, fails, flight_for, is_spoiled, place_on, with_accepted}
 use Rattle.scoreboard.specs.Flights.{Flights, Footprint, InFlight, due_to, is_of_source}
-use Rattle.scoreboard.specs.Races.{after_given, alone, covers, is_fixed, may_write, unless_failed}
+use Rattle.scoreboard.specs.Races.{after_given, alone, covers, is_fixed, may_read, may_write, unless_failed}
 use Rattle.scoreboard.specs.RealTime.{MayBecome}
 use Rattle.scoreboard.specs.SerialMemory.{carried_out, place_in}
 use Rattle.scoreboard.specs.declared.Errors.TheVariants.{Any}
@@ -98,11 +97,11 @@ module _ (board : Board) (shadow : Shadow) (ahead : IsAhead board shadow) (numbe
   same_source : q.source ≡ r.source
   same_source = sym (ap (λ (x : WholeRequest). x.source) may.fields)
 
-  silent : reply_has_data q.operation ≡ false
-  silent = sym (ap (λ (x : WholeRequest). reply_has_data x.operation) may.fields) ∙ become.becomes.silent
+  silent : may_read q.operation ≡ false
+  silent = sym (ap (λ (x : WholeRequest). may_read x.operation) may.fields) ∙ become.becomes.silent
 
   reads_none : kept.reads ≡ false
-  reads_none = ap (λ (f : Footprint). f.reads) kept_acts ∙ and_right (is_some (place_on board q)) (reply_has_data q.operation) silent
+  reads_none = ap (λ (f : Footprint). f.reads) kept_acts ∙ and_right (is_some (place_on board q)) (may_read q.operation) silent
 
   shapes : map shape_of flight.beats ≡ map shape_of become.other.beats
   shapes =
@@ -234,7 +233,7 @@ module _ (board : Board) (shadow : Shadow) (ahead : IsAhead board shadow) (numbe
       its_bytes determined =
           ap (λ (f : Footprint). covers f x) kept_acts
           ∙ covered (nat_le own_alone.address x) (nat_lt x (own_alone.address + 2 ^ q.size))
-          (not (is_some (place_on board q) && reply_has_data q.operation && board.indeterminate x)) determined
+          (not (is_some (place_on board q) && may_read q.operation && board.indeterminate x)) determined
         where
           covered : (after before certain : Bool) → (after && before && certain) ≡ true → (after && before) ≡ true
           covered true true certain is = refl

@@ -6,7 +6,6 @@ use Rattle.std.proofs.lemmas.Bool.{and_parts, both_ways, cases_Bool, false_from_
 use Rattle.std.proofs.lemmas.List.{length-map, length-set}
 use Rattle.std.proofs.lemmas.Option.{slice_get-map}
 use Rattle.bus_words.specs.Lanes.{given_at}
-use Rattle.tl_messages.specs.Operations.{reply_has_data}
 use Rattle.tl_messages.specs.Requests.{WholeRequest}
 use Rattle.burst_plan.specs.declared.Region.{Region}
 use Rattle.responses.specs.Shown.{shown}
@@ -15,7 +14,7 @@ use Rattle.meaning.specs.Meaning.{meaning}
 use Rattle.scoreboard.specs.Boards.{Board, ClientBoard, client_beside, fails, flight_for, footprints_of, is_spoiled, joined_on, joining_on, place_on, with_accepted}
 use Rattle.scoreboard.specs.Flights.{Footprint, InFlight, is_of_source}
 use Rattle.scoreboard.specs.Orders.{Order}
-use Rattle.scoreboard.specs.Races.{after_given, after_joining, alone as alone_of, beside, covers, flight_beside, is_fixed, joining, may_write}
+use Rattle.scoreboard.specs.Races.{after_given, after_joining, alone as alone_of, beside, covers, flight_beside, is_fixed, joining, may_read, may_write}
 use Rattle.scoreboard.specs.RealTime.{MayBecome}
 use Rattle.scoreboard.specs.SerialMemory.{place_in}
 use Rattle.scoreboard.specs.declared.Errors.TheVariants.{Any}
@@ -164,7 +163,7 @@ module _ (board : Board) (shadow : Shadow) (order : Order) (explains : Explains 
   -- what it reads and is determined both know
   read_same : (x : ℕ) → mine.reads ≡ true → mine.determined x ≡ true → IsSame board shadow x
   read_same x reads determined =
-      ahead.known x (was_certain (nat_le beginning.address x) (nat_lt x (beginning.address + 2 ^ q.size)) (is_some (place_on board q)) (reply_has_data q.operation)
+      ahead.known x (was_certain (nat_le beginning.address x) (nat_lt x (beginning.address + 2 ^ q.size)) (is_some (place_on board q)) (may_read q.operation)
       (board.indeterminate x) (list_any (λ f. may_write f x) (footprints_of board.clients)) (sym (ap (λ (f : Footprint). f.reads) mine_acts) ∙ reads)
       (fails_less failed beginning x determined).0) (nothing_coming x (alone x determined)) (none_fated x (alone x determined))
 
@@ -173,7 +172,7 @@ module _ (board : Board) (shadow : Shadow) (order : Order) (explains : Explains 
   its_bytes x determined =
       ap (λ (f : Footprint). covers f x) mine_acts
       ∙ covered (nat_le beginning.address x) (nat_lt x (beginning.address + 2 ^ q.size))
-      (not (is_some (place_on board q) && reply_has_data q.operation && board.indeterminate x))
+      (not (is_some (place_on board q) && may_read q.operation && board.indeterminate x))
       (not (list_any (λ f. may_write f x) (footprints_of board.clients))) (fails_less failed beginning x determined).0
     where
       covered : (after before certain apart : Bool) → ((after && before && certain) && apart) ≡ true → (after && before) ≡ true
@@ -186,7 +185,7 @@ module _ (board : Board) (shadow : Shadow) (order : Order) (explains : Explains 
       let parts = fails_less failed beginning x determined in
       subst (λ (y : WholeRequest). (joining_on (shadow_of board shadow) y).determined x ≡ true) (sym (is_same unfated parts.1))
       (subst (λ (place : Option ℕ). (joining shadow.indeterminate (footprints_of shadow.clients) place q).determined x ≡ true) (its_place parts.1)
-      (still_determined (nat_le beginning.address x) (nat_lt x (beginning.address + 2 ^ q.size)) (is_some (place_on board q)) (reply_has_data q.operation)
+      (still_determined (nat_le beginning.address x) (nat_lt x (beginning.address + 2 ^ q.size)) (is_some (place_on board q)) (may_read q.operation)
       (board.indeterminate x) (shadow.indeterminate x) (list_any (λ f. may_write f x) (footprints_of board.clients)) (list_any (λ f. may_write f x) (footprints_of shadow.clients))
       parts.0 (λ reads. (read_same x (ap (λ (f : Footprint). f.reads) mine_acts ∙ reads) determined).certain)
       (are.none (λ f. may_write f x) (shadow_writes board shadow ahead x (alone x determined)))))

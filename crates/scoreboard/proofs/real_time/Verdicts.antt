@@ -73,10 +73,11 @@ any_same one other from (suc n) same =
 otherwise_same : (footprint : Footprint) (k : ℕ) (due other beat : DBeat) → Alike footprint k due other
     → tells_otherwise footprint k other beat ≡ tells_otherwise footprint k due beat
 otherwise_same footprint k due other beat alike =
+    let opcode : other.opcode ≡ due.opcode = ap (λ (o : DBeat). o.opcode) alike.rest in
     let corrupt : other.corrupt ≡ due.corrupt = ap (λ (o : DBeat). o.corrupt) alike.rest in
     let lanes = any_same (differs_in footprint k other.payload beat.payload) (differs_in footprint k due.payload beat.payload) 0 8
     (λ lane below. grind (arith, nat_tests, alike.payload (0 + lane) (omega (arith, below)))) in
-    rw (corrupt, lanes) refl
+    rw (opcode, corrupt, lanes) refl
 
 still_blamed : (due : DBeat) (otherwise : Bool) (first : Option ReplyRule) (broken : ReplyRule) → first ≡ Some broken → (broken ≡ rule.Payload → otherwise ≡ true)
     → wrong_by due (unless_indeterminate otherwise first) ≡ Some (wrong.Reply broken (Some due))

@@ -37,7 +37,8 @@ returns-clause-footprint c found is =
     let kept = c.keep.ensures.footprint ∙ ap₂ (λ (coming footprint : Footprint). kept_from coming footprint) (ap (λ (client : ClientBoard). client.coming) same) start in
     let memory = memory_of c.self.inside.serial in
     let failed = fails c.self.inside.errors memory (request_of c.self.inside.request) in
-    failed_by c.self.inside.errors memory c.self.inside.request c.keep.new.flight.footprint c.carry_out.new.self c.fail_by.new.self c.carry_out.ensures.flight c.fail_by.ensures.footprint
+    failed_by c.self.inside.errors memory c.self.inside.request c.place_of-place.result c.keep.new.flight.footprint c.carry_out.new.self c.fail_by.new.self
+    c.place_of-place.ensures.place c.carry_out.ensures.flight c.fail_by.ensures.footprint
     ∙ ap (unless_failed failed) kept
     ∙ failed_kept failed found.coming (alone (is_marked c.self.inside.indeterminate) (place_on (board_of (the_view c.self.inside)) (request_of c.self.inside.request)) (request_of c.self.inside.request))
     ∙ ap (λ (b : BoardState). coming_on (board_of b) (request_of b.request) found.coming) c.self.view_is

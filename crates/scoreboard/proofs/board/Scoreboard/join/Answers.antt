@@ -66,7 +66,8 @@ joined c =
 pub returns-clause-footprint : goal.returns-clause-footprint
 returns-clause-footprint c =
     let memory = memory_of c.self.inside.serial in
-    failed_by c.self.inside.errors memory c.self.inside.request c.limit.new.joined.footprint c.carry_out.new.self c.fail_by.new.self c.carry_out.ensures.flight c.fail_by.ensures.footprint
+    failed_by c.self.inside.errors memory c.self.inside.request c.place_of-place.result c.limit.new.joined.footprint c.carry_out.new.self c.fail_by.new.self
+    c.place_of-place.ensures.place c.carry_out.ensures.flight c.fail_by.ensures.footprint
     ∙ ap (unless_failed (fails c.self.inside.errors memory (request_of c.self.inside.request))) (joined c)
     ∙ ap (λ (b : BoardState). joining_on (board_of b) (request_of b.request)) c.self.view_is
 
