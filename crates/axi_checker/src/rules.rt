@@ -110,7 +110,7 @@ impl PortLimits {
     }
 
     /// The same of a port with more IDs, or more bursts of each.
-    pub fn of_any_depth(bus_bytes: u8, ids: u16, depth: u16) -> Self
+    pub(crate) fn of_any_depth(bus_bytes: u8, ids: u16, depth: u16) -> Self
         ensures { result ≡ record { bus_bytes = bus_bytes; ids = ids; depth = depth } }
     {
         PortLimits {
