@@ -70,8 +70,14 @@ abbrev pub are_apart : List PageRange → Bool
 are_apart [] = true
 are_apart (range ∷ ranges) = not (list_any (overlaps range) ranges) && are_apart ranges
 
--- whether ranges and bad words make a memory: at most 1,024 ranges, each with pages of 32-bit addresses, no page in two of them; at most 64 bad
--- words, each at a multiple of 8 in a good page
+-- whether ranges make a memory: at most 1,024 of them, each with pages of 32-bit addresses, and no page in two
+abbrev pub are_ranges : List PageRange → Bool
+are_ranges ranges = nat_le (length ranges) 1024 && list_all is_range ranges && are_apart ranges
+
+-- whether words may be the bad ones: at most 64, each at a multiple of 8 in a good page
+abbrev pub are_words : List PageRange → List ℕ → Bool
+are_words ranges words = nat_le (length words) 64 && not (list_any (is_no_word (pages_in ranges)) words)
+
+-- whether ranges and bad words make a memory
 abbrev pub are_sound : List PageRange → List ℕ → Bool
-are_sound ranges bad_words =
-    nat_le (length ranges) 1024 && list_all is_range ranges && are_apart ranges && nat_le (length bad_words) 64 && not (list_any (is_no_word (pages_in ranges)) bad_words)
+are_sound ranges bad_words = are_ranges ranges && are_words ranges bad_words
