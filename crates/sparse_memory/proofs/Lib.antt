@@ -1,1 +1,4 @@
+pub mod FlagLaws
+pub mod PageLaws
 pub mod RangeLaws
+pub mod SparseLaws

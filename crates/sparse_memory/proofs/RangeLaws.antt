@@ -1,5 +1,5 @@
 -- The pages of ranges, by the range that a page is in.
-use Rattle.std.proofs.Common.{◌≡◌, ℕ, zero, suc, ◌+◌, ◌/◌, ◌==◌, ◌<◌, ◌≤◌, Bool, true, false, ◌&&◌, List, [], ◌∷◌, ◌++◌, map, Option, Some, None, if◌then◌else◌, nat_le, nat_lt, not, ◌%◌, refl, ap, arith, ◌∙◌, sym}
+use Rattle.std.proofs.Common.{◌≡◌, ℕ, zero, suc, ◌+◌, ◌/◌, Bool, true, false, ◌&&◌, List, [], ◌∷◌, map, Option, Some, None, if◌then◌else◌, nat_le, nat_lt, not, ◌%◌, refl, ap, arith, ◌∙◌, sym}
 use Rattle.std.specs.Prelude.{find}
 use Rattle.std.specs.List.{range_with_len}
 use Rattle.std.specs.Option.{option_or}
@@ -9,7 +9,6 @@ use Rattle.subordinate.specs.Faults.{is_good, is_no_word, lists_page, standing_a
 use Rattle.subordinate.specs.declared.PageKind.{PageKind}
 use Rattle.sparse_memory.specs.Ranges.{faults_of, has_page, is_unknown_in, kind_of, pages_in, pages_of, range_of, standing_in}
 use Rattle.sparse_memory.specs.declared.PageRange.{PageRange}
-use Rattle.sparse_memory.specs.declared.RangeKind.TheVariants.{Zeros, Unknown, SlaveError}
 
 -- the entry of a page among pages of one kind that follow each other
 find-numbered : (number first count : ℕ) (kind : PageKind)
@@ -32,6 +31,9 @@ standing-range_of number (range ∷ ranges) =
 
 pub standing-ranges : (ranges : List PageRange) (bad_words : List ℕ) (address : ℕ) → standing_at (faults_of ranges bad_words) address ≡ standing_in (range_of ranges (address / 4096))
 standing-ranges ranges bad_words address = standing-range_of (address / 4096) ranges
+
+pub standing-found : (ranges : List PageRange) (bad_words : List ℕ) (address : ℕ) (range : Option PageRange) → range ≡ range_of ranges (address / 4096) → standing_in range ≡ standing_at (faults_of ranges bad_words) address
+standing-found ranges bad_words address range is = ap standing_in is ∙ sym (standing-ranges ranges bad_words address)
 
 -- a page of which nobody knows at first which bytes it has is good
 pub unknown-good : (range : Option PageRange) → is_unknown_in range ≡ true → is_good (standing_in range) ≡ true

@@ -1,5 +1,5 @@
 -- The pages of a memory listed as ranges. What a range lists is what the pages of a device are: so `Faults` stays what is said of a memory.
-use Rattle.std.specs.Prelude.{ℕ, ◌+◌, ◌/◌, Bool, true, false, ◌&&◌, not, List, [], ◌∷◌, length, map, flat_map, Option, Some, None, find, nat_le, nat_lt}
+use Rattle.std.specs.Prelude.{ℕ, ◌+◌, Bool, true, false, ◌&&◌, not, List, [], ◌∷◌, length, map, flat_map, Option, Some, None, find, nat_le, nat_lt}
 use Rattle.std.specs.List.{list_all, list_any, range_with_len}
 use Rattle.subordinate.specs.Faults.{Faults, IsAbsent, Standing, is_no_word, standing_of_kind}
 use Rattle.subordinate.specs.declared.PageKind.{PageKind}

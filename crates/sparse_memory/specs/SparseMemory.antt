@@ -61,11 +61,11 @@ pub record HasRoomOnGoodPages (state : SparseState) : Type 0 where
 -- ---- by words
 
 -- the aligned word that an address is in
-abbrev pub word_in : (ℕ → ℕ) → ℕ → ℕ
+unfoldable pub word_in : (ℕ → ℕ) → ℕ → ℕ
 word_in bytes address = word_of_lanes (λ lane. bytes (word_address address + lane))
 
 -- for each byte of that word a flag, bit i for byte i
-abbrev pub flags_in : (ℕ → Bool) → ℕ → ℕ
+unfoldable pub flags_in : (ℕ → Bool) → ℕ → ℕ
 flags_in flags address = mask_of (λ lane. flags (word_address address + lane))
 
 -- whether a byte is one of the strobed ones of the word that an address is in
@@ -81,5 +81,5 @@ abbrev pub put_flags : ℕ → ℕ → ℕ → (ℕ → Bool) → ℕ → Bool
 put_flags address mask strobes flags x = if is_strobed address strobes x then has_lane mask (x % 8) else flags x
 
 -- the new mask's bits in the strobed lanes, the old one's elsewhere
-abbrev pub flags_merged : ℕ → ℕ → ℕ → ℕ
+unfoldable pub flags_merged : ℕ → ℕ → ℕ → ℕ
 flags_merged old new strobes = mask_of (λ lane. if has_lane strobes lane then has_lane new lane else has_lane old lane)

@@ -1,8 +1,9 @@
 //! The memory: which pages there are, and the room of those that were asked for.
 ghost use Rattle.std.specs.Prelude.{◌≡◌, ◌/◌, ◌%◌, ◌<◌, ◌||◌, ◌==◌, ℕ, false, true, if◌then◌else◌, IfOk, OnErr, OnOk, IsOk, IsTrue, None, Some};
-ghost use Rattle.subordinate.specs.Faults.{is_good, standing_at};
-ghost use Rattle.sparse_memory.specs.Ranges.{are_sound, faults_of, is_unknown};
-ghost use Rattle.sparse_memory.specs.SparseMemory.{HasRoomOnGoodPages, bytes_in, doubts_in, faults_in, flags_in, has_room, put_flags, word_in};
+ghost use Rattle.std.specs.Option.{option_copied};
+ghost use Rattle.subordinate.specs.Faults.{is_good, standing_at, standing_of_kind, write_response};
+ghost use Rattle.sparse_memory.specs.Ranges.{are_sound, faults_of, is_unknown, kind_of, range_of};
+ghost use Rattle.sparse_memory.specs.SparseMemory.{HasRoomOnGoodPages, bytes_in, doubts_in, faults_in, flags_in, has_room, page_in, put_flags, word_in};
 
 use crate::page::Page;
 use crate::ranges::range_of;
@@ -45,7 +46,7 @@ impl Drop for SparseMemory {
 }
 
 impl SparseMemory {
-    ghost use Rattle.subordinate.specs.Faults.{is_bad, read_response, write_response};
+    ghost use Rattle.subordinate.specs.Faults.{is_bad, read_response};
     ghost use Rattle.sparse_memory.specs.SparseMemory.{put_word};
 
     /// A memory of these ranges with these bad words. No page has room: the bytes are zero, and those of ranges of unknown bytes
@@ -86,11 +87,8 @@ impl SparseMemory {
         ensures value { result ≡ write_response (standing_at (faults_in self.now) address) }
         ensures good_pages { HasRoomOnGoodPages self.now }
     {
-        match range_of(&self.ranges, address / 4096) {
-            Some(range) => match range.kind {
-                RangeKind::Zeros | RangeKind::Unknown => Resp::Okay,
-                RangeKind::SlaveError => Resp::SlvErr,
-            },
+        match self.range_of(address) {
+            Some(range) => response_of(range.kind),
             None => Resp::DecErr,
         }
     }
@@ -110,7 +108,7 @@ impl SparseMemory {
         ensures value { result ≡ (if is_good (standing_at (faults_in self.now) address) then Some (bytes_in self.now address) else None) }
         ensures good_pages { HasRoomOnGoodPages self.now }
     {
-        match self.pages.get(&(address / 4096)) {
+        match self.page_of(address) {
             Some(page) => Some(lane_byte(page.word(place_of(address)), lane_of(address))),
             None if self.is_good(address) => Some(0),
             None => None,
@@ -122,7 +120,7 @@ impl SparseMemory {
         ensures value { result ≡ word_in (bytes_in self.now) address }
         ensures good_pages { HasRoomOnGoodPages self.now }
     {
-        match self.pages.get(&(address / 4096)) {
+        match self.page_of(address) {
             Some(page) => page.word(place_of(address)),
             None => 0,
         }
@@ -133,7 +131,7 @@ impl SparseMemory {
         ensures value { result ≡ flags_in (doubts_in self.now) address }
         ensures good_pages { HasRoomOnGoodPages self.now }
     {
-        match self.pages.get(&(address / 4096)) {
+        match self.page_of(address) {
             Some(page) => page.doubts(place_of(address)),
             None if self.is_unknown(address) => 0xff,
             None => 0,
@@ -148,11 +146,27 @@ impl SparseMemory {
         has_lane(self.doubts(address), lane_of(address))
     }
 
+    /// The range that the page of an address is in.
+    fn range_of(&self, address: u32) -> Option<&PageRange>
+        ensures range { option_copied result ≡ range_of self.now.ranges (address / 4096) }
+        ensures good_pages { HasRoomOnGoodPages self.now }
+    {
+        range_of(&self.ranges, address / 4096)
+    }
+
+    /// The room of the page of an address.
+    fn page_of(&self, address: u32) -> Option<&Page>
+        ensures page { option_copied result ≡ page_in self.now (address / 4096) }
+        ensures good_pages { HasRoomOnGoodPages self.now }
+    {
+        self.pages.get(&(address / 4096))
+    }
+
     /// Whether the page of an address is one of which nobody knows at first which bytes it has.
     fn is_unknown(&self, address: u32) -> bool
         ensures { result ≡ is_unknown self.now.ranges (address / 4096) }
     {
-        match range_of(&self.ranges, address / 4096) {
+        match self.range_of(address) {
             Some(range) => matches!(range.kind, RangeKind::Unknown),
             None => false,
         }
@@ -207,6 +221,16 @@ impl SparseMemory {
             return;
         };
         page.put_doubts(place_of(address), doubts, strobes);
+    }
+}
+
+/// The response to a write to a page of a range (AXI4, A3.4.4).
+fn response_of(kind: RangeKind) -> Resp
+    ensures { result ≡ write_response (standing_of_kind (kind_of kind)) }
+{
+    match kind {
+        RangeKind::Zeros | RangeKind::Unknown => Resp::Okay,
+        RangeKind::SlaveError => Resp::SlvErr,
     }
 }
 

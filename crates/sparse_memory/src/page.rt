@@ -1,5 +1,5 @@
 //! The room of one page.
-ghost use Rattle.std.specs.Prelude.{◌≡◌, ◌<◌, ℕ, length, slice_index, slice_set, IfOk};
+ghost use Rattle.std.specs.Prelude.{◌≡◌, ◌<◌, ◌^◌, ℕ, length, slice_index, slice_set, if◌then◌else◌, IfOk};
 ghost use Rattle.bus_words.specs.Lanes.{has_lane};
 ghost use Rattle.data_unit.specs.Words.{merged};
 ghost use Rattle.sparse_memory.specs.SparseMemory.{byte_of, doubt_of, flags_merged};
@@ -46,17 +46,17 @@ impl Page {
         ensures bytes { IfOk result (λ page. (place : ℕ) → place < 4096 → byte_of (Some page) place ≡ 0) }
         ensures doubts { IfOk result (λ page. (place : ℕ) → place < 4096 → doubt_of in_doubt (Some page) place ≡ in_doubt) }
     {
-        let doubt = if in_doubt { 0xff } else { 0 };
         Ok(Page {
             words: vec![in alloc; 0; WORDS]?,
-            doubts: vec![in alloc; doubt; WORDS]?,
+            doubts: vec![in alloc; every_byte_if(in_doubt); WORDS]?,
         })
     }
 
     /// Its word `k`.
     pub(crate) fn word(&self, k: usize) -> u64
         requires { k < 512 }
-        ensures { result ≡ slice_index self.now.words k }
+        ensures word { result ≡ slice_index self.now.words k }
+        ensures fits { result < 2 ^ 64 }
     {
         self.words[k]
     }
@@ -64,7 +64,8 @@ impl Page {
     /// Which bytes of its word `k` are in doubt.
     pub(crate) fn doubts(&self, k: usize) -> u8
         requires { k < 512 }
-        ensures { result ≡ slice_index self.now.doubts k }
+        ensures mask { result ≡ slice_index self.now.doubts k }
+        ensures fits { result < 256 }
     {
         self.doubts[k]
     }
@@ -84,6 +85,20 @@ impl Page {
         ensures doubts { self.new ≡ record self.old { doubts = slice_set self.old.doubts k (flags_merged (slice_index self.old.doubts k) doubts strobes) } }
         ensures whole { length self.old.doubts ≡ 512 }
     {
-        self.doubts[k] = (self.doubts[k] & !strobes) | (doubts & strobes);
+        self.doubts[k] = flags_merged(self.doubts[k], doubts, strobes);
     }
+}
+
+/// All bytes of a word, or none.
+fn every_byte_if(all: bool) -> u8
+    ensures { result ≡ (if all then 255 else 0) }
+{
+    if all { 0xff } else { 0 }
+}
+
+/// The new mask's bits in the strobed lanes, the old one's elsewhere.
+fn flags_merged(old: u8, new: u8, strobes: u8) -> u8
+    ensures { result ≡ flags_merged old new strobes }
+{
+    (old & !strobes) | (new & strobes)
 }
