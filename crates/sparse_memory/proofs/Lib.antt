@@ -1,4 +1,6 @@
 pub mod FlagLaws
 pub mod PageLaws
 pub mod RangeLaws
+pub mod SoundRanges
 pub mod SparseLaws
+pub mod StateLaws

@@ -1,5 +1,5 @@
 -- What a state says of each byte, after a page was changed, and after one got room.
-use Rattle.std.proofs.Common.{◌≡◌, ℕ, ◌+◌, ◌/◌, ◌%◌, ◌^◌, ◌<◌, ◌==◌, Bool, true, false, List, length, Option, None, Some, is_some, if◌then◌else◌, nat_eq, refl, sym, ◌∙◌, ap, arith}
+use Rattle.std.proofs.Common.{◌≡◌, ℕ, ◌+◌, ◌/◌, ◌%◌, ◌^◌, ◌<◌, ◌==◌, Bool, true, false, List, [], length, Option, None, Some, is_some, if◌then◌else◌, nat_eq, refl, sym, ◌∙◌, ap, arith}
 use Rattle.std.specs.Prelude.{slice_index}
 use Rattle.std.proofs.Math.Path.{fun_ext}
 use Rattle.std.proofs.lemmas.Bool.Decides.{nat_tests}
@@ -7,9 +7,10 @@ use Rattle.bus_words.specs.Lanes.{has_lane, lane_byte, mask_of, word_address}
 use Rattle.bus_words.proofs.LaneLaws.{word_of_lanes-lane_byte, word_of_lanes-same}
 use Rattle.bus_words.proofs.MaskLaws.{has_lane-mask_of, mask_of-has_lane, mask_of-same}
 use Rattle.subordinate.specs.Faults.{is_good, standing_at}
-use Rattle.sparse_memory.specs.Ranges.{is_unknown}
-use Rattle.sparse_memory.specs.SparseMemory.{HasRoomOnGoodPages, PageState, SparseState, byte_of, bytes_in, doubt_of, doubts_in, faults_in, flags_in, is_strobed, page_in, put_flags, put_word, word_in}
+use Rattle.sparse_memory.specs.Ranges.{are_sound, is_unknown}
+use Rattle.sparse_memory.specs.SparseMemory.{IsSoundState, PageState, SparseState, byte_of, bytes_in, doubt_of, doubts_in, faults_in, flags_in, is_strobed, page_in, put_flags, put_word, sparse_state, word_in}
 use Rattle.sparse_memory.specs.declared.PageRange.{PageRange}
+use Rattle.sparse_memory.proofs.SoundRanges.{sound-device}
 use Rattle.sparse_memory.proofs.PageLaws.{byte-with_word, doubt-with_doubts, with_doubts, with_word}
 
 -- a page that isn't found has no room
@@ -113,11 +114,11 @@ bytes-kept old new number page changed there same changes = each_byte number (by
 
 -- ---- a page gets room
 
-no-byte-of : (state : SparseState) (x number : ℕ) → x / 4096 ≡ number → page_in state number ≡ None → bytes_in state x ≡ 0
+pub no-byte-of : (state : SparseState) (x number : ℕ) → x / 4096 ≡ number → page_in state number ≡ None → bytes_in state x ≡ 0
 unfolding bytes_in
 no-byte-of state x number here none = ap (λ q. byte_of (page_in state q) (x % 4096)) here ∙ ap (λ (o : Option PageState). byte_of o (x % 4096)) none
 
-no-doubt-of : (state : SparseState) (x number : ℕ) → x / 4096 ≡ number → page_in state number ≡ None → doubts_in state x ≡ is_unknown state.ranges number
+pub no-doubt-of : (state : SparseState) (x number : ℕ) → x / 4096 ≡ number → page_in state number ≡ None → doubts_in state x ≡ is_unknown state.ranges number
 unfolding doubts_in
 no-doubt-of state x number here none =
     ap (λ q. doubt_of (is_unknown state.ranges q) (page_in state q) (x % 4096)) here ∙ ap (λ (o : Option PageState). doubt_of (is_unknown state.ranges number) o (x % 4096)) none
@@ -137,6 +138,9 @@ doubts-new_page old new number page unknown none which doubts changes =
     (λ x away. doubts-away old new number page x changes away)
 
 -- ---- nothing has room
+
+pub sound-none : (ranges : List PageRange) (bad_words : List ℕ) → are_sound ranges bad_words ≡ true → IsSoundState (sparse_state ranges bad_words [])
+sound-none ranges bad_words sound = record { faults = sound-device ranges bad_words sound; room = λ address there. absurd (cc (there)) }
 
 pub bytes-none : (state : SparseState) → ((number : ℕ) → page_in state number ≡ None) → bytes_in state ≡ (λ address. 0)
 bytes-none state none = fun_ext (λ x. no-byte-of state x (x / 4096) refl (none (x / 4096)))
@@ -189,10 +193,10 @@ flag-of flags address =
 
 -- ---- a byte is read
 
-pub byte-read : (state : SparseState) (address : ℕ) (page : PageState) → page_in state (address / 4096) ≡ Some page → HasRoomOnGoodPages state
+pub byte-read : (state : SparseState) (address : ℕ) (page : PageState) → page_in state (address / 4096) ≡ Some page → IsSoundState state
     → Some (lane_byte (slice_index page.words (address % 4096 / 8)) (address % 8)) ≡ (if is_good (standing_at (faults_in state) address) then Some (bytes_in state address) else None)
-byte-read state address page there pages =
-    rw (pages.good address (ap (λ (o : Option PageState). is_some o) there), byte-of state address (address / 4096) page refl there, lane-of address) refl
+byte-read state address page there sound =
+    rw (sound.room address (ap (λ (o : Option PageState). is_some o) there), byte-of state address (address / 4096) page refl there, lane-of address) refl
 
 pub byte-zero : (state : SparseState) (address : ℕ) → page_in state (address / 4096) ≡ None → is_good (standing_at (faults_in state) address) ≡ true
     → Some 0 ≡ (if is_good (standing_at (faults_in state) address) then Some (bytes_in state address) else None)

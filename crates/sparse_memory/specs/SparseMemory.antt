@@ -3,7 +3,7 @@
 use Rattle.std.specs.Prelude.{◌≡◌, ℕ, ◌+◌, ◌/◌, ◌%◌, ◌==◌, Bool, true, ◌&&◌, List, Option, Some, None, is_some, if◌then◌else◌, nat_eq, slice_index}
 use Rattle.std.specs.Map.{lookup}
 use Rattle.bus_words.specs.Lanes.{has_lane, lane_byte, mask_of, word_address, word_of_lanes}
-use Rattle.subordinate.specs.Faults.{Faults, is_good, standing_at}
+use Rattle.subordinate.specs.Faults.{Faults, device_fault, is_good, standing_at}
 use Rattle.sparse_memory.specs.Ranges.{faults_of, is_unknown}
 use Rattle.sparse_memory.specs.declared.PageRange.{PageRange}
 
@@ -54,9 +54,10 @@ bytes_in state address = byte_of (page_in state (address / 4096)) (address % 409
 unfoldable pub doubts_in : SparseState → ℕ → Bool
 doubts_in state address = doubt_of (is_unknown state.ranges (address / 4096)) (page_in state (address / 4096)) (address % 4096)
 
--- what is true of every memory: only good pages have room
-pub record HasRoomOnGoodPages (state : SparseState) : Type 0 where
-  pub good : (address : ℕ) → has_room state (address / 4096) ≡ true → is_good (standing_at (faults_in state) address) ≡ true
+-- what is true of every memory: a device with its pages and bad words isn't refused, and only good pages have room
+pub record IsSoundState (state : SparseState) : Type 0 where
+  pub faults : device_fault (faults_in state).pages (faults_in state).bad_words ≡ None
+  pub room : (address : ℕ) → has_room state (address / 4096) ≡ true → is_good (standing_at (faults_in state) address) ≡ true
 
 -- ---- by words
 

@@ -3,7 +3,7 @@ ghost use Rattle.std.specs.Prelude.{◌≡◌, ◌/◌, ◌%◌, ◌<◌, ◌||�
 ghost use Rattle.std.specs.Option.{option_copied};
 ghost use Rattle.subordinate.specs.Faults.{is_good, standing_at, standing_of_kind, write_response};
 ghost use Rattle.sparse_memory.specs.Ranges.{are_sound, faults_of, is_unknown, kind_of, range_of};
-ghost use Rattle.sparse_memory.specs.SparseMemory.{HasRoomOnGoodPages, bytes_in, doubts_in, faults_in, flags_in, has_room, page_in, put_flags, word_in};
+ghost use Rattle.sparse_memory.specs.SparseMemory.{IsSoundState, bytes_in, doubts_in, faults_in, flags_in, has_room, page_in, put_flags, word_in};
 
 use crate::page::Page;
 use crate::ranges::range_of;
@@ -24,13 +24,13 @@ pub struct SparseMemory {
 }
 
 impl Model for SparseMemory {
-    ghost use Rattle.sparse_memory.specs.SparseMemory.{HasRoomOnGoodPages, SparseState, sparse_state};
+    ghost use Rattle.sparse_memory.specs.SparseMemory.{IsSoundState, SparseState, sparse_state};
 
     ghost Value = { SparseState };
 
     ghost view = { λ m. sparse_state m.ranges.items m.bad.items m.pages.entries };
 
-    ghost invariant = { λ m. HasRoomOnGoodPages (sparse_state m.ranges.items m.bad.items m.pages.entries) };
+    ghost invariant = { λ m. IsSoundState (sparse_state m.ranges.items m.bad.items m.pages.entries) };
 }
 
 // Written out, so that what lets go of one calls this, and proves nothing of its parts.
@@ -69,7 +69,7 @@ impl SparseMemory {
     /// Whether the page of an address is good.
     pub fn is_good(&self, address: u32) -> bool
         ensures value { result ≡ is_good (standing_at (faults_in self.now) address) }
-        ensures good_pages { HasRoomOnGoodPages self.now }
+        ensures sound { IsSoundState self.now }
     {
         self.write_response(address) == Resp::Okay
     }
@@ -85,7 +85,7 @@ impl SparseMemory {
     /// The response to a write that begins at an address (AXI4, A3.4.4): that of its page (this project's profile).
     pub fn write_response(&self, address: u32) -> Resp
         ensures value { result ≡ write_response (standing_at (faults_in self.now) address) }
-        ensures good_pages { HasRoomOnGoodPages self.now }
+        ensures sound { IsSoundState self.now }
     {
         match self.range_of(address) {
             Some(range) => response_of(range.kind),
@@ -106,7 +106,7 @@ impl SparseMemory {
     /// The byte at an address of a good page; none outside these.
     pub fn byte(&self, address: u32) -> Option<u8>
         ensures value { result ≡ (if is_good (standing_at (faults_in self.now) address) then Some (bytes_in self.now address) else None) }
-        ensures good_pages { HasRoomOnGoodPages self.now }
+        ensures sound { IsSoundState self.now }
     {
         match self.page_of(address) {
             Some(page) => Some(lane_byte(page.word(place_of(address)), lane_of(address))),
@@ -118,7 +118,7 @@ impl SparseMemory {
     /// The eight bytes of the word that an address is in; zero where there is no room.
     pub fn word(&self, address: u32) -> u64
         ensures value { result ≡ word_in (bytes_in self.now) address }
-        ensures good_pages { HasRoomOnGoodPages self.now }
+        ensures sound { IsSoundState self.now }
     {
         match self.page_of(address) {
             Some(page) => page.word(place_of(address)),
@@ -129,7 +129,7 @@ impl SparseMemory {
     /// Which bytes of the word that an address is in are in doubt, bit i for byte i.
     pub fn doubts(&self, address: u32) -> u8
         ensures value { result ≡ flags_in (doubts_in self.now) address }
-        ensures good_pages { HasRoomOnGoodPages self.now }
+        ensures sound { IsSoundState self.now }
     {
         match self.page_of(address) {
             Some(page) => page.doubts(place_of(address)),
@@ -141,7 +141,7 @@ impl SparseMemory {
     /// Whether the byte at an address is in doubt.
     pub fn is_in_doubt(&self, address: u32) -> bool
         ensures value { result ≡ doubts_in self.now address }
-        ensures good_pages { HasRoomOnGoodPages self.now }
+        ensures sound { IsSoundState self.now }
     {
         has_lane(self.doubts(address), lane_of(address))
     }
@@ -149,7 +149,7 @@ impl SparseMemory {
     /// The range that the page of an address is in.
     fn range_of(&self, address: u32) -> Option<&PageRange>
         ensures range { option_copied result ≡ range_of self.now.ranges (address / 4096) }
-        ensures good_pages { HasRoomOnGoodPages self.now }
+        ensures sound { IsSoundState self.now }
     {
         range_of(&self.ranges, address / 4096)
     }
@@ -157,7 +157,7 @@ impl SparseMemory {
     /// The room of the page of an address.
     fn page_of(&self, address: u32) -> Option<&Page>
         ensures page { option_copied result ≡ page_in self.now (address / 4096) }
-        ensures good_pages { HasRoomOnGoodPages self.now }
+        ensures sound { IsSoundState self.now }
     {
         self.pages.get(&(address / 4096))
     }
@@ -182,7 +182,7 @@ impl SparseMemory {
         ensures room { OnOk result ((page : ℕ) → has_room self.new page ≡ (has_room self.old page || page == address / 4096)) }
         ensures refused { OnErr result (self.new ≡ self.old) }
         ensures has_room { has_room self.old (address / 4096) ≡ true → IsOk result }
-        ensures good_pages { HasRoomOnGoodPages self.new }
+        ensures sound { IsSoundState self.new }
     {
         let number = address / 4096;
         if self.pages.contains_key(&number) {
@@ -200,7 +200,7 @@ impl SparseMemory {
         ensures bytes { bytes_in self.new ≡ put_word address word strobes (bytes_in self.old) }
         ensures doubts { doubts_in self.new ≡ doubts_in self.old }
         ensures room { (page : ℕ) → has_room self.new page ≡ has_room self.old page }
-        ensures good_pages { HasRoomOnGoodPages self.new }
+        ensures sound { IsSoundState self.new }
     {
         let Some(page) = self.pages.get_mut(&(address / 4096)) else {
             return;
@@ -215,7 +215,7 @@ impl SparseMemory {
         ensures bytes { bytes_in self.new ≡ bytes_in self.old }
         ensures doubts { doubts_in self.new ≡ put_flags address doubts strobes (doubts_in self.old) }
         ensures room { (page : ℕ) → has_room self.new page ≡ has_room self.old page }
-        ensures good_pages { HasRoomOnGoodPages self.new }
+        ensures sound { IsSoundState self.new }
     {
         let Some(page) = self.pages.get_mut(&(address / 4096)) else {
             return;
