@@ -1,3 +1,4 @@
+mod Examples
 pub mod FlagLaws
 pub mod PageLaws
 pub mod RangeLaws

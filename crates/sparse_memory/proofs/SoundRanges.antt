@@ -35,9 +35,11 @@ AreApart pages others = (number : ℕ) → list_any (lists_page number) pages �
 listed-append : (pages others : List (ℕ × PageKind)) → AreListed pages → AreListed others → AreApart pages others → AreListed (pages ++ others)
 listed-append [] others listed rest apart = rest
 listed-append (page ∷ pages) others listed rest apart =
-    let here : lists_page page.0 page ≡ true = grind (arith, nat_tests) in
-    (listed.0, list_any-append (lists_page page.0) pages others ∙ or_from _ _ listed.1 (apart page.0 (or_left (lists_page page.0 page) (list_any (lists_page page.0) pages) here)),
-    listed-append pages others listed.2 rest (λ number there. apart number (or_right (lists_page number page) _ there)))
+    let here : lists_page page.0 page ≡ true = grind (arith, nat_tests) in (
+      listed.0,
+      list_any-append (lists_page page.0) pages others ∙ or_from _ _ listed.1 (apart page.0 (or_left (lists_page page.0 page) (list_any (lists_page page.0) pages) here)),
+      listed-append pages others listed.2 rest (λ number there. apart number (or_right (lists_page number page) _ there)),
+    )
 
 -- a page that stands earlier breaks a rule, and one whose addresses have more bits
 rules-listed : (earlier : List (ℕ × PageKind)) (i : ℕ) (pages : List (ℕ × PageKind)) → AreApart earlier pages → AreListed pages → first_broken (rules_of_pages earlier i pages) ≡ None

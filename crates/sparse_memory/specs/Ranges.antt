@@ -41,12 +41,13 @@ abbrev pub standing_in : Option PageRange → Standing
 standing_in None = IsAbsent
 standing_in (Some range) = standing_of_kind (kind_of range.kind)
 
--- whether nobody knows at first what a page of a range has
+-- whether nobody knows at first which bytes the pages of a range have
 abbrev pub is_unknown_kind : RangeKind → Bool
 is_unknown_kind Zeros = false
 is_unknown_kind Unknown = true
 is_unknown_kind SlaveError = false
 
+-- the same of the range that a page is in, if one is
 abbrev pub is_unknown_in : Option PageRange → Bool
 is_unknown_in None = false
 is_unknown_in (Some range) = is_unknown_kind range.kind

@@ -5,6 +5,8 @@
 mod memory;
 mod page;
 mod ranges;
+#[cfg(test)]
+mod tests;
 
 pub use memory::SparseMemory;
 pub use ranges::are_sound;

@@ -57,6 +57,7 @@ impl SparseMemory {
         ensures bytes { IfOk result (λ memory. bytes_in memory ≡ (λ address. 0)) }
         ensures doubts { IfOk result (λ memory. doubts_in memory ≡ (λ address. is_unknown ranges.now (address / 4096))) }
         ensures room { IfOk result (λ memory. (page : ℕ) → has_room memory page ≡ false) }
+        ensures sound { IfOk result (λ memory. IsSoundState memory) }
     {
         Ok(SparseMemory {
             alloc,
@@ -76,7 +77,8 @@ impl SparseMemory {
 
     /// Whether the word that an address is in is bad.
     pub fn is_bad(&self, address: u32) -> bool
-        ensures { result ≡ is_bad (faults_in self.now) address }
+        ensures value { result ≡ is_bad (faults_in self.now) address }
+        ensures sound { IsSoundState self.now }
     {
         let word = address / 8 * 8;
         self.bad.iter().any(|bad| *bad == word)
@@ -95,7 +97,8 @@ impl SparseMemory {
 
     /// The response to a read beat at an address (AXI4, A3.4.4): that of its page and its word (this project's profile).
     pub fn read_response(&self, address: u32) -> Resp
-        ensures { result ≡ read_response (faults_in self.now) address }
+        ensures value { result ≡ read_response (faults_in self.now) address }
+        ensures sound { IsSoundState self.now }
     {
         match self.write_response(address) {
             Resp::Okay if self.is_bad(address) => Resp::SlvErr,

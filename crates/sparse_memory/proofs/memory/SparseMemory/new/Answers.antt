@@ -16,3 +16,6 @@ returns-clause-bytes c = bytes-none _ (λ number. none-in c.new.result.entries n
 
 pub returns-clause-doubts : goal.returns-clause-doubts
 returns-clause-doubts c = doubts-none _ c.args.ranges.now c.in_ok-copied.ensures (λ number. none-in c.new.result.entries number c.new.ensures.empty)
+
+pub returns-clause-sound : goal.returns-clause-sound
+returns-clause-sound c = rw (c.in_ok-copied.ensures, c.in_ok-copied-2.ensures, c.new.ensures.empty) (sound-none c.args.ranges.now c.args.bad_words.now c.requires.sound)
