@@ -126,6 +126,19 @@ def worlds():
         yield f"growth {at} of all", wrong_call(shim.run(names[1:], b"", "growth", at, FOR_EVER), "NoMemory")
 
 
+def pages_again():
+    """A page that is refused its room gets it when it is asked for again, and one that has room asks for none: the test asks a
+    hundred times."""
+    shim, words = Shim(TOP / "crates" / "sparse_memory" / "out" / "sparse_memory_tests"), ["tests::reserved_again"]
+    free = shim.run(words, b"")
+    asked = free.counts["growth"]
+    print(f"sparse_memory: {asked} growths where two pages get room, each refused alone and with all after it")
+    yield "no growth refused", wrong_call(free, None)
+    yield "few growths", None if 0 < asked < 20 else f"{asked}"
+    for _, alone, ran, case in shim.refused(words, b"", "growth", asked):
+        yield case, wrong_call(ran, None if alone else "AllocError")
+
+
 def growths_of_long(shim, word, long, alone):
     """A script asks no more often than its set-up alone."""
     counts = [shim.run([word], it).counts["growth"] for it in (long, alone)]
@@ -217,6 +230,7 @@ def of_growths(shim):
     for crate, name, errors in CALLS:
         yield f"{crate}, {name}", growths_of_call(crate, name, errors)
     yield "worlds", worlds()
+    yield "pages", pages_again()
 
 
 def of_threads(shim):

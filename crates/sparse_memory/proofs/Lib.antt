@@ -1,0 +1,7 @@
+mod Examples
+pub mod FlagLaws
+pub mod PageLaws
+pub mod RangeLaws
+pub mod SoundRanges
+pub mod SparseLaws
+pub mod StateLaws
