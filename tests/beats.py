@@ -1,53 +1,460 @@
-"""Random beats for a TileLink port, an AXI port and a memory that is sent bursts, a million each, most of them illegal: the tests
-of `crates/world_tests/src/tests/beats`, which fail where an answer isn't that of a plain model of the rules. Here their counts
-are shown: each rule is the answer at least 1,000 times, and so is each kind of beat that is taken.
+"""Beats by lot for TileLink ports and for an AXI4 port, hundreds of thousands each, most of them illegal, beside plain models of
+the tables of rules in docs/RULES.md: the answer has to be the first rule that a beat breaks, in the order of its table, and a
+refused beat changes nothing. Each answer has to come at least 1,000 times.
 
-    python3 tests/beats.py [PROGRAM]
+    python3 tests/beats.py TLSCORE TLBRIDGE [--seed WORD]
 """
 
-import subprocess
+import argparse
+import random
+import secrets
 import sys
-from pathlib import Path
+from collections import Counter
+from dataclasses import dataclass, field, replace
+from typing import Callable, Iterator, Optional
 
-from ends import told
+from ends import started, told
+from observed import PARAMS, Burst
 
-TOP = Path(__file__).resolve().parent.parent
-TESTS = TOP / "crates" / "world_tests" / "out" / "world_tests_tests"
-MILLION, LEAST, SECONDS = 1_000_000, 1_000, 60
-ADDRESS = ("SIZE", "BURST_KIND", "CROSS_4K", "ID_RANGE", "DEPTH", "TAKEN")
-DATA = ("W_WITHOUT_AW", "STROBE", "WLAST")
-B = tuple(f"B:{name}" for name in ("ID_RANGE", "B_WITHOUT_WRITE", "EXOKAY", "TAKEN"))
-R = tuple(f"R:{name}" for name in ("ID_RANGE", "R_WITHOUT_READ", "RLAST", "EXOKAY", "TAKEN"))
-FIRST = ("OPCODE", "LEVEL", "SIZE", "ATOMIC_SIZE", "ALIGN", "PARAM", "MASK", "CORRUPT", "SOURCE_BUSY")
-# Each test, and the answers that there are.
-ANSWERS = {
-    "port::a_million_beats": (*FIRST, "BURST_CONTROL", "MORE", "WHOLE"),
-    "monitor::a_million_beats": (
-        *(f"{channel}:{name}" for channel in ("AW", "AR") for name in ADDRESS),
-        *(f"W:{name}" for name in (*DATA, "TAKEN")),
-        *B,
-        *R,
-    ),
-    "boxes::a_million_boxes": (
-        *(f"{kind}:{name}" for kind in ("READ", "WRITE") for name in ADDRESS),
-        *(f"WRITE:{name}" for name in DATA),
-    ),
+from client import ABeat, beats_of  # observed.py says where it stands
+from random_bench import ARITHMETIC, GET, INTENT, LOGICAL, PUT_FULL, PUT_PARTIAL, full_mask
+
+LEAST = 1_000
+ATOMICS = (ARITHMETIC, LOGICAL)
+SPOILS = 16  # of so many beats 6 are legal, 7 have a field that isn't, 2 have two, and of one all fields are by lot
+
+# ---- TileLink ports, each a client's of a script of `check`
+
+# The clients' levels and the largest size of a script's ports.
+PORTS = (("lh", 3), ("h", 6), ("lh", 12)) * 2
+LINES = 65_000
+
+
+@dataclass
+class Port:
+    """What has come of the message that has begun, and the sources of whole ones that weren't freed."""
+
+    level: str
+    largest: int
+    message: list = field(default_factory=list)
+    busy: set = field(default_factory=set)
+
+    def broken(self, beat: ABeat) -> Optional[str]:
+        """The first rule that a beat breaks."""
+        return next((name for name, breaks in (LATER if self.message else FIRST) if breaks(self, beat)), None)
+
+    def take(self, beat: ABeat) -> str:
+        """Takes a beat, or refuses it; answers the name of the rule, MORE or WHOLE."""
+        name = self.broken(beat)
+        if name:
+            return name
+        self.message.append(beat)
+        if len(self.message) < beats_of(beat.size, beat.opcode < GET):
+            return "MORE"
+        self.message.clear()
+        self.busy.add(beat.source)
+        return "WHOLE"
+
+
+def is_masked(beat: ABeat) -> bool:
+    full = full_mask(beat.size, beat.address)
+    return beat.mask | full == full if beat.opcode == PUT_PARTIAL else beat.mask == full
+
+
+def is_alike(beat: ABeat, first: ABeat) -> bool:
+    return all(getattr(beat, it) == getattr(first, it) for it in ("opcode", "param", "size", "source", "address"))
+
+
+# The rules on a first beat and on a later one, each in the order of its tests.
+Rule = tuple[str, Callable[[Port, ABeat], bool]]
+FIRST: tuple[Rule, ...] = (
+    ("OPCODE", lambda port, it: it.opcode > INTENT),
+    ("LEVEL", lambda port, it: port.level == "l" and (it.opcode in (*ATOMICS, INTENT) or it.size > 3)),
+    ("SIZE", lambda port, it: it.size > port.largest),
+    ("ATOMIC_SIZE", lambda port, it: it.opcode in ATOMICS and it.size > 3),
+    ("ALIGN", lambda port, it: it.address % 2**it.size != 0),
+    ("PARAM", lambda port, it: it.param >= PARAMS[it.opcode]),
+    ("MASK", lambda port, it: not is_masked(it)),
+    ("CORRUPT", lambda port, it: it.opcode >= GET and it.corrupt == 1),
+    ("SOURCE_BUSY", lambda port, it: it.source in port.busy),
+)
+LATER: tuple[Rule, ...] = (
+    ("BURST_CONTROL", lambda port, it: not is_alike(it, port.message[0])),
+    ("MASK", lambda port, it: not is_masked(it)),
+)
+NUMBERS = {name: number for number, name in enumerate((*(name for name, _ in FIRST), "BURST_CONTROL"), 1)}
+
+
+class Beats:
+    """Draws beats near what a port takes."""
+
+    def __init__(self, rng: random.Random, port: Port):
+        self.rng, self.port = rng, port
+
+    def draw(self) -> ABeat:
+        spoils = self.rng.randrange(SPOILS)
+        if spoils == SPOILS - 1:
+            return self.any()
+        beat = self.later(self.port.message[0]) if self.port.message else self.first()
+        for _ in range((spoils >= 6) + (spoils >= 13)):
+            beat = self.broken_later(beat) if self.port.message else self.broken_first(beat)
+        return beat
+
+    def first(self) -> ABeat:
+        """A first beat that breaks no rule, where its source isn't busy."""
+        rng, port = self.rng, self.port
+        opcode = rng.choice((PUT_FULL, PUT_PARTIAL, GET)) if port.level == "l" else rng.randrange(6)
+        is_small = port.level == "l" or opcode in ATOMICS or rng.random() < 0.5
+        size = rng.randrange((3 if is_small else port.largest) + 1)
+        address = rng.getrandbits(32) >> size << size
+        full = full_mask(size, address)
+        mask = full & rng.getrandbits(8) if opcode == PUT_PARTIAL else full
+        corrupt = int(opcode < GET and rng.random() < 0.125)
+        return ABeat(opcode, rng.randrange(PARAMS[opcode]), size, rng.randrange(8), address, mask, rng.getrandbits(64), corrupt)
+
+    def later(self, first: ABeat) -> ABeat:
+        """A later beat that breaks no rule."""
+        mask = self.rng.getrandbits(8) if first.opcode == PUT_PARTIAL else 0xFF
+        return replace(first, mask=mask, payload=self.rng.getrandbits(64), corrupt=int(self.rng.random() < 0.125))
+
+    def any(self) -> ABeat:
+        """A beat whose fields are all by lot."""
+        rng = self.rng
+        size = rng.getrandbits(8) if rng.random() < 0.125 else rng.randrange(14)
+        address = rng.getrandbits(32) & rng.getrandbits(32) & rng.getrandbits(32)
+        mask = 0xFF if rng.random() < 0.5 else rng.getrandbits(8)
+        opcode, param, source = rng.randrange(8), rng.randrange(6), rng.randrange(8)
+        return ABeat(opcode, param, size, source, address, mask, rng.getrandbits(64), rng.getrandbits(1))
+
+    def broken_first(self, beat: ABeat) -> ABeat:
+        """The same beat with a field that breaks one of rules 1 to 8, or another where its port can't break that one."""
+        rng, largest, few = self.rng, self.port.largest, self.rng.randrange(1, 7)
+        changes = (
+            lambda: {"opcode": rng.randrange(6, 256)},
+            lambda: {"opcode": rng.choice(ATOMICS)},
+            lambda: {"size": largest + few},
+            lambda: {"opcode": rng.choice(ATOMICS), "size": rng.randrange(4, max(5, largest + 1))},
+            lambda: {"address": (beat.address + few) % 2**32},
+            lambda: {"param": few},
+            lambda: {"mask": beat.mask ^ 1 << rng.randrange(8)},
+            lambda: {"opcode": rng.choice((GET, INTENT)), "corrupt": 1},
+        )
+        return replace(beat, **rng.choice(changes)())
+
+    def broken_later(self, beat: ABeat) -> ABeat:
+        """The same beat with another field, which the mask of a PutPartialData may be."""
+        rng, lane = self.rng, 1 << self.rng.randrange(8)
+        changes = (
+            lambda: {"opcode": beat.opcode ^ 1},
+            lambda: {"param": rng.getrandbits(8)},
+            lambda: {"size": rng.randrange(13)},
+            lambda: {"source": rng.getrandbits(8)},
+            lambda: {"address": beat.address ^ 8 * lane},
+            lambda: {"mask": beat.mask ^ lane},
+        )
+        return replace(beat, **rng.choice(changes)())
+
+
+def fields_of(client: int, it: ABeat) -> str:
+    """Those of an `a` line, as its trace has them."""
+    head = f"{client} {it.opcode} {it.param} {it.size} {it.source}"
+    return f"{head} {it.address:08x} {it.mask:02x} {it.payload:016x} {it.corrupt}"
+
+
+def offered(rng: random.Random, levels: str, largest: int, counts: Counter) -> tuple[str, str]:
+    """A script of `check`, and its trace. Most sources are freed as soon as their message is whole."""
+    ports = [Port(level, largest) for level in levels]
+    lines, trace = [f"config {len(ports)} 1 1 1 1 {largest} {levels}"], []
+    while len(lines) < LINES:
+        client = rng.randrange(len(ports))
+        port = ports[client]
+        beat = Beats(rng, port).draw()
+        answer = port.take(beat)
+        counts[answer] += 1
+        fields = fields_of(client, beat)
+        said = f"refused {NUMBERS[answer]} {answer}" if answer in NUMBERS else answer.lower()
+        lines.append(f"a {fields}")
+        trace += [f"A {fields}", f"= {said}"]
+        if answer == "WHOLE" and (rng.random() < 0.75 or len(port.busy) > 2):
+            freed = rng.choice(sorted(port.busy))
+            port.busy.remove(freed)
+            lines.append(f"free {client} {freed}")
+            trace.append("= freed")
+    return "\n".join(lines) + "\n", "\n".join(trace) + "\n"
+
+
+def of_ports(rng: random.Random, tlbridge: str) -> Iterator:
+    counts = Counter()
+    for levels, largest in PORTS:
+        script, trace = offered(rng, levels, largest, counts)
+        yield f"ports {levels} of size {largest}", started([tlbridge, "check"], script.encode()).wrong(1, trace.encode(), b"")
+    yield from often("port", counts, (*NUMBERS, "MORE", "WHOLE"))
+
+
+def often(name: str, counts: Counter, answers: tuple) -> Iterator:
+    print(f"{name}: {sum(counts.values())} beats, {', '.join(f'{counts[it]} {it}' for it in answers)}")
+    yield f"{name}: other answers", f"{counts}" if set(counts) - set(answers) else None
+    for answer in answers:
+        yield f"{name}: {answer}", None if counts[answer] >= LEAST else f"{counts[answer]} times"
+
+
+# ---- the AXI4 port, whose beats are an observation
+
+# Beats on a port of two IDs, each of which may have one burst outstanding on a side: the bytes of the bus, and each line with the
+# rule that its beat breaks, if it breaks one.
+AXI_ROWS = {
+    "each rule once": (8, """
+        AW 0 10000 0 4 1 -> 1 SIZE
+        AW 0 10000 0 3 0 -> 2 BURST_KIND
+        AR 2 10ff8 1 3 1 -> 3 CROSS_4K
+        AR 2 10000 1 3 1 -> 4 ID_RANGE
+        AR 1 10000 1 3 1
+        AR 1 10010 0 3 1 -> 5 DEPTH
+        W 0 ff 1 -> 6 W_WITHOUT_AW
+        AW 1 10000 0 2 1
+        W 0 1f 0 -> 7 STROBE
+        W 0 0f 0 -> 8 WLAST
+        B 1 OKAY -> 9 B_WITHOUT_WRITE
+        W 0 0f 1
+        R 0 0 OKAY 1 -> 10 R_WITHOUT_READ
+        R 1 0 EXOKAY 1 -> 11 RLAST
+        R 1 0 EXOKAY 0 -> 12 EXOKAY
+        B 2 EXOKAY -> 4 ID_RANGE
+        B 1 EXOKAY -> 12 EXOKAY
+        B 1 SLVERR
+        R 1 0 SLVERR 0
+        R 1 0 OKAY 1
+    """),
+    "a burst over the end of a page, and one up to it": (8, """
+        AW 0 10ff8 1 3 1 -> 3 CROSS_4K
+        AW 0 10ff8 0 3 1
+    """),
+    "strobes of two transfers of four bytes, of which the first has lane 3 alone": (8, """
+        AW 0 10003 1 2 1
+        W 0 10 0 -> 7 STROBE
+        W 0 08 0
+        W 0 f0 1
+    """),
+    "a response ahead of the last data, and last data that don't say so": (8, """
+        AW 0 10000 1 3 1
+        W 0 ff 0
+        B 0 OKAY -> 9 B_WITHOUT_WRITE
+        W 0 ff 0 -> 8 WLAST
+    """),
+    "a bus of four bytes has four lanes": (4, """
+        AR 0 10008 0 3 1 -> 1 SIZE
+        AW 0 10008 1 2 1
+        W 0 1f 0 -> 7 STROBE
+        W 0 0f 0
+        W 0 f0 1 -> 7 STROBE
+        W 0 0f 1
+    """),
 }
 
 
-def cases():
-    for name, answers in ANSWERS.items():
-        ran = subprocess.run([TESTS, f"tests::beats::{name}"], capture_output=True, text=True, timeout=SECONDS)
-        line = ran.stdout.partition("\n")[0]
-        print(line)
-        words = line.split()[1:]
-        counts = dict(zip(words[::2], map(int, words[1::2])))
-        yield name, None if ran.returncode == 0 else f"status {ran.returncode}, {ran.stderr[-300:]!r}"
-        yield f"{name}: beats", None if sum(counts.values()) >= MILLION else f"{sum(counts.values())}"
-        for answer in answers:
-            count = counts.get(answer, 0)
-            yield f"{name}: {answer}", None if count >= LEAST else f"{count} times"
+def of_rows(tlscore: str) -> Iterator:
+    for name, (width, rows) in AXI_ROWS.items():
+        lines, _, rules = zip(*(row.strip().partition(" -> ") for row in rows.strip().splitlines()))
+        wanted = [f"= wrong {number} axi {rule}" for number, rule in enumerate(rules, 2) if rule]
+        ran = started([tlscore], "\n".join((f"config 1 1 2 1 16 12 h {width}", *lines)).encode())
+        said = ran.text.decode().splitlines()[:-1]
+        yield name, ran.wrong(1, None, b"") or (None if said == wanted else f"{said}")
+
+
+# IDs, bursts of an ID that may be unanswered, and the bytes of the bus.
+AXI_PORTS = ((16, 4, 8), (4, 2, 8), (1, 1, 8), (5, 3, 4))
+AXI_BEATS = 100_000
+AXI_RULES = ("SIZE", "BURST_KIND", "CROSS_4K", "ID_RANGE", "DEPTH", "W_WITHOUT_AW", "STROBE", "WLAST", "B_WITHOUT_WRITE",
+             "R_WITHOUT_READ", "RLAST", "EXOKAY")
+RESPONSES = ("OKAY",) * 4 + ("EXOKAY",) * 2 + ("SLVERR", "DECERR")
+# The rules that a beat of each channel may break.
+BROKEN = {
+    **dict.fromkeys(("AW", "AR"), AXI_RULES[:5]),
+    "W": AXI_RULES[5:8],
+    "B": ("ID_RANGE", "B_WITHOUT_WRITE", "EXOKAY"),
+    "R": ("ID_RANGE", "R_WITHOUT_READ", "RLAST", "EXOKAY"),
+}
+AXI_ANSWERS = tuple(f"{channel}:{name}" for channel, names in BROKEN.items() for name in (*names, "TAKEN"))
+
+
+def crosses(address: int, len: int, size: int) -> bool:
+    """Whether the first and the last byte of a burst lie in different pages."""
+    last = (address >> size << size) + ((len + 1) << size) - 1
+    return address >> 12 != last >> 12
+
+
+@dataclass
+class AxiPort:
+    """The outstanding bursts of both sides, in the order of their address beats."""
+
+    ids: int
+    depth: int
+    width: int
+    writes: list = field(default_factory=list)
+    reads: list = field(default_factory=list)
+
+    def address(self, side: list, id: int, address: int, len: int, size: int, burst: int) -> Optional[str]:
+        """Takes an AW or an AR, or answers the first rule that it breaks."""
+        broken = (2**size > self.width, burst != 1, crosses(address, len, size), id >= self.ids,
+                  sum(it.id == id for it in side) >= self.depth)
+        if any(broken):
+            return AXI_RULES[broken.index(True)]
+        side.append(Burst(id, address, len, size))
+        return None
+
+    def to_fill(self) -> Optional[Burst]:
+        """The oldest write that lacks data."""
+        return next((it for it in self.writes if it.came <= it.len), None)
+
+    def w(self, payload: int, strobes: int, last: int) -> Optional[str]:
+        burst = self.to_fill()
+        if burst is None:
+            return "W_WITHOUT_AW"
+        if strobes & ~burst.transfer(self.width)[2]:
+            return "STROBE"
+        if bool(last) != burst.is_last():
+            return "WLAST"
+        burst.came += 1
+        return None
+
+    def b(self, id: int, resp: str) -> Optional[str]:
+        burst = next((it for it in self.writes if it.id == id), None)
+        if id >= self.ids:
+            return "ID_RANGE"
+        if burst is None or burst.came <= burst.len:
+            return "B_WITHOUT_WRITE"
+        if resp == "EXOKAY":
+            return "EXOKAY"
+        self.writes.remove(burst)
+        return None
+
+    def r(self, id: int, payload: int, resp: str, last: int) -> Optional[str]:
+        burst = next((it for it in self.reads if it.id == id), None)
+        if id >= self.ids:
+            return "ID_RANGE"
+        if burst is None:
+            return "R_WITHOUT_READ"
+        if bool(last) != burst.is_last():
+            return "RLAST"
+        if resp == "EXOKAY":
+            return "EXOKAY"
+        burst.came += 1
+        if burst.came > burst.len:
+            self.reads.remove(burst)
+        return None
+
+
+class AxiBeats:
+    """Draws beats near what an AXI4 port takes, and has it take them."""
+
+    def __init__(self, rng: random.Random, port: AxiPort):
+        self.rng, self.port = rng, port
+
+    def draw(self) -> tuple[str, str, Optional[str]]:
+        """The channel of a beat, its line, and the rule that it breaks."""
+        rng, port, kind = self.rng, self.port, self.rng.randrange(16)
+        if kind < 6:
+            channel, side = ("AW", port.writes) if kind < 3 else ("AR", port.reads)
+            id, address, *shape = beat = self.address(side)
+            return channel, f"{channel} {id} {address:08x} {' '.join(map(str, shape))}", port.address(side, *beat)
+        if kind < 11:
+            payload, strobes, last = beat = self.data()
+            return "W", f"W {payload:016x} {strobes:02x} {last}", port.w(*beat)
+        if kind < 13:
+            beat = self.id_of(port.writes), rng.choice(RESPONSES)
+            return "B", "B {} {}".format(*beat), port.b(*beat)
+        id = self.id_of(port.reads)
+        burst = next((it for it in port.reads if it.id == id), None)
+        last = (burst is not None and burst.is_last()) != (rng.random() < 0.25)
+        beat = id, rng.getrandbits(64), rng.choice(RESPONSES), int(last)
+        return "R", "R {} {:016x} {} {}".format(*beat), port.r(*beat)
+
+    def address(self, side: list) -> tuple[int, int, int, int, int]:
+        """ID, address, len, size and burst: those of a beat that breaks no rule but DEPTH, or with another field or two, or all by
+        lot."""
+        rng, spoils = self.rng, self.rng.randrange(SPOILS)
+        if spoils == SPOILS - 1:
+            return rng.randrange(32), rng.getrandbits(32), rng.getrandbits(8), rng.randrange(5), rng.randrange(3)
+        id, size = rng.randrange(self.port.ids), rng.randrange(4 if self.port.width == 8 else 3)
+        address = rng.choice((0xFFFFF000, 0, 0x10000, 0x10000)) + rng.randrange(4096)
+        len = rng.getrandbits(8) if rng.random() < 0.005 else rng.randrange(4)
+        beat = id, address, 0 if crosses(address, len, size) else len, size, 1
+        for _ in range((spoils >= 6) + (spoils >= 13)):
+            beat = self.spoiled(side, *beat)
+        return beat
+
+    def spoiled(self, side: list, id: int, address: int, len: int, size: int, burst: int) -> tuple[int, int, int, int, int]:
+        rng = self.rng
+        changes = (
+            lambda: (id, address, len, rng.randrange(2, 6), burst),
+            lambda: (id, address, len, rng.getrandbits(8), burst),
+            lambda: (id, address, len, size, rng.choice((0, 2, 3, 255))),
+            lambda: (id, address | 0xFF8, rng.randrange(4), size, burst),
+            lambda: (rng.randrange(self.port.ids, 256), address, len, size, burst),
+            lambda: (rng.choice(side).id if side else id, address, len, size, burst),
+        )
+        return rng.choice(changes)()
+
+    def data(self) -> tuple[int, int, int]:
+        """Payload, strobes and last: those of the next data of a write, or with others, or all by lot."""
+        rng, burst = self.rng, self.port.to_fill()
+        kind = rng.randrange(16)
+        if burst is None or kind == 15:
+            return rng.getrandbits(64), rng.getrandbits(8), rng.getrandbits(1)
+        lanes = burst.transfer(self.port.width)[2]
+        strobes = lanes if rng.random() < 0.5 else lanes & rng.getrandbits(8)
+        other = 1 << rng.randrange(8) if kind in (8, 9, 10, 14) else 0
+        return rng.getrandbits(64), strobes ^ other, int(burst.is_last() != (kind in (11, 12, 13, 14)))
+
+    def id_of(self, side: list) -> int:
+        """An ID: of a burst of a side, mostly, of any that the port has, or of any at all."""
+        rng, kind = self.rng, self.rng.randrange(8)
+        if kind == 0:
+            return rng.randrange(self.port.ids, 256)
+        if kind == 2:
+            return rng.randrange(32)
+        return rng.choice(side).id if side and kind != 1 else rng.randrange(self.port.ids)
+
+
+def observed(rng: random.Random, port: AxiPort, counts: Counter) -> tuple[str, str]:
+    """An observation, and what is said of it."""
+    lines = [f"config 1 1 {port.ids} {port.depth} 16 12 h {port.width}"]
+    said, beats = [], AxiBeats(rng, port)
+    for number in range(2, AXI_BEATS + 2):
+        channel, line, name = beats.draw()
+        counts[f"{channel}:{name or 'TAKEN'}"] += 1
+        lines.append(line)
+        if name:
+            said.append(f"= wrong {number} axi {AXI_RULES.index(name) + 1} {name}")
+    open_bursts = len(port.writes) + len(port.reads)
+    said.append(f"= judged {AXI_BEATS} wrong {len(said)} outstanding 0 open {open_bursts}")
+    return "\n".join(lines) + "\n", "\n".join(said) + "\n"
+
+
+def of_axi(rng: random.Random, tlscore: str) -> Iterator:
+    counts = Counter()
+    for limits in AXI_PORTS:
+        lines, said = observed(rng, AxiPort(*limits), counts)
+        yield f"an AXI4 port of {limits}", started([tlscore], lines.encode()).wrong(1, said.encode(), b"")
+    yield from often("AXI4 port", counts, AXI_ANSWERS)
+
+
+def cases(tlscore: str, tlbridge: str, seed: str) -> Iterator:
+    yield from of_rows(tlscore)
+    print(f"seed {seed}")
+    rng = random.Random(seed)
+    yield from of_ports(rng, tlbridge)
+    yield from of_axi(rng, tlscore)
+
+
+def main() -> int:
+    asked = argparse.ArgumentParser(description=__doc__)
+    asked.add_argument("tlscore")
+    asked.add_argument("tlbridge")
+    asked.add_argument("--seed", default=secrets.token_hex(4))
+    given = asked.parse_args()
+    return told(cases(given.tlscore, given.tlbridge, given.seed))
 
 
 if __name__ == "__main__":
-    sys.exit(told(cases()))
+    sys.exit(main())

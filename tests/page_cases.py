@@ -25,7 +25,7 @@ PAGE = re.compile(r"`((?:docs|examples|crates)/[\w./-]+)`")
 ROW = re.compile(r"(?m)^\| (\w+) \| ((?:\w+, )*\w+) \| ")
 # An example of the library, and the tests that have each as it stands.
 EXAMPLE = re.compile(r"(?ms)^```rust\n(.*?)^```$")
-TESTED = TOP / "crates/world_tests/src/tests/pages.rt"
+TESTED = TOP / "crates/layer_tests/src/tests/pages.rt"
 # A call that a statement is of, and a clause of a function's head.
 CALL = re.compile(r"`(\w+)::(?:\w+::)*(\w+)`")
 CLAUSE = re.compile(r"(?ms)^ *ensures (?:(\w+) )?{(.*?)}$")
@@ -102,7 +102,7 @@ def lacking(path, named):
     if absent:
         return absent
     text = files[0].read_text()
-    entries = [it for it in ENTRY.findall(named) if f'"{it}"' not in text and f"// {it}\n" not in text]
+    entries = [it for it in ENTRY.findall(named) if not any(form in text for form in (f'"{it}"', f"// {it}\n", f"# {it}\n"))]
     return entries + [it for it in DEFINED.findall(named) if not re.search(rf"(?m)\b(?:fn|def|const) {it}\b|^{it} = ", text)]
 
 

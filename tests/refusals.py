@@ -4,8 +4,8 @@ A growth of memory: words that can't be had come first (status 6), then want of 
 that can't be made (status 5), nothing being written in any case; then the program asks no more, however long a script of `run`
 or `check` is, and ends as it does with memory enough. Where one growth alone is refused a vector may ask once more, for just
 what it needs: then nothing is wanting, and the run asked once more than it does with memory enough. The calls of the libraries
-that take memory have tests of their own, as those of `crates/world_tests`, of which each growth is refused too. Each script of
-`tests/rows` asks no more often than its set-up alone.
+that take memory have tests of their own, as those of `crates/layer_tests`, of which each growth is refused too. Each script of
+`tests/rows` asks no more often than its set-up alone, so a world that is driven asks for no memory.
 
 A thread that can't be made is told. A read that fails is told, and the text of the lines that were read whole stands. A write
 that fails is told, and what was written is a front of the text; one that is interrupted is tried again.
@@ -20,7 +20,7 @@ from pathlib import Path
 from ends import MEMORY, READ, SPAWN, USAGE, WRITE, told
 from script_cases import setup_of
 from scripts import SCRIPTS, SETUP, Script
-from shim import FOR_EVER, Shim
+from shim import Shim
 
 TOP = Path(__file__).resolve().parent.parent
 # In this order.
@@ -40,9 +40,9 @@ TWELVE = Script(
 )
 # The tests of the calls that take memory: where each stands, its name, and the errors that it may end with, in this order.
 CALLS = (
-    *(("world_tests", f"constructors::{name}", ("AllocError",)) for name in (
+    *(("layer_tests", f"constructors::{name}", ("AllocError",)) for name in (
         "request", "reply_box", "burst_box", "port", "monitor", "flight", "gather")),
-    *(("world_tests", f"constructors::{name}", ("NoMemory",)) for name in (
+    *(("layer_tests", f"constructors::{name}", ("NoMemory",)) for name in (
         "page_map", "bridge", "device", "world", "opened_world", "a_run")),
     ("tlbridge", "growths::shared", ("NoMemory",)),
     # The lists that it is given come first.
@@ -114,18 +114,6 @@ def wrong_call(ran, error):
     return ran.wrong(101 if error else 0, None, line.encode())
 
 
-def worlds():
-    """Scripts that drive a world ask for no memory but their worlds', so that none can be refused."""
-    shim = Shim(TOP / "crates" / "world_tests" / "out" / "world_tests_tests")
-    names = ["tests::constructors::worlds_alone", "tests::constructors::worlds_driven"]
-    alone, driven = (shim.run([name], b"").counts["growth"] for name in names)
-    print(f"worlds: {alone} growths where nothing is asked of them, {driven} where scripts drive them")
-    yield "worlds that are driven ask no more often", None if alone == driven > 0 else f"{alone}, {driven}"
-    yield "no more growth", wrong_call(shim.run(names[1:], b"", "growth", driven + 1, FOR_EVER), None)
-    for at in range(1, driven + 1, 97):
-        yield f"growth {at} of all", wrong_call(shim.run(names[1:], b"", "growth", at, FOR_EVER), "NoMemory")
-
-
 def pages_again():
     """A page that is refused its room gets it when it is asked for again, and one that has room asks for none: the test asks a
     hundred times."""
@@ -148,7 +136,7 @@ def growths_of_long(shim, word, long, alone):
 def rows():
     """Each worked row of `run` whose set-up is right: its name and its script."""
     for script in sorted(TOP.glob("tests/rows/**/*.script")):
-        if not script.with_suffix(".fault").exists():
+        if not script.stem.startswith("check") and not script.with_suffix(".fault").exists():
             yield str(script.relative_to(TOP)), script.read_bytes()
 
 
@@ -229,7 +217,6 @@ def of_growths(shim):
         yield name, growths_of_long(shim, "run", script, setup_of(script))
     for crate, name, errors in CALLS:
         yield f"{crate}, {name}", growths_of_call(crate, name, errors)
-    yield "worlds", worlds()
     yield "pages", pages_again()
 
 

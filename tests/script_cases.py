@@ -1,5 +1,5 @@
 """Scripts of `run` and `check`, what each prints and its fault: each front of the first script, faults of every word, set-ups
-that are refused, lists that are full, and long lines."""
+that are refused, lists that are full, long lines, and Gets in their bursts."""
 
 CONFIG = "config 1 1 1 1 1 12 h"
 SETUP = "config 2 4 16 2 16 12 hh\nregion 0 4 10 gpah\npage 10 4 good\n"
@@ -163,6 +163,21 @@ FULL = {
     "bad words": ("bad 10000", 64, "BadWord 0", "bad x y"),
 }
 
+# Gets of client 0, each burst of which is answered before the next goes: the config line, size and address, and the address, len
+# and size of each burst.
+PLANS = {
+    "a page in bursts of 16 transfers": (
+        "config 1 1 1 1 16 12 h", 12, 0x1000, [(0x11000 + 0x80 * at, 15, 3) for at in range(32)],
+    ),
+    "64 bytes in single transfers": ("config 1 1 1 1 1 12 h", 6, 0x40, [(0x10040 + 8 * at, 0, 3) for at in range(8)]),
+    "four bytes": ("config 1 1 1 1 16 12 h", 2, 0x14, [(0x10014, 0, 2)]),
+    "a page on a bus of four bytes": (
+        "config 1 1 1 1 256 12 h 4", 12, 0x1000, [(0x11000 + 0x400 * at, 255, 2) for at in range(4)],
+    ),
+    "eight bytes on a bus of four": ("config 1 1 1 1 2 12 h 4", 3, 8, [(0x10008, 1, 2)]),
+    "a byte on a bus of four bytes": ("config 1 1 1 1 16 12 h 4", 0, 0xD, [(0x1000D, 0, 0)]),
+}
+
 # Scripts that `check` judges to their end: the status, and the trace.
 JUDGED = {
     "a source is busy for its own client alone, and once it was freed it is free for that client alone": (
@@ -280,10 +295,29 @@ def of_run():
         yield name, SETUP + commands, trace, script_fault(line, word)
     for name, (script, fault) in SET_UPS.items():
         yield name, script, "", set_up_fault(fault) if fault else ENDED
+    for name, plan in PLANS.items():
+        yield f"a Get of {name}", *planned(*plan), ENDED
     for name, (line, most, fault, more) in FULL.items():
         script = f"{CONFIG}\n" + f"{line}\n" * most
         yield f"as many {name} as may be", script, "", set_up_fault(fault)
         yield f"{name}, one line more than may be", script + more, "", script_fault(most + 2, 1)
+
+
+def planned(config, size, address, bursts):
+    """The script of a Get, and its trace."""
+    mask = 0xFF if size >= 3 else (2 ** 2**size - 1) << address % 8
+    given = [config, "region 0 4 10 gpah", "page 10 4 good", f"a 0 4 0 {size} 0 {address:x} {mask:x} 0 0"]
+    trace = [f"A 0 4 0 {size} 0 {address:08x} {mask:02x} {0:016x} 0", "= accepted 0"]
+    for serial, (begin, last, width) in enumerate(bursts):
+        given.append("pump")
+        trace += [f"= sent {serial}", f"AR 0 {begin:08x} {last} {width} 1"]
+        for beat in range(last + 1):
+            given += [f"do {serial} {beat}", "r 0"]
+            trace += ["= done", f"R 0 {0:016x} OKAY {int(beat == last)}"]
+    beats = max(1, 2**size // 8)
+    given += ["pump", "take 0"]
+    trace += ["= idle", "= reply 0", *[f"D 0 1 0 {size} 0 0 {0:016x} 0"] * beats]
+    return "\n".join(given) + "\n", "\n".join(trace) + "\n"
 
 
 def of_check():

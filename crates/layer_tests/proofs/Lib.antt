@@ -1,1 +1,2 @@
 mod OpenBursts
+mod KeptLimits

@@ -1,4 +1,4 @@
-//! Tests of the layers below the bridge: worked values from outside, and what no contract says.
+//! Tests of the libraries: what no script can ask of a program, and what no contract says.
 #![tactic(auto)]
 
 #[cfg(test)]

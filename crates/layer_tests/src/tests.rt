@@ -1,18 +1,26 @@
-//! One module for each layer.
+//! One module for each subject.
 use std::fmt::Debug;
 use std::process::Abort;
 
-mod bursts;
-mod data;
+mod answers;
+mod asked;
+mod bench;
+mod bridge_bench;
+mod calls;
+mod choices;
+mod constructors;
 mod flights;
 mod lines;
 mod memories;
-mod messages;
-mod monitors;
-mod plans;
-mod ports;
+mod offers;
+mod order;
+mod pages;
+mod replayer;
 mod replies;
-mod words;
+mod reports;
+mod runs;
+mod scripts;
+mod writers;
 
 /// Has the test fail where two values differ; `case` says of what they are.
 pub(crate) fn same<C: Debug + Drop, T: Debug + Drop + PartialEq>(

@@ -1,13 +1,17 @@
-//! The lines of beats, and a writer that fails.
+//! The lines of beats and of answers, over writers that fail, are interrupted or take nothing.
 use super::same;
+use super::writers::{Failing, Slow};
 use axi_beats::{
     ArBeat, AwBeat, BBeat, RBeat, Resp, WBeat, ar_line, aw_line, b_line, r_line, w_line,
 };
-use std::alloc::Global;
+use line_text::WriteFault;
+use run_script::answer_line;
+use script_text::ScriptFault;
 use std::io;
 use std::io::{ErrorKind, Write};
 use std::test::Fail;
 use tl_messages::{ABeat, DBeat, a_line, d_line};
+use world::Answer;
 
 const PUT: ABeat = ABeat {
     opcode: 0,
@@ -114,54 +118,13 @@ B 15 SLVERR
 B 15 DECERR
 ";
 
-/// A writer to memory whose call number `fails`, from 0, fails.
-#[derive(Drop)]
-struct Writer {
-    text: Vec<u8>,
-    calls: u32,
-    fails: u32,
-}
-
-impl Writer {
-    /// Before its first call.
-    fn failing_at(alloc: Global, fails: u32) -> Writer {
-        Writer {
-            text: Vec::new(alloc),
-            calls: 0,
-            fails,
-        }
-    }
-}
-
-impl Write for Writer {
-    fn write(&mut self, buf: &[u8]) -> io::Result<usize> {
-        let call = self.calls;
-        self.calls = call.saturating_add(1);
-        if call == self.fails {
-            return Err(io::Error::from(ErrorKind::BrokenPipe));
-        }
-        self.text.write(buf)
-    }
-
-    fn flush(&mut self) -> io::Result<()> {
-        Ok(())
-    }
-}
-
 #[test]
-fn are_written(rt: HostRuntime) -> Result<(), Fail> {
-    let mut text = Vec::new(rt.alloc());
-    all_lines(&mut text)?;
-    same(&rt, "all lines", text.as_slice(), ALL_LINES);
-    Ok(())
-}
-
-#[test]
-fn answer_the_writers_fault(rt: HostRuntime) {
+fn are_written_or_answer_the_writers_fault(rt: HostRuntime) {
     let mut faults = 0u32;
     for call in 0..1000 {
-        let mut writer = Writer::failing_at(rt.alloc(), call);
+        let mut writer = Failing::at(rt.alloc(), call);
         let Err(fault) = all_lines(&mut writer) else {
+            same(&rt, "all lines", writer.text.as_slice(), ALL_LINES);
             break;
         };
         same(&rt, ("call", call), fault.kind(), ErrorKind::BrokenPipe);
@@ -170,4 +133,26 @@ fn answer_the_writers_fault(rt: HostRuntime) {
         faults = faults.saturating_add(1);
     }
     same(&rt, ("faults", faults), faults >= 13 && faults < 1000, true);
+}
+
+#[test]
+fn a_write_that_is_interrupted_is_made_again(rt: HostRuntime) -> Result<(), Fail> {
+    let mut writer = Slow::new(rt.alloc());
+    answer_line(&Answer::Accepted(7), &mut writer)?;
+    let wanted = b"= accepted 7\n".as_slice();
+    same(&rt, "text", writer.text.as_slice(), wanted);
+    writer.is_full = true;
+    let ending = answer_line(&Answer::Idle, &mut writer);
+    same(&rt, "a full writer", ending, Err(WriteFault));
+    Ok(())
+}
+
+#[test]
+fn faults_as_text(rt: HostRuntime) -> Result<(), Fail> {
+    let fault = ScriptFault::Script { line: 5, word: 8 };
+    let text = fault.to_string(rt.alloc())?;
+    same(&rt, fault, text.as_str(), "script fault: line 5, word 8");
+    let text = WriteFault.to_string(rt.alloc())?;
+    same(&rt, "a writer's", text.as_str(), "write fault");
+    Ok(())
 }

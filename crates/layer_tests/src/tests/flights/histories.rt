@@ -118,11 +118,9 @@ impl Pair {
 
     /// A live request by lot of those that a call can be made for.
     fn one_for(&mut self, call: Call) -> Option<PlainRequest> {
-        let count = self.plain.live.iter().filter(|own| own.takes(call)).count();
-        let k = draw(&mut self.lot, count as u64);
-        let place = usize::try_from(k).unwrap_or(0);
-        let mut fit = self.plain.live.iter().filter(|own| own.takes(call));
-        Some(*fit.nth(place)?)
+        let count = self.plain.count_for(call);
+        let k = draw(&mut self.lot, count);
+        self.plain.one_for(call, k)
     }
 
     /// A burst of one request is answered, where no request up to it may send.
@@ -130,8 +128,10 @@ impl Pair {
         let Some(request) = self.one_for(Call::Answer) else {
             return true;
         };
-        let ready = self.plain.next_ready();
-        let is_open = ready.is_none_or(|ready| request.number < ready.number);
+        let is_open = match self.plain.next_ready() {
+            Some(ready) => request.number < ready.number,
+            None => true,
+        };
         let Some(key) = open_of(&self.flight, request.id.unwrap_or(16)) else {
             return !is_open;
         };
@@ -204,17 +204,29 @@ impl Pair {
         }
     }
 
+    /// Whether both show the same of a client and one of its sources.
+    fn is_same_client(&self, client: u8, source: u8) -> bool {
+        let (flight, plain) = (&self.flight, &self.plain);
+        let done = plain.oldest_done(client);
+        flight.room(client) == plain.has_room(client)
+            && flight.busy(client, source) == plain.is_busy(client, source)
+            && is_of(flight, flight.oldest_done(client), done)
+            && flight.first_done(client) == done.is_some()
+    }
+
     /// Whether both show the same of each client, one of its sources, and each ID.
     fn are_same_clients(&self, source: u8) -> bool {
-        let (flight, plain) = (&self.flight, &self.plain);
-        let clients = (0..8u8).all(|client| {
-            let done = plain.oldest_done(client);
-            flight.room(client) == plain.has_room(client)
-                && flight.busy(client, source) == plain.is_busy(client, source)
-                && is_of(flight, flight.oldest_done(client), done)
-                && flight.first_done(client) == done.is_some()
-        });
-        clients && (0..16u8).all(|id| is_of(flight, flight.of_id(id), plain.of_id(id)))
+        for client in 0..8u8 {
+            if !self.is_same_client(client, source) {
+                return false;
+            }
+        }
+        for id in 0..16u8 {
+            if !is_of(&self.flight, self.flight.of_id(id), self.plain.of_id(id)) {
+                return false;
+            }
+        }
+        true
     }
 
     /// Whether the table shows a live request as the plain one has it.
@@ -229,6 +241,16 @@ impl Pair {
             && flight.is_settled(key) == request.is_settled()
             && flight.awaits_write(key) == request.awaits_write()
             && flight.plan(key) == request.plan
+    }
+
+    /// Whether the table shows each live request as the plain one has it.
+    fn are_same_requests(&self) -> bool {
+        for request in self.plain.live.as_slice() {
+            if !self.is_same(request) {
+                return false;
+            }
+        }
+        true
     }
 
     /// Whether both would send the same burst.
@@ -262,7 +284,7 @@ impl Pair {
     fn are_same(&mut self) -> bool {
         let source = draw_byte(&mut self.lot, 16);
         self.are_same_clients(source)
-            && self.plain.live.iter().all(|request| self.is_same(request))
+            && self.are_same_requests()
             && self.is_same_next()
             && self.are_same_sums()
     }

@@ -167,13 +167,22 @@ impl PlainTable {
     }
 
     pub(super) fn has_room(&self, client: u8) -> bool {
-        self.live.iter().filter(|own| own.client == client).count() < self.quota
+        let mut count = 0usize;
+        for own in self.live.as_slice() {
+            if own.client == client {
+                count = count.saturating_add(1);
+            }
+        }
+        count < self.quota
     }
 
     pub(super) fn is_busy(&self, client: u8, source: u8) -> bool {
-        self.live
-            .iter()
-            .any(|own| own.client == client && own.source == source)
+        for own in self.live.as_slice() {
+            if (own.client, own.source) == (client, source) {
+                return true;
+            }
+        }
+        false
     }
 
     pub(super) fn accept(
@@ -191,23 +200,35 @@ impl PlainTable {
 
     /// How many earlier requests hold back one.
     pub(super) fn held_by(&self, request: &PlainRequest) -> usize {
-        self.live
-            .iter()
-            .filter(|earlier| request.waits_for(earlier))
-            .count()
+        let mut count = 0usize;
+        for earlier in self.live.as_slice() {
+            if request.waits_for(earlier) {
+                count = count.saturating_add(1);
+            }
+        }
+        count
     }
 
     pub(super) fn of_id(&self, id: u8) -> Option<u64> {
-        let holder = self.live.iter().find(|own| own.id == Some(id))?;
-        Some(holder.number)
+        for own in self.live.as_slice() {
+            if own.id == Some(id) {
+                return Some(own.number);
+            }
+        }
+        None
     }
 
     /// The ID of a request's next burst.
     fn id_for(&self, request: &PlainRequest) -> Option<u8> {
-        match request.id {
-            Some(id) => Some(id),
-            None => (0..self.ids).find(|id| self.of_id(*id).is_none()),
+        if request.id.is_some() {
+            return request.id;
         }
+        for id in 0..self.ids {
+            if self.of_id(id).is_none() {
+                return Some(id);
+            }
+        }
+        None
     }
 
     fn is_ready(&self, request: &PlainRequest) -> bool {
@@ -220,12 +241,48 @@ impl PlainTable {
 
     /// The ready request of the smallest number; numbers rise.
     pub(super) fn next_ready(&self) -> Option<PlainRequest> {
-        let ready = self.live.iter().find(|request| self.is_ready(request))?;
-        Some(*ready)
+        for request in self.live.as_slice() {
+            if self.is_ready(request) {
+                return Some(*request);
+            }
+        }
+        None
+    }
+
+    /// How many a call can be made for.
+    pub(super) fn count_for(&self, call: Call) -> u64 {
+        let mut count = 0u64;
+        for own in self.live.as_slice() {
+            if own.takes(call) {
+                count = count.saturating_add(1);
+            }
+        }
+        count
+    }
+
+    /// Of these the one that has so many before it.
+    pub(super) fn one_for(&self, call: Call, before: u64) -> Option<PlainRequest> {
+        let mut left = before;
+        for own in self.live.as_slice() {
+            if own.takes(call) {
+                if left == 0 {
+                    return Some(*own);
+                }
+                left = left.saturating_sub(1);
+            }
+        }
+        None
     }
 
     fn place_of(&self, number: u64) -> Option<usize> {
-        self.live.iter().position(|own| own.number == number)
+        let mut place = 0usize;
+        for own in self.live.as_slice() {
+            if own.number == number {
+                return Some(place);
+            }
+            place = place.saturating_add(1);
+        }
+        None
     }
 
     /// Sends the next burst of a request, and answers its ID.
@@ -266,17 +323,21 @@ impl PlainTable {
     }
 
     pub(super) fn oldest_done(&self, client: u8) -> Option<u64> {
-        let done = self
-            .live
-            .iter()
-            .find(|own| own.done && own.client == client)?;
-        Some(done.number)
+        for own in self.live.as_slice() {
+            if own.done && own.client == client {
+                return Some(own.number);
+            }
+        }
+        None
     }
 
     /// How many aren't done, their work, and that of their unsent bursts.
     pub(super) fn sums(&self) -> (u64, u64, u64) {
         let mut sums = (0u64, 0u64, 0u64);
-        for request in self.live.iter().filter(|request| !request.done) {
+        for request in self.live.as_slice() {
+            if request.done {
+                continue;
+            }
             sums.0 = sums.0.saturating_add(1);
             sums.1 = sums.1.saturating_add(request.work());
             sums.2 = sums.2.saturating_add(request.unsent_work());

@@ -1,3 +1,4 @@
+//! What a script of `threads` asks for.
 use super::same;
 use script_text::read_script;
 use std::test::Fail;

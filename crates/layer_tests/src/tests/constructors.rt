@@ -1,14 +1,12 @@
 //! What takes memory. Each test makes one thing: it is there, or the memory for it was refused, and then the fault that says so
 //! is the test's error. `tests/refusals.py` refuses each growth of these tests in turn.
 use super::bench::*;
-use super::{choices, offers, runs};
 use axi_beats::BurstBox;
 use axi_checker::Monitor;
 use bridge_core::Bridge;
 use burst_plan::PageMap;
 use flight_table::Flight;
 use responses::Gather;
-use std::alloc::Global;
 use std::test::Fail;
 use subordinate::{Device, PageKind};
 use tl_checker::{Level, Port};
@@ -111,59 +109,5 @@ fn a_run(rt: HostRuntime) -> Result<(), Fail> {
     ];
     let ran = run(rt.alloc(), &given(PLAIN)?, &steps)?;
     assert_eq!(rt; ran.answers.last(), Some(&Reply(0)));
-    Ok(())
-}
-
-/// The scripts that drive a world, with the longest run.
-const SCRIPTS: &[&[Script]] = &[
-    choices::SCRIPTS,
-    offers::SCRIPTS,
-    &[Script {
-        name: "errors and an atomic",
-        lists: runs::WITH_A_BAD_WORD,
-        events: runs::ERRORS_AND_AN_ATOMIC,
-    }],
-];
-
-/// The world of a script, with a box for its replies.
-fn made(alloc: Global, script: &Script) -> Result<WorldBench, SetupFault> {
-    let world = World::new(alloc, &given(script.lists)?)?;
-    match ReplyBox::new(alloc) {
-        Ok(reply) => Ok(WorldBench { world, reply }),
-        Err(_) => Err(SetupFault::NoMemory),
-    }
-}
-
-/// The world of each of some scripts, driven by it or not; the first that doesn't carry its script.
-fn first_failing(
-    alloc: Global,
-    scripts: &[Script],
-    driven: bool,
-) -> Result<Option<&'static str>, SetupFault> {
-    for script in scripts {
-        let mut bench = made(alloc, script)?;
-        let events = if driven { script.events } else { &[] };
-        if carried_by(&mut bench, events) != events.len() {
-            return Ok(Some(script.name));
-        }
-    }
-    Ok(None)
-}
-
-/// Each script's world, of which nothing is asked.
-#[test]
-fn worlds_alone(rt: HostRuntime) -> Result<(), Fail> {
-    for scripts in SCRIPTS {
-        first_failing(rt.alloc(), *scripts, false)?;
-    }
-    Ok(())
-}
-
-/// Each script's world, driven by it. It asks for no more memory than its world did.
-#[test]
-fn worlds_driven(rt: HostRuntime) -> Result<(), Fail> {
-    for scripts in SCRIPTS {
-        assert_eq!(rt; first_failing(rt.alloc(), *scripts, true)?, None);
-    }
     Ok(())
 }

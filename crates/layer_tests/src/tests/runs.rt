@@ -8,7 +8,7 @@ use world::{Answer, Step, World};
 use world_run::{Handed, RunRecord, SentBeat, opened, ordered_step, run};
 
 /// A word of the first page is bad.
-pub(crate) const WITH_A_BAD_WORD: Lists = Lists {
+const WITH_A_BAD_WORD: Lists = Lists {
     bad_words: &[0x10018],
     ..PLAIN
 };
@@ -26,7 +26,7 @@ fn steps_of(alloc: Global, events: &[Event]) -> Option<(Vec<Step>, Vec<Answer>)>
 }
 
 /// A Get over the bad word, one outside of all regions, a partial Put and an ADD; then what a client may not do.
-pub(crate) const ERRORS_AND_AN_ATOMIC: &[Event] = &[
+const ERRORS_AND_AN_ATOMIC: &[Event] = &[
     Offer(0, Get(4, 1, 0x10), Accepted(0)),
     Offer(1, Get(4, 2, 0x5000), Accepted(1)),
     Offer(1, A(1, 0, 3, 3, 8, 0x3c, 0x8877665544332211), Accepted(2)),

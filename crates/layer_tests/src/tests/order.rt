@@ -2,15 +2,6 @@
 use super::bench::*;
 use super::bridge_bench::BridgeBench;
 
-/// Bursts of at most two transfers.
-const SHORT: Lists = Lists {
-    limits: Limits {
-        max_len: 2,
-        ..USUAL
-    },
-    ..PLAIN
-};
-
 const SCRIPTS: &[Script] = &[
     Script {
         name: "a held Get sees the Put",
@@ -138,58 +129,6 @@ const SCRIPTS: &[Script] = &[
             Take(0, Reply(0)),
             Shows(1, 1, 3, 0, false),
             Take(0, Nothing),
-        ],
-    },
-    // The words of 16 bytes that two clients put before.
-    Script {
-        name: "read beats of two IDs go to their own requests",
-        lists: PLAIN,
-        events: &[
-            OfferAll(0, Put(4, 0, 0, 0), 2, Accepted(0)),
-            Offer(1, Put(4, 0, 0x40, 0x11), More),
-            Offer(1, Put(4, 0, 0x40, 0x12), Accepted(1)),
-            Drain(8),
-            Take(0, Reply(0)),
-            Take(1, Reply(1)),
-            Offer(0, Get(4, 0, 0), Accepted(2)),
-            Offer(1, Get(4, 0, 0x40), Accepted(3)),
-            Read(2, 0, 0x10000, 1, 3),
-            Read(3, 1, 0x10040, 1, 3),
-            R(1, 0x11, Okay),
-            R(0, 0x0101010101010101, Okay),
-            LastR(1, 0x12, Okay),
-            Take(1, Reply(3)),
-            Payload(0, 0x11, false),
-            Payload(1, 0x12, false),
-            LastR(0, 0x0202020202020202, Okay),
-            Take(0, Reply(2)),
-            Payload(0, 0x0101010101010101, false),
-            Payload(1, 0x0202020202020202, false),
-        ],
-    },
-    // Two bursts of a Get: the beats of the second come after those of the first.
-    Script {
-        name: "bursts of one ID are answered in order",
-        lists: SHORT,
-        events: &[
-            OfferAll(0, Put(5, 0, 0, 0), 4, Accepted(0)),
-            Drain(8),
-            Take(0, Reply(0)),
-            Offer(0, Get(5, 0, 0), Accepted(1)),
-            Read(2, 0, 0x10000, 1, 3),
-            Read(3, 0, 0x10010, 1, 3),
-            Idle,
-            R(0, 0x0101010101010101, Okay),
-            LastR(0, 0x0202020202020202, Okay),
-            R(0, 0x0303030303030303, Okay),
-            Take(0, Nothing),
-            LastR(0, 0x0404040404040404, Okay),
-            Take(0, Reply(1)),
-            Shows(4, 1, 5, 0, false),
-            Payload(0, 0x0101010101010101, false),
-            Payload(1, 0x0202020202020202, false),
-            Payload(2, 0x0303030303030303, false),
-            Payload(3, 0x0404040404040404, false),
         ],
     },
 ];

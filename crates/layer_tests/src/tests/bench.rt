@@ -9,7 +9,7 @@ use tl_checker::Level;
 use tl_messages::{ABeat, DBeat, ReplyBox};
 use world::{Answer, Setup, Step, World};
 
-/// The limits of a bridge whose clients past the first are at TL-UH.
+/// The limits of a bridge whose clients are at TL-UH.
 #[derive(Clone, Copy)]
 pub(crate) struct Limits {
     pub(crate) clients: u8,
@@ -18,7 +18,6 @@ pub(crate) struct Limits {
     pub(crate) depth: u8,
     pub(crate) max_len: u16,
     pub(crate) max_size: u8,
-    pub(crate) first_level: Level,
     pub(crate) axi_bytes: u8,
 }
 
@@ -30,14 +29,11 @@ pub(crate) const USUAL: Limits = Limits {
     depth: 2,
     max_len: 16,
     max_size: 12,
-    first_level: Level::Uh,
     axi_bytes: 8,
 };
 
 /// The same limits as the bridge has them.
 pub(crate) fn config_of(limits: Limits) -> Config {
-    let mut levels = [Level::Uh; 8];
-    levels[0] = limits.first_level;
     Config {
         clients: limits.clients,
         quota: limits.quota,
@@ -45,7 +41,7 @@ pub(crate) fn config_of(limits: Limits) -> Config {
         depth: limits.depth,
         max_len: limits.max_len,
         max_size: limits.max_size,
-        levels,
+        levels: [Level::Uh; 8],
         axi_bytes: limits.axi_bytes,
     }
 }

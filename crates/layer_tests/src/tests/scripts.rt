@@ -1,9 +1,11 @@
+//! The first script, whose reads and writes fail in turn.
 use super::same;
+use super::writers::Failing;
 use run_script::run_text;
 use script_text::ScriptFault;
 use std::alloc::Global;
 use std::io;
-use std::io::{ErrorKind, Read, Write};
+use std::io::{ErrorKind, Read};
 use std::test::Fail;
 
 /// The first script, line by line, and each line's trace.
@@ -45,52 +47,13 @@ impl Read for Lines<'_> {
     }
 }
 
-/// A writer to memory whose call number `fails` fails, be it a write or a flush.
-#[derive(Drop)]
-struct Writer {
-    text: Vec<u8>,
-    calls: u32,
-    fails: u32,
-    flushes: u32,
-}
-
-impl Writer {
-    /// Counts a call.
-    fn called(&mut self) -> io::Result<()> {
-        let call = self.calls;
-        self.calls = call.saturating_add(1);
-        if call == self.fails {
-            return Err(io::Error::from(ErrorKind::Other));
-        }
-        Ok(())
-    }
-}
-
-impl Write for Writer {
-    fn write(&mut self, buf: &[u8]) -> io::Result<usize> {
-        self.called()?;
-        self.text.write(buf)
-    }
-
-    fn flush(&mut self) -> io::Result<()> {
-        self.called()?;
-        self.flushes = self.flushes.saturating_add(1);
-        Ok(())
-    }
-}
-
 /// Runs the first script over a writer whose call number `fails` fails.
-fn ran(alloc: Global, fails: u32) -> (Result<bool, ScriptFault>, Writer) {
+fn ran(alloc: Global, fails: u32) -> (Result<bool, ScriptFault>, Failing) {
     let mut reader = Lines {
         left: &FIRST,
         ends: true,
     };
-    let mut writer = Writer {
-        text: Vec::new(alloc),
-        calls: 0,
-        fails,
-        flushes: 0,
-    };
+    let mut writer = Failing::at(alloc, fails);
     let ending = run_text(alloc, &mut reader, &mut writer);
     (ending, writer)
 }

@@ -3,7 +3,7 @@ use super::bench::*;
 use tl_checker::TlRule;
 use world::Step;
 
-pub(crate) const SCRIPTS: &[Script] = &[
+const SCRIPTS: &[Script] = &[
     Script {
         name: "the choices of a Put",
         lists: PLAIN,
