@@ -1,6 +1,7 @@
 -- The bytes of a page, of which one word is changed, and of a page that is new.
-use Rattle.std.proofs.Common.{◌≡◌, ℕ, ◌/◌, ◌%◌, ◌<◌, ◌==◌, Bool, true, false, ◌&&◌, List, length, get_or, set, replicate, Some, if◌then◌else◌, refl, ◌∙◌, ap, arith}
+use Rattle.std.proofs.Common.{◌≡◌, ℕ, ◌/◌, ◌%◌, ◌<◌, ◌==◌, Bool, true, false, ◌&&◌, List, length, get_or, set, replicate, Some, if◌then◌else◌, refl, sym, ◌∙◌, ap, arith}
 use Rattle.std.specs.Prelude.{slice_index, slice_set}
+use Rattle.std.proofs.lemmas.Bool.{eqb-true}
 use Rattle.std.proofs.lemmas.Bool.Decides.{nat_tests}
 use Rattle.std.proofs.lemmas.Grind.{common_steps}
 use Rattle.std.proofs.lemmas.List.{get_or-replicate}
@@ -23,27 +24,26 @@ with_word page k word strobes = record page { words = slice_set page.words k (me
 abbrev pub with_doubts : PageState → ℕ → ℕ → ℕ → PageState
 with_doubts page k doubts strobes = record page { doubts = slice_set page.doubts k (flags_merged (slice_index page.doubts k) doubts strobes) }
 
+-- what is read of an entry, of which one was set to a value that has it changed where it is strobed
+put-entry : {X : Type 0} (read : ℕ → X) (xs : List ℕ) (k j new : ℕ) (strobed : Bool) (value : X) → k < length xs → read new ≡ (if strobed then value else read (get_or xs k 0))
+    → read (get_or (set xs k new) j 0) ≡ (if (j == k) && strobed then value else read (get_or xs j 0))
+put-entry read xs k j new strobed value within changed = ap read (set-entry xs k j new within) ∙ by_place (j == k) refl
+  where
+    by_place : (b : Bool) → (j == k) ≡ b → read (if b then new else get_or xs j 0) ≡ (if b && strobed then value else read (get_or xs j 0))
+    by_place true here = changed ∙ ap (λ i. if strobed then value else read (get_or xs i 0)) (sym (eqb-true j k here))
+    by_place false away = refl
+
 pub byte-with_word : (page : PageState) (k word strobes place : ℕ) → length page.words ≡ 512 → k < 512
     → byte_of (Some (with_word page k word strobes)) place ≡ (if (place / 8 == k) && has_lane strobes (place % 8) then lane_byte word (place % 8) else byte_of (Some page) place)
 byte-with_word page k word strobes place whole within =
-    ap (λ w. lane_byte w (place % 8)) (set-entry page.words k (place / 8) (merged (get_or page.words k 0) word strobes) (omega arith))
-    ∙ elim (place / 8 == k) as (λ b. (place / 8 == k) ≡ b → lane_byte (if b then merged (get_or page.words k 0) word strobes else get_or page.words (place / 8) 0) (place % 8)
-    ≡ (if b && has_lane strobes (place % 8) then lane_byte word (place % 8) else lane_byte (get_or page.words (place / 8) 0) (place % 8)))
-    [ true ↦ (λ here. lane_byte-merged (get_or page.words k 0) word strobes (place % 8) (omega arith) ∙ ap (λ j. if has_lane strobes (place % 8) then lane_byte word (place % 8) else lane_byte (get_or page.words j 0) (place % 8)) (there here)) | false ↦ (λ away. refl) ] refl
-  where
-    there : (place / 8 == k) ≡ true → k ≡ place / 8
-    there here = grind (arith, nat_tests, here)
+    put-entry (λ w. lane_byte w (place % 8)) page.words k (place / 8) (merged (get_or page.words k 0) word strobes) (has_lane strobes (place % 8)) (lane_byte word (place % 8)) (omega arith)
+    (lane_byte-merged (get_or page.words k 0) word strobes (place % 8) (omega arith))
 
 pub doubt-with_doubts : (unknown : Bool) (page : PageState) (k doubts strobes place : ℕ) → length page.doubts ≡ 512 → k < 512
     → doubt_of unknown (Some (with_doubts page k doubts strobes)) place ≡ (if (place / 8 == k) && has_lane strobes (place % 8) then has_lane doubts (place % 8) else doubt_of unknown (Some page) place)
 doubt-with_doubts unknown page k doubts strobes place whole within =
-    ap (λ m. has_lane m (place % 8)) (set-entry page.doubts k (place / 8) (flags_merged (get_or page.doubts k 0) doubts strobes) (omega arith))
-    ∙ elim (place / 8 == k) as (λ b. (place / 8 == k) ≡ b → has_lane (if b then flags_merged (get_or page.doubts k 0) doubts strobes else get_or page.doubts (place / 8) 0) (place % 8)
-    ≡ (if b && has_lane strobes (place % 8) then has_lane doubts (place % 8) else has_lane (get_or page.doubts (place / 8) 0) (place % 8)))
-    [ true ↦ (λ here. has_lane-merged (get_or page.doubts k 0) doubts strobes (place % 8) (omega arith) ∙ ap (λ j. if has_lane strobes (place % 8) then has_lane doubts (place % 8) else has_lane (get_or page.doubts j 0) (place % 8)) (there here)) | false ↦ (λ away. refl) ] refl
-  where
-    there : (place / 8 == k) ≡ true → k ≡ place / 8
-    there here = grind (arith, nat_tests, here)
+    put-entry (λ m. has_lane m (place % 8)) page.doubts k (place / 8) (flags_merged (get_or page.doubts k 0) doubts strobes) (has_lane strobes (place % 8)) (has_lane doubts (place % 8)) (omega arith)
+    (has_lane-merged (get_or page.doubts k 0) doubts strobes (place % 8) (omega arith))
 
 -- ---- a new page
 

@@ -1,6 +1,5 @@
 //! The room of one page.
 ghost use Rattle.std.specs.Prelude.{◌≡◌, ◌<◌, ◌^◌, ℕ, length, slice_index, slice_set, if◌then◌else◌, IfOk};
-ghost use Rattle.bus_words.specs.Lanes.{has_lane};
 ghost use Rattle.data_unit.specs.Words.{merged};
 ghost use Rattle.sparse_memory.specs.SparseMemory.{byte_of, doubt_of, flags_merged};
 

@@ -2,7 +2,7 @@
 ghost use Rattle.std.specs.Prelude.{◌≡◌};
 ghost use Rattle.std.specs.List.{list_all, list_any};
 ghost use Rattle.std.specs.Option.{option_copied};
-ghost use Rattle.subordinate.specs.Faults.{is_good, is_no_word, standing_at};
+ghost use Rattle.subordinate.specs.Faults.{is_good, is_no_word};
 ghost use Rattle.sparse_memory.specs.Ranges.{are_apart, are_ranges, are_sound, are_words, has_page, is_range, overlaps, pages_in, range_of, standing_in};
 
 use crate::{PageRange, RangeKind};
