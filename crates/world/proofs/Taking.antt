@@ -1,9 +1,9 @@
 -- Bridge and memory at first, and after an event that concerns one of them alone. It knows what the constructors of both parts promise, and which
 -- of their laws look at the other part.
-use Rattle.std.specs.Prelude.{MatchOption, Result, Ok, Err, find}
-use Rattle.std.proofs.Common.{◌≡◌, ℕ, List, Option, None, Some, refl, arith, length, ap}
+use Rattle.std.specs.Prelude.{MatchOption, Result, Ok, Err, find, if◌then◌else◌, nat_le}
+use Rattle.std.proofs.Common.{◌≡◌, ℕ, Bool, true, false, List, Option, None, Some, refl, arith, length, ap}
 use Rattle.burst_plan.specs.declared.Region.{Region}
-use Rattle.bridge_core.specs.Bridge.{StockedBridge, opening_bridge, BridgeState, after_take, boxes_of, offered, reply_taken, taken}
+use Rattle.bridge_core.specs.Bridge.{StockedBridge, opening_bridge, BridgeState, after_take, boxes_of, offered, reply_taken, taken, taken_of}
 use Rattle.bridge_core.specs.Laws.{IsSoundBridge}
 use Rattle.config.specs.declared.Config.{Config}
 use Rattle.subordinate.specs.Device.{DeviceState, opening_device}
@@ -12,12 +12,17 @@ use Rattle.subordinate.specs.declared.PageKind.{PageKind}
 use Rattle.world.specs.Inside.{ArePaired}
 use Rattle.bus_words.proofs.PlaceChanges.{length-change_first}
 use Rattle.tl_messages.specs.declared.ABeat.{ABeat}
-use Rattle.bridge_core.specs.HeldRequests.{BridgedRequest, is_done_for}
+use Rattle.bridge_core.specs.HeldRequests.{BridgedRequest, is_done_for, oldest_done, reply_beats}
+use Rattle.bridge_core.specs.declared.Taken.{Taken}
 use Rattle.subordinate.specs.FreeMemory.{FreeMemory, Pending, beat_at, has_serial, performed, performed_beat, performed_in}
 use Rattle.subordinate.specs.declared.Performed.{Performed}
 use Rattle.subordinate.specs.declared.BeatState.{BeatState}
 use Rattle.subordinate.specs.declared.BeatState.TheVariants.{Captured, Waiting, Written}
 use Rattle.world.specs.Laws.{Agree}
+use Rattle.world.specs.World.{Outcome, WorldState, changed, next, unchanged}
+use Rattle.world.specs.World as world
+use Rattle.world.specs.declared.Answer.TheVariants as answer
+use Rattle.world.specs.declared.Step.TheVariants.{Take}
 use Rattle.world.proofs.Agreeing.{agree_offered, agree_performed, agree_taken}
 use Rattle.bridge_core.specs.declared.Taken.TheVariants as take
 
@@ -94,3 +99,45 @@ reply_of state client number is = by_found (reply_taken state client) refl
     by_found : (found : Option BridgedRequest) → reply_taken state client ≡ found → IsTakenFrom state client number
     by_found None none = absurd (grind (arith, is, none))
     by_found (Some request) found = record { request = request; found = found }
+
+-- ---- what a take makes of a world, by what the bridge answers
+
+pub take_nowhere : (state : WorldState) (client : ℕ) → taken state.bridge client ≡ take.NoClient → next state (Take client) ≡ unchanged state answer.NoClient
+take_nowhere state client = by_test (nat_le state.bridge.requests.config.clients client) (oldest_done state.bridge.requests.live client)
+  where
+    by_test : (beyond : Bool) (found : Option BridgedRequest) → ◌≡◌ {A = Taken} (if beyond then take.NoClient else taken_of found) take.NoClient
+        → ◌≡◌ {A = Outcome} (if beyond then unchanged state answer.NoClient else world.taken state client (if beyond then None else found)) (unchanged state answer.NoClient)
+    by_test true found = λ is. refl
+    by_test false None = λ is. absurd (cc (is))
+    by_test false (Some request) = λ is. absurd (cc (is))
+
+pub take_nothing : (state : WorldState) (client : ℕ) → taken state.bridge client ≡ take.Nothing → next state (Take client) ≡ unchanged state answer.Nothing
+take_nothing state client = by_test (nat_le state.bridge.requests.config.clients client) (oldest_done state.bridge.requests.live client)
+  where
+    by_test : (beyond : Bool) (found : Option BridgedRequest) → ◌≡◌ {A = Taken} (if beyond then take.NoClient else taken_of found) take.Nothing
+        → ◌≡◌ {A = Outcome} (if beyond then unchanged state answer.NoClient else world.taken state client (if beyond then None else found)) (unchanged state answer.Nothing)
+    by_test true found = λ is. absurd (cc (is))
+    by_test false None = λ is. refl
+    by_test false (Some request) = λ is. absurd (cc (is))
+
+pub take_reply : (state : WorldState) (client number : ℕ) (request : BridgedRequest) → taken state.bridge client ≡ take.Reply number → reply_taken state.bridge client ≡ Some request
+    → next state (Take client) ≡ record (changed (after_take state.bridge client) state.memory (answer.Reply number)) { reply = reply_beats request }
+take_reply state client number request = by_test (nat_le state.bridge.requests.config.clients client) (oldest_done state.bridge.requests.live client)
+  where
+    by_test : (beyond : Bool) (found : Option BridgedRequest) → ◌≡◌ {A = Taken} (if beyond then take.NoClient else taken_of found) (take.Reply number)
+        → ◌≡◌ {A = Option BridgedRequest} (if beyond then None else found) (Some request)
+        → ◌≡◌ {A = Outcome} (if beyond then unchanged state answer.NoClient else world.taken state client (if beyond then None else found))
+        (record (changed (after_take state.bridge client) state.memory (answer.Reply number)) { reply = reply_beats request })
+    by_test true found = λ is same. absurd (cc (is))
+    by_test false None = λ is same. absurd (cc (same))
+    by_test false (Some other) = λ is same. cc (is, same)
+
+-- where no reply is answered, none is there to take
+pub none_there : (state : BridgeState) (client : ℕ) → ((number : ℕ) → taken state client ≡ take.Reply number → ⊥) → reply_taken state client ≡ None
+none_there state client = by_test (nat_le state.requests.config.clients client) (oldest_done state.requests.live client)
+  where
+    by_test : (beyond : Bool) (found : Option BridgedRequest) → ((number : ℕ) → ◌≡◌ {A = Taken} (if beyond then take.NoClient else taken_of found) (take.Reply number) → ⊥)
+        → ◌≡◌ {A = Option BridgedRequest} (if beyond then None else found) None
+    by_test true found = λ never. refl
+    by_test false None = λ never. refl
+    by_test false (Some request) = λ never. absurd (never request.flight.number refl)
