@@ -4,11 +4,9 @@ use std::process::Abort;
 mod gates;
 mod given;
 mod growths;
-mod refusals;
 mod runs;
 mod shared;
 mod statuses;
-mod texts;
 
 /// Has the test fail where two values differ; `case` says of what they are.
 pub(crate) fn same<C: Debug + Drop, T: Debug + Drop + PartialEq>(

@@ -119,24 +119,6 @@ pub(crate) fn lists_of<T: Copy>(alloc: Global, slices: &[&[T]]) -> Result<Vec<Ve
     Ok(lists)
 }
 
-/// So many lists of so many times an item.
-pub(crate) fn lists<T: Copy>(
-    alloc: Global,
-    count: u8,
-    item: T,
-    times: u16,
-) -> Result<Vec<Vec<T>>, AllocError> {
-    let mut lists = Vec::new(alloc);
-    for _ in 0..count {
-        let mut list = Vec::new(alloc);
-        for _ in 0..times {
-            list.push(item)?;
-        }
-        lists.push(list)?;
-    }
-    Ok(lists)
-}
-
 /// What was asked for.
 pub(crate) fn ran<R: Threads + Wait + Sync, G: Gate + Sync>(
     rt: &R,

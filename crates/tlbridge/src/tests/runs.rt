@@ -2,14 +2,10 @@
 use super::gates::{Holding, Meeting, Open, SecondFirst, Shut};
 use super::given::*;
 use super::same;
-use bridge_core::Config;
 use bridge_threads::{Fault, Limits, Who};
-use std::alloc::Global;
-use std::test::Fail;
-use thread_reports::{Receipts, Report};
-use tl_checker::TlRule;
-use tl_messages::{ABeat, DBeat, ReplyBox};
-use world::{Answer, Step, World};
+use thread_reports::Report;
+use tl_messages::{ABeat, DBeat};
+use world::Step;
 
 /// A Put and a Get of the second client, in another page.
 const OTHER_PUT: ABeat = ABeat {
@@ -40,63 +36,23 @@ const OTHER_REPLY: DBeat = DBeat {
     ..GET_REPLY
 };
 
-/// One client that puts a word and gets it.
-const ONE_SCRIPT: Asked = Asked {
-    config: ONE_CLIENT,
-    scripts: &[&[PUT, GET]],
-    words: &[&[7]],
-    limits: WIDE,
-};
-
-/// The scripts and the lists of words of its runs, the source of its second reply, and how many steps may be stored. A source
-/// that is used again waits for its first reply.
-const ONE_CLIENT_RUNS: [(&[&[ABeat]], &[&[u64]], u8, u32); 3] = [
-    (&[&[PUT, GET]], &[&[7]], 1, 1_000_000),
-    (&[&[PUT, ABeat { source: 0, ..GET }]], &[&[7]], 0, 200_000),
-    (&[&[PUT, GET]], &[&[7], &[], &[3]], 1, 200_000),
-];
-
-/// What a client took in a history that is made once more.
-fn taken(alloc: Global, config: Config, steps: &[Step], client: u8) -> Option<Receipts> {
-    let setup = set_up(config);
-    let mut world = World::new(alloc, &setup).ok()?;
-    let mut reply = ReplyBox::new(alloc).ok()?;
-    let mut heads = Vec::new(alloc);
-    let mut beats = Vec::new(alloc);
-    for step in steps {
-        let answer = world.step(step, &mut reply);
-        if *step != Step::Take(client) {
-            continue;
+/// Whether the client took these beats, in a reply each.
+fn received(report: &Report, client: usize, beats: &[DBeat]) -> bool {
+    match report.receipts.get(client) {
+        Some(receipts) => {
+            receipts.heads.len() == beats.len() && receipts.beats.as_slice() == beats
         }
-        if let Answer::Reply(number) = answer {
-            heads.push((number, reply.beats())).ok()?;
-            beats.extend_from_slice(reply.as_slice()).ok()?;
-        }
+        None => false,
     }
-    Some(Receipts { heads, beats })
-}
-
-/// Whether the client took these beats, in a reply each, and the history made once more hands it the same.
-fn received(alloc: Global, config: Config, report: &Report, client: u8, beats: &[DBeat]) -> bool {
-    let Some(receipts) = report.receipts.get(usize::from(client)) else {
-        return false;
-    };
-    let Some(taken) = taken(alloc, config, report.steps.as_slice(), client) else {
-        return false;
-    };
-    receipts.heads.as_slice() == taken.heads.as_slice()
-        && receipts.beats.as_slice() == taken.beats.as_slice()
-        && receipts.heads.len() == beats.len()
-        && receipts.beats.as_slice() == beats
 }
 
 /// How many steps and clients a run of two clients tells of, and whether each took its two replies.
-fn shown(alloc: Global, report: &Report) -> (usize, usize, bool, bool) {
+fn shown(report: &Report) -> (usize, usize, bool, bool) {
     (
         report.steps.len(),
         report.receipts.len(),
-        received(alloc, TWO_CLIENTS, report, 0, &[PUT_REPLY, GET_REPLY]),
-        received(alloc, TWO_CLIENTS, report, 1, &[PUT_REPLY, OTHER_REPLY]),
+        received(report, 0, &[PUT_REPLY, GET_REPLY]),
+        received(report, 1, &[PUT_REPLY, OTHER_REPLY]),
     )
 }
 
@@ -115,7 +71,7 @@ fn threads_meet(rt: HostRuntime) {
         let met = (gate.met(), gate.shut());
         same(&rt, ("memory threads", words.len()), met, (4, 0));
         let report = answer.expect(&rt, "a run ends well");
-        let found = shown(alloc, &report);
+        let found = shown(&report);
         same(
             &rt,
             ("memory threads", words.len()),
@@ -125,71 +81,17 @@ fn threads_meet(rt: HostRuntime) {
     }
 }
 
-/// How many steps and clients a run tells of, and a byte that it wrote.
-fn counts(report: &Report) -> (usize, usize, Option<u8>) {
-    (
-        report.steps.len(),
-        report.receipts.len(),
-        report.world.byte(0x10008),
-    )
-}
-
-/// The same run of one client, whatever the words and the threads are.
-#[test]
-fn one_client(rt: HostRuntime) {
-    let alloc = rt.alloc();
-    for (scripts, words, source, steps) in ONE_CLIENT_RUNS {
-        let asked = Asked {
-            scripts,
-            words,
-            limits: Limits { steps, ..WIDE },
-            ..ONE_SCRIPT
-        };
-        let second = DBeat {
-            source,
-            ..GET_REPLY
-        };
-        let case = (words.len(), source, steps);
-        let report = ran(&rt, alloc, asked, &Open).expect(&rt, "a run ends well");
-        same(&rt, case, counts(&report), (10, 1, Some(0x88)));
-        for receipts in &report.receipts {
-            let heads = receipts.heads.as_slice();
-            same(&rt, case, heads, [(0u64, 1u16), (1, 1)].as_slice());
-            let beats = receipts.beats.as_slice();
-            same(&rt, case, beats, [PUT_REPLY, second].as_slice());
-        }
-    }
-}
-
-/// Where there is nothing to do.
-#[test]
-fn nothing_to_do(rt: HostRuntime) {
-    let asked = Asked {
-        scripts: &[&[], &[]],
-        words: &[&[]],
-        ..TWO_SCRIPTS
-    };
-    let report = ran(&rt, rt.alloc(), asked, &Open).expect(&rt, "a run ends well");
-    let lengths = (report.steps.len(), report.receipts.len());
-    same(&rt, "steps and clients", lengths, (0, 2));
-    for receipts in &report.receipts {
-        let lengths = (receipts.heads.len(), receipts.beats.len());
-        same(&rt, "replies of a client", lengths, (0, 0));
-    }
-}
-
-/// A Get of eight bytes at 4.
-const UNALIGNED: ABeat = ABeat { address: 4, ..GET };
-
-const REFUSED: Asked = Asked {
-    scripts: &[&[UNALIGNED], &[]],
-    ..TWO_SCRIPTS
-};
-
 /// One client that puts a word.
 const ONE_PUT: Asked = Asked {
+    config: ONE_CLIENT,
     scripts: &[&[PUT]],
-    ..ONE_SCRIPT
+    words: &[&[7]],
+    limits: WIDE,
+};
+
+const NO_STEPS: Asked = Asked {
+    limits: Limits { steps: 0, ..WIDE },
+    ..ONE_PUT
 };
 
 const ONE_STEP: Asked = Asked {
@@ -205,12 +107,7 @@ const IMPATIENT: Asked = Asked {
 #[test]
 fn faults(rt: HostRuntime) {
     let alloc = rt.alloc();
-    let beat_refused = Fault::BeatRefused {
-        client: 0,
-        index: 0,
-        rule: TlRule::Align,
-    };
-    for (asked, fault) in [(REFUSED, beat_refused), (ONE_STEP, Fault::HistoryFull)] {
+    for (asked, fault) in [(NO_STEPS, Fault::BadConfig), (ONE_STEP, Fault::HistoryFull)] {
         let found = ran(&rt, alloc, asked, &Open).err();
         same(&rt, "an open gate", found, Some(fault));
     }
@@ -234,7 +131,7 @@ fn words_choose(rt: HostRuntime) {
     let asked = Asked {
         scripts: &[&[WIDE_GET]],
         words: &[&[0], &[1]],
-        ..ONE_SCRIPT
+        ..ONE_PUT
     };
     let report = ran(&rt, alloc, asked, &SecondFirst::new()).expect(&rt, "a run ends well");
     let wanted = [

@@ -1,14 +1,11 @@
 //! What lies under the lock, without threads.
 use super::given::*;
 use super::same;
-use bridge_core::Config;
 use bridge_threads::{HistoryFull, Shared};
-use burst_plan::MapFault;
 use std::test::Fail;
-use subordinate::{DeviceFault, PageKind};
 use tl_checker::TlRule;
 use tl_messages::{ABeat, DBeat, ReplyBox};
-use world::{Answer, SetupFault, Step};
+use world::{Answer, Step};
 
 /// A Get of eight bytes where no region is.
 const OUTSIDE: ABeat = ABeat {
@@ -26,29 +23,6 @@ const DENIED: DBeat = DBeat {
     corrupt: true,
     ..GET_REPLY
 };
-
-#[test]
-fn refused_set_ups(rt: HostRuntime) {
-    let bad_config = set_up(Config {
-        max_len: 3,
-        ..TWO_CLIENTS
-    });
-    let mut overlapping = set_up(TWO_CLIENTS);
-    let pushed = overlapping.regions.try_push(FOUR_PAGES).is_ok();
-    same(&rt, "room for a region", pushed, true);
-    let mut page_twice = set_up(TWO_CLIENTS);
-    let page = (0x13, PageKind::SlaveError);
-    let pushed = page_twice.pages.try_push(page).is_ok();
-    same(&rt, "room for a page", pushed, true);
-    for (setup, fault) in [
-        (&bad_config, SetupFault::BadConfig),
-        (&overlapping, SetupFault::Map(MapFault::RegionOverlap(1))),
-        (&page_twice, SetupFault::Device(DeviceFault::PageTwice(4))),
-    ] {
-        let found = Shared::new(rt.alloc(), setup, 1).err();
-        same(&rt, fault, found, Some(fault));
-    }
-}
 
 /// Steps, what they are answered where two may be stored, and how many are stored after each.
 const TURNS: [(Step, Result<Answer, HistoryFull>, usize); 7] = [
@@ -78,28 +52,5 @@ fn turns(rt: HostRuntime) -> Result<(), Fail> {
     same(&rt, "steps", shared.steps(), steps.as_slice());
     same(&rt, "reply", reply.as_slice(), [DENIED].as_slice());
     same(&rt, "done", shared.world().first_done(1), false);
-    Ok(())
-}
-
-/// A million steps may be stored, and no more.
-#[test]
-fn a_million_steps(rt: HostRuntime) -> Result<(), Fail> {
-    let alloc = rt.alloc();
-    let mut reply = ReplyBox::new(alloc)?;
-    let mut shared = Shared::new(alloc, &set_up(TWO_CLIENTS), 1_000_000).expect(&rt, "a set-up");
-    for number in 0..500_000u64 {
-        let offered = shared.turn(&Step::Offer(1, OUTSIDE), &mut reply);
-        same(
-            &rt,
-            ("offer", number),
-            offered,
-            Ok(Answer::Accepted(number)),
-        );
-        let taken = shared.turn(&Step::Take(1), &mut reply);
-        same(&rt, ("take", number), taken, Ok(Answer::Reply(number)));
-    }
-    let beyond = shared.turn(&Step::Pump, &mut reply);
-    same(&rt, "beyond", beyond, Err(HistoryFull));
-    same(&rt, "stored", shared.steps().len(), 1_000_000);
     Ok(())
 }

@@ -4,7 +4,8 @@ use bridge_threads::Fault;
 use std::test::Fail;
 
 /// The faults of threads that no run of the program ends with, and the text of each.
-const UNSEEN: [(Fault, &str); 4] = [
+const UNSEEN: [(Fault, &str); 5] = [
+    (Fault::BadConfig, "thread fault: 1 BadConfig"),
     (Fault::Spawn, "thread fault: 3 Spawn"),
     (Fault::GateShut, "thread fault: 4 GateShut"),
     (Fault::IdleLimit, "thread fault: 5 IdleLimit"),
