@@ -9,7 +9,7 @@ import argparse
 import random
 import secrets
 import sys
-from collections import Counter
+from collections import Counter, deque
 from dataclasses import dataclass, field, replace
 from typing import Callable, Iterator, Optional
 
@@ -284,27 +284,55 @@ def crosses(address: int, len: int, size: int) -> bool:
 
 
 @dataclass
+class Side:
+    """The outstanding bursts of a side: of each ID that has some, the oldest first."""
+
+    of_id: dict[int, deque[Burst]] = field(default_factory=dict)
+    count: int = 0
+
+    def depth(self, id: int) -> int:
+        return len(self.of_id.get(id, ()))
+
+    def oldest(self, id: int) -> Optional[Burst]:
+        return self.of_id[id][0] if id in self.of_id else None
+
+    def open(self, burst: Burst) -> None:
+        self.of_id.setdefault(burst.id, deque()).append(burst)
+        self.count += 1
+
+    def close(self, id: int) -> None:
+        """The oldest of an ID is answered."""
+        self.of_id[id].popleft()
+        self.count -= 1
+        if not self.of_id[id]:
+            del self.of_id[id]
+
+
+@dataclass
 class AxiPort:
-    """The outstanding bursts of both sides, in the order of their address beats."""
+    """The outstanding bursts of both sides, and the writes that lack data, in the order of their address beats."""
 
     ids: int
     depth: int
     width: int
-    writes: list = field(default_factory=list)
-    reads: list = field(default_factory=list)
+    writes: Side = field(default_factory=Side)
+    reads: Side = field(default_factory=Side)
+    lacking: deque[Burst] = field(default_factory=deque)
 
-    def address(self, side: list, id: int, address: int, len: int, size: int, burst: int) -> Optional[str]:
+    def address(self, side: Side, id: int, address: int, len: int, size: int, burst: int) -> Optional[str]:
         """Takes an AW or an AR, or answers the first rule that it breaks."""
-        broken = (2**size > self.width, burst != 1, crosses(address, len, size), id >= self.ids,
-                  sum(it.id == id for it in side) >= self.depth)
+        broken = (2**size > self.width, burst != 1, crosses(address, len, size), id >= self.ids, side.depth(id) >= self.depth)
         if any(broken):
             return AXI_RULES[broken.index(True)]
-        side.append(Burst(id, address, len, size))
+        opened = Burst(id, address, len, size)
+        side.open(opened)
+        if side is self.writes:
+            self.lacking.append(opened)
         return None
 
     def to_fill(self) -> Optional[Burst]:
         """The oldest write that lacks data."""
-        return next((it for it in self.writes if it.came <= it.len), None)
+        return self.lacking[0] if self.lacking else None
 
     def w(self, payload: int, strobes: int, last: int) -> Optional[str]:
         burst = self.to_fill()
@@ -315,21 +343,23 @@ class AxiPort:
         if bool(last) != burst.is_last():
             return "WLAST"
         burst.came += 1
+        if last:
+            self.lacking.popleft()
         return None
 
     def b(self, id: int, resp: str) -> Optional[str]:
-        burst = next((it for it in self.writes if it.id == id), None)
+        burst = self.writes.oldest(id)
         if id >= self.ids:
             return "ID_RANGE"
         if burst is None or burst.came <= burst.len:
             return "B_WITHOUT_WRITE"
         if resp == "EXOKAY":
             return "EXOKAY"
-        self.writes.remove(burst)
+        self.writes.close(id)
         return None
 
     def r(self, id: int, payload: int, resp: str, last: int) -> Optional[str]:
-        burst = next((it for it in self.reads if it.id == id), None)
+        burst = self.reads.oldest(id)
         if id >= self.ids:
             return "ID_RANGE"
         if burst is None:
@@ -339,8 +369,8 @@ class AxiPort:
         if resp == "EXOKAY":
             return "EXOKAY"
         burst.came += 1
-        if burst.came > burst.len:
-            self.reads.remove(burst)
+        if last:
+            self.reads.close(id)
         return None
 
 
@@ -364,12 +394,12 @@ class AxiBeats:
             beat = self.id_of(port.writes), rng.choice(RESPONSES)
             return "B", "B {} {}".format(*beat), port.b(*beat)
         id = self.id_of(port.reads)
-        burst = next((it for it in port.reads if it.id == id), None)
+        burst = port.reads.oldest(id)
         last = (burst is not None and burst.is_last()) != (rng.random() < 0.25)
         beat = id, rng.getrandbits(64), rng.choice(RESPONSES), int(last)
         return "R", "R {} {:016x} {} {}".format(*beat), port.r(*beat)
 
-    def address(self, side: list) -> tuple[int, int, int, int, int]:
+    def address(self, side: Side) -> tuple[int, int, int, int, int]:
         """ID, address, len, size and burst: those of a beat that breaks no rule but DEPTH, or with another field or two, or all by
         lot."""
         rng, spoils = self.rng, self.rng.randrange(SPOILS)
@@ -383,7 +413,7 @@ class AxiBeats:
             beat = self.spoiled(side, *beat)
         return beat
 
-    def spoiled(self, side: list, id: int, address: int, len: int, size: int, burst: int) -> tuple[int, int, int, int, int]:
+    def spoiled(self, side: Side, id: int, address: int, len: int, size: int, burst: int) -> tuple[int, int, int, int, int]:
         rng = self.rng
         changes = (
             lambda: (id, address, len, rng.randrange(2, 6), burst),
@@ -391,7 +421,7 @@ class AxiBeats:
             lambda: (id, address, len, size, rng.choice((0, 2, 3, 255))),
             lambda: (id, address | 0xFF8, rng.randrange(4), size, burst),
             lambda: (rng.randrange(self.port.ids, 256), address, len, size, burst),
-            lambda: (rng.choice(side).id if side else id, address, len, size, burst),
+            lambda: (rng.choice([*side.of_id] or [id]), address, len, size, burst),
         )
         return rng.choice(changes)()
 
@@ -406,14 +436,14 @@ class AxiBeats:
         other = 1 << rng.randrange(8) if kind in (8, 9, 10, 14) else 0
         return rng.getrandbits(64), strobes ^ other, int(burst.is_last() != (kind in (11, 12, 13, 14)))
 
-    def id_of(self, side: list) -> int:
+    def id_of(self, side: Side) -> int:
         """An ID: of a burst of a side, mostly, of any that the port has, or of any at all."""
         rng, kind = self.rng, self.rng.randrange(8)
         if kind == 0:
             return rng.randrange(self.port.ids, 256)
         if kind == 2:
             return rng.randrange(32)
-        return rng.choice(side).id if side and kind != 1 else rng.randrange(self.port.ids)
+        return rng.choice([*side.of_id]) if side.of_id and kind != 1 else rng.randrange(self.port.ids)
 
 
 def observed(rng: random.Random, port: AxiPort, counts: Counter) -> tuple[str, str]:
@@ -426,7 +456,7 @@ def observed(rng: random.Random, port: AxiPort, counts: Counter) -> tuple[str, s
         lines.append(line)
         if name:
             said.append(f"= wrong {number} axi {AXI_RULES.index(name) + 1} {name}")
-    open_bursts = len(port.writes) + len(port.reads)
+    open_bursts = port.writes.count + port.reads.count
     said.append(f"= judged {AXI_BEATS} wrong {len(said)} outstanding 0 open {open_bursts}")
     return "\n".join(lines) + "\n", "\n".join(said) + "\n"
 
