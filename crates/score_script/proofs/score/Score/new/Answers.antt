@@ -19,3 +19,6 @@ returns-in-Ok-clause-refused c = IfSome_then (setup_fault (lists_of c.args.setup
 
 pub returns-in-Err-clause-refused : goal.returns-in-Err-clause-refused
 returns-in-Err-clause-refused c = IfSome_then (setup_fault (lists_of c.args.setup.now)) c.in_ok-board.ensures.refused (λ fault told. cc)
+
+pub returns-in-Ok-clause-opens : goal.returns-in-Ok-clause-opens
+returns-in-Ok-clause-opens c = search rules
