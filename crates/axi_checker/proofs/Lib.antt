@@ -1,5 +1,6 @@
 mod Examples
 pub mod BeatsCame
+pub mod BytePlaces
 pub mod CompleteWrites
 pub mod DataBeats
 pub mod Few

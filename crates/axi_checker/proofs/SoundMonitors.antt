@@ -20,6 +20,7 @@ kept_sound old after writes reads old_writes old_reads new_writes new_reads soun
       bus = sound.bus;
       most_ids = sound.most_ids;
       most_depth = sound.most_depth;
+      most = sound.most;
       within = rw (is_writes, is_reads) within;
       write_room = omega (arith, sound.write_room);
       read_room = omega (arith, sound.read_room);

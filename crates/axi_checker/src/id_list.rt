@@ -1,35 +1,37 @@
 //! The IDs of outstanding bursts, of which each is counted and found fast.
-ghost use Rattle.std.specs.Prelude.{◌≡◌, ◌<◌, ◌==◌, [], ◌∷◌, ◌++◌, filter, length, position};
+ghost use Rattle.std.specs.Prelude.{◌≡◌, ◌<◌, ◌≤◌, ◌==◌, [], ◌∷◌, ◌++◌, filter, length, position};
 ghost use Rattle.std.specs.List.{remove};
 
-use crate::id_row::IdRow;
+use crate::ids::Ids;
 use std::marker::Model;
 
-/// The IDs of outstanding bursts, at most 64, the oldest first, and beside them how many there are of each.
+/// The IDs of outstanding bursts, at most 4,096, the oldest first, and beside them how many there are of each.
 #[derive(Drop)]
-pub(crate) struct IdList {
-    ids: IdRow,
-    counts: [u8; 256],
+pub(crate) struct IdList<I: Ids> {
+    ids: I,
+    counts: [u16; 256],
 }
 
-impl Model for IdList {
-    ghost use Rattle.std.specs.Prelude.{ℕ};
+impl<I: Ids> Model for IdList<I> {
+    ghost use Rattle.std.specs.Prelude.{ℕ, ◌≤◌};
     ghost use Rattle.axi_checker.specs.Monitors.{AreCounts, OpenSide};
 
     ghost Value = { OpenSide ℕ };
 
-    ghost view = { λ l. record { items = l.ids; room = 64 } };
+    ghost view = { λ l. I.side l.ids };
 
-    ghost invariant = { λ l. AreCounts l.counts l.ids };
+    ghost invariant = { λ l. AreCounts l.counts (I.side l.ids).items × ((I.side l.ids).room ≤ 4096) };
 }
 
-impl IdList {
-    /// None, with room for 64.
-    pub(crate) fn new() -> Self
-        ensures { result ≡ record { items = []; room = 64 } }
+impl<I: Ids> IdList<I> {
+    /// Those of a row without an ID, with room for at most 4,096.
+    pub(crate) fn of(ids: I) -> Self
+        requires none { (I.side ids).items ≡ [] }
+        requires few { (I.side ids).room ≤ 4096 }
+        ensures { result ≡ I.side ids }
     {
         IdList {
-            ids: IdRow::new(),
+            ids,
             counts: [0; 256],
         }
     }

@@ -2,13 +2,14 @@
 ghost use Rattle.std.specs.Prelude.{◌≡◌, ◌<◌, ◌≤◌, ◌==◌, [], ◌∷◌, ◌++◌, length, position, slice_index_or, take};
 ghost use Rattle.std.specs.List.{position_or_len, remove};
 
+use crate::ids::Ids;
 use crate::row::close_gap;
 use std::marker::Model;
 use std::simd::prelude::*;
 
 /// At most 64 IDs, the oldest first. One is looked for and taken out by the same steps wherever it stands.
 #[derive(Drop)]
-pub(crate) struct IdRow {
+pub struct IdRow {
     /// Those before `len` stand in the row; twice the room is taken, so that there are 64 bytes behind each of them.
     ids: [u8; 128],
     len: usize,
@@ -35,7 +36,7 @@ fn bytes_before(bytes: &[u8], byte: u8) -> usize
 }
 
 impl IdRow {
-    /// None.
+    /// None, with room for 64.
     pub(crate) fn new() -> Self
         ensures { result ≡ [] }
     {
@@ -44,40 +45,30 @@ impl IdRow {
             len: 0,
         }
     }
+}
 
-    /// The place of the oldest that is this one. What stands behind the last is looked at with them, and never comes first.
-    pub(crate) fn first(&self, id: u8) -> Option<usize>
-        ensures { result ≡ position (λ other. other == id) self.now }
-    {
+impl Ids for IdRow {
+    ghost side = { λ ids. record { items = ids; room = 64 } };
+
+    /// What stands behind the last is looked at with the others, and never comes first.
+    fn first(&self, id: u8) -> Option<usize> {
         let place = bytes_before(&self.ids, id);
         if place < self.len { Some(place) } else { None }
     }
 
-    /// Appends one, for which there is room.
-    pub(crate) fn push(&mut self, id: u8)
-        requires { length self.old < 64 }
-        ensures { self.new ≡ self.old ++ id ∷ [] }
-    {
+    fn push(&mut self, id: u8) {
         self.ids[self.len] = id;
         self.len += 1;
     }
 
-    /// Takes out the one at a place.
-    pub(crate) fn remove(&mut self, place: usize) -> u8
-        requires { place < length self.old }
-        ensures value { result ≡ slice_index_or self.old place result }
-        ensures items { self.new ≡ remove self.old place }
-    {
+    fn remove(&mut self, place: usize) -> u8 {
         let id = self.ids[place];
         close_gap(&mut self.ids, place);
         self.len -= 1;
         id
     }
 
-    /// None any more.
-    pub(crate) fn clear(&mut self)
-        ensures { self.new ≡ [] }
-    {
+    fn clear(&mut self) {
         self.len = 0;
     }
 }

@@ -7,16 +7,22 @@
 ghost use Rattle.std.specs.Prelude.{◌≡◌};
 ghost use Rattle.axi_checker.specs.Names.{rule_name, rule_number};
 
+mod entries;
 mod id_list;
 mod id_row;
+mod ids;
+mod long_queue;
+mod long_row;
 mod monitor;
 mod outstanding;
 mod queue;
+mod rooms;
 mod row;
 mod rules;
 
 use axi_beats::{ArBeat, AwBeat, BBeat, RBeat, WBeat};
-pub use monitor::Monitor;
+pub use monitor::{LargeMonitor, Monitor};
+pub use rooms::{LargeRooms, Rooms, SmallRooms};
 pub use rules::PortLimits;
 
 /// A beat on one of the five channels.

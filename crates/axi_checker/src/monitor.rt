@@ -1,5 +1,5 @@
 //! The monitor.
-ghost use Rattle.std.specs.Prelude.{◌≡◌, ℕ, ◌+◌, ◌∷◌, ◌++◌, ◌<◌, ◌≤◌, None, Some, Ok, Err, IsErr, IsOk, IsSome, IfOk, IfSome, MatchOption, MatchResult, filter, length, option_map, position, sum_by};
+ghost use Rattle.std.specs.Prelude.{◌≡◌, ℕ, ◌+◌, ◌*◌, ◌∷◌, ◌++◌, ◌<◌, ◌≤◌, None, Some, Ok, Err, IsErr, IsOk, IsSome, IfOk, IfSome, MatchOption, MatchResult, filter, length, option_map, position, sum_by};
 ghost use Rattle.axi_beats.specs.Bursts.{IsLegal};
 ghost use Rattle.axi_beats.specs.Responses.{is_exokay};
 ghost use Rattle.axi_beats.specs.Transfers.{IsBusWidth};
@@ -8,7 +8,12 @@ ghost use Rattle.axi_checker.specs.declared.AxiBeat.TheVariants.{Ar as OnAr, Aw 
 ghost use Rattle.axi_checker.specs.Order.{lasts_from, read_given, reads_asked, reads_owe, writes_lack};
 ghost use Rattle.axi_checker.specs.Rules.{axi_fault, beats_sent, burst_fault, id_of, open_after_all, open_with_burst, outstanding_beside};
 
-use crate::outstanding::{Reads, Writes};
+use crate::id_row::IdRow;
+use crate::long_queue::LongQueue;
+use crate::long_row::LongRow;
+use crate::outstanding::{Reads, Writes, no_read, no_write};
+use crate::queue::Queue;
+use crate::rooms::{LargeRooms, Rooms, SmallRooms};
 use crate::rules::{Address, PortLimits};
 use crate::{AxiBeat, AxiRule};
 use axi_beats::{ArBeat, AwBeat, BBeat, BurstBox, RBeat, Resp, WBeat};
@@ -17,14 +22,17 @@ use std::marker::Model;
 
 /// A monitor of an AXI4 port. It takes the beats of all five channels in the order in which they come, and keeps which
 /// bursts are outstanding. A beat that breaks a rule is refused with the first rule that it breaks, and changes nothing.
-/// All room is taken by `new`; no other call takes memory.
-pub struct Monitor {
+/// All room is taken by `new`, or by `of_any_depth`; no other call takes memory. What the calls do is the same for both.
+pub struct Monitor<R: Rooms = SmallRooms> {
     limits: PortLimits,
-    writes: Writes,
-    reads: Reads,
+    writes: Writes<R::Writes, R::Ids>,
+    reads: Reads<R::Reads, R::Ids>,
 }
 
-impl Model for Monitor {
+/// A monitor of a port of any number of IDs and any depth, as `Monitor::of_any_depth` makes it.
+pub type LargeMonitor = Monitor<LargeRooms>;
+
+impl<R: Rooms> Model for Monitor<R> {
     ghost use Rattle.axi_checker.specs.Monitors.{MonitorState, IsSoundMonitor, monitor_state};
 
     ghost Value = { MonitorState };
@@ -35,7 +43,7 @@ impl Model for Monitor {
 }
 
 // Written out, so that what lets go of one calls this, and proves nothing of its parts.
-impl Drop for Monitor {
+impl<R: Rooms> Drop for Monitor<R> {
     fn drop(self) {
         let Monitor {
             limits: _,
@@ -60,15 +68,50 @@ impl Monitor {
             ≡ record { port = record { bus_bytes = bus_bytes; ids = ids; depth = depth }; open_bursts = nothing_open }) }
     {
         let limits = PortLimits::new(bus_bytes, ids, depth);
-        let writes = Writes::new(alloc, limits.room())?;
-        let reads = Reads::new(alloc, limits.room())?;
+        let writes = Writes::of(Queue::new(alloc, limits.room(), no_write())?, IdRow::new());
+        let reads = Reads::of(Queue::new(alloc, limits.room(), no_read())?, IdRow::new());
         Ok(Monitor {
             limits,
             writes,
             reads,
         })
     }
+}
 
+impl LargeMonitor {
+    /// A monitor of a port with `ids` IDs, 1 to 256, of which each may have `depth` bursts outstanding on each side, 1 to
+    /// 256, at most 4,096 in all on each side, and a bus of `bus_bytes` bytes, 4 or 8. Nothing is outstanding. It is slower
+    /// than one by `new` the more bursts are outstanding, and takes the room that `ids` and `depth` ask for.
+    ///
+    /// The one error is that memory was refused.
+    pub fn of_any_depth(
+        alloc: Global,
+        ids: u16,
+        depth: u16,
+        bus_bytes: u8,
+    ) -> Result<Self, AllocError>
+        requires some_ids { 1 ≤ ids }
+        requires most_ids { ids ≤ 256 }
+        requires some_depth { 1 ≤ depth }
+        requires most_depth { depth ≤ 256 }
+        requires most { ids * depth ≤ 4096 }
+        requires bus { IsBusWidth bus_bytes }
+        ensures { IfOk result (λ monitor. monitor
+            ≡ record { port = record { bus_bytes = bus_bytes; ids = ids; depth = depth }; open_bursts = nothing_open }) }
+    {
+        let limits = PortLimits::of_any_depth(bus_bytes, ids, depth);
+        let room = limits.room();
+        let writes = Writes::of(LongQueue::new(alloc, room)?, LongRow::new(alloc, room)?);
+        let reads = Reads::of(LongQueue::new(alloc, room)?, LongRow::new(alloc, room)?);
+        Ok(Monitor {
+            limits,
+            writes,
+            reads,
+        })
+    }
+}
+
+impl<R: Rooms> Monitor<R> {
     /// Takes a beat of any channel, as the call of that channel does.
     pub fn take(&mut self, beat: &AxiBeat) -> Result<(), AxiRule>
         ensures answer { MatchOption (axi_fault self.old.port self.old.open_bursts beat.now) (result ≡ Ok tt) (λ rule. result ≡ Err rule) }
@@ -293,7 +336,7 @@ impl Monitor {
             (λ place. (axi_fault self.now.port self.now.open_bursts (OnB beat.now) ≡ None) × (position (write_of_id beat.now.id) self.now.open_bursts.writes ≡ Some place))
             (λ rule. axi_fault self.now.port self.now.open_bursts (OnB beat.now) ≡ Some rule) }
     {
-        if beat.id >= self.limits.ids {
+        if u16::from(beat.id) >= self.limits.ids {
             return Err(AxiRule::IdRange);
         }
         let Some((place, write)) = self.writes.oldest(beat.id) else {
@@ -314,7 +357,7 @@ impl Monitor {
             (λ place. (axi_fault self.now.port self.now.open_bursts (OnR beat.now) ≡ None) × (position (read_of_id beat.now.id) self.now.open_bursts.reads ≡ Some place))
             (λ rule. axi_fault self.now.port self.now.open_bursts (OnR beat.now) ≡ Some rule) }
     {
-        if beat.id >= self.limits.ids {
+        if u16::from(beat.id) >= self.limits.ids {
             return Err(AxiRule::IdRange);
         }
         let Some((place, read)) = self.reads.oldest(beat.id) else {

@@ -4,15 +4,15 @@ ghost use Rattle.bus_words.specs.Places.{change_first, without_first};
 ghost use Rattle.axi_checker.specs.Monitors.{AreComplete};
 ghost use Rattle.axi_checker.specs.OpenBursts.{lacks_data, read_of_id, reads_after, write_of_id};
 
+use crate::entries::Entries;
 use crate::id_list::IdList;
-use crate::queue::Queue;
+use crate::ids::Ids;
 use axi_beats::{ArBeat, AwBeat};
-use std::alloc::{AllocError, Global};
 use std::marker::Model;
 
 /// A write without its B, and how many of its W beats came.
 #[derive(Clone, Copy)]
-pub(crate) struct OpenWrite {
+pub struct OpenWrite {
     pub(crate) aw: AwBeat,
     pub(crate) came: u16,
 }
@@ -29,7 +29,7 @@ impl Model for OpenWrite {
 
 /// A read without its last R, and how many of its R beats came.
 #[derive(Clone, Copy)]
-pub(crate) struct OpenRead {
+pub struct OpenRead {
     pub(crate) ar: ArBeat,
     pub(crate) came: u16,
 }
@@ -64,49 +64,49 @@ impl OpenRead {
 
 /// The outstanding writes, the oldest first, and beside them their IDs, so that one is found without touching the others.
 #[derive(Drop)]
-pub(crate) struct Writes {
-    entries: Queue<OpenWrite>,
-    ids: IdList,
+pub(crate) struct Writes<E: Entries<OpenWrite>, I: Ids> {
+    entries: E,
+    ids: IdList<I>,
     /// No write before this place lacks data.
     complete: usize,
 }
 
-impl Model for Writes {
+impl<E: Entries<OpenWrite>, I: Ids> Model for Writes<E, I> {
     ghost use Rattle.std.specs.Prelude.{◌≡◌, ◌≤◌, map};
     ghost use Rattle.axi_checker.specs.Monitors.{AreComplete, OpenSide, id_of_write};
     ghost use Rattle.axi_checker.specs.OpenBursts.{OpenWrite};
 
     ghost Value = { OpenSide OpenWrite };
 
-    ghost view = { λ w. record { items = w.entries.items; room = w.entries.room } };
+    ghost view = { λ w. E.side w.entries };
 
-    ghost invariant = { λ w. (w.ids.items ≡ map id_of_write w.entries.items) × (w.entries.room ≤ w.ids.room)
-        × (w.entries.room ≤ 255) × (AreComplete w.entries.items w.complete) };
+    ghost invariant = { λ w. (w.ids.items ≡ map id_of_write (E.side w.entries).items) × ((E.side w.entries).room ≤ w.ids.room)
+        × ((E.side w.entries).room ≤ 4096) × (AreComplete (E.side w.entries).items w.complete) };
 }
 
 /// The outstanding reads, the oldest first, and beside them their IDs, and how many R beats came of all.
 #[derive(Drop)]
-pub(crate) struct Reads {
-    entries: Queue<OpenRead>,
-    ids: IdList,
+pub(crate) struct Reads<E: Entries<OpenRead>, I: Ids> {
+    entries: E,
+    ids: IdList<I>,
     came: u64,
 }
 
-impl Model for Reads {
+impl<E: Entries<OpenRead>, I: Ids> Model for Reads<E, I> {
     ghost use Rattle.std.specs.Prelude.{◌≡◌, ◌≤◌, map};
     ghost use Rattle.axi_checker.specs.Monitors.{HaveCame, OpenSide, id_of_read};
     ghost use Rattle.axi_checker.specs.OpenBursts.{OpenRead};
 
     ghost Value = { OpenSide OpenRead };
 
-    ghost view = { λ r. record { items = r.entries.items; room = r.entries.room } };
+    ghost view = { λ r. E.side r.entries };
 
-    ghost invariant = { λ r. (r.ids.items ≡ map id_of_read r.entries.items) × (r.entries.room ≤ r.ids.room)
-        × (r.entries.room ≤ 255) × (HaveCame r.entries.items r.came) };
+    ghost invariant = { λ r. (r.ids.items ≡ map id_of_read (E.side r.entries).items) × ((E.side r.entries).room ≤ r.ids.room)
+        × ((E.side r.entries).room ≤ 4096) × (HaveCame (E.side r.entries).items r.came) };
 }
 
 /// What stands where no write was yet.
-fn no_write() -> OpenWrite {
+pub(crate) fn no_write() -> OpenWrite {
     OpenWrite {
         aw: AwBeat {
             id: 0,
@@ -120,7 +120,7 @@ fn no_write() -> OpenWrite {
 }
 
 /// What stands where no read was yet.
-fn no_read() -> OpenRead {
+pub(crate) fn no_read() -> OpenRead {
     OpenRead {
         ar: ArBeat {
             id: 0,
@@ -134,9 +134,9 @@ fn no_read() -> OpenRead {
 }
 
 /// The place of the oldest write that lacks data, where none before `complete` does: those are not looked at.
-fn place_to_fill(writes: &Queue<OpenWrite>, complete: usize) -> Option<usize>
-    requires { AreComplete writes.now.items complete }
-    ensures { result ≡ position lacks_data writes.now.items }
+fn place_to_fill<E: Entries<OpenWrite>>(writes: &E, complete: usize) -> Option<usize>
+    requires { AreComplete (E.side writes.now).items complete }
+    ensures { result ≡ position lacks_data (E.side writes.now).items }
 {
     for place in complete..writes.len() {
         if writes.get(place).lacks_data() {
@@ -170,36 +170,38 @@ fn moved(complete: usize, place: usize) -> usize
 }
 
 /// The entry at a place, with its place, where there is one.
-fn entry_at<T: Copy>(queue: &Queue<T>, place: Option<usize>) -> Option<(usize, T)>
-    requires { IfSome place (λ k. k < length queue.now.items) }
+fn entry_at<T: Copy, E: Entries<T>>(entries: &E, place: Option<usize>) -> Option<(usize, T)>
+    requires { IfSome place (λ k. k < length (E.side entries.now).items) }
     ensures place { option_map (λ found. found.0) result ≡ place }
-    ensures entry { (test : T → Bool) → place ≡ position test queue.now.items → option_map (λ found. found.1) result ≡ find test queue.now.items }
+    ensures entry { (test : T → Bool) → place ≡ position test (E.side entries.now).items → option_map (λ found. found.1) result ≡ find test (E.side entries.now).items }
 {
     match place {
-        Some(place) => Some((place, queue.get(place))),
+        Some(place) => Some((place, entries.get(place))),
         None => None,
     }
 }
 
-impl Writes {
-    /// None, with room for so many, at most 64.
-    pub(crate) fn new(alloc: Global, room: usize) -> Result<Self, AllocError>
-        requires { room ≤ 64 }
-        ensures { IfOk result (λ writes. (writes.items ≡ []) × (room ≤ writes.room)) }
+impl<E: Entries<OpenWrite>, I: Ids> Writes<E, I> {
+    /// None, in these rooms, which are empty: those of the IDs are as many as those of the writes, and at most 4,096.
+    pub(crate) fn of(entries: E, ids: I) -> Self
+        requires none { (E.side entries).items ≡ [] }
+        requires no_ids { (I.side ids).items ≡ [] }
+        requires room { (E.side entries).room ≤ (I.side ids).room }
+        requires few { (I.side ids).room ≤ 4096 }
+        ensures { result ≡ E.side entries }
     {
-        let entries = Queue::new(alloc, room, no_write())?;
-        let ids = IdList::new();
-        Ok(Writes {
+        let ids = IdList::of(ids);
+        Writes {
             entries,
             ids,
             complete: 0,
-        })
+        }
     }
 
-    /// How many there are, at most 64.
+    /// How many there are, at most 4,096.
     pub(crate) fn count(&self) -> usize
         ensures count { result ≡ length self.now.items }
-        ensures most { result ≤ 64 }
+        ensures most { result ≤ 4096 }
     {
         self.entries.len()
     }
@@ -297,25 +299,27 @@ impl Writes {
     }
 }
 
-impl Reads {
-    /// None, with room for so many, at most 64.
-    pub(crate) fn new(alloc: Global, room: usize) -> Result<Self, AllocError>
-        requires { room ≤ 64 }
-        ensures { IfOk result (λ reads. (reads.items ≡ []) × (room ≤ reads.room)) }
+impl<E: Entries<OpenRead>, I: Ids> Reads<E, I> {
+    /// None, in these rooms, which are empty: those of the IDs are as many as those of the reads, and at most 4,096.
+    pub(crate) fn of(entries: E, ids: I) -> Self
+        requires none { (E.side entries).items ≡ [] }
+        requires no_ids { (I.side ids).items ≡ [] }
+        requires room { (E.side entries).room ≤ (I.side ids).room }
+        requires few { (I.side ids).room ≤ 4096 }
+        ensures { result ≡ E.side entries }
     {
-        let entries = Queue::new(alloc, room, no_read())?;
-        let ids = IdList::new();
-        Ok(Reads {
+        let ids = IdList::of(ids);
+        Reads {
             entries,
             ids,
             came: 0,
-        })
+        }
     }
 
-    /// How many there are, at most 64.
+    /// How many there are, at most 4,096.
     pub(crate) fn count(&self) -> usize
         ensures count { result ≡ length self.now.items }
-        ensures most { result ≤ 64 }
+        ensures most { result ≤ 4096 }
     {
         self.entries.len()
     }

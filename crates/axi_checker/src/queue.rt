@@ -1,8 +1,9 @@
-//! Entries in order, of which one leaves without moving the others.
+//! Entries in order, at most 64, of which one leaves without moving the others.
 ghost use Rattle.std.specs.Prelude.{◌≡◌, ◌<◌, ◌≤◌, [], ◌∷◌, ◌++◌, IfOk, length, slice_index_or, slice_set, take};
 ghost use Rattle.std.specs.List.{remove};
 ghost use Rattle.axi_checker.specs.Slots.{AreSlots};
 
+use crate::entries::Entries;
 use crate::row::close_gap;
 use std::alloc::{AllocError, Global};
 use std::marker::Model;
@@ -10,7 +11,7 @@ use std::marker::Model;
 /// Entries in order, the oldest first, at most 64. Each stays where it stands; what moves, where one leaves, are the slots of
 /// those behind it, by the same steps wherever it stood. All room is taken by `new`.
 #[derive(Drop)]
-pub(crate) struct Queue<T> {
+pub struct Queue<T> {
     entries: Vec<T>,
     /// The slots of the entries in order, and behind them those that are free: 64, each once. Twice the room is taken, so that
     /// there are 64 bytes behind each of them.
@@ -60,59 +61,37 @@ impl<T: Copy> Queue<T> {
             filler,
         })
     }
+}
 
-    /// How many there are.
-    pub(crate) fn len(&self) -> usize
-        ensures count { result ≡ length self.now.items }
-        ensures most { result ≤ 64 }
-    {
+impl<T: Copy> Entries<T> for Queue<T> {
+    ghost side = { λ queue. queue };
+
+    fn len(&self) -> usize {
         self.len
     }
 
-    /// The one at a place.
-    pub(crate) fn get(&self, place: usize) -> T
-        requires { place < length self.now.items }
-        ensures value { result ≡ slice_index_or self.now.items place result }
-        ensures few { length self.now.items ≤ self.now.room }
-    {
+    fn get(&self, place: usize) -> T {
         self.entries[usize::from(self.slots[place])]
     }
 
-    /// Appends one, for which there is room.
-    pub(crate) fn push(&mut self, entry: T)
-        requires { length self.old.items < self.old.room }
-        ensures items { self.new.items ≡ self.old.items ++ entry ∷ [] }
-        ensures room { self.new.room ≡ self.old.room }
-    {
+    fn push(&mut self, entry: T) {
         self.entries[usize::from(self.slots[self.len])] = entry;
         self.len += 1;
     }
 
-    /// Puts another in the place of one.
-    pub(crate) fn put(&mut self, place: usize, entry: T)
-        requires { place < length self.old.items }
-        ensures items { self.new.items ≡ slice_set self.old.items place entry }
-        ensures room { self.new.room ≡ self.old.room }
-    {
+    fn put(&mut self, place: usize, entry: T) {
         self.entries[usize::from(self.slots[place])] = entry;
     }
 
-    /// Takes out the one at a place, whose slot is the last of the free ones then.
-    pub(crate) fn remove(&mut self, place: usize)
-        requires { place < length self.old.items }
-        ensures items { self.new.items ≡ remove self.old.items place }
-        ensures room { self.new.room ≡ self.old.room }
-    {
+    /// The slot of the one that is taken out is the last of the free ones then.
+    fn remove(&mut self, place: usize) {
         let slot = self.slots[place];
         close_gap(&mut self.slots, place);
         self.slots[63] = slot;
         self.len -= 1;
     }
 
-    /// None any more.
-    pub(crate) fn clear(&mut self)
-        ensures { self.new ≡ record self.old { items = [] } }
-    {
+    fn clear(&mut self) {
         self.len = 0;
     }
 }

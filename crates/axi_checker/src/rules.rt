@@ -19,8 +19,8 @@ use std::marker::Model;
 #[derive(Clone, Copy)]
 pub struct PortLimits {
     pub(crate) bus_bytes: u8,
-    pub(crate) ids: u8,
-    pub(crate) depth: u8,
+    pub(crate) ids: u16,
+    pub(crate) depth: u16,
 }
 
 impl Model for PortLimits {
@@ -106,6 +106,13 @@ impl PortLimits {
     pub fn new(bus_bytes: u8, ids: u8, depth: u8) -> Self
         ensures { result ≡ record { bus_bytes = bus_bytes; ids = ids; depth = depth } }
     {
+        PortLimits::of_any_depth(bus_bytes, u16::from(ids), u16::from(depth))
+    }
+
+    /// The same of a port with more IDs, or more bursts of each.
+    pub(crate) fn of_any_depth(bus_bytes: u8, ids: u16, depth: u16) -> Self
+        ensures { result ≡ record { bus_bytes = bus_bytes; ids = ids; depth = depth } }
+    {
         PortLimits {
             bus_bytes,
             ids,
@@ -188,7 +195,7 @@ impl PortLimits {
         if u64::from(start / 4096) != last_byte(start, len, size) / 4096 {
             return Some(AxiRule::Cross4K);
         }
-        if id >= self.ids {
+        if u16::from(id) >= self.ids {
             return Some(AxiRule::IdRange);
         }
         if open_of_id >= usize::from(self.depth) {

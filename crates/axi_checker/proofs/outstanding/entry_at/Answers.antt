@@ -6,9 +6,9 @@ use Rattle.axi_checker.proofs.outstanding.entry_at.Goals as goal
 pub returns-in-Some-clause-entry : goal.returns-in-Some-clause-entry
 returns-in-Some-clause-entry g c =
     λ test first.
-    let items = c.args.queue.now.items in
+    let items = (g.E.Entries.side c.args.entries.now).items in
     let at = position_is_first test items c.in-Some.place (sym first ∙ c.in-Some.is) in
     ap Some c.get.ensures.value ∙ sym (find-first test items c.in-Some.place c.get.result at)
 
 pub returns-in-None-clause-entry : goal.returns-in-None-clause-entry
-returns-in-None-clause-entry g c = λ test first. sym (find-none test c.args.queue.now.items (sym first ∙ c.in-None.is))
+returns-in-None-clause-entry g c = λ test first. sym (find-none test (g.E.Entries.side c.args.entries.now).items (sym first ∙ c.in-None.is))

@@ -8,18 +8,20 @@ within : (place : ℕ) (inside now : OpenSide ℕ) → inside ≡ now → place 
 within place inside now is here = rw is here
 
 pub overflow_sub-self : goal.overflow_sub-self
-overflow_sub-self c =
+overflow_sub-self g c =
     let inside = c.self.inside in
+    let ids = g.I.Ids.side inside.ids in
     let id = c.remove-id.result in
     let small : id < 256 = c.remove-id.type_inv in
-    let here = within c.args.place (record { items = inside.ids; room = 64 }) c.args.self.now c.self.view_is c.requires in
-    rw c.from.ensures (one_counted inside.counts inside.ids id c.self.invariant (omega (arith, small, c.self.told)) small c.args.place here c.remove-id.ensures.value)
+    let here = within c.args.place ids c.args.self.now c.self.view_is c.requires in
+    rw c.from.ensures (one_counted inside.counts ids.items id c.self.invariant.0 (omega (arith, small, c.self.told)) small c.args.place here c.remove-id.ensures.value)
 
 pub invariant_of-self : goal.invariant_of-self
-invariant_of-self c =
+invariant_of-self g c =
     let inside = c.self.inside in
+    let ids = g.I.Ids.side inside.ids in
     let id = c.remove-id.result in
     let small : id < 256 = c.remove-id.type_inv in
-    let here = within c.args.place (record { items = inside.ids; room = 64 }) c.args.self.now c.self.view_is c.requires in
-    let after = counted-remove inside.counts inside.ids id c.self.invariant (omega (arith, small, c.self.told)) small c.args.place here c.remove-id.ensures.value in
-    rw (c.from.ensures, c.remove-id.ensures.items) after
+    let here = within c.args.place ids c.args.self.now c.self.view_is c.requires in
+    let after = counted-remove inside.counts ids.items id c.self.invariant.0 (omega (arith, small, c.self.told)) small c.args.place here c.remove-id.ensures.value in
+    (rw (c.from.ensures, c.remove-id.ensures.items) after, omega (arith, c.remove-id.ensures.room, c.self.invariant.1))

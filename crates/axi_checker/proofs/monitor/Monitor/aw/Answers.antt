@@ -8,20 +8,20 @@ use Rattle.axi_checker.proofs.SoundMonitors.{sound-open_after, sound_write_room}
 use Rattle.axi_checker.proofs.monitor.Monitor.aw.Goals as goal
 
 pub add-requires : goal.add-requires
-add-requires c =
+add-requires g c =
     let old = c.self.inside in
     sound_write_room (monitor_state old.limits old.writes.items old.reads.items) c.args.self.now c.args.beat.now old.writes.room old.reads.room c.self.invariant c.self.view_is
     (sym c.aw_fault.ensures ∙ c.in_default.is)
 
 pub invariant_of-self : goal.invariant_of-self
-invariant_of-self c =
+invariant_of-self g c =
     let old = c.self.inside in
     let writes = c.add.new.self in
     sound-open_after (monitor_state old.limits old.writes.items old.reads.items) c.args.self.now (OnAw c.args.beat.now) writes.items old.reads.items old.writes.room old.reads.room
     writes.room old.reads.room c.self.invariant c.self.view_is (sym c.aw_fault.ensures ∙ c.in_default.is) c.add.ensures.items refl (omega (arith, c.add.ensures.room)) (omega arith)
 
 pub returns-clause-order : goal.returns-clause-order
-returns-clause-order c =
+returns-clause-order g c =
     λ ok.
     let now = c.args.self.now in
     let aw = c.args.beat.now in

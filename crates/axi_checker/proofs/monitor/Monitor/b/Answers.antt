@@ -12,14 +12,14 @@ use Rattle.axi_checker.proofs.Taking.{filled_after_b}
 use Rattle.axi_checker.proofs.monitor.Monitor.b.Goals as goal
 
 pub invariant_of-self : goal.invariant_of-self
-invariant_of-self c =
+invariant_of-self g c =
     let old = c.self.inside in
     let writes = c.close.new.self in
     sound-open_after (monitor_state old.limits old.writes.items old.reads.items) c.args.self.now (OnB c.args.beat.now) writes.items old.reads.items old.writes.room old.reads.room
     writes.room old.reads.room c.self.invariant c.self.view_is c.in_ok-place.ensures.0 c.close.ensures.items refl (omega (arith, c.close.ensures.room)) (omega arith)
 
 pub returns-clause-one_less : goal.returns-clause-one_less
-returns-clause-one_less c =
+returns-clause-one_less g c =
     λ ok.
     let now = c.args.self.now in
     let id = c.args.beat.now.id in
@@ -29,7 +29,7 @@ returns-clause-one_less c =
     ap (λ (writes : List OpenWrite). 1 + length (filter (write_of_id id) writes)) after ∙ writes_left id now.open_bursts.writes finds.write finds.found
 
 pub returns-clause-complete : goal.returns-clause-complete
-returns-clause-complete c =
+returns-clause-complete g c =
     λ ok.
     let now = c.args.self.now in
     let id = c.args.beat.now.id in
@@ -39,7 +39,7 @@ returns-clause-complete c =
     ap writes_lack after ∙ writes_lack-without_first (write_of_id id) now.open_bursts.writes finds.write finds.found finds.full
 
 pub returns-clause-data : goal.returns-clause-data
-returns-clause-data c =
+returns-clause-data g c =
     λ ok ready.
     let now = c.args.self.now in
     let id = c.args.beat.now.id in

@@ -8,7 +8,7 @@ use Rattle.axi_checker.specs.OpenBursts.{OpenRead, read_of_id}
 use Rattle.axi_checker.proofs.monitor.Monitor.oldest_read.Goals as goal
 
 pub returns-clause-size : goal.returns-clause-size
-returns-clause-size c =
+returns-clause-size g c =
     let bus = c.self.inside.limits.bus_bytes in
     let reads = c.self.inside.reads.items in
     let found : find (read_of_id c.args.id) reads ≡ Some c.in_ok-read.read = sym c.in_ok-read.ensures.read in

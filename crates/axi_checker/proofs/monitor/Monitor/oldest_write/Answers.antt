@@ -8,7 +8,7 @@ use Rattle.axi_checker.specs.OpenBursts.{OpenWrite, write_of_id}
 use Rattle.axi_checker.proofs.monitor.Monitor.oldest_write.Goals as goal
 
 pub returns-clause-size : goal.returns-clause-size
-returns-clause-size c =
+returns-clause-size g c =
     let bus = c.self.inside.limits.bus_bytes in
     let writes = c.self.inside.writes.items in
     let found : find (write_of_id c.args.id) writes ≡ Some c.in_ok-write.write = sym c.in_ok-write.ensures.write in

@@ -7,13 +7,13 @@ use Rattle.axi_checker.specs.OpenBursts.{lacks_data}
 use Rattle.axi_checker.proofs.monitor.Monitor.place_of_data.Goals as goal
 
 pub data_fault-requires-clause-size : goal.data_fault-requires-clause-size
-data_fault-requires-clause-size c =
+data_fault-requires-clause-size g c =
     let writes = c.self.inside.writes.items in
     let found : find lacks_data writes ≡ Some c.in-Some.write = sym c.in-Some.ensures.write in
     let sound = all-find (IsSoundWrite c.self.inside.limits.bus_bytes) lacks_data writes c.in-Some.write c.self.invariant.within.sound_writes found in
     search (rules, sound.fits)
 
 pub data_fault-requires-clause-lacks : goal.data_fault-requires-clause-lacks
-data_fault-requires-clause-lacks c =
+data_fault-requires-clause-lacks g c =
     let lacks = find-passes lacks_data c.self.inside.writes.items c.in-Some.write (sym c.in-Some.ensures.write) in
     search (rules, lacks)

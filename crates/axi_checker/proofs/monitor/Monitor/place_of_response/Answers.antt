@@ -2,7 +2,7 @@ use Rattle.std.proofs.Common.{rules}
 use Rattle.axi_checker.proofs.monitor.Monitor.place_of_response.Goals as goal
 
 pub returns-then-is_exokay : goal.returns-then-is_exokay
-returns-then-is_exokay c = search rules
+returns-then-is_exokay g c = search rules
 
 pub returns : goal.returns
-returns c = search rules
+returns g c = search rules

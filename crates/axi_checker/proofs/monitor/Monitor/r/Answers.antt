@@ -9,14 +9,14 @@ use Rattle.axi_checker.proofs.SoundMonitors.{sound-open_after}
 use Rattle.axi_checker.proofs.monitor.Monitor.r.Goals as goal
 
 pub invariant_of-self : goal.invariant_of-self
-invariant_of-self c =
+invariant_of-self g c =
     let old = c.self.inside in
     let reads = c.answer.new.self in
     sound-open_after (monitor_state old.limits old.writes.items old.reads.items) c.args.self.now (OnR c.args.beat.now) old.writes.items reads.items old.writes.room old.reads.room
     old.writes.room reads.room c.self.invariant c.self.view_is c.in_ok-place.ensures.0 refl c.answer.ensures.items (omega arith) (omega (arith, c.answer.ensures.room))
 
 pub returns-clause-order : goal.returns-clause-order
-returns-clause-order c =
+returns-clause-order g c =
     λ ok id.
     let now = c.args.self.now in
     let beat = OnR c.args.beat.now in

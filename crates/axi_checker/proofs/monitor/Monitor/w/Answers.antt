@@ -9,14 +9,14 @@ use Rattle.axi_checker.proofs.SoundMonitors.{sound-open_after}
 use Rattle.axi_checker.proofs.monitor.Monitor.w.Goals as goal
 
 pub invariant_of-self : goal.invariant_of-self
-invariant_of-self c =
+invariant_of-self g c =
     let old = c.self.inside in
     let writes = c.fill.new.self in
     sound-open_after (monitor_state old.limits old.writes.items old.reads.items) c.args.self.now (OnW c.args.beat.now) writes.items old.reads.items old.writes.room old.reads.room
     writes.room old.reads.room c.self.invariant c.self.view_is c.in_ok-place.ensures.0 c.fill.ensures.items refl (omega (arith, c.fill.ensures.room)) (omega arith)
 
 pub returns-clause-order : goal.returns-clause-order
-returns-clause-order c =
+returns-clause-order g c =
     λ ok.
     let now = c.args.self.now in
     let beat = OnW c.args.beat.now in

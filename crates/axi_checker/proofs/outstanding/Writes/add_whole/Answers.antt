@@ -3,7 +3,7 @@ use Rattle.std.proofs.lemmas.Grind.{common_steps}
 use Rattle.axi_checker.proofs.outstanding.Writes.add_whole.Goals as goal
 
 pub invariant_of-self : goal.invariant_of-self
-invariant_of-self c = grind (arith, common_steps)
+invariant_of-self g c = grind (arith, common_steps)
 
 pub returns-clause-items : goal.returns-clause-items
-returns-clause-items c = search rules
+returns-clause-items g c = search rules

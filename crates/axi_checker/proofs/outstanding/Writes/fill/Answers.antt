@@ -41,8 +41,8 @@ abbrev items_of : OpenSide OpenWrite → List OpenWrite
 items_of side = side.items
 
 pub overflow_add-filled : goal.overflow_add-filled
-overflow_add-filled c =
-    let entries = c.self.inside.entries.items in
+overflow_add-filled g c =
+    let entries = (g.E.Entries.side c.self.inside.entries).items in
     let write = c.get-write.result in
     let first = position_is_first lacks_data entries c.args.place (ap (λ (side : OpenSide OpenWrite). position lacks_data side.items) c.self.view_is ∙ c.requires) in
     let lacks : lacks_data write ≡ true = ap lacks_data c.get-write.ensures.value ∙ first-passes lacks_data entries c.args.place write first in
@@ -50,41 +50,41 @@ overflow_add-filled c =
     omega (arith, few)
 
 pub past-self-inside-requires : goal.past-self-inside-requires
-past-self-inside-requires c = omega (arith, c.self.invariant.2, c.self.invariant.3.within, c.get-write.ensures.few)
+past-self-inside-requires g c = omega (arith, c.self.invariant.2, c.self.invariant.3.within, c.get-write.ensures.few)
 
 pub invariant_of-self : goal.invariant_of-self
-invariant_of-self c =
+invariant_of-self g c =
     let inside = c.self.inside in
     let now =
-    filled c.args.place inside.entries.items c.put.new.self.items c.args.self.now c.get-write.result _ (ap items_of c.self.view_is)
+    filled c.args.place (g.E.Entries.side inside.entries).items (g.E.Entries.side c.put.new.self).items c.args.self.now c.get-write.result _ (ap items_of c.self.view_is)
     c.requires c.get-write.ensures.value c.write.view_is c.put.ensures.items in (
       c.self.invariant.0 ∙ now.ids,
       omega (arith, c.self.invariant.1, c.put.ensures.room),
       omega (arith, c.self.invariant.2, c.put.ensures.room),
-      rw now.becomes (complete_set inside.entries.items inside.complete c.args.place _ c.self.invariant.3 now.first),
+      rw now.becomes (complete_set (g.E.Entries.side inside.entries).items inside.complete c.args.place _ c.self.invariant.3 now.first),
     )
 
 pub invariant_of-self-2 : goal.invariant_of-self-2
-invariant_of-self-2 c =
+invariant_of-self-2 g c =
     let inside = c.self.inside in
     let now =
-    filled c.args.place inside.entries.items c.put.new.self.items c.args.self.now c.get-write.result _ (ap items_of c.self.view_is)
+    filled c.args.place (g.E.Entries.side inside.entries).items (g.E.Entries.side c.put.new.self).items c.args.self.now c.get-write.result _ (ap items_of c.self.view_is)
     c.requires c.get-write.ensures.value c.write.view_is c.put.ensures.items in (
       c.self.invariant.0 ∙ now.ids,
       omega (arith, c.self.invariant.1, c.put.ensures.room),
       omega (arith, c.self.invariant.2, c.put.ensures.room),
       rw (now.becomes, c.past-self-inside.ensures)
-          (complete_filled inside.entries.items inside.complete c.args.place _ c.self.invariant.3 now.first (sym c.lacks_data.ensures ∙ c.if-lacks_data.false)),
+          (complete_filled (g.E.Entries.side inside.entries).items inside.complete c.args.place _ c.self.invariant.3 now.first (sym c.lacks_data.ensures ∙ c.if-lacks_data.false)),
     )
 
 pub returns-then-lacks_data-clause-items : goal.returns-then-lacks_data-clause-items
-returns-then-lacks_data-clause-items c =
+returns-then-lacks_data-clause-items g c =
     let inside = c.self.inside in
-    (filled c.args.place inside.entries.items c.put.new.self.items c.args.self.now c.get-write.result _ (ap items_of c.self.view_is)
+    (filled c.args.place (g.E.Entries.side inside.entries).items (g.E.Entries.side c.put.new.self).items c.args.self.now c.get-write.result _ (ap items_of c.self.view_is)
     c.requires c.get-write.ensures.value c.write.view_is c.put.ensures.items).is
 
 pub returns-clause-items : goal.returns-clause-items
-returns-clause-items c =
+returns-clause-items g c =
     let inside = c.self.inside in
-    (filled c.args.place inside.entries.items c.put.new.self.items c.args.self.now c.get-write.result _ (ap items_of c.self.view_is)
+    (filled c.args.place (g.E.Entries.side inside.entries).items (g.E.Entries.side c.put.new.self).items c.args.self.now c.get-write.result _ (ap items_of c.self.view_is)
     c.requires c.get-write.ensures.value c.write.view_is c.put.ensures.items).is

@@ -2,7 +2,7 @@
 use Rattle.std.proofs.Common.{◌≡◌, ◌∙◌, length, ap, arith}
 use Rattle.axi_checker.specs.Monitors.{OpenSide}
 use Rattle.axi_checker.proofs.Slots.{many_at}
-use Rattle.axi_checker.proofs.queue.Queue.len.Goals as goal
+use Rattle.axi_checker.proofs.queue.QueueEntries.len.Goals as goal
 
 pub returns-clause-count : goal.returns-clause-count
 returns-clause-count g c =

@@ -3,7 +3,7 @@ use Rattle.std.proofs.Common.{◌<◌, ◌≤◌, ℕ, List, length, ap, ◌∙�
 use Rattle.std.specs.List.{remove}
 use Rattle.std.proofs.lemmas.List.{length-take-le}
 use Rattle.axi_checker.proofs.RowPlaces.{gap_closed}
-use Rattle.axi_checker.proofs.id_row.IdRow.remove.Goals as goal
+use Rattle.axi_checker.proofs.id_row.IdRowIds.remove.Goals as goal
 
 pub returns-clause-items : goal.returns-clause-items
 returns-clause-items c =

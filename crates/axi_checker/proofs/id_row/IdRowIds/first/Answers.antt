@@ -2,7 +2,7 @@
 use Rattle.std.proofs.Common.{◌==◌, ◌≤◌, ℕ, Bool, Some, length, ap, ◌∙◌, arith}
 use Rattle.std.specs.List.{position}
 use Rattle.axi_checker.proofs.RowPlaces.{first_of_more, none_of_more}
-use Rattle.axi_checker.proofs.id_row.IdRow.first.Goals as goal
+use Rattle.axi_checker.proofs.id_row.IdRowIds.first.Goals as goal
 
 pub returns-then-place-self : goal.returns-then-place-self
 returns-then-place-self c =

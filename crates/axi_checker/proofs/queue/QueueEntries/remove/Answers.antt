@@ -3,7 +3,7 @@ use Rattle.std.proofs.Common.{◌≡◌, ◌∙◌, ◌<◌, ◌≤◌, length, 
 use Rattle.std.specs.List.{remove}
 use Rattle.axi_checker.specs.Monitors.{OpenSide}
 use Rattle.axi_checker.proofs.Slots.{many_at, removed, slots_left}
-use Rattle.axi_checker.proofs.queue.Queue.remove.Goals as goal
+use Rattle.axi_checker.proofs.queue.QueueEntries.remove.Goals as goal
 
 pub invariant_of-self : goal.invariant_of-self
 invariant_of-self g c =

@@ -3,7 +3,7 @@ use Rattle.std.proofs.Common.{◌≡◌, ◌∙◌, ◌<◌, ◌≤◌, ◌+◌,
 use Rattle.axi_checker.specs.Monitors.{OpenSide}
 use Rattle.axi_checker.specs.Slots.{at_slots}
 use Rattle.axi_checker.proofs.Slots.{many_at, pushed, slot_within}
-use Rattle.axi_checker.proofs.queue.Queue.push.Goals as goal
+use Rattle.axi_checker.proofs.queue.QueueEntries.push.Goals as goal
 
 pub index_mut-requires : goal.index_mut-requires
 index_mut-requires g c =
