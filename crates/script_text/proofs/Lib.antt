@@ -1,4 +1,5 @@
 mod Blocks
+mod ConfigLines
 mod Endings
 pub mod LineRooms
 pub mod PageLists

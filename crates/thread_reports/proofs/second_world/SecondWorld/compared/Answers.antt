@@ -30,6 +30,10 @@ returns-clause-one_at_a_time c setup opens =
     subst (λ world. IsOneAtATime setup c.args.steps.now (answers_of start c.args.steps.now) (handed_in start c.args.steps.now) (sent_in start c.args.steps.now) (in_flight world) (byte_of world)) (sym ran.world)
     (carried_out setup c.args.steps.now along)
 
+pub returns-then-receipts-scripts-clause-mismatch : goal.returns-then-receipts-scripts-clause-mismatch
+returns-then-receipts-scripts-clause-mismatch c few =
+    inl (λ same. c.if-receipts-scripts.true (same ∙ length-map c.args.scripts.now (λ list. list.items)), refl, refl)
+
 pub returns-in-Some-clause-mismatch : goal.returns-in-Some-clause-mismatch
 returns-in-Some-clause-mismatch c few =
     let ran = c.replayed-replay.ensures.replays in
