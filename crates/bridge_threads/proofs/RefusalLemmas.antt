@@ -1,6 +1,6 @@
 -- A run that isn't refused.
-use Rattle.std.proofs.Common.{◌≡◌, ℕ, ◌≤◌, ◌==◌, Bool, true, false, List, length, Option, Some, None, refl, sym}
-use Rattle.std.specs.Prelude.{◌&&◌, ◌||◌, not, is_some, nat_le, nat_lt}
+use Rattle.std.proofs.Common.{◌≡◌, ◌≢◌, ℕ, ◌≤◌, ◌==◌, Bool, true, false, List, length, Option, Some, None, Result, Ok, Err, refl, sym, ◌∙◌}
+use Rattle.std.specs.Prelude.{◌&&◌, ◌||◌, ◌↔◌, IsTrue, not, is_some, nat_le, nat_lt}
 use Rattle.std.specs.List.{list_any}
 use Rattle.std.proofs.lemmas.Bool.{eqb-true, false≢true, leb-true, not-false}
 use Rattle.bus_words.specs.Lanes.{is_between}
@@ -10,6 +10,9 @@ use Rattle.config.specs.Configs.{is_valid}
 use Rattle.setups.specs.Setups.{SetupLists, setup_fault}
 use Rattle.setups.proofs.SetupFaults.{valid_of}
 use Rattle.thread_reports.specs.Refusals.{is_refused}
+use Rattle.bridge_threads.specs.Faults.{is_of_worker}
+use Rattle.bridge_threads.specs.declared.threads.Fault.{Fault}
+use Rattle.bridge_threads.specs.declared.threads.Fault.TheVariants.{BadConfig}
 
 -- where none of some tests holds, the first two don't
 first_two : (a b c d e f g : Bool) → (a || b || c || d || e || f || g) ≡ false → (a ≡ false) × (b ≡ false)
@@ -45,3 +48,14 @@ few_clients setup none =
     (is_between 3 12 setup.config.max_size) (setup.config.axi_bytes == 8 || setup.config.axi_bytes == 4 && nat_le 2 setup.config.max_len) valid in
     let most = second_of_two (nat_le 1 setup.config.clients) (nat_le setup.config.clients 8) between in
     leb-true setup.config.clients 8 most
+
+-- ---- what such a run answers isn't that it is refused
+
+pub apart : {A : Type 0} (refused : Bool) (fault : Fault) → refused ≡ false → fault ≢ BadConfig → (◌≡◌ {A = Result A Fault} (Err fault) (Err BadConfig)) ↔ IsTrue refused
+apart refused fault taken other = (λ is. absurd (other cc), λ yes. absurd (false≢true (sym taken ∙ yes)))
+
+pub apart_from_report : {A : Type 0} (refused : Bool) (report : A) → refused ≡ false → (◌≡◌ {A = Result A Fault} (Ok report) (Err BadConfig)) ↔ IsTrue refused
+apart_from_report refused report taken = (λ is. cc, λ yes. absurd (false≢true (sym taken ∙ yes)))
+
+pub of_worker_apart : (fault : Fault) → is_of_worker fault ≡ true → fault ≢ BadConfig
+of_worker_apart fault own is = false≢true (rw is at own)

@@ -1,12 +1,12 @@
 -- The report is that of the replay.
-use Rattle.std.proofs.Common.{◌≡◌, ◌≤◌, ◌∙◌, Some, ap, arith, length, sym, rules}
+use Rattle.std.proofs.Common.{◌≡◌, ◌≤◌, ◌∙◌, Some, ap, arith, length, refl, sym, rules}
 use Rattle.std.proofs.lemmas.List.{length-map}
 use Rattle.config.specs.Configs.{port_of}
 use Rattle.setups.specs.Setups.{lists_of}
 use Rattle.thread_reports.specs.Reports.{items_of}
 use Rattle.bridge_threads.specs.declared.threads.Fault.TheVariants.{BeatRefused, HistoryFull}
 use Rattle.bridge_threads.proofs.FrontLemmas.{never_busy}
-use Rattle.bridge_threads.proofs.RefusalLemmas.{few_clients, not_refused}
+use Rattle.bridge_threads.proofs.RefusalLemmas.{apart, apart_from_report, few_clients, not_refused, of_worker_apart}
 use Rattle.bridge_threads.proofs.threads.run_threads.Goals as goal
 
 pub prepare-requires : goal.prepare-requires
@@ -58,3 +58,36 @@ returns-clause-full g c = search rules
 
 pub returns-clause-beat : goal.returns-clause-beat
 returns-clause-beat g c = search rules
+
+pub returns-in_default-clause-refused : goal.returns-in_default-clause-refused
+returns-in_default-clause-refused g c = apart _ _ (sym c.is_refused.ensures ∙ c.if-is_refused.false) (λ is. cc)
+
+pub returns-then-met_full_history-clause-refused : goal.returns-then-met_full_history-clause-refused
+returns-then-met_full_history-clause-refused g c = apart _ _ (sym c.is_refused.ensures ∙ c.if-is_refused.false) (of_worker_apart c.told_at_full.result c.told_at_full.ensures.own)
+
+pub returns-in-Some-clause-refused : goal.returns-in-Some-clause-refused
+returns-in-Some-clause-refused g c = apart _ _ (sym c.is_refused.ensures ∙ c.if-is_refused.false) (of_worker_apart c.in-Some.fault c.in-Some.ensures.own)
+
+pub returns-in-Ok-compared-clause-refused : goal.returns-in-Ok-compared-clause-refused
+returns-in-Ok-compared-clause-refused g c = apart_from_report _ _ (sym c.is_refused.ensures ∙ c.if-is_refused.false)
+
+pub returns-clause-refused : goal.returns-clause-refused
+returns-clause-refused g c = apart _ _ (sym c.is_refused.ensures ∙ c.if-is_refused.false) (of_worker_apart c.mismatched.result (rw c.mismatched.ensures refl))
+
+pub returns-in_default-clause-memory : goal.returns-in_default-clause-memory
+returns-in_default-clause-memory g c is = sym c.is_refused.ensures ∙ c.if-is_refused.false
+
+pub returns-then-refused-clause-memory : goal.returns-then-refused-clause-memory
+returns-then-refused-clause-memory g c is = sym c.is_refused.ensures ∙ c.if-is_refused.false
+
+pub returns-then-met_full_history-clause-memory : goal.returns-then-met_full_history-clause-memory
+returns-then-met_full_history-clause-memory g c is = sym c.is_refused.ensures ∙ c.if-is_refused.false
+
+pub returns-in-Some-clause-memory : goal.returns-in-Some-clause-memory
+returns-in-Some-clause-memory g c is = sym c.is_refused.ensures ∙ c.if-is_refused.false
+
+pub returns-in-Ok-compared-clause-memory : goal.returns-in-Ok-compared-clause-memory
+returns-in-Ok-compared-clause-memory g c is = sym c.is_refused.ensures ∙ c.if-is_refused.false
+
+pub returns-clause-memory : goal.returns-clause-memory
+returns-clause-memory g c is = sym c.is_refused.ensures ∙ c.if-is_refused.false

@@ -1,5 +1,6 @@
 -- A refused beat was confirmed, by a port that has kept its limits.
 use Rattle.std.proofs.Common.{◌∙◌, arith}
+use Rattle.std.proofs.lemmas.Bool.{false≢true}
 use Rattle.std.proofs.lemmas.Grind.{common_steps}
 use Rattle.std.specs.Prelude.{Ok}
 use Rattle.std.proofs.lemmas.Option.{same_Some}
@@ -18,3 +19,15 @@ returns-in-Ok-clause-first c = grind (arith, common_steps)
 
 pub loop-worker-preserved : goal.loop-worker-preserved
 loop-worker-preserved c = grind (arith, common_steps)
+
+pub returns-in-Ok-clause-own : goal.returns-in-Ok-clause-own
+returns-in-Ok-clause-own c = c.in-Ok.ensures.own
+
+pub returns-in-Ok-clause-full : goal.returns-in-Ok-clause-full
+returns-in-Ok-clause-full c is = c.confirmed.ensures.full (c.in-Ok.is ∙ ap (λ fault. Ok fault) (same_Some _ _ is))
+
+pub returns-clause-full : goal.returns-clause-full
+returns-clause-full c is = absurd (false≢true (rw is at c.loop-worker.invariant.0))
+
+pub returns-clause-beat : goal.returns-clause-beat
+returns-clause-beat c setup clients client index rule same few is = absurd (false≢true (rw is at c.loop-worker.invariant.0))

@@ -29,11 +29,17 @@ returns-clause-right c =
 pub returns-clause-refused : goal.returns-clause-refused
 returns-clause-refused c = refused_later (setup_fault (lists_of c.args.setup.now)) _ _ c.in-Ok.ensures.refused
 
+pub returns-in_default-clause-refused : goal.returns-in_default-clause-refused
+returns-in_default-clause-refused c = refused_later (setup_fault (lists_of c.args.setup.now)) _ _ c.in-Ok.ensures.refused
+
 pub returns-in_default-see_step-clause-refused : goal.returns-in_default-see_step-clause-refused
 returns-in_default-see_step-clause-refused c = refused_later (setup_fault (lists_of c.args.setup.now)) _ _ c.in-Ok.ensures.refused
 
 pub returns-in-Err-clause-refused : goal.returns-in-Err-clause-refused
 returns-in-Err-clause-refused c = search rules
+
+pub returns-in-Err-clause-want : goal.returns-in-Err-clause-want
+returns-in-Err-clause-want c = c.in-Err.ensures.want
 
 pub returns-in-Err-clause-shows : goal.returns-in-Err-clause-shows
 returns-in-Err-clause-shows c = search rules
