@@ -1,6 +1,6 @@
 //! IDs in a row, of which as many as there is room for are looked at together, and moved together.
-ghost use Rattle.std.specs.Prelude.{◌≡◌, ◌<◌, ◌≤◌, ◌==◌, [], ◌∷◌, ◌++◌, length, position, slice_index_or, take};
-ghost use Rattle.std.specs.List.{position_or_len, remove};
+ghost use Rattle.std.specs.Prelude.{◌≡◌, ◌≤◌, ◌==◌, [], length, take};
+ghost use Rattle.std.specs.List.{position_or_len};
 
 use crate::ids::Ids;
 use crate::row::close_gap;

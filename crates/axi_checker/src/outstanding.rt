@@ -1,5 +1,5 @@
 //! The outstanding bursts of a port, the oldest first (AXI4, A5, transaction ordering).
-ghost use Rattle.std.specs.Prelude.{◌≡◌, ◌+◌, ◌<◌, ◌≤◌, [], ◌∷◌, ◌++◌, ◌-◌, ◌^◌, ◌==◌, Bool, IfOk, IfSome, Some, filter, find, if◌then◌else◌, length, nat_lt, option_map, position, sum_by};
+ghost use Rattle.std.specs.Prelude.{◌≡◌, ◌+◌, ◌<◌, ◌≤◌, [], ◌∷◌, ◌++◌, ◌-◌, ◌^◌, ◌==◌, Bool, IfSome, Some, filter, find, if◌then◌else◌, length, nat_lt, option_map, position, sum_by};
 ghost use Rattle.bus_words.specs.Places.{change_first, without_first};
 ghost use Rattle.axi_checker.specs.Monitors.{AreComplete};
 ghost use Rattle.axi_checker.specs.OpenBursts.{lacks_data, read_of_id, reads_after, write_of_id};

@@ -1,6 +1,5 @@
 //! Entries in order, at most 64, of which one leaves without moving the others.
-ghost use Rattle.std.specs.Prelude.{◌≡◌, ◌<◌, ◌≤◌, [], ◌∷◌, ◌++◌, IfOk, length, slice_index_or, slice_set, take};
-ghost use Rattle.std.specs.List.{remove};
+ghost use Rattle.std.specs.Prelude.{◌≡◌, ◌≤◌, [], IfOk, take};
 ghost use Rattle.axi_checker.specs.Slots.{AreSlots};
 
 use crate::entries::Entries;

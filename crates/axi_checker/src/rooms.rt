@@ -22,7 +22,9 @@ pub struct SmallRooms;
 
 impl Rooms for SmallRooms {
     type Writes = Queue<OpenWrite>;
+
     type Reads = Queue<OpenRead>;
+
     type Ids = IdRow;
 }
 
@@ -31,6 +33,8 @@ pub struct LargeRooms;
 
 impl Rooms for LargeRooms {
     type Writes = LongQueue<OpenWrite>;
+
     type Reads = LongQueue<OpenRead>;
+
     type Ids = LongRow;
 }
