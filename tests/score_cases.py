@@ -18,8 +18,15 @@ BEATS = {"A", "D", "AW", "W", "B", "AR", "R"}
 SETUP = script_cases.SETUP.rstrip()
 CONFIG = SETUP.partition("\n")[0]
 PUT = "A 0 0 0 3 5 8 ff 1122334455667788 0"
+
+
+def lines(line: str, count: int) -> str:
+    """A line so many times."""
+    return "\n".join([line] * count)
+
+
 # As many W beats as the longest burst has, none of them the last.
-LONGEST = "\n".join(["W 0 ff 0"] * 256)
+LONGEST = lines("W 0 ff 0", 256)
 
 # By both profiles, behind a set-up whose word at 10018 is bad.
 BY_EACH = {
@@ -509,6 +516,57 @@ INPUTS = {
         """
         for profile in ("bridge", "tilelink")
     },
+    # IDS and DEPTH as the ports of hardware have them, which no set-up of `run` takes.
+    "20 IDs, and one that isn't there": """config 1 1 20 1 16 12 h
+        AW 0 10000 0 3 1
+        AW 16 10000 0 3 1
+        AR 19 10000 0 3 1
+        AR 20 10000 0 3 1 -> axi 4 ID_RANGE
+        W 0 ff 1
+        B 16 OKAY -> axi 9 B_WITHOUT_WRITE
+        B 20 OKAY -> axi 4 ID_RANGE
+        B 0 OKAY
+        W 0 ff 1
+        B 16 OKAY
+        R 19 0 OKAY 1
+        -> outstanding 0 open 0
+        """,
+    **{
+        f"eight bursts of an ID, and a ninth, by profile {profile}": f"""config 1 1 64 8 16 12 h
+        profile {profile}
+        {lines("AW 63 10000 0 3 1", 8)}
+        AW 63 10000 0 3 1 -> axi 5 DEPTH
+        {lines("AR 63 10000 0 3 1", 8)}
+        AR 63 10000 0 3 1 -> axi 5 DEPTH
+        {lines("W 0 ff 1", 8)}
+        {lines("B 63 OKAY", 8)}
+        B 63 OKAY -> axi 9 B_WITHOUT_WRITE
+        {lines("R 63 0 OKAY 1", 7)}
+        AR 63 10000 0 3 1
+        -> outstanding 0 open 2
+        """
+        for profile in ("bridge", "tilelink")
+    },
+    "256 IDs of depth 16": f"""config 1 1 256 16 16 12 h
+        {lines("AR 255 10000 0 3 1", 16)}
+        AR 255 10000 0 3 1 -> axi 5 DEPTH
+        AR 254 10000 0 3 1
+        AW 255 10000 0 3 1
+        -> outstanding 0 open 18
+        """,
+    "16 IDs of depth 256": f"""config 1 1 16 256 16 12 h
+        {lines("AW 15 10000 0 3 1", 256)}
+        AW 15 10000 0 3 1 -> axi 5 DEPTH
+        AW 16 10000 0 3 1 -> axi 4 ID_RANGE
+        AW 14 10000 0 3 1
+        -> outstanding 0 open 257
+        """,
+    **{
+        f"{ids} IDs of depth {depth}": f"config 1 1 {ids} {depth} 16 12 h\nmem 0 -> set-up fault: BadConfig 0"
+        for ids, depth in ((0, 1), (1, 0), (257, 1), (1, 257), (241, 17), (256, 256), (65535, 65535))
+    },
+    "65,536 IDs": "config 1 1 65536 1 16 12 h -> fault at word 4",
+    "a depth of 65,536": "config 1 1 1 65536 16 12 h -> fault at word 5",
     "bursts anywhere, where no line asks for their places": f"""{SETUP}
         AW 0 14000 0 3 1
         AR 3 fff8 0 3 1
@@ -594,8 +652,8 @@ def all_cases():
             yield f"{name}, by profile {profile}", *case_of(f"{SETUP}\nbad 10018\nprofile {profile}\n{history.strip()}")
     for row in STORED:
         yield f"{row}, by profile tilelink", *stored_by_tilelink(row)
-    for name, lines in (INPUTS | error_histories.histories()).items():
-        yield name, *case_of(lines)
+    for name, history in (INPUTS | error_histories.histories()).items():
+        yield name, *case_of(history)
 
 
 def cases(program: str):

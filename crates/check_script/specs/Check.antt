@@ -41,6 +41,7 @@ check_kind =
     record {
       most_lines = 65536;
       takes = is_config_form;
+      port_field = byte_field;
       own_opening = tt;
       own_line = λ own words. None;
       passes = λ words. false;

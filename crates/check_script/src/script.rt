@@ -49,9 +49,12 @@ fn judge<W: Write>(
 }
 
 impl Kind for CheckScript {
+    ghost use Rattle.std.proofs.Common.{refl};
     ghost use Rattle.check_script.specs.Check.{check_kind};
     ghost use Rattle.check_script.specs.ClientPorts.{PortTable};
     ghost use Rattle.check_script.specs.CommandTexts.{check_gives};
+
+    type Setup = Setup;
 
     type Own = ();
 
@@ -118,6 +121,8 @@ impl Kind for CheckScript {
     ) -> Result<bool, WriteFault> {
         Ok(ports.refused())
     }
+
+    ghost reads_port = { refl };
 
     ghost gives_text = { check_gives };
 }

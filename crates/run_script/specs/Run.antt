@@ -77,6 +77,7 @@ run_kind =
     record {
       most_lines = 65536;
       takes = λ form. true;
+      port_field = byte_field;
       own_opening = tt;
       own_line = λ own words. None;
       passes = λ words. false;

@@ -84,9 +84,12 @@ fn command<W: Write>(
 }
 
 impl Kind for RunScript {
+    ghost use Rattle.std.proofs.Common.{refl};
     ghost use Rattle.run_script.specs.CommandTexts.{run_gives};
     ghost use Rattle.run_script.specs.Run.{run_kind};
     ghost use Rattle.world.specs.World.{WorldState};
+
+    type Setup = Setup;
 
     type Own = ();
 
@@ -143,6 +146,8 @@ impl Kind for RunScript {
     fn end<W: Write>(&mut self, _world: &mut World, _writer: &mut W) -> Result<bool, WriteFault> {
         Ok(false)
     }
+
+    ghost reads_port = { refl };
 
     ghost gives_text = { run_gives };
 }

@@ -17,7 +17,9 @@ use Rattle.scoreboard.specs.declared.ObservedBeat.TheVariants.{A, D, Axi, Draine
 use Rattle.scoreboard.specs.declared.Wrong.{Wrong}
 use Rattle.script_text.specs.Scripts.{Reading}
 use Rattle.script_text.specs.Stages.{Kind, Opening, Stage, reading_of, unless_refused}
-use Rattle.setups.specs.Setups.{SetupLists, setup_fault}
+use Rattle.line_text.specs.Fields.{short_field}
+use Rattle.score_setup.specs.ScoreSetups.{score_setup_fault}
+use Rattle.setups.specs.Setups.{SetupLists}
 
 -- the board; the regions to which bursts have to go, where that is asked for; the beat that is held, which is that of the last line, where that is an
 -- A line; and how many beats were judged, and how many of them are wrong
@@ -139,11 +141,12 @@ score_kind =
     record {
       most_lines = 4294967294;
       takes = λ form. true;
+      port_field = short_field;
       own_opening = nothing_asked;
       own_line = own_line;
       passes = only_settles;
       command_of = command_of;
-      opened = λ asked setup. unless_refused (opening_score asked setup) (setup_fault setup);
+      opened = λ asked setup. unless_refused (opening_score asked setup) (score_setup_fault setup);
       commanded = λ score number said. (finds_text (finds score number said), (finds score number said).after);
       ending = λ score. closing (settling score);
     }

@@ -1,7 +1,7 @@
 //! What was found of the beats that were read so far, and what each line finds.
 ghost use Rattle.std.specs.Prelude.{◌≡◌, ◌⊎◌, Err, IfErr, IfOk, IfSome, None, Some, if◌then◌else◌, is_some};
 ghost use Rattle.script_text.specs.Stages.{WritesEnd};
-ghost use Rattle.setups.specs.Setups.{lists_of, setup_fault};
+ghost use Rattle.score_setup.specs.ScoreSetups.{lists_of, score_setup_fault};
 ghost use Rattle.setups.specs.declared.SetupFault.TheVariants.{NoMemory};
 ghost use Rattle.score_script.specs.Scores.{beats_judged, client_of, closing, counted, finds, found, judging, misplaced_in, observing, opening_score, settling};
 ghost use Rattle.score_script.specs.ScoreStates.{score_of};
@@ -10,8 +10,9 @@ use crate::findings::{Finding, Findings, last_line, optional_line};
 use crate::profiles::Asked;
 use burst_plan::Region;
 use line_text::WriteFault;
+use score_setup::ScoreSetup;
 use scoreboard::{AxiPlaces, Errors, ObservedBeat, Policy, Scoreboard, Wrong};
-use setups::{Setup, SetupFault};
+use setups::SetupFault;
 use std::alloc::{AllocError, Global};
 use std::io::Write;
 use tl_messages::ABeat;
@@ -127,10 +128,10 @@ fn places_for(
 impl Score {
     /// A score of a set-up and of what its lines ask for beside it, of which nothing was observed.
     ///
-    /// It refuses what `setup_fault` does, with that fault; its one other error is NoMemory.
-    pub(crate) fn new(alloc: Global, asked: Asked, setup: &Setup) -> Result<Score, SetupFault>
-        ensures refused { IfSome (setup_fault (lists_of setup.now)) (λ fault. result ≡ Err fault) }
-        ensures want { IfErr result (λ fault. (setup_fault (lists_of setup.now) ≡ Some fault) ⊎ (fault ≡ NoMemory)) }
+    /// It refuses what `score_setup_fault` does, with that fault; its one other error is NoMemory.
+    pub(crate) fn new(alloc: Global, asked: Asked, setup: &ScoreSetup) -> Result<Score, SetupFault>
+        ensures refused { IfSome (score_setup_fault (lists_of setup.now)) (λ fault. result ≡ Err fault) }
+        ensures want { IfErr result (λ fault. (score_setup_fault (lists_of setup.now) ≡ Some fault) ⊎ (fault ≡ NoMemory)) }
         ensures opens { IfOk result (λ score. score_of score ≡ opening_score asked (lists_of setup.now)) }
     {
         let policy = asked.policy.unwrap_or(Policy::AcceptanceOrder);

@@ -7,8 +7,9 @@ use crate::lines::{command_of, only_settles};
 use crate::profiles::Asked;
 use crate::score::{Command, Score};
 use line_text::{Words, WriteFault};
+use score_setup::ScoreSetup;
 use script_text::{Form, Kind, ScriptFault, StagedScript, read_script};
-use setups::{Setup, SetupFault};
+use setups::SetupFault;
 use std::alloc::Global;
 use std::io::{Read, Write};
 
@@ -17,9 +18,12 @@ use std::io::{Read, Write};
 struct ScoreScript;
 
 impl Kind for ScoreScript {
+    ghost use Rattle.std.proofs.Common.{refl};
     ghost use Rattle.score_script.specs.CommandTexts.{score_gives};
     ghost use Rattle.score_script.specs.ScoreStates.{score_of};
     ghost use Rattle.score_script.specs.Scores.{Score, score_kind};
+
+    type Setup = ScoreSetup;
 
     type Own = Asked;
 
@@ -58,7 +62,12 @@ impl Kind for ScoreScript {
         command_of(words)
     }
 
-    fn open(&mut self, alloc: Global, asked: &Asked, setup: &Setup) -> Result<Score, SetupFault> {
+    fn open(
+        &mut self,
+        alloc: Global,
+        asked: &Asked,
+        setup: &ScoreSetup,
+    ) -> Result<Score, SetupFault> {
         Score::new(alloc, *asked, setup)
     }
 
@@ -76,6 +85,8 @@ impl Kind for ScoreScript {
     fn end<W: Write>(&mut self, score: &mut Score, writer: &mut W) -> Result<bool, WriteFault> {
         score.close(writer)
     }
+
+    ghost reads_port = { refl };
 
     ghost gives_text = { score_gives };
 }

@@ -1,4 +1,5 @@
 mod boards;
+mod limits;
 mod requests;
 mod runs;
 mod texts;
@@ -7,6 +8,7 @@ use axi_beats::{ArBeat, AwBeat, BBeat, RBeat, Resp, WBeat};
 use axi_checker::AxiBeat;
 use burst_plan::Region;
 use config::Config;
+use score_setup::ScoreSetup;
 use scoreboard::ObservedBeat;
 use setups::Setup;
 use std::fmt::Debug;
@@ -56,6 +58,12 @@ fn set_up(region: Region) -> Option<Setup> {
     setup.regions.try_extend_from_slice(&[region]).ok()?;
     setup.pages.try_extend_from_slice(&PAGES).ok()?;
     Some(setup)
+}
+
+/// The same, as a board takes it.
+fn board_set_up(region: Region) -> Option<ScoreSetup> {
+    let setup = set_up(region)?;
+    Some(ScoreSetup::of(&setup))
 }
 
 /// The region has no pages.

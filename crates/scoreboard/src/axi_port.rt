@@ -2,21 +2,22 @@
 ghost use Rattle.std.specs.Prelude.{◌≡◌, true, IfOk, option_map};
 ghost use Rattle.axi_checker.specs.OpenBursts.{nothing_open, oldest_read, oldest_write, open_count};
 ghost use Rattle.axi_checker.specs.Rules.{address_of_read, address_of_write, axi_fault};
-ghost use Rattle.config.specs.Configs.{axi_port_of, is_valid};
+ghost use Rattle.config.specs.Configs.{axi_port_of};
+ghost use Rattle.score_setup.specs.ScoreSetups.{is_valid_to_score, limits_of};
 ghost use Rattle.scoreboard.specs.AxiPorts.{bursts_after, wrong_axi};
 ghost use Rattle.scoreboard.specs.FailedBursts.{answered_span, span_of};
 
 use crate::Wrong;
 use crate::failed_bursts::Span;
 use axi_beats::Resp;
-use axi_checker::{AxiBeat, Monitor};
-use config::Config;
+use axi_checker::{AxiBeat, LargeMonitor};
+use score_setup::ScoreConfig;
 use std::alloc::{AllocError, Global};
 use std::marker::Model;
 
 /// The AXI4 port, by its monitor. All room is taken by `new`.
 pub(crate) struct AxiPort {
-    monitor: Monitor,
+    monitor: LargeMonitor,
 }
 
 impl Model for AxiPort {
@@ -36,11 +37,16 @@ impl Drop for AxiPort {
 
 impl AxiPort {
     /// A port within these limits, on which nothing is outstanding. The one error is that memory was refused.
-    pub(crate) fn new(alloc: Global, config: &Config) -> Result<Self, AllocError>
-        requires { is_valid config.now ≡ true }
-        ensures { IfOk result (λ port. port ≡ record { port = axi_port_of config.now; open_bursts = nothing_open }) }
+    pub(crate) fn new(alloc: Global, config: &ScoreConfig) -> Result<Self, AllocError>
+        requires { is_valid_to_score (limits_of config.now) ≡ true }
+        ensures { IfOk result (λ port. port ≡ record { port = axi_port_of (limits_of config.now); open_bursts = nothing_open }) }
     {
-        let monitor = Monitor::new(alloc, config.ids, config.depth, config.axi_bytes)?;
+        let monitor = LargeMonitor::of_any_depth(
+            alloc,
+            config.ids,
+            config.depth,
+            config.axi_bytes,
+        )?;
         Ok(AxiPort { monitor })
     }
 

@@ -3,9 +3,9 @@ ghost use Rattle.std.specs.Prelude.{◌≡◌, ◌<◌, ◌≤◌, ◌%◌, ◌�
 ghost use Rattle.std.specs.List.{range_with_len};
 ghost use Rattle.tl_messages.specs.Operations.{has_data, reply_has_data};
 ghost use Rattle.tl_messages.specs.Requests.{bytes_given, request_of};
-ghost use Rattle.config.specs.Configs.{is_valid};
 ghost use Rattle.meaning.specs.InTurn.{bytes_of_all};
-ghost use Rattle.setups.specs.Setups.{SetupLists, lists_of, setup_fault};
+ghost use Rattle.score_setup.specs.ScoreSetups.{is_valid_to_score, limits_of, lists_of, score_setup_fault};
+ghost use Rattle.setups.specs.Setups.{SetupLists};
 ghost use Rattle.setups.specs.declared.SetupFault.TheVariants.{NoMemory};
 ghost use Rattle.subordinate.specs.Faults.{is_good, standing_at};
 ghost use Rattle.scoreboard.specs.Boards.{acting, client_beside, early_due, fails, footprints_of, hit_client, opening_client, replies_open};
@@ -24,8 +24,8 @@ use crate::serial::SerialMemory;
 use crate::{Errors, ObservedBeat, Policy, Wrong};
 use axi_checker::AxiBeat;
 use burst_plan::PageMap;
-use config::Config;
-use setups::{Setup, SetupFault, setup_fault};
+use score_setup::{ScoreConfig, ScoreSetup, score_setup_fault};
+use setups::SetupFault;
 use std::alloc::{AllocError, Global};
 use std::marker::Model;
 use subordinate::Pages;
@@ -93,10 +93,14 @@ fn room_by(policy: Policy) -> usize
 }
 
 /// Each client of a set-up, of which nothing was observed, with room for so many flags in each footprint.
-fn opening_clients(alloc: Global, config: &Config, room: usize) -> Result<Vec<Client>, AllocError>
-    requires valid { is_valid config.now ≡ true }
+fn opening_clients(
+    alloc: Global,
+    config: &ScoreConfig,
+    room: usize,
+) -> Result<Vec<Client>, AllocError>
+    requires valid { is_valid_to_score (limits_of config.now) ≡ true }
     requires room { 1 ≤ room }
-    ensures { IfOk result (λ clients. (map client_of clients.items ≡ map (opening_client config.now) (range_with_len 0 config.now.clients)) × ClientsHaveRoom room clients.items) }
+    ensures { IfOk result (λ clients. (map client_of clients.items ≡ map (opening_client (limits_of config.now)) (range_with_len 0 config.now.clients)) × ClientsHaveRoom room clients.items) }
 {
     let mut clients = Vec::with_capacity(alloc, usize::from(config.clients))?;
     for client in 0..config.clients {
@@ -265,18 +269,18 @@ impl Scoreboard {
     /// A scoreboard of a set-up, of which nothing was observed: its clients, limits and regions are those that the observed
     /// ports allow, and all bytes of its good pages are zero.
     ///
-    /// It refuses what `setup_fault` does, with that fault; its one other error is NoMemory.
+    /// It refuses what `score_setup_fault` does, with that fault; its one other error is NoMemory.
     pub fn new(
         alloc: Global,
         policy: Policy,
         errors: Errors,
-        setup: &Setup,
+        setup: &ScoreSetup,
     ) -> Result<Self, SetupFault>
-        ensures refused { IfSome (setup_fault (lists_of setup.now)) (λ fault. result ≡ Err fault) }
-        ensures want { IfErr result (λ fault. (setup_fault (lists_of setup.now) ≡ Some fault) ⊎ (fault ≡ NoMemory)) }
+        ensures refused { IfSome (score_setup_fault (lists_of setup.now)) (λ fault. result ≡ Err fault) }
+        ensures want { IfErr result (λ fault. (score_setup_fault (lists_of setup.now) ≡ Some fault) ⊎ (fault ≡ NoMemory)) }
         ensures opens { IfOk result (λ board. (board_of board ≡ opening_with errors (lists_of setup.now)) × (board.policy ≡ policy)) }
     {
-        if let Some(fault) = setup_fault(setup) {
+        if let Some(fault) = score_setup_fault(setup) {
             return Err(fault);
         }
         match Scoreboard::opening(alloc, policy, errors, setup) {
@@ -289,9 +293,9 @@ impl Scoreboard {
         alloc: Global,
         policy: Policy,
         errors: Errors,
-        setup: &Setup,
+        setup: &ScoreSetup,
     ) -> Result<Self, AllocError>
-        requires { setup_fault (lists_of setup.now) ≡ None }
+        requires { score_setup_fault (lists_of setup.now) ≡ None }
         ensures { IfOk result (λ board. (board_of board ≡ opening_with errors (lists_of setup.now)) × (board.policy ≡ policy)) }
     {
         let Ok(map) = PageMap::new(alloc, setup.regions.as_slice()) else {

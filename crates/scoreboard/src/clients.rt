@@ -4,7 +4,7 @@ ghost use Rattle.std.specs.List.{list_any};
 ghost use Rattle.tl_messages.specs.Requests.{HeldMessage, request_of};
 ghost use Rattle.tl_checker.specs.Ports.{joined};
 ghost use Rattle.tl_checker.specs.declared.Progress.TheVariants.{More, Whole};
-ghost use Rattle.config.specs.Configs.{is_valid};
+ghost use Rattle.score_setup.specs.ScoreSetups.{is_valid_to_score, limits_of};
 ghost use Rattle.scoreboard.specs.Boards.{answer_to, client_beside, client_footprints, early_after, early_left, has_replied, hit_client, is_spoiled, kept_from, next_to, opening_client, told_to, with_whole, wrong_reply};
 ghost use Rattle.scoreboard.specs.FailedBursts.{after_hit};
 ghost use Rattle.scoreboard.specs.Flights.{flights_after, is_of_source, next_reply, replies_left};
@@ -18,7 +18,7 @@ use crate::footprint::Footprint;
 use crate::in_flight::{InFlight, wrong_told};
 use crate::marks::{mark_dependent, mark_shared};
 use crate::{Errors, Policy, ReplyRule, Wrong};
-use config::Config;
+use score_setup::ScoreConfig;
 use std::alloc::{AllocError, Global};
 use std::marker::Model;
 use subordinate::Pages;
@@ -71,13 +71,13 @@ impl Client {
     /// memory was refused.
     pub(crate) fn new(
         alloc: Global,
-        config: &Config,
+        config: &ScoreConfig,
         client: u8,
         room: usize,
     ) -> Result<Self, AllocError>
-        requires valid { is_valid config.now ≡ true }
+        requires valid { is_valid_to_score (limits_of config.now) ≡ true }
         requires room { 1 ≤ room }
-        ensures { IfOk result (λ made. (client_of made ≡ opening_client config.now client) × (made.flights.room ≡ room)) }
+        ensures { IfOk result (λ made. (client_of made ≡ opening_client (limits_of config.now) client) × (made.flights.room ≡ room)) }
     {
         let level = config.level_of(client);
         let port = Port::new(alloc, client, level, config.max_size)?;

@@ -2,7 +2,8 @@
 ghost use Rattle.std.specs.Prelude.{◌≡◌, ◌&&◌, true, IfOk, length, nat_lt};
 ghost use Rattle.std.specs.VecDeque.{deque_capacity};
 ghost use Rattle.axi_checker.specs.OpenBursts.{nothing_open, open_count};
-ghost use Rattle.config.specs.Configs.{axi_port_of, is_valid};
+ghost use Rattle.config.specs.Configs.{axi_port_of};
+ghost use Rattle.score_setup.specs.ScoreSetups.{is_valid_to_score, limits_of};
 ghost use Rattle.scoreboard.specs.AxiPorts.{after_with_early, drained, none_early, port_after, port_wrong, taking, tells_no_write, wrong_with_early};
 ghost use Rattle.scoreboard.specs.FailedBursts.{answered_span};
 
@@ -11,7 +12,7 @@ use crate::failed_bursts::Span;
 use crate::{Policy, Wrong};
 use axi_beats::WBeat;
 use axi_checker::{AxiBeat, AxiRule};
-use config::Config;
+use score_setup::ScoreConfig;
 use std::alloc::{AllocError, Global};
 use std::collections::VecDeque;
 use std::marker::Model;
@@ -74,9 +75,9 @@ fn take_early(axi: &mut AxiPort, early: &mut VecDeque<WBeat>) -> Option<Wrong>
 
 impl EarlyPort {
     /// A port within these limits, on which nothing is outstanding and nothing is early. The one error is that memory was refused.
-    pub(crate) fn new(alloc: Global, config: &Config) -> Result<Self, AllocError>
-        requires { is_valid config.now ≡ true }
-        ensures { IfOk result (λ port. port ≡ none_early (axi_port_of config.now) nothing_open) }
+    pub(crate) fn new(alloc: Global, config: &ScoreConfig) -> Result<Self, AllocError>
+        requires { is_valid_to_score (limits_of config.now) ≡ true }
+        ensures { IfOk result (λ port. port ≡ none_early (axi_port_of (limits_of config.now)) nothing_open) }
     {
         let axi = AxiPort::new(alloc, config)?;
         let early = VecDeque::with_capacity(alloc, MOST_EARLY)?;

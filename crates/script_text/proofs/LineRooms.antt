@@ -1,17 +1,16 @@
 -- A set-up line that may stand has room.
 use Rattle.std.proofs.Common.{◌≡◌, ◌<◌, ◌≤◌, ℕ, ◌+◌, List, [], ◌∷◌, length, Bool, true, false, ◌&&◌, ◌||◌, nat_lt, nat_le, Option, None, Some, Result, Ok, Err, refl, sym, ap, arith, if◌then◌else◌, rules}
 use Rattle.std.proofs.lemmas.Bool.Decides.{nat_tests}
-use Rattle.config.specs.declared.Config.{Config as Limits}
 use Rattle.setups.specs.Setups.{SetupLists}
 use Rattle.line_text.specs.Fields.{first_wrong, read_as, unless_wrong, address_field}
-use Rattle.script_text.specs.Forms.{told_as, count_field, kind_field}
-use Rattle.script_text.specs.SetupLines.{config_in, config_fields, region_in, region_fields, page_fields, kind_in}
-use Rattle.script_text.specs.Stages.{HasRoomFor, MayStand, Opening, Running, SettingUp, Stage, has_no_room, is_misplaced, setup_line}
+use Rattle.script_text.specs.Forms.{count_field, kind_field}
+use Rattle.script_text.specs.SetupLines.{region_in, region_fields, page_fields, kind_in}
+use Rattle.script_text.specs.Stages.{HasRoomFor, has_no_room, setup_line}
 use Rattle.line_text.specs.Words.{word_at, dec_at, hex_at}
 use Rattle.script_text.specs.declared.keywords.Form.{Form}
 use Rattle.script_text.specs.declared.keywords.Form.TheVariants as form
 use Rattle.script_text.specs.declared.setup_parser.SetupLine.{SetupLine}
-use Rattle.script_text.specs.declared.setup_parser.SetupLine.TheVariants.{Config, Region, Pages, BadWord}
+use Rattle.script_text.specs.declared.setup_parser.SetupLine.TheVariants.{Region, Pages, BadWord}
 
 apart : false ≡ true → ⊥
 apart wrong = search rules
@@ -31,10 +30,6 @@ said : (value line : SetupLine) (fault : Option ℕ) → unless_wrong value faul
 said value line None same = (refl, sym (ap (told value) same))
 said value line (Some word) same = absurd (apart (ap went same))
 
-said_config : (value : Limits) (line : SetupLine) (fault : Option ℕ) → told_as Config (unless_wrong value fault) ≡ Ok line → line ≡ Config value
-said_config value line None same = sym (ap (told (Config value)) same)
-said_config value line (Some word) same = absurd (apart (ap went same))
-
 -- the fields of a `page` line that are right
 page_right : (first count kind : Bool) (last : Option ℕ) → (if first then (if count then (if kind then last else Some 4) else Some 3) else Some 2) ≡ None → (first ≡ true) × (count ≡ true) × (kind ≡ true)
 page_right true true true last same = (refl, refl, refl)
@@ -44,7 +39,6 @@ page_right false count kind last same = search rules
 
 -- what a set-up line of a form says
 abbrev SaysAs : Form → List (List ℕ) → SetupLine → Type 0
-SaysAs form.Config words line = line ≡ Config (config_in words)
 SaysAs form.Region words line = line ≡ Region (region_in words)
 SaysAs form.Page words line =
     (address_field (word_at words 2) ≡ true) × (count_field (word_at words 3) ≡ true)
@@ -59,7 +53,7 @@ page_says words line same =
     (right.0, right.1, says.1)
 
 says : (f : Form) (words : List (List ℕ)) (line : SetupLine) → setup_line f words ≡ Ok line → SaysAs f words line
-says form.Config words line same = said_config (config_in words) line (first_wrong (config_fields words) words 2) same
+says form.Config words line same = apart (ap went same)
 says form.Region words line same = (said (Region (region_in words)) line (first_wrong region_fields words 2) same).1
 says form.Page words line same = page_says words line same
 says form.BadWord words line same = (said (BadWord (hex_at words 2)) line (first_wrong (address_field ∷ []) words 2) same).1
@@ -90,7 +84,7 @@ pages_fit held count first counted addressed is_count is_address fits = by_tests
     by_tests false false false m l fits' = (grind (arith, nat_tests, m), grind (arith, nat_tests, l))
 
 set_up_room : (setup : SetupLists) (f : Form) (words : List (List ℕ)) (line : SetupLine) → has_no_room setup f words ≡ false → SaysAs f words line → HasRoomFor setup line
-set_up_room setup form.Config words line test is = absurd (apart (sym test))
+set_up_room setup form.Config words line test is = absurd is
 set_up_room setup form.Region words line test is = let few : length setup.regions < 16 = grind (arith, nat_tests, test) in rw is few
 set_up_room setup form.Page words line test (address, count, is) =
     let fits = pages_fit (length setup.pages) (dec_at words 3) (hex_at words 2) (count_field (word_at words 3)) (address_field (word_at words 2)) count address test in
@@ -111,32 +105,3 @@ set_up_room setup form.Word words line test is = absurd is
 -- a set-up line that was read has room where one of its form has
 pub setup_line-room : (setup : SetupLists) (f : Form) (words : List (List ℕ)) (line : SetupLine) → has_no_room setup f words ≡ false → setup_line f words ≡ Ok line → HasRoomFor setup line
 setup_line-room setup f words line test same = set_up_room setup f words line test (says f words line same)
-
-abbrev opening : (S W : Type 0) → Stage S W
-opening S W = Opening
-
-opening_room : (S W : Type 0) (f : Form) (words : List (List ℕ)) (line : SetupLine) → is_misplaced (opening S W) f words ≡ false → SaysAs f words line → MayStand (opening S W) line
-opening_room S W form.Config words line test is = rw is tt
-opening_room S W form.Region words line test is = absurd (apart (sym test))
-opening_room S W form.Page words line test is = absurd (apart (sym test))
-opening_room S W form.BadWord words line test is = absurd (apart (sym test))
-opening_room S W form.Offer words line test is = absurd is
-opening_room S W form.Pump words line test is = absurd is
-opening_room S W form.Perform words line test is = absurd is
-opening_room S W form.AnswerB words line test is = absurd is
-opening_room S W form.AnswerR words line test is = absurd is
-opening_room S W form.Take words line test is = absurd is
-opening_room S W form.Drain words line test is = absurd is
-opening_room S W form.Mem words line test is = absurd is
-opening_room S W form.Work words line test is = absurd is
-opening_room S W form.Free words line test is = absurd is
-opening_room S W form.Word words line test is = absurd is
-
-room : {S W : Type 0} (stage : Stage S W) (f : Form) (words : List (List ℕ)) (line : SetupLine) → is_misplaced stage f words ≡ false → SaysAs f words line → MayStand stage line
-room {S} {W} Opening f words line test is = opening_room S W f words line test is
-room (SettingUp setup own) f words line test is = set_up_room setup f words line test is
-room (Running world) f words line test is = absurd (apart (sym test))
-
--- a set-up line that was read may stand where one of its form may
-pub setup_line-stands : {S W : Type 0} (stage : Stage S W) (f : Form) (words : List (List ℕ)) (line : SetupLine) → is_misplaced stage f words ≡ false → setup_line f words ≡ Ok line → MayStand stage line
-setup_line-stands stage f words line test same = room stage f words line test (says f words line same)

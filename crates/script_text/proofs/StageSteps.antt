@@ -3,14 +3,16 @@ use Rattle.std.proofs.Common.{◌≡◌, ◌≢◌, ◌⊎◌, inl, inr, ℕ, Li
 use Rattle.std.proofs.KnownBytes.{Appends-nil, Keeps-refl}
 use Rattle.burst_plan.specs.PageMap.{region_fault}
 use Rattle.config.specs.Configs.{is_valid}
+use Rattle.line_text.specs.Fields.{Field}
 use Rattle.script_text.specs.Forms.{told_as}
 use Rattle.script_text.specs.Scripts.{LineStep}
-use Rattle.script_text.specs.Stages.{GivesSome, Kind, MayStand, OpensAs, OpensStage, Opening, Running, SettingUp, Stage, Writes, command_step, is_misplaced, nothing_written, reading_of, setup_line, setup_step, unless_refused, with_setup_line, world_at}
+use Rattle.script_text.specs.Stages.{GivesSome, Kind, OpensAs, OpensStage, Opening, Running, SettingUp, Stage, Writes, command_step, is_misplaced, nothing_written, reading_of, set_up_with, setup_step, unless_refused, world_at}
+use Rattle.script_text.specs.SetupLines.{config_line, with_config}
 use Rattle.script_text.specs.Steps.{GivesText, TakesStep}
 use Rattle.script_text.specs.declared.faults.ScriptFault.{ScriptFault}
 use Rattle.script_text.specs.declared.faults.ScriptFault.TheVariants.{Script, Setup, Read, Write, NoMemory}
 use Rattle.script_text.specs.declared.keywords.Form.{Form}
-use Rattle.script_text.specs.declared.setup_parser.SetupLine.{SetupLine}
+use Rattle.script_text.specs.declared.keywords.Form.TheVariants as form
 use Rattle.setups.proofs.SetupFaults.{memory_never}
 use Rattle.setups.specs.Setups.{SetupLists, setup_fault}
 use Rattle.setups.specs.declared.SetupFault.{SetupFault}
@@ -20,25 +22,27 @@ use Rattle.subordinate.specs.Faults.{device_fault}
 -- ---- making what commands work on
 
 -- a set-up with a fault is refused by it
-refused_as : (W : Type 0) (setup : SetupLists) (fault : SetupFault) → setup_fault setup ≡ Some fault → OpensAs {W = W} (Err fault) (Err fault)
-refused_as W setup refused.BadConfig is = refl
-refused_as W setup (refused.Map fault) is = refl
-refused_as W setup (refused.Device fault) is = refl
-refused_as W setup refused.NoMemory is = absurd (memory_never (is_valid setup.config) (region_fault setup.regions) (device_fault setup.pages setup.bad_words) is)
+refused_as : (W : Type 0) (fault : SetupFault) → fault ≢ refused.NoMemory → OpensAs {W = W} (Err fault) (Err fault)
+refused_as W refused.BadConfig never = refl
+refused_as W (refused.Map fault) never = refl
+refused_as W (refused.Device fault) never = refl
+refused_as W refused.NoMemory never = absurd (never refl)
 
 made_as : {V W : Type 0} (said : V → W) (opening : W) (result : Result V SetupFault) → IfOk result (λ world. said world ≡ opening) → IfErr result (λ fault. (None ≡ Some fault) ⊎ (fault ≡ refused.NoMemory)) → OpensAs (Ok opening) (told_as said result)
 made_as said opening (Ok world) is wants = ap (λ w. Ok w) (sym is)
 made_as said opening (Err fault) is (inl wrong) = search rules
 made_as said opening (Err fault) is (inr want) = rw want refl
 
--- a call that refuses a set-up with a fault by it, and makes what commands work on of each other where memory isn't refused
+-- a call that refuses a set-up with a fault by it, which isn't want of memory, and makes what commands work on of each other where memory isn't refused
+pub opens_unless : {V W : Type 0} (said : V → W) (opening : W) (fault : Option SetupFault) (result : Result V SetupFault) → fault ≢ Some refused.NoMemory → IfSome fault (λ fault. result ≡ Err fault)
+    → IfErr result (λ other. (fault ≡ Some other) ⊎ (other ≡ refused.NoMemory)) → IfOk result (λ world. said world ≡ opening) → OpensAs (unless_refused opening fault) (told_as said result)
+opens_unless said opening None result never refuses wants opens = made_as said opening result opens wants
+opens_unless said opening (Some fault) result never refuses wants opens = rw refuses (refused_as _ fault (λ want. never (ap (λ f. Some f) want)))
+
+-- a call that opens a set-up of this project's bridge
 pub opens_as : {V W : Type 0} (said : V → W) (opening : W) (setup : SetupLists) (result : Result V SetupFault) → IfSome (setup_fault setup) (λ fault. result ≡ Err fault)
     → IfErr result (λ fault. (setup_fault setup ≡ Some fault) ⊎ (fault ≡ refused.NoMemory)) → IfOk result (λ world. said world ≡ opening) → OpensAs (unless_refused opening (setup_fault setup)) (told_as said result)
-opens_as said opening setup result refuses wants opens = by_fault (setup_fault setup) refl refuses wants
-  where
-    by_fault : (fault : Option SetupFault) → setup_fault setup ≡ fault → IfSome fault (λ f. result ≡ Err f) → IfErr result (λ f. (fault ≡ Some f) ⊎ (f ≡ refused.NoMemory)) → OpensAs (unless_refused opening fault) (told_as said result)
-    by_fault None is told asks = made_as said opening result opens asks
-    by_fault (Some fault) is told asks = rw told (refused_as _ setup fault is)
+opens_as said opening setup result = opens_unless said opening (setup_fault setup) result (memory_never (is_valid setup.config) (region_fault setup.regions) (device_fault setup.pages setup.bad_words))
 
 -- it was made before
 pub OpensStage-running : {S W C : Type 0} (kind : Kind S W C) (stage : Stage S W) (world : W) (number : ℕ) → stage ≡ Running world → (found : W) × (world_at kind stage number ≡ Ok found) × (stage ≡ Running found)
@@ -100,15 +104,29 @@ opened_as opened next world (made, is, here) there = is ∙ ap (λ w. Ok (world_
 
 -- ---- lines without text
 
-pub silent_before : {S W : Type 0} (stage : Stage S W) (line : SetupLine) → MayStand stage line → nothing_written stage ≡ true
-silent_before Opening line stands = refl
-silent_before (SettingUp setup own) line stands = refl
-silent_before (Running world) line stands = absurd stands
+-- a set-up line may stand before the first command alone
+pub silent_before : {S W : Type 0} (stage : Stage S W) (f : Form) (words : List (List ℕ)) → is_misplaced stage f words ≡ false → nothing_written stage ≡ true
+silent_before Opening f words fits = refl
+silent_before (SettingUp setup own) f words fits = refl
+silent_before (Running world) f words fits = search rules
+
+-- what is told of what was told
+pub told_twice : {X Y Z E : Type 0} (then : Y → Z) (first : X → Y) (result : Result X E) → told_as then (told_as first result) ≡ told_as (λ x. then (first x)) result
+told_twice then first (Ok x) = refl
+told_twice then first (Err fault) = refl
+
+-- a `config` line gives a set-up alone, before any line of the kind's own
+pub config_opens : {Z S W C : Type 0} (kind : Kind S W C) (stage : Stage S W) (words : List (List ℕ)) (lists : Z → SetupLists) (port_field : Field) (made : Result Z ℕ) → port_field ≡ kind.port_field
+    → told_as lists made ≡ told_as with_config (config_line port_field words) → set_up_with kind stage words form.Config ≡ told_as (λ setup. SettingUp (lists setup) kind.own_opening) made
+config_opens {S = S} {W = W} kind stage words lists port_field made reads gives =
+    let open_as : SetupLists → Stage S W = λ setup. SettingUp setup kind.own_opening in
+    ap (λ field. told_as (λ config. open_as (with_config config)) (config_line field words)) (sym reads) ∙ sym (told_twice open_as with_config (config_line port_field words))
+    ∙ ap (told_as open_as) (sym gives) ∙ told_twice open_as lists made
 
 -- a set-up line adds to the set-up
-pub setup_step-added : {S W C : Type 0} (kind : Kind S W C) (stage : Stage S W) (number : ℕ) (words : List (List ℕ)) (f : Form) (line : SetupLine) → kind.takes f ≡ true → is_misplaced stage f words ≡ false → setup_line f words ≡ Ok line
-    → setup_step kind stage number words f ≡ Ok ([], with_setup_line kind.own_opening stage line)
-setup_step-added kind stage number words f line takes fits says = rw (takes, fits, says) refl
+pub setup_step-added : {S W C : Type 0} (kind : Kind S W C) (stage next : Stage S W) (number : ℕ) (words : List (List ℕ)) (f : Form) → kind.takes f ≡ true → is_misplaced stage f words ≡ false → set_up_with kind stage words f ≡ Ok next
+    → setup_step kind stage number words f ≡ Ok ([], next)
+setup_step-added kind stage next number words f takes fits says = rw (takes, fits, says) refl
 
 -- before the first command there are lines without text
 pub TakesStep-quiet : {S W C : Type 0} (kind : Kind S W C) (stage next : Stage S W) (step : LineStep (Stage S W)) (writer : Option (List ℕ)) → step ≡ Ok ([], next) → nothing_written stage ≡ true

@@ -13,7 +13,7 @@ use Rattle.line_text.specs.Fields.{Field, byte_field, short_field, long_field, a
 use Rattle.script_text.specs.Forms.{levels_field, permissions_field, count_field, kind_field}
 use Rattle.line_text.specs.Words.{word_at, dec_at, hex_at}
 use Rattle.script_text.specs.declared.setup_parser.SetupLine.{SetupLine}
-use Rattle.script_text.specs.declared.setup_parser.SetupLine.TheVariants.{Config, Region, Pages, BadWord}
+use Rattle.script_text.specs.declared.setup_parser.SetupLine.TheVariants.{Region, Pages, BadWord}
 
 -- ---- config CLIENTS QUOTA IDS DEPTH MAXLEN MAXSIZE LEVELS, and the bytes of the bus where they aren't 8
 
@@ -28,9 +28,10 @@ bus_fields words = if names_bus words then byte_field ∷ [] else []
 abbrev pub bus_in : List (List ℕ) → ℕ
 bus_in words = if names_bus words then dec_at words 9 else 8
 
-abbrev pub config_fields : List (List ℕ) → List Field
-config_fields words =
-    byte_field ∷ byte_field ∷ byte_field ∷ byte_field ∷ short_field ∷ byte_field ∷ levels_field (dec_at words 2) ∷ bus_fields words
+-- the fields, where IDS and DEPTH are such words
+abbrev pub config_fields : Field → List (List ℕ) → List Field
+config_fields port_field words =
+    byte_field ∷ byte_field ∷ port_field ∷ port_field ∷ short_field ∷ byte_field ∷ levels_field (dec_at words 2) ∷ bus_fields words
 
 abbrev pub level_of : ℕ → Level
 level_of letter = if letter == 104 then Uh else Ul
@@ -56,8 +57,8 @@ config_in words =
       axi_bytes = bus_in words;
     }
 
-abbrev pub config_line : List (List ℕ) → Result Limits ℕ
-config_line words = read_as (config_fields words) words (config_in words)
+abbrev pub config_line : Field → List (List ℕ) → Result Limits ℕ
+config_line port_field words = read_as (config_fields port_field words) words (config_in words)
 
 -- ---- region TLPAGE PAGES AXIPAGE PERMS
 
@@ -119,9 +120,8 @@ too_many_pages held words =
 abbrev pub with_config : Limits → SetupLists
 with_config config = record { config = config; regions = []; pages = []; bad_words = [] }
 
--- what a line adds to a set-up
+-- what another line adds to it
 abbrev pub with_line : SetupLists → SetupLine → SetupLists
-with_line setup (Config config) = record setup { config = config }
 with_line setup (Region region) = record setup { regions = setup.regions ++ region ∷ [] }
 with_line setup (Pages first count kind) = record setup { pages = setup.pages ++ pages_from first count kind }
 with_line setup (BadWord address) = record setup { bad_words = setup.bad_words ++ address ∷ [] }

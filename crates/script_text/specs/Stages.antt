@@ -1,19 +1,20 @@
 -- What every kind of script has in common: a `config` line, other set-up lines, and then commands (this project's profile).
-use Rattle.std.specs.Prelude.{◌≡◌, ◌≢◌, ◌<◌, ◌≤◌, ◌+◌, ◌^◌, ⊤, ℕ, Bool, true, false, not, ◌||◌, List, [], ◌++◌, length, Option, Some, None, Result, Ok, Err, IsOk, if◌then◌else◌, nat_le}
+use Rattle.std.specs.Prelude.{◌≡◌, ◌≢◌, ◌<◌, ◌≤◌, ◌+◌, ◌^◌, ℕ, Bool, true, false, not, ◌||◌, List, [], ◌++◌, length, Option, Some, None, Result, Ok, Err, IsOk, if◌then◌else◌, nat_le}
 use Rattle.std.specs.Io.KnownBytes.{Appends}
-use Rattle.setups.specs.Setups.{SetupLists, lists_of}
+use Rattle.setups.specs.Setups.{SetupLists}
 use Rattle.setups.specs.declared.SetupFault.{SetupFault}
 use Rattle.setups.specs.declared.SetupFault.TheVariants as refused
 use Rattle.script_text.specs.Forms.{told_as, form_of}
 use Rattle.script_text.specs.Scripts.{LineStep, Reading, TextResult, ended}
 use Rattle.script_text.specs.SetupLines.{config_line, region_line, page_line, bad_line, too_many_pages, with_config, with_line}
+use Rattle.line_text.specs.Fields.{Field}
 use Rattle.line_text.specs.Words.{word_at}
 use Rattle.script_text.specs.declared.faults.ScriptFault.{ScriptFault}
 use Rattle.script_text.specs.declared.faults.ScriptFault.TheVariants.{Script, Setup as SetupRefused, Read, Write, NoMemory}
 use Rattle.script_text.specs.declared.keywords.Form.{Form}
 use Rattle.script_text.specs.declared.keywords.Form.TheVariants as form
 use Rattle.script_text.specs.declared.setup_parser.SetupLine.{SetupLine}
-use Rattle.script_text.specs.declared.setup_parser.SetupLine.TheVariants.{Config, Region, Pages, BadWord}
+use Rattle.script_text.specs.declared.setup_parser.SetupLine.TheVariants.{Region, Pages, BadWord}
 use Rattle.script_text.specs.declared.stages.Stage.{Stage as StageHeld}
 use Rattle.script_text.specs.declared.stages.Stage.TheVariants as held
 
@@ -24,14 +25,15 @@ pub data Stage (S W : Type 0) : Type 0 where
   SettingUp : SetupLists → S → Stage S W
   Running : W → Stage S W
 
--- a kind of script: how many lines it may have; which set-up lines it has of those that scripts share; what its own set-up lines have said before the
--- first of them, and with one line more, or that line's first wrong word, where it is one of them; whether a line is passed over where it stands
--- before the first command; what the words of a command's line say, or the first wrong word, which is word 1 where no command begins so; what its
--- commands work on, or why the set-up is refused; what a command writes, by the number of its line, and what is there after it; and what is written
--- at the input's end, with the result
+-- a kind of script: how many lines it may have; which set-up lines it has of those that scripts share; which words IDS and DEPTH of its `config` line
+-- may be; what its own set-up lines have said before the first of them, and with one line more, or that line's first wrong word, where it is one of
+-- them; whether a line is passed over where it stands before the first command; what the words of a command's line say, or the first wrong word, which
+-- is word 1 where no command begins so; what its commands work on, or why the set-up is refused; what a command writes, by the number of its line,
+-- and what is there after it; and what is written at the input's end, with the result
 pub record Kind (S W C : Type 0) : Type 0 where
   pub most_lines : ℕ
   pub takes : Form → Bool
+  pub port_field : Field
   pub own_opening : S
   pub own_line : S → List (List ℕ) → Option (Result S ℕ)
   pub passes : List (List ℕ) → Bool
@@ -74,31 +76,36 @@ is_misplaced Opening form words = not (is_config_form form)
 is_misplaced (SettingUp setup own) form words = has_no_room setup form words
 is_misplaced (Running world) form words = true
 
--- what a set-up line of each form says, or its first wrong word
+-- what a set-up line of each form but `config` says, or its first wrong word
 abbrev pub setup_line : Form → List (List ℕ) → Result SetupLine ℕ
-setup_line form.Config words = told_as Config (config_line words)
 setup_line form.Region words = region_line words
 setup_line form.Page words = page_line words
 setup_line form.BadWord words = bad_line words
 setup_line _ words = Err 1
 
--- the set-up with one line more; the first line is `config`, and before it no line of the kind's own has said anything
-abbrev pub with_setup_line : {S W : Type 0} → S → Stage S W → SetupLine → Stage S W
-with_setup_line opening stage (Config config) = SettingUp (with_config config) opening
-with_setup_line opening (SettingUp setup own) line = SettingUp (with_line setup line) own
-with_setup_line opening stage line = stage
+-- the set-up with one line more
+abbrev pub with_setup_line : {S W : Type 0} → Stage S W → SetupLine → Stage S W
+with_setup_line (SettingUp setup own) line = SettingUp (with_line setup line) own
+with_setup_line stage line = stage
 
--- a set-up line adds to the set-up, and writes nothing
-abbrev pub added_step : {S W : Type 0} → S → Stage S W → ℕ → Result SetupLine ℕ → LineStep (Stage S W)
-added_step opening stage number (Ok line) = Ok ([], with_setup_line opening stage line)
-added_step opening stage number (Err word) = Err (Script number word)
+-- how far a script has come with a line of a set-up form, or that line's first wrong word; `config` is the first, and before it no line of the kind's
+-- own has said anything
+abbrev pub set_up_with : {S W C : Type 0} → Kind S W C → Stage S W → List (List ℕ) → Form → Result (Stage S W) ℕ
+set_up_with kind stage words form.Config =
+    told_as (λ config. SettingUp (with_config config) kind.own_opening) (config_line kind.port_field words)
+set_up_with kind stage words form = told_as (with_setup_line stage) (setup_line form words)
+
+-- a line that adds to what was said before writes nothing
+abbrev pub added_step : {X : Type 0} → ℕ → Result X ℕ → LineStep X
+added_step number (Ok added) = Ok ([], added)
+added_step number (Err word) = Err (Script number word)
 
 -- a line of a set-up form: the kind has to have it, and it has to be able to stand here
 abbrev pub setup_step : {S W C : Type 0} → Kind S W C → Stage S W → ℕ → List (List ℕ) → Form → LineStep (Stage S W)
 setup_step kind stage number words form =
     if not (kind.takes form) || is_misplaced stage form words
     then Err (Script number 1)
-    else added_step kind.own_opening stage number (setup_line form words)
+    else added_step number (set_up_with kind stage words form)
 
 -- ---- a command
 
@@ -203,10 +210,10 @@ GivesSome {S} {W} {C} kind =
 
 -- ---- what the state of a script is in a clause
 
-abbrev pub stage_of : {S W : Type 0} → StageHeld S W → Stage S W
-stage_of held.Opening = Opening
-stage_of (held.SettingUp setup own) = SettingUp (lists_of setup) own
-stage_of (held.Running world) = Running world
+abbrev pub stage_of : {Z S W : Type 0} → (Z → SetupLists) → StageHeld Z S W → Stage S W
+stage_of lists held.Opening = Opening
+stage_of lists (held.SettingUp setup own) = SettingUp (lists setup) own
+stage_of lists (held.Running world) = Running world
 
 -- a stage, with what commands work on said otherwise
 abbrev pub stage_as : {S V W : Type 0} → (V → W) → Stage S V → Stage S W
@@ -216,17 +223,14 @@ stage_as said (Running world) = Running (said world)
 
 -- a line that a set-up has room for
 abbrev pub HasRoomFor : SetupLists → SetupLine → Type 0
-HasRoomFor setup (Config config) = ⊥
 HasRoomFor setup (Region region) = length setup.regions < 16
 HasRoomFor setup (Pages first count kind) = (length setup.pages + count ≤ 64) × (first + count ≤ 2 ^ 32)
 HasRoomFor setup (BadWord address) = length setup.bad_words < 64
 
--- a set-up line that may stand: no other is added
-abbrev pub MayStand : {S W : Type 0} → Stage S W → SetupLine → Type 0
-MayStand Opening (Config config) = ⊤
-MayStand Opening line = ⊥
-MayStand (SettingUp setup own) line = HasRoomFor setup line
-MayStand (Running world) line = ⊥
+-- a line was taken, or its first wrong word is told
+abbrev pub TakesLine : {X : Type 0} → Result X ℕ → X → Result (Unit {0}) ℕ → Type 0
+TakesLine told new (Ok done) = told ≡ Ok new
+TakesLine told new (Err word) = told ≡ Err word
 
 -- what a script's commands work on was made where there was none, or why it wasn't; memory is asked for only where it may be made and nothing
 -- was written

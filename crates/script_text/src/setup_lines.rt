@@ -1,17 +1,47 @@
 //! The set-up lines that may stand, what each says, and the set-up that they add up to.
 ghost use Rattle.std.specs.Prelude.{◌≡◌, ◌≤◌, ◌+◌, ◌++◌, ◌^◌, length};
-ghost use Rattle.setups.specs.Setups.{lists_of};
-ghost use Rattle.script_text.specs.SetupLines.{pages_from, too_many_pages, with_line};
-ghost use Rattle.script_text.specs.Stages.{HasRoomFor, has_no_room, is_setup_form, setup_line};
+ghost use Rattle.script_text.specs.SetupLines.{pages_from, too_many_pages};
+ghost use Rattle.script_text.specs.Stages.{is_setup_form, setup_line};
 
 use crate::keywords::Form;
 use crate::setup_parser::{SetupLine, bad_line, config_line, page_count, page_line, region_line};
+use arrayvec::ArrayVec;
 use line_text::Words;
 use setups::Setup;
 use subordinate::PageKind;
 
 /// The most pages of a set-up.
 const MOST_PAGES: usize = 64;
+
+/// A set-up as the lines of a script add up to it.
+pub trait ScriptSetup {
+    ghost use Rattle.std.specs.Prelude.{◌≡◌};
+    ghost use Rattle.line_text.specs.Fields.{Field};
+    ghost use Rattle.setups.specs.Setups.{SetupLists};
+    ghost use Rattle.script_text.specs.Forms.{told_as};
+    ghost use Rattle.script_text.specs.SetupLines.{config_line, with_config, with_line};
+    ghost use Rattle.script_text.specs.Stages.{HasRoomFor, has_no_room};
+
+    /// Its lists.
+    ghost lists: { Self → SetupLists };
+
+    /// Which words IDS and DEPTH of its `config` line may be.
+    ghost port_field: { Field };
+
+    /// The set-up of a `config` line alone, or that line's first wrong word.
+    fn of_config(words: &Words<'_>) -> Result<Self, u32>
+        ensures { told_as lists result ≡ told_as with_config (config_line port_field words.now) };
+
+    /// Whether it has no room for one line more of this form: it takes one `config` line, 16 regions, 64 pages and 64 bad
+    /// words.
+    fn has_no_room(&self, form: Form, words: &Words<'_>) -> bool
+        ensures { result ≡ has_no_room (lists self.now) form words.now };
+
+    /// Adds a line for which it has room.
+    fn add(&mut self, line: SetupLine)
+        requires { HasRoomFor (lists self.old) line }
+        ensures { lists self.new ≡ with_line (lists self.old) line };
+}
 
 /// Whether a line of this form is a set-up line.
 pub fn is_setup_form(form: Form) -> bool
@@ -24,7 +54,7 @@ pub fn is_setup_form(form: Form) -> bool
 }
 
 /// Whether so many pages more have room, and numbers to 2^32 - 1, where the words of their line tell.
-fn too_many_pages(pages: usize, words: &Words<'_>) -> bool
+pub(crate) fn too_many_pages(pages: usize, words: &Words<'_>) -> bool
     ensures { result ≡ too_many_pages pages words.now }
 {
     if pages >= MOST_PAGES {
@@ -42,26 +72,11 @@ fn too_many_pages(pages: usize, words: &Words<'_>) -> bool
     }
 }
 
-/// Whether a set-up has no room for one line more of this form: it takes one `config` line, 16 regions, 64 pages and 64 bad
-/// words.
-pub fn has_no_room(setup: &Setup, form: Form, words: &Words<'_>) -> bool
-    ensures { result ≡ has_no_room (lists_of setup.now) form words.now }
-{
-    match form {
-        Form::Config => true,
-        Form::Region => setup.regions.is_full(),
-        Form::Page => too_many_pages(setup.pages.len(), words),
-        Form::BadWord => setup.bad_words.is_full(),
-        _ => false,
-    }
-}
-
-/// What a set-up line of this form says, or its first wrong word: word 1, where the form is no set-up line's.
+/// What a set-up line of this form says, or its first wrong word: word 1, where the form is no set-up line's, or `config`'s.
 pub fn setup_line(form: Form, words: &Words<'_>) -> Result<SetupLine, u32>
     ensures { result ≡ setup_line form words.now }
 {
     match form {
-        Form::Config => Ok(SetupLine::Config(config_line(words)?)),
         Form::Region => region_line(words),
         Form::Page => page_line(words),
         Form::BadWord => bad_line(words),
@@ -69,28 +84,49 @@ pub fn setup_line(form: Form, words: &Words<'_>) -> Result<SetupLine, u32>
     }
 }
 
-fn add_pages(setup: &mut Setup, first: u32, count: u8, kind: PageKind)
-    requires room { length setup.old.pages.items + count ≤ 64 }
+/// Adds pages that follow each other, for which there is room.
+pub(crate) fn add_pages(
+    pages: &mut ArrayVec<(u32, PageKind), 64>,
+    first: u32,
+    count: u8,
+    kind: PageKind,
+)
+    requires room { length pages.old.items + count ≤ 64 }
     requires numbers { first + count ≤ 2 ^ 32 }
-    ensures pages { setup.new.pages.items ≡ setup.old.pages.items ++ pages_from first count kind }
-    ensures config { setup.new.config ≡ setup.old.config }
-    ensures regions { setup.new.regions ≡ setup.old.regions }
-    ensures bad_words { setup.new.bad_words ≡ setup.old.bad_words }
+    ensures { pages.new.items ≡ pages.old.items ++ pages_from first count kind }
 {
     for k in 0..u32::from(count) {
-        setup.pages.push((first + k, kind));
+        pages.push((first + k, kind));
     }
 }
 
-/// Adds a line that isn't `config` to a set-up that has room for it.
-pub fn add_setup_line(setup: &mut Setup, line: SetupLine)
-    requires { HasRoomFor (lists_of setup.old) line }
-    ensures { lists_of setup.new ≡ with_line (lists_of setup.old) line }
-{
-    match line {
-        SetupLine::Config(config) => setup.config = config,
-        SetupLine::Region(region) => setup.regions.push(region),
-        SetupLine::Pages(first, count, kind) => add_pages(setup, first, count, kind),
-        SetupLine::BadWord(address) => setup.bad_words.push(address),
+impl ScriptSetup for Setup {
+    ghost use Rattle.line_text.specs.Fields.{byte_field};
+    ghost use Rattle.setups.specs.Setups.{lists_of};
+
+    ghost lists = { lists_of };
+
+    ghost port_field = { byte_field };
+
+    fn of_config(words: &Words<'_>) -> Result<Setup, u32> {
+        Ok(Setup::new(config_line(words)?))
+    }
+
+    fn has_no_room(&self, form: Form, words: &Words<'_>) -> bool {
+        match form {
+            Form::Config => true,
+            Form::Region => self.regions.is_full(),
+            Form::Page => too_many_pages(self.pages.len(), words),
+            Form::BadWord => self.bad_words.is_full(),
+            _ => false,
+        }
+    }
+
+    fn add(&mut self, line: SetupLine) {
+        match line {
+            SetupLine::Region(region) => self.regions.push(region),
+            SetupLine::Pages(first, count, kind) => add_pages(&mut self.pages, first, count, kind),
+            SetupLine::BadWord(address) => self.bad_words.push(address),
+        }
     }
 }

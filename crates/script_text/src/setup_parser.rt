@@ -1,22 +1,22 @@
 //! The set-up lines of a script.
 ghost use Rattle.std.specs.Prelude.{◌≡◌, ◌==◌, ◌||◌, not, false};
 ghost use Rattle.std.specs.List.{list_all};
-ghost use Rattle.line_text.specs.Fields.{Reads, first_wrong, unless_wrong};
-ghost use Rattle.script_text.specs.Forms.{levels_field, permissions_field, count_field, kind_field};
+ghost use Rattle.line_text.specs.Fields.{Reads, byte_field, first_wrong, short_field, unless_wrong};
+ghost use Rattle.score_setup.specs.ScoreSetups.{limits_of};
+ghost use Rattle.script_text.specs.Forms.{levels_field, permissions_field, count_field, kind_field, told_as};
 ghost use Rattle.script_text.specs.SetupLines.{config_line, region_line, page_line, bad_line, bus_fields, bus_in, kind_in, level_at, levels_in, permissions_in};
 ghost use Rattle.line_text.specs.Words.{word_at, dec_at};
 
 use burst_plan::Region;
 use config::Config;
 use line_text::Words;
+use score_setup::ScoreConfig;
 use subordinate::PageKind;
 use tl_checker::Level;
 
-/// What a set-up line adds.
+/// What a set-up line adds that isn't `config`.
 #[derive(Clone, Copy, Debug, PartialEq, Eq)]
 pub enum SetupLine {
-    /// The limits of the bridge.
-    Config(Config),
     /// A region.
     Region(Region),
     /// Pages that follow each other: the first, how many, and what they are.
@@ -79,7 +79,7 @@ fn bus_bytes(words: &Words<'_>) -> Result<u8, u32>
 
 /// `config CLIENTS QUOTA IDS DEPTH MAXLEN MAXSIZE LEVELS`, and the bytes of the bus where they aren't 8.
 pub(crate) fn config_line(words: &Words<'_>) -> Result<Config, u32>
-    ensures { result ≡ config_line words.now }
+    ensures { result ≡ config_line byte_field words.now }
 {
     let clients = words.byte(2)?;
     let quota = words.byte(3)?;
@@ -90,6 +90,30 @@ pub(crate) fn config_line(words: &Words<'_>) -> Result<Config, u32>
     let levels = levels(words, clients)?;
     let axi_bytes = bus_bytes(words)?;
     Ok(Config {
+        clients,
+        quota,
+        ids,
+        depth,
+        max_len,
+        max_size,
+        levels,
+        axi_bytes,
+    })
+}
+
+/// The same of a bridge that is only observed, which may have more IDs and a larger depth.
+pub(crate) fn score_config_line(words: &Words<'_>) -> Result<ScoreConfig, u32>
+    ensures { told_as limits_of result ≡ config_line short_field words.now }
+{
+    let clients = words.byte(2)?;
+    let quota = words.byte(3)?;
+    let ids = words.short(4)?;
+    let depth = words.short(5)?;
+    let max_len = words.short(6)?;
+    let max_size = words.byte(7)?;
+    let levels = levels(words, clients)?;
+    let axi_bytes = bus_bytes(words)?;
+    Ok(ScoreConfig {
         clients,
         quota,
         ids,

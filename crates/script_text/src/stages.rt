@@ -1,17 +1,15 @@
 //! What every kind of script has in common: a `config` line, other set-up lines, and then commands.
 ghost use Rattle.std.specs.Prelude.{◌≡◌, ◌<◌, false, true};
-ghost use Rattle.setups.specs.Setups.{lists_of};
 ghost use Rattle.script_text.specs.Forms.{told_as};
-ghost use Rattle.script_text.specs.Stages.{MayStand, OpensAs, Opening, OpensStage, Writes, WritesEnd, command_step, early_step, is_misplaced, nothing_written, other_step, reading_of, setup_step, stage_as, stage_ending, told_step, with_setup_line, world_at};
+ghost use Rattle.script_text.specs.Stages.{OpensAs, Opening, OpensStage, TakesLine, Writes, WritesEnd, command_step, early_step, is_misplaced, nothing_written, other_step, reading_of, set_up_with, setup_step, stage_as, stage_ending, told_step, world_at};
 ghost use Rattle.script_text.specs.Steps.{TakesRest, TakesStep};
 
 use crate::driver::Script;
 use crate::faults::ScriptFault;
 use crate::keywords::Form;
-use crate::setup_lines::{add_setup_line, has_no_room, is_setup_form, setup_line};
-use crate::setup_parser::SetupLine;
+use crate::setup_lines::{ScriptSetup, is_setup_form, setup_line};
 use line_text::{Words, WriteFault};
-use setups::{Setup, SetupFault};
+use setups::SetupFault;
 use std::alloc::Global;
 use std::io::Write;
 use std::marker::Model;
@@ -19,6 +17,9 @@ use std::marker::Model;
 /// A kind of script: the lines that it has, and what its commands do.
 pub trait Kind {
     ghost use Rattle.script_text.specs.Stages.{GivesSome, Kind as Rules};
+
+    /// What its set-up lines add up to.
+    type Setup: ScriptSetup + Drop;
 
     /// What its own set-up lines have said.
     type Own: Drop;
@@ -68,9 +69,9 @@ pub trait Kind {
         &mut self,
         alloc: Global,
         own: &Self::Own,
-        setup: &Setup,
+        setup: &Self::Setup,
     ) -> Result<Self::World, SetupFault>
-        ensures { OpensAs (rules.opened own.now (lists_of setup.now)) (told_as said result) };
+        ensures { OpensAs (rules.opened own.now (Self.Setup.lists setup.now)) (told_as said result) };
 
     /// Carries out a command, by the number of its line, and writes its text. The answer is whether there was any.
     fn carry_out<W: Write>(
@@ -86,17 +87,20 @@ pub trait Kind {
     fn end<W: Write>(&mut self, world: &mut Self::World, writer: &mut W) -> Result<bool, WriteFault>
         ensures { WritesEnd (rules.ending (said world.old)) (W.contents writer.old) (W.contents writer.new) result };
 
+    /// Its `config` line is read as its rules say.
+    ghost reads_port: { Self.Setup.port_field ≡ rules.port_field };
+
     /// A command has text, or a script that ends after it.
     ghost gives_text: { GivesSome rules };
 }
 
 /// How far a script has come.
 #[derive(Drop)]
-enum Stage<S, W> {
+enum Stage<Z, S, W> {
     /// No line yet.
     Opening,
     /// Set-up lines, and what the kind's own of these have said.
-    SettingUp(Setup, S),
+    SettingUp(Z, S),
     /// Commands.
     Running(W),
 }
@@ -105,7 +109,7 @@ enum Stage<S, W> {
 #[derive(Drop)]
 pub struct StagedScript<K: Kind> {
     kind: K,
-    stage: Stage<K::Own, K::World>,
+    stage: Stage<K::Setup, K::Own, K::World>,
 }
 
 impl<K: Kind> Model for StagedScript<K> {
@@ -113,7 +117,7 @@ impl<K: Kind> Model for StagedScript<K> {
 
     ghost Value = { ScriptStage K.Own K.World };
 
-    ghost view = { λ s. stage_of s.stage };
+    ghost view = { λ s. stage_of K.Setup.lists s.stage };
 }
 
 impl<K: Kind> StagedScript<K> {
@@ -140,23 +144,27 @@ impl<K: Kind> StagedScript<K> {
     {
         match &self.stage {
             Stage::Opening => !matches!(form, Form::Config),
-            Stage::SettingUp(setup, _) => has_no_room(setup, form, words),
+            Stage::SettingUp(setup, _) => setup.has_no_room(form, words),
             Stage::Running(_) => true,
         }
     }
 
-    fn set_up(&mut self, line: SetupLine)
-        requires { MayStand (stage_as K.said self.old) line }
-        ensures { stage_as K.said self.new ≡ with_setup_line K.rules.own_opening (stage_as K.said self.old) line }
+    /// Takes a line of a set-up form that may stand here, or answers its first wrong word.
+    fn set_up(&mut self, form: Form, words: &Words<'_>) -> Result<(), u32>
+        requires { is_misplaced (stage_as K.said self.old) form words.now ≡ false }
+        ensures { TakesLine (set_up_with K.rules (stage_as K.said self.old) words.now form) (stage_as K.said self.new) result }
     {
-        if let SetupLine::Config(config) = line {
-            self.stage = Stage::SettingUp(Setup::new(config), K::own_opening());
-            return;
+        if matches!(form, Form::Config) {
+            let setup = K::Setup::of_config(words)?;
+            self.stage = Stage::SettingUp(setup, K::own_opening());
+            return Ok(());
         }
+        let line = setup_line(form, words)?;
         let Stage::SettingUp(setup, _) = &mut self.stage else {
-            return;
+            return Err(1);
         };
-        add_setup_line(setup, line);
+        setup.add(line);
+        Ok(())
     }
 
     /// Takes a line of a set-up form.
@@ -175,12 +183,9 @@ impl<K: Kind> StagedScript<K> {
                 word: 1,
             });
         }
-        match setup_line(form, words) {
+        match self.set_up(form, words) {
             Err(word) => Err(ScriptFault::Script { line: number, word }),
-            Ok(line) => {
-                self.set_up(line);
-                Ok(false)
-            }
+            Ok(()) => Ok(false),
         }
     }
 

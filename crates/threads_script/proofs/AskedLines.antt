@@ -1,18 +1,22 @@
 -- What is known of a line that may stand: there is room for what it adds.
-use Rattle.std.proofs.Common.{◌≡◌, ◌≤◌, ◌<◌, ℕ, Bool, true, false, ◌&&◌, ◌||◌, List, [], ◌∷◌, length, Option, Some, None, Ok, refl, sym, ap, arith, not, rules, if◌then◌else◌}
+use Rattle.std.proofs.Common.{◌≡◌, ◌∙◌, ◌≤◌, ◌<◌, ℕ, Bool, true, false, ◌&&◌, ◌||◌, List, [], ◌∷◌, length, Option, Some, None, Ok, Result, refl, sym, ap, arith, not, rules, if◌then◌else◌}
 use Rattle.std.specs.Prelude.{nat_le}
 use Rattle.std.proofs.lemmas.Bool.{false≢true}
 use Rattle.std.proofs.lemmas.Grind.{common_steps}
 use Rattle.std.specs.Str.Parse.{digits_value}
 use Rattle.tl_messages.specs.declared.ABeat.{ABeat}
-use Rattle.setups.specs.Setups.{SetupLists}
+use Rattle.setups.specs.Setups.{SetupLists, lists_of}
+use Rattle.setups.specs.declared.Setup.{Setup}
 use Rattle.line_text.specs.Fields.{Field, byte_field, first_wrong, unless_wrong}
 use Rattle.line_text.specs.OfferLines.{offer_line}
+use Rattle.script_text.proofs.StageSteps.{told_twice}
+use Rattle.script_text.specs.Forms.{told_as}
+use Rattle.script_text.specs.SetupLines.{config_line, with_config}
 use Rattle.script_text.specs.Stages.{has_no_room, is_setup_form}
 use Rattle.line_text.specs.Words.{dec_at, is_dec_to, word_at}
 use Rattle.script_text.specs.declared.keywords.Form.{Form}
 use Rattle.script_text.specs.declared.keywords.Form.TheVariants as form
-use Rattle.threads_script.specs.Asked.{AskedLists, is_misplaced, is_thread, names_thread, thread_fields, thread_in, word_line}
+use Rattle.threads_script.specs.Asked.{AskedLists, asked_with, is_misplaced, is_thread, names_thread, thread_fields, thread_in, word_line}
 use Rattle.threads_script.specs.Lists.{list_at}
 
 -- a line that was read has its fields, and says its value
@@ -73,6 +77,13 @@ word_room asked (Some setup) words line placed read =
     let thread = word_read words line read in
     let room = not_both (is_thread words) (nat_le 65536 (length (list_at asked.words (thread_in words)))) (neither _ _ placed) thread.0 in
     rw thread.1 at (below 65536 (length (list_at asked.words (thread_in words))) room)
+
+-- a `config` line gives a set-up alone
+pub config_asked : (asked : AskedLists) (words : List (List ℕ)) (made : Result Setup ℕ) → told_as lists_of made ≡ told_as with_config (config_line byte_field words)
+    → asked_with asked form.Config words ≡ told_as (λ setup. record asked { setup = Some (lists_of setup) }) made
+config_asked asked words made gives =
+    let set_up : SetupLists → AskedLists = λ setup. record asked { setup = Some setup } in
+    sym (told_twice set_up with_config (config_line byte_field words)) ∙ ap (told_as set_up) (sym gives) ∙ told_twice set_up lists_of made
 
 -- a set-up line that may stand has room
 pub setup_room : (asked : AskedLists) (setup : SetupLists) (f : Form) (words : List (List ℕ)) → is_setup_form f ≡ true → is_misplaced asked (Some setup) f words ≡ false → has_no_room setup f words ≡ false

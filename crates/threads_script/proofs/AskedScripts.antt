@@ -7,7 +7,8 @@ use Rattle.script_text.specs.Scripts.{LineStep, TextResult, after_step, line_ste
 use Rattle.line_text.specs.Words.{is_plain_line, is_skipped, words_of}
 use Rattle.script_text.specs.declared.faults.ScriptFault.{ScriptFault}
 use Rattle.script_text.specs.declared.faults.ScriptFault.TheVariants.{Script}
-use Rattle.threads_script.specs.Asked.{AskedLists, IsSoundAsked, asked_at_end, asked_by, asked_unless, silent_step, threads_reading}
+use Rattle.script_text.specs.Stages.{added_step}
+use Rattle.threads_script.specs.Asked.{AskedLists, IsSoundAsked, asked_at_end, asked_by, asked_unless, threads_reading}
 
 -- ---- nothing is written
 
@@ -19,14 +20,14 @@ silent_if : (test : Bool) (yes no : LineStep AskedLists) → IsSilent yes → Is
 silent_if true first second is other = is
 silent_if false first second is other = other
 
-silent_words : (number : ℕ) (asked : Result AskedLists ℕ) → IsSilent (silent_step number asked)
+silent_words : (number : ℕ) (asked : Result AskedLists ℕ) → IsSilent (added_step number asked)
 silent_words number (Ok asked) = refl
 silent_words number (Err word) = tt
 
 silent_line : (asked : AskedLists) (number : ℕ) (line : List ℕ) → IsSilent (line_step threads_reading asked number line)
 silent_line asked number line =
     let words = words_of line in
-    let read = silent_step number (asked_by asked words) in
+    let read = added_step number (asked_by asked words) in
     silent_if (not (is_plain_line line) || nat_lt 65536 number) (Err (Script number 0)) (if is_skipped words then Ok ([], asked) else read) tt
     (silent_if (is_skipped words) (Ok ([], asked)) read refl (silent_words number (asked_by asked words)))
 

@@ -1,20 +1,20 @@
 -- `tlbridge threads`: what the lines of its script ask for (this project's profile).
 use Rattle.std.specs.Prelude.{ℕ, ◌+◌, ◌≡◌, ◌≤◌, Bool, true, false, ◌&&◌, ◌||◌, not, List, [], ◌∷◌, ◌++◌, length, max, replicate, Option, Some, None, option_map, Result, Ok, Err, if◌then◌else◌, nat_le}
 use Rattle.tl_messages.specs.declared.ABeat.{ABeat}
+use Rattle.config.specs.declared.Config.{Config as Limits}
 use Rattle.setups.specs.Setups.{SetupLists, setup_fault}
 use Rattle.setups.specs.declared.SetupFault.{SetupFault}
 use Rattle.line_text.specs.Fields.{Field, address_field, byte_field, read_as}
 use Rattle.script_text.specs.Forms.{form_of, told_as}
 use Rattle.line_text.specs.OfferLines.{offer_line}
-use Rattle.script_text.specs.Scripts.{LineStep, Reading, TextResult, ended}
-use Rattle.script_text.specs.SetupLines.{with_config, with_line}
-use Rattle.script_text.specs.Stages.{has_no_room, is_config_form, is_setup_form, setup_line}
+use Rattle.script_text.specs.Scripts.{Reading, TextResult, ended}
+use Rattle.script_text.specs.SetupLines.{config_line, with_config, with_line}
+use Rattle.script_text.specs.Stages.{added_step, has_no_room, is_config_form, is_setup_form, setup_line}
 use Rattle.line_text.specs.Words.{is_dec_to, word_at, dec_at, hex_at}
 use Rattle.script_text.specs.declared.faults.ScriptFault.TheVariants.{Script, Setup}
 use Rattle.script_text.specs.declared.keywords.Form.{Form}
 use Rattle.script_text.specs.declared.keywords.Form.TheVariants as form
 use Rattle.script_text.specs.declared.setup_parser.SetupLine.{SetupLine}
-use Rattle.script_text.specs.declared.setup_parser.SetupLine.TheVariants.{Config}
 use Rattle.threads_script.specs.Lists.{AreShort, list_at, pushed_at}
 use Rattle.threads_script.specs.declared.asked.Part.{Part}
 use Rattle.threads_script.specs.declared.asked.Part.TheVariants as part
@@ -95,12 +95,11 @@ with_word asked word =
 abbrev pub with_address : AskedLists → ℕ → AskedLists
 with_address asked address = record asked { part = part.InAddresses; addresses = asked.addresses ++ address ∷ [] }
 
-abbrev pub set_up_with : Option SetupLists → SetupLine → Option SetupLists
-set_up_with setup (Config config) = Some (with_config config)
-set_up_with setup line = option_map (λ lists. with_line lists line) setup
+abbrev pub with_limits : AskedLists → Limits → AskedLists
+with_limits asked config = record asked { setup = Some (with_config config) }
 
 abbrev pub with_setup_line : AskedLists → SetupLine → AskedLists
-with_setup_line asked line = record asked { setup = set_up_with asked.setup line }
+with_setup_line asked line = record asked { setup = option_map (λ lists. with_line lists line) asked.setup }
 
 -- whether a line's client isn't there: its number isn't below that of the clients
 abbrev pub is_of_nobody : Option SetupLists → List (List ℕ) → Bool
@@ -112,6 +111,7 @@ abbrev pub asked_with : AskedLists → Form → List (List ℕ) → Result Asked
 asked_with asked form.Offer words = if is_of_nobody asked.setup words then Err 2 else told_as (with_beat asked) (offer_line words)
 asked_with asked form.Word words = told_as (with_word asked) (word_line words)
 asked_with asked form.Mem words = told_as (with_address asked) (address_line words)
+asked_with asked form.Config words = told_as (with_limits asked) (config_line byte_field words)
 asked_with asked form words = told_as (with_setup_line asked) (setup_line form words)
 
 abbrev pub asked_as : AskedLists → List (List ℕ) → Option Form → Result AskedLists ℕ
@@ -121,12 +121,7 @@ asked_as asked words (Some form) = if is_misplaced asked asked.setup form words 
 abbrev pub asked_by : AskedLists → List (List ℕ) → Result AskedLists ℕ
 asked_by asked words = asked_as asked words (form_of (word_at words 1))
 
--- ---- `tlbridge threads`, as far as it is read
-
--- nothing is written while it is read
-abbrev pub silent_step : ℕ → Result AskedLists ℕ → LineStep AskedLists
-silent_step number (Ok asked) = Ok ([], asked)
-silent_step number (Err word) = Err (Script number word)
+-- ---- `tlbridge threads`, as far as it is read: nothing is written
 
 -- the set-up is tested at the input's end, where it is refused or the script asks for this
 abbrev pub asked_unless : AskedLists → Option SetupFault → TextResult AskedLists
@@ -141,16 +136,11 @@ abbrev pub threads_reading : Reading AskedLists AskedLists
 threads_reading =
     record {
       most_lines = 65536;
-      step = λ asked number words. silent_step number (asked_by asked words);
+      step = λ asked number words. added_step number (asked_by asked words);
       ending = λ asked number. asked_at_end asked number asked.setup;
     }
 
--- ---- what a call that takes a line answers
-
--- the line is taken, or its first wrong word is told
-abbrev pub TakesLine : Result AskedLists ℕ → AskedLists → Result (Unit {0}) ℕ → Type 0
-TakesLine asked new (Ok done) = asked ≡ Ok new
-TakesLine asked new (Err word) = asked ≡ Err word
+-- ---- what such a script is fit for
 
 -- there are lists for eight clients and four memory threads, no script has more than 4,096 beats, and there are one to four memory threads
 pub record IsFit (asked : AskedLists) : Type 0 where

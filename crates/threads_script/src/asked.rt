@@ -2,15 +2,15 @@
 ghost use Rattle.std.specs.Prelude.{◌≡◌, ◌≤◌, false, true, IfOk, option_map, length, take};
 ghost use Rattle.setups.specs.Setups.{lists_of};
 ghost use Rattle.thread_reports.specs.Reports.{items_of};
-ghost use Rattle.script_text.specs.Stages.{is_setup_form};
+ghost use Rattle.script_text.specs.Stages.{TakesLine, is_setup_form};
 ghost use Rattle.script_text.specs.declared.keywords.Form.TheVariants as form;
-ghost use Rattle.threads_script.specs.Asked.{IsFit, TakesLine, asked_by, asked_with, is_full, is_misplaced, is_of_nobody, may_follow, nothing_asked};
+ghost use Rattle.threads_script.specs.Asked.{IsFit, asked_by, asked_with, is_full, is_misplaced, is_of_nobody, may_follow, nothing_asked};
 
 use crate::line_parser::{address_line, thread_of, word_line};
 use crate::lists;
 use crate::lists::{lists_with_room, push_to};
 use line_text::{Words, offer_line};
-use script_text::{Form, SetupLine, add_setup_line, has_no_room, is_setup_form, setup_line};
+use script_text::{Form, ScriptSetup, is_setup_form, setup_line};
 use setups::Setup;
 use std::alloc::{AllocError, Global};
 use std::marker::Model;
@@ -125,7 +125,7 @@ impl Asked {
                 Err(_) => false,
             },
             Form::Mem => self.addresses.len() >= MOST_LINES,
-            _ => has_no_room(setup, form, words),
+            _ => setup.has_no_room(form, words),
         }
     }
 
@@ -192,13 +192,13 @@ impl Asked {
         requires form { is_setup_form form ≡ true }
         ensures { TakesLine (asked_with self.old form words.now) self.new result }
     {
-        let line = setup_line(form, words)?;
-        if let SetupLine::Config(config) = line {
-            self.setup = Some(Setup::new(config));
+        if matches!(form, Form::Config) {
+            self.setup = Some(Setup::of_config(words)?);
             return Ok(());
         }
+        let line = setup_line(form, words)?;
         if let Some(setup) = &mut self.setup {
-            add_setup_line(setup, line);
+            setup.add(line);
         }
         Ok(())
     }

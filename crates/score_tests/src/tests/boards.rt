@@ -1,6 +1,8 @@
 //! A board of each policy: what a text doesn't ask of it.
-use super::{ACK, PUT, REGION, SEEN, refused_set_up, same, set_up};
-use burst_plan::MapFault;
+use super::{ACK, PUT, REGION, SEEN, board_set_up, same};
+use axi_beats::ArBeat;
+use axi_checker::{AxiBeat, AxiRule};
+use burst_plan::{MapFault, Region};
 use scoreboard::{Errors, ObservedBeat, Policy, ReplyRule, Scoreboard, Wrong};
 use setups::SetupFault;
 use std::test::Fail;
@@ -11,7 +13,7 @@ const POLICIES: [Policy; 2] = [Policy::AcceptanceOrder, Policy::RealTime];
 
 #[test]
 fn what_is_left_after_each_beat(rt: HostRuntime) -> Result<(), Fail> {
-    let setup = set_up(REGION).expect(&rt, "room");
+    let setup = board_set_up(REGION).expect(&rt, "room");
     for policy in POLICIES {
         let mut board = Scoreboard::new(rt.alloc(), policy, Errors::Strict, &setup)?;
         for (place, (seen, outstanding, open)) in SEEN.iter().enumerate() {
@@ -26,7 +28,7 @@ fn what_is_left_after_each_beat(rt: HostRuntime) -> Result<(), Fail> {
 
 #[test]
 fn bytes_from_the_request_on(rt: HostRuntime) -> Result<(), Fail> {
-    let setup = set_up(REGION).expect(&rt, "room");
+    let setup = board_set_up(REGION).expect(&rt, "room");
     for policy in POLICIES {
         let mut board = Scoreboard::new(rt.alloc(), policy, Errors::Strict, &setup)?;
         same(&rt, policy, board.byte(0x1000f), Some(0));
@@ -69,7 +71,7 @@ const WRONG: [(ObservedBeat, Option<Wrong>); 5] = [
 
 #[test]
 fn what_is_wrong(rt: HostRuntime) -> Result<(), Fail> {
-    let setup = set_up(REGION).expect(&rt, "room");
+    let setup = board_set_up(REGION).expect(&rt, "room");
     for policy in POLICIES {
         let mut board = Scoreboard::new(rt.alloc(), policy, Errors::Strict, &setup)?;
         for (place, (seen, wrong)) in WRONG.iter().enumerate() {
@@ -81,12 +83,42 @@ fn what_is_wrong(rt: HostRuntime) -> Result<(), Fail> {
 
 #[test]
 fn a_region_of_no_pages(rt: HostRuntime) {
-    let setup = refused_set_up().expect(&rt, "room");
+    let setup = board_set_up(Region { pages: 0, ..REGION }).expect(&rt, "room");
     let fault = SetupFault::Map(MapFault::RegionEmpty(0));
     for policy in POLICIES {
         let refused = Scoreboard::new(rt.alloc(), policy, Errors::Strict, &setup).err();
         same(&rt, policy, refused, Some(fault));
     }
+}
+
+/// A read of an ID.
+fn read(id: u8) -> ObservedBeat {
+    ObservedBeat::Axi(AxiBeat::Ar(ArBeat {
+        id,
+        address: 0x10000,
+        len: 0,
+        size: 3,
+        burst: 1,
+    }))
+}
+
+#[test]
+fn a_port_of_many_ids(rt: HostRuntime) -> Result<(), Fail> {
+    let mut setup = board_set_up(REGION).expect(&rt, "room");
+    setup.config.ids = 255;
+    setup.config.depth = 16;
+    for policy in POLICIES {
+        let mut board = Scoreboard::new(rt.alloc(), policy, Errors::Strict, &setup)?;
+        for k in 0..16 {
+            same(&rt, (policy, k), board.judge(&read(254)), None);
+        }
+        let deep = Some(Wrong::Axi(AxiRule::Depth));
+        same(&rt, policy, board.judge(&read(254)), deep);
+        let far = Some(Wrong::Axi(AxiRule::IdRange));
+        same(&rt, policy, board.judge(&read(255)), far);
+        same(&rt, policy, board.open_bursts(), 16);
+    }
+    Ok(())
 }
 
 #[test]

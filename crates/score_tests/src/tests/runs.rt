@@ -1,5 +1,5 @@
 //! What is seen of a run of this project's bridge and memory, and what a board says of it.
-use super::{GET, PUT, REGION, SEEN, refused_set_up, same, set_up};
+use super::{GET, PUT, REGION, SEEN, board_set_up, refused_set_up, same, set_up};
 use burst_plan::MapFault;
 use observed_run::observed;
 use scoreboard::{Errors, Policy, Scoreboard};
@@ -33,8 +33,9 @@ fn what_a_run_shows(rt: HostRuntime) -> Result<(), Fail> {
     for (place, (seen, _, _)) in SEEN.iter().enumerate() {
         same(&rt, place, beats.get(place), Some(seen));
     }
+    let judged = board_set_up(REGION).expect(&rt, "room");
     for policy in [Policy::AcceptanceOrder, Policy::RealTime] {
-        let mut board = Scoreboard::new(rt.alloc(), policy, Errors::Strict, &setup)?;
+        let mut board = Scoreboard::new(rt.alloc(), policy, Errors::Strict, &judged)?;
         for (place, beat) in beats.iter().enumerate() {
             same(&rt, (policy, place), board.judge(beat), None);
         }

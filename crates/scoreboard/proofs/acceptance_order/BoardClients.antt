@@ -9,7 +9,9 @@ use Rattle.axi_checker.specs.OpenBursts.{nothing_open}
 use Rattle.config.specs.Configs.{axi_port_of, is_valid}
 use Rattle.config.specs.declared.Config.{Config}
 use Rattle.meaning.specs.Meaning.{zeros}
-use Rattle.setups.specs.Setups.{SetupLists, setup_fault}
+use Rattle.score_setup.specs.ScoreSetups.{score_setup_fault, with_one_burst}
+use Rattle.score_setup.proofs.ScoreSetupFaults.{sound_with_one_burst}
+use Rattle.setups.specs.Setups.{SetupLists}
 use Rattle.setups.proofs.SetupFaults.{valid_of}
 use Rattle.subordinate.specs.Faults.{Faults, device_fault}
 use Rattle.subordinate.proofs.ZeroBytes.{zero_byte}
@@ -20,15 +22,15 @@ use Rattle.scoreboard.specs.InsideSerial.{bytes_in}
 use Rattle.scoreboard.specs.SerialMemory.{opening_memory_state}
 
 -- of a set-up that isn't refused, there are at most eight clients
-pub few_clients : (setup : SetupLists) → setup_fault setup ≡ None → length (map (opening_client setup.config) (range_with_len 0 setup.config.clients)) ≤ 8
+pub few_clients : (setup : SetupLists) → score_setup_fault setup ≡ None → length (map (opening_client setup.config) (range_with_len 0 setup.config.clients)) ≤ 8
 few_clients setup none =
-    let valid = valid_of (is_valid setup.config) _ none in
+    let valid = valid_of (is_valid (with_one_burst setup.config)) _ (sound_with_one_burst setup none) in
     let most : setup.config.clients ≤ 8 = grind (arith, nat_tests, valid) in
     omega (arith, length-map-range_with_len (opening_client setup.config) 0 setup.config.clients, most)
 
 -- and its pages have no fault
-pub device_fine : (setup : SetupLists) → setup_fault setup ≡ None → device_fault setup.pages setup.bad_words ≡ None
-device_fine setup none = grind (arith, none)
+pub device_fine : (setup : SetupLists) → score_setup_fault setup ≡ None → device_fault setup.pages setup.bad_words ≡ None
+device_fine setup none = let sound = sound_with_one_burst setup none in grind (arith, sound)
 
 -- all bytes of the pages that were made are zero, and as such pages hold which bytes are indeterminate, none is
 pub board_opens : (setup : SetupLists) (state : BoardState) → map client_of state.clients ≡ (opening_board setup).clients

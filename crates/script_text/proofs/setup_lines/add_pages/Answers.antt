@@ -6,17 +6,16 @@ use Rattle.script_text.proofs.setup_lines.add_pages.Goals as goal
 
 pub push-requires : goal.push-requires
 push-requires c =
-    let old = c.args.setup.now.pages.items in
+    let old = c.args.pages.now.items in
     let added = pages_from c.args.first c.loop-k.k c.args.kind in
-    let held : length c.loop-k.setup.pages.items ≡ length old + c.loop-k.k =
-    ap length c.loop-k.invariant.0 ∙ length-append old added ∙ ap (λ n. length old + n) (pages_from-length c.args.first c.loop-k.k c.args.kind) in
-    let room : length c.loop-k.setup.pages.items < 64 = omega (arith, held, c.loop-k-test.true, c.from-k-end.ensures, c.requires.room) in
+    let held : length c.loop-k.pages.items ≡ length old + c.loop-k.k =
+    ap length c.loop-k.invariant ∙ length-append old added ∙ ap (λ n. length old + n) (pages_from-length c.args.first c.loop-k.k c.args.kind) in
+    let room : length c.loop-k.pages.items < 64 = omega (arith, held, c.loop-k-test.true, c.from-k-end.ensures, c.requires.room) in
     (omega arith, room)
 
 pub loop-k-preserved : goal.loop-k-preserved
 loop-k-preserved c =
-    let old = c.args.setup.now.pages.items in
+    let old = c.args.pages.now.items in
     let added = pages_from c.args.first c.loop-k.k c.args.kind in
     let page : ℕ × PageKind = (c.args.first + c.loop-k.k, c.args.kind) in
-    let grown = c.push.ensures.items ∙ ap (λ pages. pages ++ page ∷ []) c.loop-k.invariant.0 ∙ append_assoc old added (page ∷ []) ∙ ap (λ pages. old ++ pages) (sym (pages_from-more c.args.first c.loop-k.k c.args.kind)) in
-    (grown, c.loop-k.invariant.1, c.loop-k.invariant.2, c.loop-k.invariant.3)
+    c.push.ensures.items ∙ ap (λ pages. pages ++ page ∷ []) c.loop-k.invariant ∙ append_assoc old added (page ∷ []) ∙ ap (λ pages. old ++ pages) (sym (pages_from-more c.args.first c.loop-k.k c.args.kind))

@@ -1,5 +1,23 @@
+-- The port is one that a large monitor may have.
 use Rattle.std.proofs.Common.{rules}
+use Rattle.score_setup.specs.ScoreSetups.{limits_of}
+use Rattle.score_setup.proofs.ScoreSetupFaults.{port_of_valid}
 use Rattle.scoreboard.proofs.axi_port.AxiPort.new.Goals as goal
+
+pub of_any_depth-requires-clause-some_ids : goal.of_any_depth-requires-clause-some_ids
+of_any_depth-requires-clause-some_ids c = (port_of_valid (limits_of c.args.config.now) c.requires).some_ids
+
+pub of_any_depth-requires-clause-most_ids : goal.of_any_depth-requires-clause-most_ids
+of_any_depth-requires-clause-most_ids c = (port_of_valid (limits_of c.args.config.now) c.requires).most_ids
+
+pub of_any_depth-requires-clause-some_depth : goal.of_any_depth-requires-clause-some_depth
+of_any_depth-requires-clause-some_depth c = (port_of_valid (limits_of c.args.config.now) c.requires).some_depth
+
+pub of_any_depth-requires-clause-most_depth : goal.of_any_depth-requires-clause-most_depth
+of_any_depth-requires-clause-most_depth c = (port_of_valid (limits_of c.args.config.now) c.requires).most_depth
+
+pub of_any_depth-requires-clause-most : goal.of_any_depth-requires-clause-most
+of_any_depth-requires-clause-most c = (port_of_valid (limits_of c.args.config.now) c.requires).most
 
 pub returns : goal.returns
 returns c = search rules

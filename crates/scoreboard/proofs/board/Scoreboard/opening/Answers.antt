@@ -2,9 +2,8 @@
 use Rattle.std.proofs.Common.{◌≡◌, ◌≤◌, ap, length, map, refl, sym, ◌∙◌}
 use Rattle.std.proofs.lemmas.List.{length-map}
 use Rattle.subordinate.specs.InsidePages.{PagesState}
-use Rattle.config.specs.Configs.{is_valid}
-use Rattle.setups.specs.Setups.{lists_of}
-use Rattle.setups.proofs.SetupFaults.{valid_of}
+use Rattle.score_setup.specs.ScoreSetups.{lists_of}
+use Rattle.score_setup.proofs.ScoreSetupFaults.{valid_to_score}
 use Rattle.scoreboard.specs.Boards.{Board}
 use Rattle.scoreboard.specs.InsideBoards.{client_of}
 use Rattle.scoreboard.specs.SerialMemory.{MemoryState, opening_memory_state}
@@ -16,13 +15,13 @@ pub new-requires-2 : goal.new-requires-2
 new-requires-2 c = record { fine = rw (c.as_slice-pages.ensures.value, c.as_slice-bad.ensures.value) (device_fine (lists_of c.args.setup.now) c.requires) }
 
 pub opening_clients-requires-clause-valid : goal.opening_clients-requires-clause-valid
-opening_clients-requires-clause-valid c = valid_of (is_valid (lists_of c.args.setup.now).config) _ c.requires
+opening_clients-requires-clause-valid c = valid_to_score (lists_of c.args.setup.now) c.requires
 
 pub new-requires-3 : goal.new-requires-3
 new-requires-3 c = record { fine = rw (c.as_slice-pages.ensures.value, c.as_slice-bad.ensures.value) (device_fine (lists_of c.args.setup.now) c.requires) }
 
 pub new-requires-4 : goal.new-requires-4
-new-requires-4 c = valid_of (is_valid (lists_of c.args.setup.now).config) _ c.requires
+new-requires-4 c = valid_to_score (lists_of c.args.setup.now) c.requires
 
 serial : (c : goal.In_ok-joining) → c.in_ok-serial.serial ≡ opening_memory_state c.args.setup.now.regions.items c.args.setup.now.pages.items c.args.setup.now.bad_words.items
 serial c = c.in_ok-serial.ensures ∙ rw (c.in-Ok.ensures.ok, c.as_slice.ensures.value, c.as_slice-pages.ensures.value, c.as_slice-bad.ensures.value) refl

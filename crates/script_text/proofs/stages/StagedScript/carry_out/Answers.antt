@@ -14,12 +14,12 @@ pub returns : goal.returns
 returns g c =
     TakesStep-written g.K.Kind.rules (stage_as g.K.Kind.said c.args.self.now) c.args.number (g.K.Kind.said c.in-Running.world) (g.K.Kind.said c.carry_out.new.world) c.args.command.now (g.W.Write.contents c.args.writer.now) (g.W.Write.contents c.carry_out.new.writer) c.in-Ok.wrote
     (opened_as (world_at g.K.Kind.rules (stage_as g.K.Kind.said c.args.self.now) c.args.number) (stage_as g.K.Kind.said c.open.new.self) (g.K.Kind.said c.in-Running.world) c.in_ok-open.ensures
-    (ap (stage_as g.K.Kind.said) (sym c.self.view_is ∙ ap stage_of c.in-Running.is)))
+    (ap (stage_as g.K.Kind.said) (sym c.self.view_is ∙ ap (stage_of g.K.Setup.ScriptSetup.lists) c.in-Running.is)))
     c.in-Ok.ensures
 
 pub returns-in_default-carry_out : goal.returns-in_default-carry_out
 returns-in_default-carry_out g c =
     TakesStep-unwritten g.K.Kind.rules (stage_as g.K.Kind.said c.args.self.now) (Running (g.K.Kind.said c.carry_out.new.world)) c.args.number (g.K.Kind.said c.in-Running.world) c.args.command.now (g.W.Write.contents c.args.writer.now) (g.W.Write.contents c.carry_out.new.writer)
     (opened_as (world_at g.K.Kind.rules (stage_as g.K.Kind.said c.args.self.now) c.args.number) (stage_as g.K.Kind.said c.open.new.self) (g.K.Kind.said c.in-Running.world) c.in_ok-open.ensures
-    (ap (stage_as g.K.Kind.said) (sym c.self.view_is ∙ ap stage_of c.in-Running.is)))
+    (ap (stage_as g.K.Kind.said) (sym c.self.view_is ∙ ap (stage_of g.K.Setup.ScriptSetup.lists) c.in-Running.is)))
     c.in_default-carry_out.ensures

@@ -1,4 +1,4 @@
-use Rattle.std.proofs.Common.{◌≡◌, None, Some, false, ap, sym, ◌∙◌}
+use Rattle.std.proofs.Common.{◌≡◌, None, Some, ap, sym, ◌∙◌}
 use Rattle.line_text.specs.Words.{word_at}
 use Rattle.script_text.specs.Forms.{form_of}
 use Rattle.script_text.proofs.stages.StagedScript.take_early.Goals as goal

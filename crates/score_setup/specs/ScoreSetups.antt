@@ -1,0 +1,45 @@
+-- A set-up of a bridge that is only observed: its AXI4 port may have more IDs, and more bursts of an ID on the way, than that of this project's
+-- bridge. All else is as in a set-up of the latter, and is said there (this project's profile).
+use Rattle.std.specs.Prelude.{ℕ, ◌*◌, Bool, ◌&&◌, Option, Some, if◌then◌else◌, nat_le}
+use Rattle.bus_words.specs.Lanes.{is_between}
+use Rattle.config.specs.Configs.{is_valid}
+use Rattle.config.specs.declared.Config.{Config}
+use Rattle.setups.specs.Setups.{SetupLists, setup_fault}
+use Rattle.setups.specs.declared.SetupFault.{SetupFault}
+use Rattle.setups.specs.declared.SetupFault.TheVariants.{BadConfig}
+use Rattle.score_setup.specs.declared.ScoreConfig.{ScoreConfig}
+use Rattle.score_setup.specs.declared.ScoreSetup.{ScoreSetup}
+
+-- its limits, as the laws of ports and boards take them
+abbrev pub limits_of : ScoreConfig → Config
+limits_of config =
+    record {
+      clients = config.clients;
+      quota = config.quota;
+      ids = config.ids;
+      depth = config.depth;
+      max_len = config.max_len;
+      max_size = config.max_size;
+      levels = config.levels;
+      axi_bytes = config.axi_bytes;
+    }
+
+-- the lists of a set-up
+abbrev pub lists_of : ScoreSetup → SetupLists
+lists_of setup =
+    record { config = limits_of setup.config; regions = setup.regions.items; pages = setup.pages.items; bad_words = setup.bad_words.items }
+
+-- these limits with one ID, and one burst of it at a time
+abbrev pub with_one_burst : Config → Config
+with_one_burst config = record config { ids = 1; depth = 1 }
+
+-- whether the limits are in their ranges: 1 to 256 IDs, of which each may have 1 to 256 bursts outstanding on each side, at most 4,096 in all on each
+-- side; and the others as those of this project's bridge
+abbrev pub is_valid_to_score : Config → Bool
+is_valid_to_score config =
+    is_valid (with_one_burst config) && is_between 1 256 config.ids && is_between 1 256 config.depth && nat_le (config.ids * config.depth) 4096
+
+-- why a set-up is refused, if it is: its limits, and then what a set-up of this project's bridge is refused for
+abbrev pub score_setup_fault : SetupLists → Option SetupFault
+score_setup_fault setup =
+    if is_valid_to_score setup.config then setup_fault (record setup { config = with_one_burst setup.config }) else Some BadConfig
