@@ -1,7 +1,7 @@
 //! Monitors of ports of many IDs and of many bursts of one.
 use super::same;
 use axi_beats::{ArBeat, AwBeat, BBeat, RBeat, Resp, WBeat};
-use axi_checker::{AxiBeat, AxiRule, LargeMonitor, Monitor};
+use axi_checker::{AxiRule, LargeMonitor, Monitor};
 use std::alloc::{AllocError, Global};
 use std::test::Fail;
 
@@ -166,33 +166,5 @@ fn writes_of_one_id(rt: HostRuntime) -> Result<(), Fail> {
     same(&rt, "answers", answers_writes(&mut monitor, 256), 256);
     let none = monitor.b(&response(0));
     same(&rt, "an answer", none, Err(AxiRule::BWithoutWrite));
-    Ok(())
-}
-
-/// The first beat, by its place, that breaks a rule on a port of 64 IDs of depth 32 with a bus of 8 bytes.
-fn first_wrong(alloc: Global, beats: &[AxiBeat]) -> Result<Option<(usize, AxiRule)>, AllocError> {
-    let mut monitor = Monitor::of_any_depth(alloc, 64, 32, 8)?;
-    for (place, beat) in beats.iter().enumerate() {
-        if let Err(rule) = monitor.take(beat) {
-            return Ok(Some((place, rule)));
-        }
-    }
-    Ok(None)
-}
-
-#[test]
-fn the_caller_of_the_page(rt: HostRuntime) -> Result<(), Fail> {
-    let beats = [
-        AxiBeat::Ar(read(63, 0)),
-        AxiBeat::R(answer(63)),
-        AxiBeat::R(answer(63)),
-    ];
-    let wrong = first_wrong(rt.alloc(), &beats)?;
-    same(
-        &rt,
-        "one R too many",
-        wrong,
-        Some((2, AxiRule::RWithoutRead)),
-    );
     Ok(())
 }

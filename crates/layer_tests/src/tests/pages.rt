@@ -1,10 +1,10 @@
 //! The examples of README and of the crates' pages, as they stand there, with what they say comes out.
 use super::bench::*;
-use axi_beats::{BBeat, BurstBox};
-use axi_checker::AxiRule;
+use axi_beats::{ArBeat, BBeat, BurstBox, RBeat};
+use axi_checker::{AxiBeat, AxiRule, Monitor};
 use bridge_core::{BridgeFault, Offered, Taken};
 use burst_plan::PageMap;
-use std::alloc::Global;
+use std::alloc::{AllocError, Global};
 use std::test::Fail;
 use tl_messages::{DBeat, ReplyBox};
 use world::Answer;
@@ -60,6 +60,39 @@ fn axi_beats(rt: HostRuntime) {
     let lanes = lanes_of(0x10003, 2, 2, 8);
 
     assert_eq!(rt; lanes, (4, 7));
+}
+
+/// crates/axi_checker/README.md.
+fn first_wrong(alloc: Global, beats: &[AxiBeat]) -> Result<Option<(usize, AxiRule)>, AllocError> {
+    let mut monitor = Monitor::of_any_depth(alloc, 64, 32, 8)?;
+    for (place, beat) in beats.iter().enumerate() {
+        if let Err(rule) = monitor.take(beat) {
+            return Ok(Some((place, rule)));
+        }
+    }
+    Ok(None)
+}
+
+/// What it answers where a read is answered twice.
+#[test]
+fn axi_checker(rt: HostRuntime) -> Result<(), Fail> {
+    let ar = ArBeat {
+        id: 63,
+        address: 0,
+        len: 0,
+        size: 3,
+        burst: 1,
+    };
+    let r = RBeat {
+        id: 63,
+        payload: 0,
+        resp: Okay,
+        last: true,
+    };
+    let beats = [AxiBeat::Ar(ar), AxiBeat::R(r), AxiBeat::R(r)];
+    let wrong = first_wrong(rt.alloc(), &beats)?;
+    assert_eq!(rt; wrong, Some((2, AxiRule::RWithoutRead)));
+    Ok(())
 }
 
 /// crates/data_unit/README.md.
