@@ -27,6 +27,8 @@ SILENT = {
     "a CR alone": ("\r", 2, 1),
     "a region before the config line, behind skipped lines": ("# config\n\n  \nregion 0 4 10 gpah", 4, 1),
     "nine clients": ("config 9 4 16 2 16 12 hhhhhhhhh", 1, 8),
+    "256 IDs": ("config 1 4 256 2 16 12 h", 1, 4),
+    "a depth of 256": ("config 1 4 16 256 16 12 h", 1, 5),
     "65,536 transfers a burst": ("config 1 4 16 2 65536 12 h", 1, 6),
     "a bus of 256 bytes": ("config 1 4 16 2 16 12 h 256", 1, 9),
     "a level and a bus that aren't there": ("config 1 4 16 2 16 12 x 256", 1, 8),
@@ -143,6 +145,8 @@ SET_UPS = {
     "a bus of four bytes, and two transfers a burst": ("config 1 1 1 1 2 12 h 4", ""),
     "a bus of four bytes, and one transfer a burst": ("config 1 1 1 1 1 12 h 4", "BadConfig 0"),
     "a bus of 16 bytes": ("config 1 1 1 1 16 12 h 16", "BadConfig 0"),
+    "17 IDs": ("config 1 1 17 1 16 12 h", "BadConfig 0"),
+    "a depth of 5": ("config 1 1 1 5 16 12 h", "BadConfig 0"),
     "regions, pages and a bad word side by side": (
         f"{CONFIG}\nregion 0 4 10 gpah\nregion 4 1 10 g---\npage 10 1 good\npage 11 1 slverr\nbad 10ff8",
         "",
@@ -245,6 +249,7 @@ FAULTY_CHECKS = (
 
 # Scripts of `check` whose limits are refused.
 BAD_CONFIGS = (
+    "config 1 1 17 1 1 12 h\nfree 0 0",
     "config 1 1 1 1 1 13 h\nfree 0 0\nfree x",
     "config 1 0 1 1 1 12 h\na 0 4 0 3 0 8 ff 0 0",
     "config 1 1 1 1 1 2 h\n\n",
