@@ -1,5 +1,6 @@
 pub mod BelowEight
 pub mod DistinctPlaces
+pub mod FewDistinct
 pub mod FirstPlaces
 pub mod FoundChanges
 pub mod Inclusion

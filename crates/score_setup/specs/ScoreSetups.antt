@@ -1,6 +1,6 @@
 -- A set-up of a bridge that is only observed: its AXI4 port may have more IDs, and more bursts of an ID on the way, than that of this project's
 -- bridge. All else is as in a set-up of the latter, and is said there (this project's profile).
-use Rattle.std.specs.Prelude.{ℕ, ◌*◌, Bool, ◌&&◌, Option, Some, if◌then◌else◌, nat_le}
+use Rattle.std.specs.Prelude.{◌*◌, Bool, ◌&&◌, Option, Some, if◌then◌else◌, nat_le}
 use Rattle.bus_words.specs.Lanes.{is_between}
 use Rattle.config.specs.Configs.{is_valid}
 use Rattle.config.specs.declared.Config.{Config}
