@@ -17,16 +17,17 @@ from collections import Counter
 from dataclasses import dataclass
 
 from ends import started, told
-from model import ARITHMETIC, GET, LOGICAL, PUT_FULL, PUT_PARTIAL, Memory, Setup
+from model import ARITHMETIC, GET, INTENT, LOGICAL, PUT_FULL, PUT_PARTIAL, Memory, Setup
 
 from client import ABeat, beats_of  # model.py says where it stands
 from random_bench import applied, full_mask
 
 SETUP = Setup(3, 4, 16, 2, 16, 12, 8, ((0, 4, 0x10, "gpah"),), {0x10: "good"}, ())
-PUTS = (PUT_FULL, PUT_PARTIAL)
+PUTS, GIVES_NONE = (PUT_FULL, PUT_PARTIAL), (GET, INTENT)
 # Opcodes, params and sizes of requests: of each kind, and of those that show which came first, a sum or a Put of one of its bytes.
 ALL = [(PUT_FULL, 0, 4), (PUT_FULL, 0, 0), (PUT_PARTIAL, 0, 4), (GET, 0, 3), (GET, 0, 3), (GET, 0, 4)] * 3 + [(PUT_FULL, 0, 3)] * 2
 ALL += [*((ARITHMETIC, param, size) for param in range(5) for size in (0, 3)), *((LOGICAL, param, 3) for param in range(4))]
+ALL += [(INTENT, param, size) for param in range(2) for size in (3, 4)]
 SUMS = [(ARITHMETIC, 4, 3), (PUT_FULL, 0, 0), (GET, 0, 3)]
 # All requests lie in the first 16 bytes of the memory.
 BYTES, ADDRESSES, MASKS = 16, (0, 3, 8, 15), (0xFF, 0xF0, 0x0F, 0x01, 0)
@@ -57,11 +58,11 @@ class Request:
         return range(self.first.address, self.first.address + 2**self.first.size)
 
     def may_write(self, address):
-        return self.first.opcode != GET and address in self.span
+        return self.first.opcode not in GIVES_NONE and address in self.span
 
     def gives(self):
         """The byte that it gives to each address of its span, in an atomic the operand; None where it gives none."""
-        if self.first.opcode == GET or any(it.corrupt for it in self.beats):
+        if self.first.opcode in GIVES_NONE or any(it.corrupt for it in self.beats):
             return [None] * len(self.span)
         lanes = [(self.beats[at // 8], address % 8) for at, address in enumerate(self.span)]
         return [beat.payload >> 8 * lane & 0xFF if beat.mask >> lane & 1 else None for beat, lane in lanes]
@@ -69,7 +70,7 @@ class Request:
     def leaves(self, read):
         """What it makes of the bytes of its span, if it is whole. None is a byte that may be any."""
         gives, first, count = self.gives(), self.first, len(read)
-        if first.opcode in (GET, *PUTS):
+        if first.opcode in GIVES_NONE + PUTS:
             return tuple(old if new is None else new for old, new in zip(read, gives))
         if None in read:
             return (None,) * count
