@@ -1,10 +1,12 @@
 -- Worked values of the definitions.
-use Rattle.std.proofs.Common.{◌≡◌, ℕ, true, false, List, [], ◌∷◌, map, None, refl}
+use Rattle.std.proofs.Common.{◌≡◌, ℕ, true, false, List, [], ◌∷◌, map, Option, Some, None, refl}
 use Rattle.std.specs.List.{range_with_len}
 use Rattle.subordinate.specs.Faults.{IsAbsent, IsGood, IsSlaveError, device_fault, read_response, standing_at}
+use Rattle.subordinate.specs.declared.DeviceFault.{DeviceFault}
+use Rattle.subordinate.specs.declared.DeviceFault.TheVariants.{BadWord, PageRange as BeyondRange, PageTwice}
 use Rattle.subordinate.specs.declared.PageKind.TheVariants.{Good, SlaveError as ErrorPage}
 use Rattle.axi_beats.specs.declared.Resp.TheVariants.{Okay, SlvErr, DecErr}
-use Rattle.sparse_memory.specs.Ranges.{are_sound, faults_of, is_unknown, pages_in}
+use Rattle.sparse_memory.specs.Ranges.{faults_of, is_unknown, pages_in}
 use Rattle.sparse_memory.specs.SparseMemory.{PageState, SparseState, bytes_in, doubts_in, flags_in, flags_merged, has_room, put_flags, put_word, word_in}
 use Rattle.sparse_memory.specs.declared.PageRange.{PageRange}
 use Rattle.sparse_memory.specs.declared.RangeKind.{RangeKind}
@@ -32,32 +34,33 @@ responses : map (read_response (faults_of four (0x11ff8 ∷ []))) (0x11ff7 ∷ 0
 unfolding pages_in
 responses = refl
 
--- ---- which ranges and bad words make a memory
+-- ---- why ranges and bad words are refused
 
-sound_four : are_sound four (0x11ff8 ∷ 0x12000 ∷ []) ≡ true
-unfolding pages_in
-sound_four = refl
+abbrev fault_of : List PageRange → List ℕ → Option DeviceFault
+fault_of ranges bad_words = device_fault (pages_in ranges) bad_words
 
-none_refused : device_fault (pages_in four) (0x11ff8 ∷ 0x12000 ∷ []) ≡ None
+none_refused : fault_of four (0x11ff8 ∷ 0x12000 ∷ []) ≡ None
 unfolding pages_in
 none_refused = refl
 
 -- not aligned, in no page, and in a page that answers with an error
-no_words : map (λ word. are_sound four (word ∷ [])) (0x10004 ∷ 0x13000 ∷ 0x14000 ∷ []) ≡ false ∷ false ∷ false ∷ []
+no_words : map (λ word. fault_of four (0x12000 ∷ word ∷ [])) (0x10004 ∷ 0x13000 ∷ 0x14000 ∷ []) ≡ Some (BadWord 1) ∷ Some (BadWord 1) ∷ Some (BadWord 1) ∷ []
 unfolding pages_in
 no_words = refl
 
--- ranges that meet, one with no page, one with a page of more than 32 bits of address, and two with a page in common
-meeting : are_sound (range 4 4 Zeros ∷ range 0 4 Zeros ∷ range 8 1 Zeros ∷ []) [] ≡ true
+-- ranges that meet, and one with no page
+meeting : fault_of (range 4 4 Zeros ∷ range 0 4 Zeros ∷ range 2 0 Zeros ∷ range 8 1 Zeros ∷ []) [] ≡ None
+unfolding pages_in
 meeting = refl
 
-empty : are_sound (range 4 0 Zeros ∷ []) [] ≡ false
-empty = refl
-
-beyond : are_sound (range 0xfffff 2 Zeros ∷ []) [] ≡ false
+-- pages are counted over all ranges: here two stand before the range, one of its own fits, and the next has an address of more than 32 bits
+beyond : fault_of (range 0 2 Zeros ∷ range 0xfffff 2 Zeros ∷ []) [] ≡ Some (BeyondRange 3)
+unfolding pages_in
 beyond = refl
 
-twice : are_sound (range 4 4 Zeros ∷ range 0 5 Zeros ∷ []) [] ≡ false
+-- the second page of a range is in one before it
+twice : fault_of (range 4 4 Zeros ∷ range 3 9 Unknown ∷ []) (0x13000 ∷ []) ≡ Some (PageTwice 5)
+unfolding pages_in
 twice = refl
 
 -- ---- bytes and doubts, of which the first two words of page 0x10 have room

@@ -1,7 +1,9 @@
-mod Examples
+pub mod CountedPages
 pub mod FlagLaws
+pub mod ListedPages
 pub mod PageLaws
 pub mod RangeLaws
-pub mod SoundRanges
+pub mod SharedPages
 pub mod SparseLaws
 pub mod StateLaws
+mod Examples

@@ -6,11 +6,10 @@ use Rattle.std.proofs.lemmas.Bool.Decides.{nat_tests}
 use Rattle.bus_words.specs.Lanes.{has_lane, lane_byte, mask_of, word_address}
 use Rattle.bus_words.proofs.LaneLaws.{word_of_lanes-lane_byte, word_of_lanes-same}
 use Rattle.bus_words.proofs.MaskLaws.{has_lane-mask_of, mask_of-has_lane, mask_of-same}
-use Rattle.subordinate.specs.Faults.{is_good, standing_at}
-use Rattle.sparse_memory.specs.Ranges.{are_sound, is_unknown}
+use Rattle.subordinate.specs.Faults.{device_fault, is_good, standing_at}
+use Rattle.sparse_memory.specs.Ranges.{is_unknown, pages_in}
 use Rattle.sparse_memory.specs.SparseMemory.{IsSoundState, PageState, SparseState, byte_of, bytes_in, doubt_of, doubts_in, faults_in, flags_in, is_strobed, page_in, put_flags, put_word, sparse_state, word_in}
 use Rattle.sparse_memory.specs.declared.PageRange.{PageRange}
-use Rattle.sparse_memory.proofs.SoundRanges.{sound-device}
 use Rattle.sparse_memory.proofs.PageLaws.{byte-with_word, doubt-with_doubts, with_doubts, with_word}
 
 -- a page that isn't found has no room
@@ -139,8 +138,8 @@ doubts-new_page old new number page unknown none which doubts changes =
 
 -- ---- nothing has room
 
-pub sound-none : (ranges : List PageRange) (bad_words : List ℕ) → are_sound ranges bad_words ≡ true → IsSoundState (sparse_state ranges bad_words [])
-sound-none ranges bad_words sound = record { faults = sound-device ranges bad_words sound; room = λ address there. absurd (cc (there)) }
+pub sound-none : (ranges : List PageRange) (bad_words : List ℕ) → device_fault (pages_in ranges) bad_words ≡ None → IsSoundState (sparse_state ranges bad_words [])
+sound-none ranges bad_words sound = record { faults = sound; room = λ address there. absurd (cc (there)) }
 
 pub bytes-none : (state : SparseState) → ((number : ℕ) → page_in state number ≡ None) → bytes_in state ≡ (λ address. 0)
 bytes-none state none = fun_ext (λ x. no-byte-of state x (x / 4096) refl (none (x / 4096)))

@@ -1,7 +1,7 @@
 -- The pages of a memory listed as ranges. What a range lists is what the pages of a device are: so `Faults` stays what is said of a memory.
-use Rattle.std.specs.Prelude.{ℕ, ◌+◌, Bool, true, false, ◌&&◌, not, List, [], ◌∷◌, length, map, flat_map, Option, Some, None, find, nat_le, nat_lt}
-use Rattle.std.specs.List.{list_all, list_any, range_with_len}
-use Rattle.subordinate.specs.Faults.{Faults, IsAbsent, Standing, is_no_word, standing_of_kind}
+use Rattle.std.specs.Prelude.{ℕ, ◌+◌, Bool, true, false, ◌&&◌, List, map, flat_map, Option, Some, None, find, min, nat_le, nat_lt}
+use Rattle.std.specs.List.{range_with_len}
+use Rattle.subordinate.specs.Faults.{Faults, IsAbsent, Standing, standing_of_kind}
 use Rattle.subordinate.specs.declared.PageKind.{PageKind}
 use Rattle.subordinate.specs.declared.PageKind.TheVariants.{Good, SlaveError as ErrorPage}
 use Rattle.sparse_memory.specs.declared.PageRange.{PageRange}
@@ -56,29 +56,10 @@ is_unknown_in (Some range) = is_unknown_kind range.kind
 abbrev pub is_unknown : List PageRange → ℕ → Bool
 is_unknown ranges number = is_unknown_in (range_of ranges number)
 
--- ---- which ranges and bad words make a memory
+-- ---- which page of a range is the first of several
 
--- whether a range has a page, and all of its pages have addresses of 32 bits
-abbrev pub is_range : PageRange → Bool
-is_range range = nat_le 1 range.count && nat_le (range.first + range.count) 1048576
-
--- whether two ranges have a page in common
-abbrev pub overlaps : PageRange → PageRange → Bool
-overlaps range other = nat_lt range.first (other.first + other.count) && nat_lt other.first (range.first + range.count)
-
--- whether no two ranges have a page in common
-abbrev pub are_apart : List PageRange → Bool
-are_apart [] = true
-are_apart (range ∷ ranges) = not (list_any (overlaps range) ranges) && are_apart ranges
-
--- whether ranges make a memory: at most 1,024 of them, each with pages of 32-bit addresses, and no page in two
-abbrev pub are_ranges : List PageRange → Bool
-are_ranges ranges = nat_le (length ranges) 1024 && list_all is_range ranges && are_apart ranges
-
--- whether words may be the bad ones: at most 64, each at a multiple of 8 in a good page
-abbrev pub are_words : List PageRange → List ℕ → Bool
-are_words ranges words = nat_le (length words) 64 && not (list_any (is_no_word (pages_in ranges)) words)
-
--- whether ranges and bad words make a memory
-abbrev pub are_sound : List PageRange → List ℕ → Bool
-are_sound ranges bad_words = are_ranges ranges && are_words ranges bad_words
+-- the lower of two numbers, where there are two
+abbrev pub lower : Option ℕ → Option ℕ → Option ℕ
+lower None other = other
+lower (Some number) None = Some number
+lower (Some number) (Some second) = Some (min number second)

@@ -9,7 +9,7 @@ mod ranges;
 mod tests;
 
 pub use memory::SparseMemory;
-pub use ranges::are_sound;
+pub use ranges::memory_fault;
 
 /// What the pages of a range are.
 #[derive(Clone, Copy, Debug, Default, PartialEq, Eq)]
@@ -28,7 +28,7 @@ pub enum RangeKind {
 pub struct PageRange {
     /// The number of the first: its address divided by 4,096.
     pub first: u32,
-    /// How many there are, from 1 to 1,048,576.
+    /// How many there are, at most 1,048,576.
     pub count: u32,
     /// What they are.
     pub kind: RangeKind,

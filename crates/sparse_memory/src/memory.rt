@@ -1,8 +1,8 @@
 //! The memory: which pages there are, and the room of those that were asked for.
-ghost use Rattle.std.specs.Prelude.{◌≡◌, ◌/◌, ◌%◌, ◌<◌, ◌||◌, ◌==◌, ℕ, false, true, if◌then◌else◌, IfOk, OnErr, OnOk, IsOk, IsTrue, None, Some};
+ghost use Rattle.std.specs.Prelude.{◌≡◌, ◌/◌, ◌%◌, ◌<◌, ◌||◌, ◌==◌, ℕ, false, true, if◌then◌else◌, IfOk, OnErr, OnOk, IsOk, None, Some};
 ghost use Rattle.std.specs.Option.{option_copied};
-ghost use Rattle.subordinate.specs.Faults.{is_good, standing_at, standing_of_kind, write_response};
-ghost use Rattle.sparse_memory.specs.Ranges.{are_sound, faults_of, is_unknown, kind_of, range_of};
+ghost use Rattle.subordinate.specs.Faults.{device_fault, is_good, standing_at, standing_of_kind, write_response};
+ghost use Rattle.sparse_memory.specs.Ranges.{faults_of, is_unknown, kind_of, pages_in, range_of};
 ghost use Rattle.sparse_memory.specs.SparseMemory.{IsSoundState, bytes_in, doubts_in, faults_in, flags_in, has_room, page_in, put_flags, word_in};
 
 use crate::page::Page;
@@ -49,10 +49,10 @@ impl SparseMemory {
     ghost use Rattle.subordinate.specs.Faults.{is_bad, read_response};
     ghost use Rattle.sparse_memory.specs.SparseMemory.{put_word};
 
-    /// A memory of these ranges with these bad words. No page has room: the bytes are zero, and those of ranges of unknown bytes
+    /// A memory of these ranges with these bad words, which `memory_fault` doesn't refuse. No page has room: the bytes are zero, and those of ranges of unknown bytes
     /// are in doubt. The one error is that memory was refused.
     pub fn new(alloc: Global, ranges: &[PageRange], bad_words: &[u32]) -> Result<Self, AllocError>
-        requires sound { IsTrue (are_sound ranges.now bad_words.now) }
+        requires fine { device_fault (pages_in ranges.now) bad_words.now ≡ None }
         ensures faults { IfOk result (λ memory. faults_in memory ≡ faults_of ranges.now bad_words.now) }
         ensures bytes { IfOk result (λ memory. bytes_in memory ≡ (λ address. 0)) }
         ensures doubts { IfOk result (λ memory. doubts_in memory ≡ (λ address. is_unknown ranges.now (address / 4096))) }

@@ -1,14 +1,17 @@
-//! Which ranges of pages and bad words make a memory.
-ghost use Rattle.std.specs.Prelude.{◌≡◌};
-ghost use Rattle.std.specs.List.{list_all, list_any};
+//! Why ranges of pages and bad words make no memory.
+ghost use Rattle.std.specs.Prelude.{◌≡◌, ◌+◌, ◌-◌, ◌^◌, ◌<◌, ◌≤◌, ◌&&◌, [], None, Some, find, if◌then◌else◌, length, min, nat_lt};
+ghost use Rattle.std.specs.List.{list_any, range_with_len};
 ghost use Rattle.std.specs.Option.{option_copied};
-ghost use Rattle.subordinate.specs.Faults.{is_good, is_no_word};
-ghost use Rattle.sparse_memory.specs.Ranges.{are_apart, are_ranges, are_sound, are_words, has_page, is_range, overlaps, pages_in, range_of, standing_in};
+ghost use Rattle.bus_words.specs.Tables.{first_broken};
+ghost use Rattle.subordinate.specs.Faults.{device_fault, is_good, is_no_word, rules_of_pages, rules_of_words};
+ghost use Rattle.subordinate.specs.declared.DeviceFault.TheVariants.{PageRange as BeyondRange};
+ghost use Rattle.sparse_memory.specs.Ranges.{has_page, lower, pages_in, pages_of, range_of, standing_in};
 
 use crate::{PageRange, RangeKind};
+use subordinate::DeviceFault;
 
 /// How many pages there are of addresses of 32 bits.
-const PAGES: u64 = 1_048_576;
+const PAGES: u32 = 1_048_576;
 
 /// Whether a page is in a range.
 fn has_page(range: &PageRange, number: u32) -> bool
@@ -24,39 +27,91 @@ pub(crate) fn range_of(ranges: &[PageRange], number: u32) -> Option<&PageRange>
     ranges.iter().find(|range| has_page(range, number))
 }
 
-/// Whether a range has a page, and all of its pages have addresses of 32 bits.
-fn is_range(range: &PageRange) -> bool
-    ensures { result ≡ is_range range.now }
+/// How many pages of a range, from its first on, have addresses of 32 bits.
+fn pages_within(range: &PageRange) -> u32
+    ensures { result ≡ min range.now.count (1048576 - range.now.first) }
 {
-    range.count >= 1 && u64::from(range.first) + u64::from(range.count) <= PAGES
+    range.count.min(PAGES.saturating_sub(range.first))
 }
 
-/// Whether two ranges have a page in common.
-fn overlaps(range: &PageRange, other: &PageRange) -> bool
-    ensures { result ≡ overlaps range.now other.now }
+/// The lower of two numbers, where there are two.
+fn lower(one: Option<u32>, other: Option<u32>) -> Option<u32>
+    ensures { result ≡ lower one other }
 {
-    let end = u64::from(range.first) + u64::from(range.count);
-    let other_end = u64::from(other.first) + u64::from(other.count);
-    u64::from(range.first) < other_end && u64::from(other.first) < end
-}
-
-/// Whether a range has a page in common with one of others.
-fn overlaps_any(range: &PageRange, others: &[PageRange]) -> bool
-    ensures { result ≡ list_any (overlaps range.now) others.now }
-{
-    others.iter().any(|other| overlaps(range, other))
-}
-
-/// Whether no two ranges have a page in common.
-fn are_apart(ranges: &[PageRange]) -> bool
-    ensures { result ≡ are_apart ranges.now }
-{
-    for (place, range) in ranges.iter().enumerate() {
-        if overlaps_any(range, &ranges[place + 1..]) {
-            return false;
-        }
+    match (one, other) {
+        (Some(number), Some(second)) => Some(number.min(second)),
+        (Some(number), None) => Some(number),
+        (None, second) => second,
     }
-    true
+}
+
+/// Whether a page is in two ranges.
+fn is_shared(range: &PageRange, other: &PageRange, number: u32) -> bool
+    ensures { result ≡ (has_page number range.now && has_page number other.now) }
+{
+    has_page(range, number) && has_page(other, number)
+}
+
+/// Which page of a range, from 0, is the first that is in another too.
+fn first_in(range: &PageRange, other: &PageRange) -> Option<u32>
+    ensures { result ≡ find (λ k. has_page (range.now.first + k) other.now) (range_with_len 0 range.now.count) }
+{
+    let number = range.first.max(other.first);
+    if !is_shared(range, other, number) {
+        return None;
+    }
+    Some(number - range.first)
+}
+
+/// Which page of a range, from 0, is the first that is in one of others too.
+fn first_in_any(range: &PageRange, others: &[PageRange]) -> Option<u32>
+    ensures { result ≡ find (λ k. list_any (has_page (range.now.first + k)) others.now) (range_with_len 0 range.now.count) }
+{
+    let mut first = None;
+    for other in others {
+        first = lower(first, first_in(range, other));
+    }
+    first
+}
+
+/// What is wrong with the first page of a range whose address has more than 32 bits, where so many stand before the range, and so many
+/// of its pages have such addresses.
+fn beyond(within: u32, count: u32, counted: u32) -> Option<DeviceFault>
+    requires { counted + within < 2 ^ 32 }
+    ensures { result ≡ (if nat_lt within count then Some (BeyondRange (counted + within)) else None) }
+{
+    if within < count {
+        Some(DeviceFault::PageRange(counted + within))
+    } else {
+        None
+    }
+}
+
+/// What is wrong with the first page of a range that breaks a rule, where others stand before it, with so many pages.
+fn fault_in(earlier: &[PageRange], counted: u32, range: &PageRange) -> Option<DeviceFault>
+    requires { counted ≤ 1048576 }
+    ensures { result ≡ first_broken (rules_of_pages (pages_in earlier.now) counted (pages_of range.now)) }
+{
+    let within = pages_within(range);
+    match first_in_any(range, earlier) {
+        Some(twice) if twice < within => Some(DeviceFault::PageTwice(counted + twice)),
+        Some(_) => beyond(within, range.count, counted),
+        None => beyond(within, range.count, counted),
+    }
+}
+
+/// What is wrong with the first page that breaks a rule.
+fn page_fault(ranges: &[PageRange]) -> Option<DeviceFault>
+    ensures { result ≡ first_broken (rules_of_pages [] 0 (pages_in ranges.now)) }
+{
+    let mut counted = 0;
+    for (place, range) in ranges.iter().enumerate() {
+        if let Some(fault) = fault_in(&ranges[..place], counted, range) {
+            return Some(fault);
+        }
+        counted += range.count;
+    }
+    None
 }
 
 /// Whether a page of the ranges is good.
@@ -76,38 +131,29 @@ fn is_no_word(ranges: &[PageRange], word: u32) -> bool
     !word.is_multiple_of(8) || !is_good_page(ranges, word / 4096)
 }
 
-/// Whether one of these words can't be bad.
-fn has_no_word(ranges: &[PageRange], words: &[u32]) -> bool
-    ensures { result ≡ list_any (is_no_word (pages_in ranges.now)) words.now }
+/// What is wrong with the first word that can't be bad.
+fn word_fault(ranges: &[PageRange], bad_words: &[u32]) -> Option<DeviceFault>
+    requires { length bad_words.now ≤ 64 }
+    ensures { result ≡ first_broken (rules_of_words (pages_in ranges.now) 0 bad_words.now) }
 {
-    words.iter().any(|word| is_no_word(ranges, *word))
+    for (place, word) in bad_words.iter().enumerate() {
+        if is_no_word(ranges, *word) {
+            return Some(DeviceFault::BadWord(place as u32));
+        }
+    }
+    None
 }
 
-/// Whether each range has a page, and all of its pages have addresses of 32 bits.
-fn are_each(ranges: &[PageRange]) -> bool
-    ensures { result ≡ list_all is_range ranges.now }
+/// Why these ranges of pages and bad words make no memory, if they make none: that of a device with these pages, one by one, and
+/// these words. It names the first page whose address has more than 32 bits, or that is in an earlier range too, counted from 0 over
+/// all ranges; where there is none, the first word that is in no good page, or at no multiple of 8 (this project's profile).
+/// There are at most 64 words.
+pub fn memory_fault(ranges: &[PageRange], bad_words: &[u32]) -> Option<DeviceFault>
+    requires { length bad_words.now ≤ 64 }
+    ensures { result ≡ device_fault (pages_in ranges.now) bad_words.now }
 {
-    ranges.iter().all(is_range)
-}
-
-/// Whether ranges make a memory.
-fn are_ranges(ranges: &[PageRange]) -> bool
-    ensures { result ≡ are_ranges ranges.now }
-{
-    ranges.len() <= 1024 && are_each(ranges) && are_apart(ranges)
-}
-
-/// Whether words may be the bad ones of a memory.
-fn are_words(ranges: &[PageRange], words: &[u32]) -> bool
-    ensures { result ≡ are_words ranges.now words.now }
-{
-    words.len() <= 64 && !has_no_word(ranges, words)
-}
-
-/// Whether ranges of pages and bad words make a memory (this project's profile): at most 1,024 ranges, each with a page and
-/// none beyond 32 bits of address, no page in two of them; at most 64 bad words, each at a multiple of 8 in a good page.
-pub fn are_sound(ranges: &[PageRange], bad_words: &[u32]) -> bool
-    ensures { result ≡ are_sound ranges.now bad_words.now }
-{
-    are_ranges(ranges) && are_words(ranges, bad_words)
+    match page_fault(ranges) {
+        Some(fault) => Some(fault),
+        None => word_fault(ranges, bad_words),
+    }
 }

@@ -4,13 +4,14 @@ ghost use Rattle.std.specs.Prelude.{◌≡◌, ◌/◌, true, OnOk};
 ghost use Rattle.subordinate.specs.Faults.{is_good, standing_at};
 ghost use Rattle.sparse_memory.specs.SparseMemory.{faults_in, has_room};
 
-use crate::{PageRange, RangeKind, SparseMemory, are_sound};
+use crate::{PageRange, RangeKind, SparseMemory, memory_fault};
 use axi_beats::Resp;
 use std::alloc::AllocError;
 use std::fs;
 use std::process::Abort;
 use std::rt::Files;
 use std::test::Fail;
+use subordinate::DeviceFault;
 
 /// All pages of 32-bit addresses.
 const ALL: [PageRange; 1] = [PageRange {
@@ -52,7 +53,7 @@ fn process_pages<R: Files + AllocGlobal>(rt: &R) -> Result<u64, Fail> {
 /// A memory of 4 GB takes no room but for its ranges, and for the pages that are asked for.
 #[test]
 fn four_gigabytes(rt: HostRuntime) -> Result<(), Fail> {
-    assert!(rt; are_sound(&ALL, &[]));
+    assert_eq!(rt; memory_fault(&ALL, &[]), None);
     let before = process_pages(&rt)?;
     let mut memory = SparseMemory::new(rt.alloc(), &ALL, &[])?;
     for address in [0, 0x7fff_fff8, 0xffff_fff8] {
@@ -92,7 +93,7 @@ fn reserve_again(
 /// `tests/refusals.py` refuses each growth in turn, and counts them.
 #[test]
 fn reserved_again(rt: HostRuntime) -> Result<(), Fail> {
-    assert!(rt; are_sound(&FOUR, &BAD));
+    assert_eq!(rt; memory_fault(&FOUR, &BAD), None);
     let mut memory = SparseMemory::new(rt.alloc(), &FOUR, &BAD)?;
     for (address, doubts) in [(0x10008, 0), (0x12ff8, 0xff)] {
         assert!(rt; memory.is_good(address));
@@ -116,7 +117,7 @@ fn reserved_again(rt: HostRuntime) -> Result<(), Fail> {
 #[test]
 fn answers(rt: HostRuntime) -> Result<(), Fail> {
     use Resp::{DecErr, Okay, SlvErr};
-    assert!(rt; are_sound(&FOUR, &BAD));
+    assert_eq!(rt; memory_fault(&FOUR, &BAD), None);
     let memory = SparseMemory::new(rt.alloc(), &FOUR, &BAD)?;
     for (address, write, read, doubt) in [
         (0xffff, DecErr, DecErr, false),
@@ -141,34 +142,54 @@ fn answers(rt: HostRuntime) -> Result<(), Fail> {
     Ok(())
 }
 
-/// Lists that make no memory.
+/// Lists that make no memory, and some that make one: pages are counted over all ranges.
 #[test]
-fn unsound(rt: HostRuntime) {
+fn refused(rt: HostRuntime) {
+    use DeviceFault::{BadWord, PageTwice};
     let range = |first, count| PageRange {
         first,
         count,
         kind: RangeKind::Zeros,
     };
-    assert!(rt; are_sound(&[], &[]));
-    assert!(rt; !are_sound(&[], &[0]), "a bad word in no page");
-    assert!(rt; !are_sound(&[range(0, 0)], &[]), "an empty range");
-    assert!(rt;
-        !are_sound(&[range(1, 1_048_576)], &[]),
+    let beyond = DeviceFault::PageRange;
+    assert_eq!(rt; memory_fault(&[], &[]), None);
+    assert_eq!(rt;
+        memory_fault(&[], &[0]),
+        Some(BadWord(0)),
+        "a bad word in no page"
+    );
+    assert_eq!(rt;
+        memory_fault(&[range(9, 0), range(7, 4)], &[]),
+        None,
+        "an empty range"
+    );
+    assert_eq!(rt;
+        memory_fault(&[range(1, 1_048_576)], &[]),
+        Some(beyond(1_048_575)),
         "a page beyond 32 bits"
     );
-    assert!(rt; are_sound(&[range(4, 4), range(0, 4), range(8, 1)], &[]));
-    assert!(rt;
-        !are_sound(&[range(4, 4), range(0, 5)], &[]),
+    assert_eq!(rt;
+        memory_fault(&[range(4, 4), range(0, 4), range(8, 1)], &[]),
+        None
+    );
+    assert_eq!(rt;
+        memory_fault(&[range(4, 4), range(0, 5)], &[]),
+        Some(PageTwice(8)),
         "a page twice"
     );
-    assert!(rt;
-        !are_sound(&FOUR, &[0x10004]),
+    assert_eq!(rt;
+        memory_fault(&[range(0, 1_048_576), range(0xf_ffff, 2)], &[]),
+        Some(PageTwice(1_048_576)),
+        "the last page twice, before one beyond"
+    );
+    assert_eq!(rt;
+        memory_fault(&FOUR, &[0x10000, 0x10004]),
+        Some(BadWord(1)),
         "a bad word that isn't aligned"
     );
-    assert!(rt;
-        !are_sound(&FOUR, &[0x14000]),
+    assert_eq!(rt;
+        memory_fault(&FOUR, &[0x14000]),
+        Some(BadWord(0)),
         "a bad word of an error page"
     );
-    assert!(rt; are_sound(&FOUR, &[0x10000; 64]));
-    assert!(rt; !are_sound(&FOUR, &[0x10000; 65]), "too many bad words");
 }

@@ -9,7 +9,7 @@ none-in : (pages : List (ℕ × PageState)) (number : ℕ) → pages ≡ [] → 
 none-in pages number empty = ap (λ (entries : List (ℕ × PageState)). lookup (nat_eq number) entries) empty
 
 pub invariant_of-result : goal.invariant_of-result
-invariant_of-result c = rw (c.in_ok-copied.ensures, c.in_ok-copied-2.ensures, c.new.ensures.empty) (sound-none c.args.ranges.now c.args.bad_words.now c.requires.sound)
+invariant_of-result c = rw (c.in_ok-copied.ensures, c.in_ok-copied-2.ensures, c.new.ensures.empty) (sound-none c.args.ranges.now c.args.bad_words.now c.requires.fine)
 
 pub returns-clause-bytes : goal.returns-clause-bytes
 returns-clause-bytes c = bytes-none _ (λ number. none-in c.new.result.entries number c.new.ensures.empty)
@@ -18,4 +18,4 @@ pub returns-clause-doubts : goal.returns-clause-doubts
 returns-clause-doubts c = doubts-none _ c.args.ranges.now c.in_ok-copied.ensures (λ number. none-in c.new.result.entries number c.new.ensures.empty)
 
 pub returns-clause-sound : goal.returns-clause-sound
-returns-clause-sound c = rw (c.in_ok-copied.ensures, c.in_ok-copied-2.ensures, c.new.ensures.empty) (sound-none c.args.ranges.now c.args.bad_words.now c.requires.sound)
+returns-clause-sound c = rw (c.in_ok-copied.ensures, c.in_ok-copied-2.ensures, c.new.ensures.empty) (sound-none c.args.ranges.now c.args.bad_words.now c.requires.fine)
