@@ -1,0 +1,2 @@
+pub mod InsideSerial
+pub mod SerialMemory
