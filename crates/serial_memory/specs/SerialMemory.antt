@@ -22,6 +22,7 @@ pub record MemoryState : Type 0 where
   pub regions : List Region
   pub pages : SparseState
 
+-- the memory of the laws that it holds
 abbrev pub memory_of : MemoryState → Memory
 memory_of state = record { regions = state.regions; faults = faults_in state.pages; bytes = bytes_in state.pages }
 

@@ -53,7 +53,7 @@ impl SerialMemory {
     ghost use Rattle.serial_memory.specs.SerialMemory.{byte_at, carried_out, doubts_of, is_page_of, meaning_in, memory_of, on_good_page, place_given, place_in, rooms_of};
 
     /// The memory behind a page map, of these ranges of pages and bad words, which `memory_fault` doesn't refuse; all bytes are zero,
-    /// and those of ranges of unknown bytes are in doubt. The one error is that memory was refused.
+    /// and those of ranges of unknown bytes are in doubt. No page has room. The one error is that memory was refused.
     pub fn new(
         alloc: Global,
         map: PageMap,
@@ -63,6 +63,7 @@ impl SerialMemory {
         requires fine { device_fault (pages_in ranges.now) bad_words.now ≡ None }
         ensures memory { IfOk result (λ memory. memory_of memory ≡ record { regions = map; faults = faults_of ranges.now bad_words.now; bytes = zeros }) }
         ensures doubts { IfOk result (λ memory. doubts_of memory ≡ (λ address. is_unknown ranges.now (address / 4096))) }
+        ensures rooms { IfOk result (λ memory. (page : ℕ) → rooms_of memory page ≡ false) }
     {
         let pages = SparseMemory::new(alloc, ranges, bad_words)?;
         let gather = Gather::new(alloc, WORD)?;

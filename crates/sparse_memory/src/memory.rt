@@ -49,8 +49,8 @@ impl SparseMemory {
     ghost use Rattle.subordinate.specs.Faults.{is_bad, read_response};
     ghost use Rattle.sparse_memory.specs.SparseMemory.{put_word};
 
-    /// A memory of these ranges with these bad words, which `memory_fault` doesn't refuse. No page has room: the bytes are zero, and those of ranges of unknown bytes
-    /// are in doubt. The one error is that memory was refused.
+    /// A memory of these ranges with these bad words, which `memory_fault` doesn't refuse. No page has room: the bytes are zero, and
+    /// those of ranges of unknown bytes are in doubt. The one error is that memory was refused.
     pub fn new(alloc: Global, ranges: &[PageRange], bad_words: &[u32]) -> Result<Self, AllocError>
         requires fine { device_fault (pages_in ranges.now) bad_words.now ≡ None }
         ensures faults { IfOk result (λ memory. faults_in memory ≡ faults_of ranges.now bad_words.now) }
