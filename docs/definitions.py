@@ -150,7 +150,11 @@ STATEMENTS = (
     (
         "The text of the scoreboard",
         "`score_script::score_text`.",
-        (("score_script", "Scores", "score_reading"), ("score_script", "Scores", "opening_state")),
+        (
+            ("script_text", "Scripts", "EndsOrStops"),
+            ("score_script", "Scores", "score_reading"),
+            ("score_script", "Scores", "opening_state"),
+        ),
     ),
 )
 

@@ -50,6 +50,7 @@ fn judge<W: Write>(
 
 impl Kind for CheckScript {
     ghost use Rattle.std.proofs.Common.{refl};
+    ghost use Rattle.std.specs.Prelude.{false};
     ghost use Rattle.check_script.specs.Check.{check_kind};
     ghost use Rattle.check_script.specs.ClientPorts.{PortTable};
     ghost use Rattle.check_script.specs.CommandTexts.{check_gives};
@@ -67,6 +68,8 @@ impl Kind for CheckScript {
     ghost said = { λ ports. ports };
 
     ghost rules = { check_kind };
+
+    ghost grows = { false };
 
     fn most_lines() -> u32 {
         65_536
@@ -109,7 +112,7 @@ impl Kind for CheckScript {
         _number: u32,
         command: &CheckCommand,
         writer: &mut W,
-    ) -> Result<bool, WriteFault> {
+    ) -> Result<bool, ScriptFault> {
         judge(ports, command, writer)?;
         Ok(true)
     }
@@ -118,7 +121,7 @@ impl Kind for CheckScript {
         &mut self,
         ports: &mut ClientPorts,
         _writer: &mut W,
-    ) -> Result<bool, WriteFault> {
+    ) -> Result<bool, ScriptFault> {
         Ok(ports.refused())
     }
 

@@ -85,6 +85,7 @@ fn command<W: Write>(
 
 impl Kind for RunScript {
     ghost use Rattle.std.proofs.Common.{refl};
+    ghost use Rattle.std.specs.Prelude.{false};
     ghost use Rattle.run_script.specs.CommandTexts.{run_gives};
     ghost use Rattle.run_script.specs.Run.{run_kind};
     ghost use Rattle.world.specs.World.{WorldState};
@@ -102,6 +103,8 @@ impl Kind for RunScript {
     ghost said = { λ world. world };
 
     ghost rules = { run_kind };
+
+    ghost grows = { false };
 
     fn most_lines() -> u32 {
         65_536
@@ -138,12 +141,12 @@ impl Kind for RunScript {
         _number: u32,
         asked: &Command,
         writer: &mut W,
-    ) -> Result<bool, WriteFault> {
+    ) -> Result<bool, ScriptFault> {
         command(world, &mut self.reply, asked, writer)?;
         Ok(true)
     }
 
-    fn end<W: Write>(&mut self, _world: &mut World, _writer: &mut W) -> Result<bool, WriteFault> {
+    fn end<W: Write>(&mut self, _world: &mut World, _writer: &mut W) -> Result<bool, ScriptFault> {
         Ok(false)
     }
 

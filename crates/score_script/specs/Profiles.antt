@@ -7,7 +7,7 @@ use Rattle.axi_checker.specs.OpenBursts.{open_count}
 use Rattle.score_script.specs.declared.profiles.Asked.{Asked}
 use Rattle.scoreboard.specs.Boards as boards
 use Rattle.scoreboard.specs.Boards.{Board, wrong_at}
-use Rattle.scoreboard.specs.SerialMemory.{byte_at}
+use Rattle.serial_memory.specs.SerialMemory.{byte_at}
 use Rattle.scoreboard.specs.declared.Errors.{Errors}
 use Rattle.scoreboard.specs.declared.Errors.TheVariants.{Any, Strict}
 use Rattle.scoreboard.specs.declared.Policy.{Policy}

@@ -1,5 +1,5 @@
 //! What was found of the beats that were read so far, and what each line finds.
-ghost use Rattle.std.specs.Prelude.{◌≡◌, ◌⊎◌, Err, IfErr, IfOk, IfSome, None, Some, if◌then◌else◌, is_some};
+ghost use Rattle.std.specs.Prelude.{◌≡◌, ◌⊎◌, Err, IfErr, IfOk, IfSome, None, OnOk, Some, if◌then◌else◌, is_some, true};
 ghost use Rattle.script_text.specs.Stages.{WritesEnd};
 ghost use Rattle.score_setup.specs.ScoreSetups.{lists_of, score_setup_fault};
 ghost use Rattle.setups.specs.declared.SetupFault.TheVariants.{NoMemory};
@@ -9,9 +9,9 @@ ghost use Rattle.score_script.specs.ScoreStates.{score_of};
 use crate::findings::{Finding, Findings, last_line, optional_line};
 use crate::profiles::Asked;
 use burst_plan::Region;
-use line_text::WriteFault;
 use score_setup::ScoreSetup;
 use scoreboard::{AxiPlaces, Errors, ObservedBeat, Policy, Scoreboard, Wrong};
+use script_text::ScriptFault;
 use setups::SetupFault;
 use std::alloc::{AllocError, Global};
 use std::io::Write;
@@ -159,46 +159,46 @@ impl Score {
         }
     }
 
-    /// Judges what was observed, by the number of its line.
-    fn judge(&mut self, number: u32, seen: &ObservedBeat) -> Option<Finding>
-        ensures found { result ≡ (judging (score_of self.old) number seen.now).0 }
-        ensures state { score_of self.new ≡ (judging (score_of self.old) number seen.now).1 }
+    /// Judges what was observed, by the number of its line. The one error is that memory was refused.
+    fn judge(&mut self, number: u32, seen: &ObservedBeat) -> Result<Option<Finding>, AllocError>
+        ensures found { IfOk result (λ finding. finding ≡ (judging (score_of self.old) number seen.now).0) }
+        ensures state { OnOk result (score_of self.new ≡ (judging (score_of self.old) number seen.now).1) }
     {
-        let verdict = self.board.judge(seen).or(self.misplaced(seen));
+        let verdict = self.board.judge(seen)?.or(self.misplaced(seen));
         self.judged = beats_judged(self.judged, seen);
         self.wrong = counted_wrong(self.wrong, verdict);
-        found(number, seen, verdict)
+        Ok(found(number, seen, verdict))
     }
 
-    /// Judges the beat that is held, if there is one.
-    fn settle(&mut self) -> Option<Finding>
-        ensures found { result ≡ (settling (score_of self.old)).0 }
-        ensures state { score_of self.new ≡ (settling (score_of self.old)).1 }
+    /// Judges the beat that is held, if there is one. The one error is that memory was refused.
+    fn settle(&mut self) -> Result<Option<Finding>, AllocError>
+        ensures found { IfOk result (λ finding. finding ≡ (settling (score_of self.old)).0) }
+        ensures state { OnOk result (score_of self.new ≡ (settling (score_of self.old)).1) }
     {
         let Some(line) = self.held else {
-            return None;
+            return Ok(None);
         };
         self.held = None;
         self.judge(line.number, &ObservedBeat::A(line.client, line.beat))
     }
 
-    /// Holds a beat on channel A, and judges any other.
-    fn observe(&mut self, number: u32, seen: &ObservedBeat) -> Findings
-        ensures held { result.held ≡ (observing (settling (score_of self.old)) number seen.now).held }
-        ensures own { result.own ≡ (observing (settling (score_of self.old)) number seen.now).own }
-        ensures state { score_of self.new ≡ (observing (settling (score_of self.old)) number seen.now).after }
+    /// Holds a beat on channel A, and judges any other. The one error is that memory was refused.
+    fn observe(&mut self, number: u32, seen: &ObservedBeat) -> Result<Findings, AllocError>
+        ensures held { IfOk result (λ findings. findings.held ≡ (observing (settling (score_of self.old)) number seen.now).held) }
+        ensures own { IfOk result (λ findings. findings.own ≡ (observing (settling (score_of self.old)) number seen.now).own) }
+        ensures state { OnOk result (score_of self.new ≡ (observing (settling (score_of self.old)) number seen.now).after) }
     {
-        let held = self.settle();
+        let held = self.settle()?;
         if let ObservedBeat::A(client, beat) = *seen {
             self.held = Some(HeldBeat {
                 number,
                 client,
                 beat,
             });
-            return Findings { held, own: None };
+            return Ok(Findings { held, own: None });
         }
-        let own = self.judge(number, seen);
-        Findings { held, own }
+        let own = self.judge(number, seen)?;
+        Ok(Findings { held, own })
     }
 
     /// Withdraws the beat that is held.
@@ -208,38 +208,39 @@ impl Score {
         self.held = None;
     }
 
-    /// What a line of this number finds.
-    pub(crate) fn take(&mut self, number: u32, command: &Command) -> Findings
-        ensures held { result.held ≡ (finds (score_of self.old) number command.now).held }
-        ensures own { result.own ≡ (finds (score_of self.old) number command.now).own }
-        ensures state { score_of self.new ≡ (finds (score_of self.old) number command.now).after }
+    /// What a line of this number finds. The one error is that memory was refused.
+    pub(crate) fn take(&mut self, number: u32, command: &Command) -> Result<Findings, AllocError>
+        ensures held { IfOk result (λ findings. findings.held ≡ (finds (score_of self.old) number command.now).held) }
+        ensures own { IfOk result (λ findings. findings.own ≡ (finds (score_of self.old) number command.now).own) }
+        ensures state { OnOk result (score_of self.new ≡ (finds (score_of self.old) number command.now).after) }
     {
         match command {
             Command::Observed(seen) => self.observe(number, seen),
             Command::Byte(address) => {
-                let held = self.settle();
+                let held = self.settle()?;
                 let own = Some(Finding::Byte(self.board.byte(*address)));
-                Findings { held, own }
+                Ok(Findings { held, own })
             }
             Command::Withdrawal => {
                 self.withdraw();
-                Findings {
+                Ok(Findings {
                     held: None,
                     own: None,
-                }
+                })
             }
-            Command::Answer => Findings {
-                held: self.settle(),
+            Command::Answer => Ok(Findings {
+                held: self.settle()?,
                 own: None,
-            },
+            }),
         }
     }
 
-    /// Judges the beat that is held, and writes the last line. The answer is whether a beat is wrong.
-    pub(crate) fn close<W: Write>(&mut self, writer: &mut W) -> Result<bool, WriteFault>
-        ensures { WritesEnd (closing (settling (score_of self.old))) (W.contents writer.old) (W.contents writer.new) result }
+    /// Judges the beat that is held, and writes the last line. The answer is whether a beat is wrong. A fault is that of the
+    /// writer, or that memory was refused.
+    pub(crate) fn close<W: Write>(&mut self, writer: &mut W) -> Result<bool, ScriptFault>
+        ensures { WritesEnd true (closing (settling (score_of self.old))) (W.contents writer.old) (W.contents writer.new) result }
     {
-        let held = self.settle();
+        let held = self.settle()?;
         optional_line(&held, writer)?;
         last_line(
             self.judged,

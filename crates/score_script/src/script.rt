@@ -1,12 +1,13 @@
 //! An observation, as it is read.
-ghost use Rattle.script_text.specs.Scripts.{EndsAs, text_before_failure, text_of};
+ghost use Rattle.std.specs.Prelude.{true};
+ghost use Rattle.script_text.specs.Scripts.{EndsOrStops, text_before_failure, text_of};
 ghost use Rattle.score_script.specs.Scores.{opening_state, score_reading};
 
 use crate::findings::findings_lines;
 use crate::lines::{command_of, only_settles};
 use crate::profiles::Asked;
 use crate::score::{Command, Score};
-use line_text::{Words, WriteFault};
+use line_text::Words;
 use score_setup::ScoreSetup;
 use script_text::{Form, Kind, ScriptFault, StagedScript, read_script};
 use setups::SetupFault;
@@ -19,6 +20,7 @@ struct ScoreScript;
 
 impl Kind for ScoreScript {
     ghost use Rattle.std.proofs.Common.{refl};
+    ghost use Rattle.std.specs.Prelude.{true};
     ghost use Rattle.score_script.specs.CommandTexts.{score_gives};
     ghost use Rattle.score_script.specs.ScoreStates.{score_of};
     ghost use Rattle.score_script.specs.Scores.{Score, score_kind};
@@ -36,6 +38,8 @@ impl Kind for ScoreScript {
     ghost said = { score_of };
 
     ghost rules = { score_kind };
+
+    ghost grows = { true };
 
     /// The line after the last has a number.
     fn most_lines() -> u32 {
@@ -77,12 +81,12 @@ impl Kind for ScoreScript {
         number: u32,
         command: &Command,
         writer: &mut W,
-    ) -> Result<bool, WriteFault> {
-        let findings = score.take(number, command);
-        findings_lines(&findings, writer)
+    ) -> Result<bool, ScriptFault> {
+        let findings = score.take(number, command)?;
+        Ok(findings_lines(&findings, writer)?)
     }
 
-    fn end<W: Write>(&mut self, score: &mut Score, writer: &mut W) -> Result<bool, WriteFault> {
+    fn end<W: Write>(&mut self, score: &mut Score, writer: &mut W) -> Result<bool, ScriptFault> {
         score.close(writer)
     }
 
@@ -94,13 +98,14 @@ impl Kind for ScoreScript {
 /// Judges what was observed at the ports of a bridge, and writes a line for each beat that can't be right, for each question,
 /// and at the end. The answer is whether a beat is wrong. A beat on channel A is judged once the line straight behind it, empty
 /// ones and comments aside, was read without fault and doesn't withdraw it, or at the input's end; each other beat with its own
-/// line. Each line's text stands before more is read.
+/// line. Each line's text stands before more is read. A page takes room at the beat that ends the first request that gives it a
+/// byte: where memory is refused there, the call ends with that fault, behind the text of the lines before.
 pub fn score_text<R: Read, W: Write>(
     alloc: Global,
     reader: &mut R,
     writer: &mut W,
 ) -> Result<bool, ScriptFault>
-    ensures { EndsAs 4294967294 (text_of score_reading opening_state) (text_before_failure score_reading opening_state) (R.remaining reader.old) (R.remaining reader.new) (W.contents writer.old) (W.contents writer.new) result }
+    ensures { EndsOrStops true 4294967294 (text_of score_reading opening_state) (text_before_failure score_reading opening_state) (R.remaining reader.old) (R.remaining reader.new) (W.contents writer.old) (W.contents writer.new) result }
 {
     let script = StagedScript::new(ScoreScript);
     read_script(script, alloc, reader, writer)

@@ -1,6 +1,5 @@
 mod boards;
 mod limits;
-mod requests;
 mod runs;
 mod texts;
 

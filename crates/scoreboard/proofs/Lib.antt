@@ -1,5 +1,4 @@
 pub mod MappedLists
 pub mod acceptance_order
 pub mod held
-pub mod memory_words
 pub mod real_time

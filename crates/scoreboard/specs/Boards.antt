@@ -29,7 +29,7 @@ use Rattle.scoreboard.specs.AxiPorts.{PortBoard, drained, none_early, port_after
 use Rattle.scoreboard.specs.FailedBursts.{Span, after_hit, failed_span, hit, hit_flight}
 use Rattle.scoreboard.specs.Flights.{Flights, Footprint, InFlight, each_flight, flights_after, in_flight, is_busy, next_reply, no_flights, no_footprint, replies_left, with_flight}
 use Rattle.scoreboard.specs.Races.{after_given, after_joining, alone, beside, flight_beside, joining, unless_failed}
-use Rattle.scoreboard.specs.SerialMemory.{Memory, carried_out, meaning_in, place_in}
+use Rattle.serial_memory.specs.SerialMemory.{Memory, carried_out, meaning_in, place_in}
 use Rattle.scoreboard.specs.declared.Errors.{Errors}
 use Rattle.scoreboard.specs.declared.Errors.TheVariants.{Any, Strict}
 use Rattle.scoreboard.specs.declared.Policy.{Policy}

@@ -1,40 +1,43 @@
--- A board as it is held: of each request in flight a list of flags, of which those of its bytes count; and the memory's pages again, whose bytes aren't
--- zero where they are indeterminate.
-use Rattle.std.specs.Prelude.{ℕ, ◌≡◌, ◌+◌, ◌-◌, ◌^◌, ◌<◌, ◌==◌, ⊤, Bool, true, false, ◌&&◌, ◌||◌, not, List, length, map, Option, Some, None, is_none, Result, Ok, Err, IsSome, if◌then◌else◌, nat_le, nat_lt, slice_index_or}
+-- A board as it is held: of each request in flight a mask for each of its words; and the memory, whose bytes are in doubt where
+-- they are indeterminate.
+use Rattle.std.specs.Prelude.{ℕ, ◌≡◌, ◌+◌, ◌-◌, ◌/◌, ◌%◌, ◌^◌, ◌<◌, ◌==◌, ⊤, Bool, true, false, ◌&&◌, ◌||◌, List, length, map, Option, Some, None, is_none, max, Result, Ok, Err, IsSome, if◌then◌else◌, nat_le, nat_lt, slice_index_or}
 use Rattle.std.specs.List.{AllByRecursion, list_any}
 use Rattle.std.specs.Option.{option_map}
+use Rattle.bus_words.specs.Lanes.{has_lane}
 use Rattle.bus_words.specs.Places.{AreDistinct}
 use Rattle.tl_messages.specs.Operations.{has_data, named_operation, operation_of, reply_has_data}
-use Rattle.tl_messages.specs.Requests.{HeldMessage}
+use Rattle.tl_messages.specs.Requests.{HeldMessage, request_of}
 use Rattle.tl_messages.specs.declared.ABeat.{ABeat}
 use Rattle.tl_messages.specs.declared.DBeat.{DBeat}
 use Rattle.tl_checker.specs.RequestRules.{TlPortLimits}
 use Rattle.tl_checker.specs.declared.Progress.{Progress}
 use Rattle.tl_checker.specs.declared.Progress.TheVariants.{More, Whole}
 use Rattle.tl_checker.specs.declared.TlRule.{TlRule}
-use Rattle.subordinate.specs.Faults.{Faults, is_good, standing_at}
-use Rattle.subordinate.specs.InsidePages.{PagesState}
 use Rattle.axi_checker.specs.OpenBursts.{OpenBursts}
+use Rattle.subordinate.specs.declared.PageKind.{PageKind}
+use Rattle.subordinate.specs.declared.PageKind.TheVariants.{Good, SlaveError}
+use Rattle.sparse_memory.specs.declared.PageRange.{PageRange}
+use Rattle.sparse_memory.specs.declared.RangeKind.{RangeKind}
+use Rattle.sparse_memory.specs.declared.RangeKind.TheVariants.{Zeros, SlaveError as ErrorRange}
 use Rattle.axi_checker.specs.declared.AxiBeat.{AxiBeat}
 use Rattle.scoreboard.specs.AxiPorts.{PortBoard}
-use Rattle.scoreboard.specs.Boards.{Board, ClientBoard, tells_error}
+use Rattle.scoreboard.specs.Boards.{Board, ClientBoard, acting, tells_error}
 use Rattle.scoreboard.specs.FailedBursts.{Span, answered_span}
 use Rattle.scoreboard.specs.Flights.{Flights, Footprint, InFlight, each_flight, is_of_source}
-use Rattle.scoreboard.specs.InsideSerial.{IsMemoryRange, bytes_in}
-use Rattle.scoreboard.specs.SerialMemory.{MemoryState, memory_of}
+use Rattle.serial_memory.specs.SerialMemory.{HasRoomToGive, IsMemoryRange, MemoryState, doubts_of, memory_of, rooms_of}
 use Rattle.scoreboard.specs.declared.Errors.{Errors}
 use Rattle.scoreboard.specs.declared.Errors.TheVariants.{Any, Strict}
 use Rattle.scoreboard.specs.declared.Policy.{Policy}
 use Rattle.scoreboard.specs.declared.Policy.TheVariants.{AcceptanceOrder, RealTime}
 
--- a footprint, whose determined bytes are flags by their place in its range
+-- a footprint, whose determined bytes are bits of a mask for each of its words
 pub record FootprintState : Type 0 where
   pub reads : Bool
   pub writes : Bool
   pub address : ℕ
   pub size : ℕ
   pub failed : Bool
-  pub determined : List Bool
+  pub determined : List ℕ
 
 -- a request in flight
 pub record FlightState : Type 0 where
@@ -42,7 +45,7 @@ pub record FlightState : Type 0 where
   pub beats : List DBeat
   pub footprint : FootprintState
 
--- a client's requests in flight, each with room for so many flags
+-- a client's requests in flight, each with room for so many words
 pub record FlightsState : Type 0 where
   pub room : ℕ
   pub due : List FlightState
@@ -63,16 +66,20 @@ pub record BoardState : Type 0 where
   pub errors : Errors
   pub clients : List ClientState
   pub memory : MemoryState
-  pub indeterminate : PagesState
   pub axi : PortBoard
   pub request : HeldMessage
   pub joining : FlightState
 
 -- ---- what they stand for
 
+-- how many words 2^size bytes at a multiple of their number are in
+abbrev pub words_of : ℕ → ℕ
+words_of size = max 1 (2 ^ size / 8)
+
 -- whether a byte is one of a request's, and determined
 abbrev pub determined_in : FootprintState → ℕ → Bool
-determined_in footprint x = nat_le footprint.address x && nat_lt x (footprint.address + 2 ^ footprint.size) && slice_index_or footprint.determined (x - footprint.address) false
+determined_in footprint x =
+    nat_le footprint.address x && nat_lt x (footprint.address + 2 ^ footprint.size) && has_lane (slice_index_or footprint.determined (x / 8 - footprint.address / 8) 0) (x % 8)
 
 abbrev pub footprint_of : FootprintState → Footprint
 footprint_of footprint = record { reads = footprint.reads; writes = footprint.writes; address = footprint.address; size = footprint.size; failed = footprint.failed; determined = determined_in footprint }
@@ -86,13 +93,9 @@ flights_of flights = record { due = map flight_of flights.due; begun = option_ma
 abbrev pub client_of : ClientState → ClientBoard
 client_of client = record { limits = client.limits; front = client.front; flights = flights_of client.flights; coming = footprint_of client.coming; early = client.early; told = client.told }
 
--- whether a byte is indeterminate
-abbrev pub is_marked : PagesState → ℕ → Bool
-is_marked pages x = not (bytes_in pages x == 0)
-
 abbrev pub board_of : BoardState → Board
 board_of state =
-    record { clients = map client_of state.clients; memory = memory_of state.memory; indeterminate = is_marked state.indeterminate; axi = state.axi; errors = state.errors }
+    record { clients = map client_of state.clients; memory = memory_of state.memory; indeterminate = doubts_of state.memory; axi = state.axi; errors = state.errors }
 
 -- ---- channel A
 
@@ -116,6 +119,16 @@ IsFrontFree (Some message) flights = list_any (is_of_source message.source) flig
 pub record IsFreeOf (source : ℕ) (client : ClientBoard) : Type 0 where
   pub front : client.front ≡ None
   pub free : list_any (is_of_source source) client.flights.due ≡ false
+
+-- a message is one to which a beat belongs: it asks the same of the same address, and is corrupt if the beat is
+pub record IsAskedBy (message : HeldMessage) (beat : ABeat) : Type 0 where
+  pub operation : message.operation ≡ operation_of beat.opcode beat.param
+  pub address : message.address ≡ beat.address
+  pub corrupt : beat.corrupt ≡ true → message.corrupt ≡ true
+
+-- whatever message a beat belongs to, the page of what it gives has room
+abbrev pub HasRoomForBeat : Errors → MemoryState → ABeat → Type 0
+HasRoomForBeat errors memory beat = (message : HeldMessage) → IsAskedBy message beat → HasRoomToGive memory (acting errors (request_of message))
 
 -- ---- channel D
 
@@ -148,10 +161,10 @@ client_changed change client = record client { flights = each_flight (flight_cha
 
 -- ---- what stays so
 
--- how many flags the footprints have room for
+-- how many words the footprints have room for
 abbrev pub room_by : Policy → ℕ
 room_by AcceptanceOrder = 1
-room_by RealTime = 4096
+room_by RealTime = 512
 
 -- all have this room
 abbrev pub HaveRoom : ℕ → List FlightState → Type 0
@@ -174,9 +187,25 @@ pub record IsFirstBeat (beat : ABeat) : Type 0 where
   pub carries : has_data (operation_of beat.opcode beat.param) ≡ true
   pub silent : reply_has_data (operation_of beat.opcode beat.param) ≡ false
 
--- a request that may write acts on a good page
-abbrev pub IsOnGoodPage : Faults → Footprint → Type 0
-IsOnGoodPage faults footprint = footprint.writes ≡ true → is_good (standing_at faults footprint.address) ≡ true
+-- only which bytes are indeterminate has changed
+pub record IsMarkedAlone (old new : MemoryState) : Type 0 where
+  pub memory : memory_of new ≡ memory_of old
+  pub rooms : rooms_of new ≡ rooms_of old
 
-abbrev pub AreOnGoodPages : Faults → List Footprint → Type 0
-AreOnGoodPages faults footprints = AllByRecursion (IsOnGoodPage faults) footprints
+-- the page of a request that may write has room
+abbrev pub HasRoomToWrite : (ℕ → Bool) → Footprint → Type 0
+HasRoomToWrite rooms footprint = footprint.writes ≡ true → rooms (footprint.address / 4096) ≡ true
+
+abbrev pub HaveRoomToWrite : (ℕ → Bool) → List Footprint → Type 0
+HaveRoomToWrite rooms footprints = AllByRecursion (HasRoomToWrite rooms) footprints
+
+-- ---- at the start
+
+-- what a range of a page of some kind is
+abbrev pub range_kind : PageKind → RangeKind
+range_kind Good = Zeros
+range_kind SlaveError = ErrorRange
+
+-- a page as a range of its own
+abbrev pub range_of_page : ℕ × PageKind → PageRange
+range_of_page page = record { first = page.0; count = 1; kind = range_kind page.1 }

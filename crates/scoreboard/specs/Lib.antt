@@ -3,7 +3,6 @@ pub mod Boards
 pub mod FailedBursts
 pub mod Flights
 pub mod InsideBoards
-pub mod InsideSerial
 pub mod Names
 pub mod Observed
 pub mod Orders
@@ -11,5 +10,4 @@ pub mod Places
 pub mod Races
 pub mod RealTime
 pub mod Right
-pub mod SerialMemory
 pub mod Wider

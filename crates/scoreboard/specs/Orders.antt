@@ -9,7 +9,7 @@ use Rattle.responses.specs.Shown.{shown}
 use Rattle.meaning.specs.Meaning.{Bytes, Effect, bytes_after_all, meaning, zeros}
 use Rattle.setups.specs.Setups.{SetupLists, faults_of}
 use Rattle.scoreboard.specs.Boards.{Board, after_all, due_beat, opening_with, tells_error, wrong_beat}
-use Rattle.scoreboard.specs.SerialMemory.{on_good_page}
+use Rattle.serial_memory.specs.SerialMemory.{on_good_page}
 use Rattle.scoreboard.specs.declared.Errors.{Errors}
 use Rattle.scoreboard.specs.declared.Errors.TheVariants.{Any, Strict}
 use Rattle.scoreboard.specs.declared.Policy.TheVariants.{RealTime}

@@ -18,7 +18,7 @@ use Rattle.scoreboard.specs.Boards.{Board, ClientBoard, IsReached, after_seen, a
 use Rattle.scoreboard.specs.FailedBursts.{Span, failed_span, shares}
 use Rattle.scoreboard.specs.Flights.{Footprint}
 use Rattle.scoreboard.specs.Races.{alone, may_write}
-use Rattle.scoreboard.specs.SerialMemory.{Memory, place_in}
+use Rattle.serial_memory.specs.SerialMemory.{Memory, place_in}
 use Rattle.scoreboard.specs.Orders.{Asked, Entry, IsWrongAs, IsWrongIn, Order, after_beat, board_after, byte_left, has_ended, reply_beats}
 use Rattle.scoreboard.specs.declared.Errors.{Errors}
 use Rattle.scoreboard.specs.declared.Errors.TheVariants.{Any, Strict}

@@ -1,7 +1,7 @@
 //! The scoreboard.
-ghost use Rattle.std.specs.Prelude.{◌≡◌, ◌<◌, ◌≤◌, ◌%◌, ◌⊎◌, ◌↔◌, ℕ, List, [], ◌∷◌, ◌++◌, true, false, length, map, None, Some, Err, Ok, IfErr, IfOk, IfSome, IsTrue, slice_get};
+ghost use Rattle.std.specs.Prelude.{◌≡◌, ◌<◌, ◌≤◌, ◌%◌, ◌⊎◌, ◌↔◌, ℕ, List, [], ◌∷◌, ◌++◌, true, false, length, map, None, Some, Err, Ok, IfErr, IfOk, IfSome, IsSome, IsTrue, OnErr, OnOk, slice_get};
 ghost use Rattle.std.specs.List.{range_with_len};
-ghost use Rattle.tl_messages.specs.Operations.{has_data, reply_has_data};
+ghost use Rattle.tl_messages.specs.Operations.{has_data, named_operation, reply_has_data};
 ghost use Rattle.tl_messages.specs.Requests.{bytes_given, request_of};
 ghost use Rattle.meaning.specs.InTurn.{bytes_of_all};
 ghost use Rattle.score_setup.specs.ScoreSetups.{is_valid_to_score, limits_of, lists_of, score_setup_fault};
@@ -10,9 +10,9 @@ ghost use Rattle.setups.specs.declared.SetupFault.TheVariants.{NoMemory};
 ghost use Rattle.subordinate.specs.Faults.{is_good, standing_at};
 ghost use Rattle.scoreboard.specs.Boards.{acting, client_beside, early_due, fails, footprints_of, hit_client, opening_client, replies_open};
 ghost use Rattle.scoreboard.specs.FailedBursts.{after_hit};
-ghost use Rattle.scoreboard.specs.InsideBoards.{AreOnGoodPages, ClientsHaveRoom, IsOnGoodPage, client_of, footprint_of, is_marked, room_by};
+ghost use Rattle.serial_memory.specs.SerialMemory.{HasRoomToGive, IsCheckedRequest, byte_at, carried_out, doubts_of, memory_of, place_in, rooms_of};
+ghost use Rattle.scoreboard.specs.InsideBoards.{ClientsHaveRoom, HasRoomForBeat, HasRoomToWrite, HaveRoomToWrite, IsAskedBy, IsMarkedAlone, client_of, footprint_of, range_of_page, room_by};
 ghost use Rattle.scoreboard.specs.Races.{after_given, after_joining, beside_all, beside_dependent};
-ghost use Rattle.scoreboard.specs.SerialMemory.{IsCheckedRequest, byte_at, carried_out, memory_of, place_in};
 
 use crate::clients::Client;
 use crate::early_port::EarlyPort;
@@ -20,17 +20,18 @@ use crate::failed_bursts::Span;
 use crate::footprint::Footprint;
 use crate::in_flight::InFlight;
 use crate::marks::mark_given;
-use crate::serial::SerialMemory;
 use crate::{Errors, ObservedBeat, Policy, Wrong};
 use axi_checker::AxiBeat;
 use burst_plan::PageMap;
 use score_setup::{ScoreConfig, ScoreSetup, score_setup_fault};
+use serial_memory::SerialMemory;
 use setups::SetupFault;
+use sparse_memory::{PageRange, RangeKind};
 use std::alloc::{AllocError, Global};
 use std::marker::Model;
-use subordinate::Pages;
+use subordinate::PageKind;
 use tl_checker::{Progress, TlRule};
-use tl_messages::{ABeat, DBeat, Request};
+use tl_messages::{ABeat, DBeat, Operation, Request};
 
 /// Tells of each beat that was observed at the ports of a bridge whether it can be right: that the requests and the AXI4
 /// beats keep their rules, and that the replies are those of the accepted requests, carried out whole, one at a time, in an order
@@ -45,7 +46,6 @@ pub struct Scoreboard {
     errors: Errors,
     clients: Vec<Client>,
     serial: SerialMemory,
-    indeterminate: Pages,
     axi: EarlyPort,
     request: Request,
     joining: InFlight,
@@ -53,16 +53,17 @@ pub struct Scoreboard {
 
 impl Model for Scoreboard {
     ghost use Rattle.std.specs.Prelude.{◌≡◌, ◌≤◌, length, map};
+    ghost use Rattle.serial_memory.specs.SerialMemory.{rooms_of};
     ghost use Rattle.scoreboard.specs.Boards.{footprints_of};
-    ghost use Rattle.scoreboard.specs.InsideBoards.{AreOnGoodPages, BoardState, ClientsHaveRoom, client_of, room_by};
+    ghost use Rattle.scoreboard.specs.InsideBoards.{HaveRoomToWrite, BoardState, ClientsHaveRoom, client_of, room_by};
 
     ghost Value = { BoardState };
 
-    ghost view = { λ b. record { policy = b.policy; errors = b.errors; clients = b.clients.items; memory = b.serial; indeterminate = b.indeterminate; axi = b.axi; request = b.request; joining = b.joining } };
+    ghost view = { λ b. record { policy = b.policy; errors = b.errors; clients = b.clients.items; memory = b.serial; axi = b.axi; request = b.request; joining = b.joining } };
 
     ghost invariant = { λ b. (length b.clients.items ≤ 8) × ClientsHaveRoom (room_by b.policy) b.clients.items
-        × (length b.joining.footprint.determined ≡ room_by b.policy) × (b.indeterminate.faults ≡ b.serial.pages.faults)
-        × AreOnGoodPages b.serial.pages.faults (footprints_of (map client_of b.clients.items)) };
+        × (length b.joining.footprint.determined ≡ room_by b.policy)
+        × HaveRoomToWrite (rooms_of b.serial) (footprints_of (map client_of b.clients.items)) };
 }
 
 // Written out, so that what lets go of one calls this, and proves nothing of its parts.
@@ -73,7 +74,6 @@ impl Drop for Scoreboard {
             errors: _,
             clients: _,
             serial: _,
-            indeterminate: _,
             axi: _,
             request: _,
             joining: _,
@@ -81,18 +81,18 @@ impl Drop for Scoreboard {
     }
 }
 
-/// For how many flags a footprint needs room.
+/// For how many words a footprint needs room.
 fn room_by(policy: Policy) -> usize
     ensures room { result ≡ room_by policy }
     ensures some { 1 ≤ result }
 {
     match policy {
         Policy::AcceptanceOrder => 1,
-        Policy::RealTime => 4096,
+        Policy::RealTime => 512,
     }
 }
 
-/// Each client of a set-up, of which nothing was observed, with room for so many flags in each footprint.
+/// Each client of a set-up, of which nothing was observed, with room for so many words in each footprint.
 fn opening_clients(
     alloc: Global,
     config: &ScoreConfig,
@@ -121,12 +121,34 @@ fn outstanding_of(clients: &[Client]) -> u16
     count
 }
 
+/// A page as a range of its own.
+fn range_of_page(page: &(u32, PageKind)) -> PageRange
+    ensures { result ≡ range_of_page page.now }
+{
+    let kind = match page.1 {
+        PageKind::Good => RangeKind::Zeros,
+        PageKind::SlaveError => RangeKind::SlaveError,
+    };
+    PageRange {
+        first: page.0,
+        count: 1,
+        kind,
+    }
+}
+
+/// Each page of a list as a range of its own.
+fn ranges_of(alloc: Global, pages: &[(u32, PageKind)]) -> Result<Vec<PageRange>, AllocError>
+    ensures { IfOk result (λ ranges. ranges.items ≡ map range_of_page pages.now) }
+{
+    pages.iter().map(|page| range_of_page(page)).collect(alloc)
+}
+
 /// The address of a good page at which a request may act, if it has one: one that is corrupt may act all the same where errors are
 /// told in any way.
 fn place_of(serial: &SerialMemory, errors: Errors, request: &Request) -> Option<u32>
     ensures place { result ≡ place_in (memory_of serial.now) (acting errors (request_of request.now)) }
     ensures same_byte { IfSome result (λ address. address % 4096 ≡ request.now.address % 4096) }
-    ensures good { IfSome result (λ address. is_good (standing_at serial.now.pages.faults address) ≡ true) }
+    ensures good { IfSome result (λ address. is_good (standing_at (memory_of serial.now).faults address) ≡ true) }
 {
     match errors {
         Errors::Strict => serial.place(request),
@@ -175,10 +197,10 @@ fn limit(joined: &mut InFlight, clients: &[Client])
 }
 
 /// All bytes are indeterminate of those requests of some clients of which what they write may depend on another.
-fn mark_beside(marks: &mut Pages, clients: &[Client], other: &Footprint)
-    requires good { AreOnGoodPages marks.old.faults (footprints_of (map client_of clients.now)) }
-    ensures faults { marks.new.faults ≡ marks.old.faults }
-    ensures bytes { is_marked marks.new ≡ beside_dependent (is_marked marks.old) (footprint_of other.now) (footprints_of (map client_of clients.now)) }
+fn mark_beside(marks: &mut SerialMemory, clients: &[Client], other: &Footprint)
+    requires room { HaveRoomToWrite (rooms_of marks.old) (footprints_of (map client_of clients.now)) }
+    ensures rest { IsMarkedAlone marks.old marks.new }
+    ensures bytes { doubts_of marks.new ≡ beside_dependent (doubts_of marks.old) (footprint_of other.now) (footprints_of (map client_of clients.now)) }
 {
     for client in clients {
         client.mark(marks, other);
@@ -186,15 +208,20 @@ fn mark_beside(marks: &mut Pages, clients: &[Client], other: &Footprint)
 }
 
 /// What is indeterminate after a request that joins those of some clients.
-fn mark_written(marks: &mut Pages, clients: &[Client], footprint: &Footprint, request: &Request)
+fn mark_written(
+    marks: &mut SerialMemory,
+    clients: &[Client],
+    footprint: &Footprint,
+    request: &Request,
+)
     requires checked { IsCheckedRequest request.now }
     requires same_byte { footprint.now.writes ≡ true → footprint.now.address % 4096 ≡ request.now.address % 4096 }
     requires size { footprint.now.size ≡ request.now.size }
     requires data { footprint.now.writes ≡ true → IsTrue (has_data request.now.operation) }
-    requires own { IsOnGoodPage marks.old.faults (footprint_of footprint.now) }
-    requires others { AreOnGoodPages marks.old.faults (footprints_of (map client_of clients.now)) }
-    ensures faults { marks.new.faults ≡ marks.old.faults }
-    ensures bytes { is_marked marks.new ≡ after_joining (is_marked marks.old) (footprints_of (map client_of clients.now)) (footprint_of footprint.now) (bytes_given request.now) }
+    requires own_room { HasRoomToWrite (rooms_of marks.old) (footprint_of footprint.now) }
+    requires others_room { HaveRoomToWrite (rooms_of marks.old) (footprints_of (map client_of clients.now)) }
+    ensures rest { IsMarkedAlone marks.old marks.new }
+    ensures bytes { doubts_of marks.new ≡ after_joining (doubts_of marks.old) (footprints_of (map client_of clients.now)) (footprint_of footprint.now) (bytes_given request.now) }
 {
     if !footprint.writes() {
         return;
@@ -204,14 +231,14 @@ fn mark_written(marks: &mut Pages, clients: &[Client], footprint: &Footprint, re
 }
 
 /// What is indeterminate after a request that had begun with this footprint.
-fn mark_own(marks: &mut Pages, footprint: &Footprint, request: &Request)
+fn mark_own(marks: &mut SerialMemory, footprint: &Footprint, request: &Request)
     requires checked { IsCheckedRequest request.now }
     requires same_byte { footprint.now.writes ≡ true → footprint.now.address % 4096 ≡ request.now.address % 4096 }
     requires size { footprint.now.size ≡ request.now.size }
     requires data { footprint.now.writes ≡ true → IsTrue (has_data request.now.operation) }
-    requires own { IsOnGoodPage marks.old.faults (footprint_of footprint.now) }
-    ensures faults { marks.new.faults ≡ marks.old.faults }
-    ensures bytes { is_marked marks.new ≡ after_given (is_marked marks.old) (footprint_of footprint.now) (bytes_given request.now) }
+    requires own_room { HasRoomToWrite (rooms_of marks.old) (footprint_of footprint.now) }
+    ensures rest { IsMarkedAlone marks.old marks.new }
+    ensures bytes { doubts_of marks.new ≡ after_given (doubts_of marks.old) (footprint_of footprint.now) (bytes_given request.now) }
 {
     if footprint.writes() {
         mark_given(marks, footprint, request);
@@ -230,10 +257,10 @@ fn give_way(clients: &mut [Client], other: &Footprint)
 
 /// What those requests of some clients may write, in flight or begun, is indeterminate that share a byte with a burst that was answered
 /// with an error.
-fn mark_shared(marks: &mut Pages, clients: &[Client], span: Span)
-    requires good { AreOnGoodPages marks.old.faults (footprints_of (map client_of clients.now)) }
-    ensures faults { marks.new.faults ≡ marks.old.faults }
-    ensures bytes { is_marked marks.new ≡ after_hit (is_marked marks.old) span (footprints_of (map client_of clients.now)) }
+fn mark_shared(marks: &mut SerialMemory, clients: &[Client], span: Span)
+    requires room { HaveRoomToWrite (rooms_of marks.old) (footprints_of (map client_of clients.now)) }
+    ensures rest { IsMarkedAlone marks.old marks.new }
+    ensures bytes { doubts_of marks.new ≡ after_hit (doubts_of marks.old) span (footprints_of (map client_of clients.now)) }
 {
     for client in clients {
         client.mark_shared(marks, span);
@@ -301,12 +328,10 @@ impl Scoreboard {
         let Ok(map) = PageMap::new(alloc, setup.regions.as_slice()) else {
             return Err(AllocError);
         };
-        let pages = setup.pages.as_slice();
-        let bad = setup.bad_words.as_slice();
+        let ranges = ranges_of(alloc, setup.pages.as_slice())?;
         let room = room_by(policy);
-        let serial = SerialMemory::new(alloc, map, pages, bad)?;
+        let serial = SerialMemory::new(alloc, map, &ranges, setup.bad_words.as_slice())?;
         let clients = opening_clients(alloc, &setup.config, room)?;
-        let indeterminate = Pages::new(alloc, pages, bad)?;
         let axi = EarlyPort::new(alloc, &setup.config)?;
         let request = Request::new(alloc)?;
         let joining = InFlight::new(alloc, room)?;
@@ -315,7 +340,6 @@ impl Scoreboard {
             errors,
             clients,
             serial,
-            indeterminate,
             axi,
             request,
             joining,
@@ -331,69 +355,94 @@ impl Scoreboard {
     /// W_WITHOUT_AW. And a beat of a reply that is found wrong is wrong, by that rule, in each order of the requests that have begun in
     /// which none stands behind one that began after it was whole and its whole reply had come, whatever those become of which beats
     /// are still to come, and whatever those leave that have failed.
-    pub fn judge(&mut self, seen: &ObservedBeat) -> Option<Wrong>
-        ensures answer { result ≡ wrong_at self.old.policy (board_of self.old) seen.now }
-        ensures state { board_of self.new ≡ after_seen self.old.policy (board_of self.old) seen.now }
+    pub fn judge(&mut self, seen: &ObservedBeat) -> Result<Option<Wrong>, AllocError>
+        ensures answer { IfOk result (λ wrong. wrong ≡ wrong_at self.old.policy (board_of self.old) seen.now) }
+        ensures state { OnOk result (board_of self.new ≡ after_seen self.old.policy (board_of self.old) seen.now) }
+        ensures refused { OnErr result (board_of self.new ≡ board_of self.old) }
         ensures policy { self.new.policy ≡ self.old.policy }
-        ensures exactly { self.old.policy ≡ AcceptanceOrder → (setup : SetupLists) (before : List ObservedBeat) → IsReached AcceptanceOrder (opening_board setup) before (board_of self.old)
-            → (result ≡ None) ↔ IsRight setup (before ++ seen.now ∷ []) }
+        ensures exactly { IfOk result (λ wrong. self.old.policy ≡ AcceptanceOrder → (setup : SetupLists) (before : List ObservedBeat) → IsReached AcceptanceOrder (opening_board setup) before (board_of self.old)
+            → (wrong ≡ None) ↔ IsRight setup (before ++ seen.now ∷ [])) }
         ensures memory { self.old.policy ≡ AcceptanceOrder → (setup : SetupLists) (before : List ObservedBeat) → IsReached AcceptanceOrder (opening_board setup) before (board_of self.old)
             → (board_of self.old).memory.bytes ≡ bytes_of_all setup (requests_in (observed_in before)) }
-        ensures right { self.old.policy ≡ RealTime → LetsRightPass (board_of self.old) seen.now result }
-        ensures wider { self.old.policy ≡ RealTime → IsWiderAlong (board_of self.old) seen.now result }
-        ensures rightly { self.old.policy ≡ RealTime → JudgesRightly (board_of self.old) seen.now result }
+        ensures right { IfOk result (λ wrong. self.old.policy ≡ RealTime → LetsRightPass (board_of self.old) seen.now wrong) }
+        ensures wider { IfOk result (λ wrong. self.old.policy ≡ RealTime → IsWiderAlong (board_of self.old) seen.now wrong) }
+        ensures rightly { IfOk result (λ wrong. self.old.policy ≡ RealTime → JudgesRightly (board_of self.old) seen.now wrong) }
     {
         self.judge_by_board(seen)
     }
 
     /// What is wrong with a beat, by what the board holds.
-    fn judge_by_board(&mut self, seen: &ObservedBeat) -> Option<Wrong>
-        ensures answer { result ≡ wrong_at self.old.policy (board_of self.old) seen.now }
-        ensures state { board_of self.new ≡ after_seen self.old.policy (board_of self.old) seen.now }
+    fn judge_by_board(&mut self, seen: &ObservedBeat) -> Result<Option<Wrong>, AllocError>
+        ensures answer { IfOk result (λ wrong. wrong ≡ wrong_at self.old.policy (board_of self.old) seen.now) }
+        ensures state { OnOk result (board_of self.new ≡ after_seen self.old.policy (board_of self.old) seen.now) }
+        ensures refused { OnErr result (board_of self.new ≡ board_of self.old) }
         ensures policy { self.new.policy ≡ self.old.policy }
     {
         match seen {
             ObservedBeat::A(client, beat) => self.judge_request(*client, beat),
-            ObservedBeat::D(client, beat) => self.judge_reply(*client, beat),
-            ObservedBeat::Axi(beat) => self.judge_axi(beat),
+            ObservedBeat::D(client, beat) => Ok(self.judge_reply(*client, beat)),
+            ObservedBeat::Axi(beat) => Ok(self.judge_axi(beat)),
             ObservedBeat::Drained => {
                 self.axi.clear();
-                None
+                Ok(None)
             }
         }
     }
 
     /// Judges a beat on a client's channel A.
-    fn judge_request(&mut self, client: u8, beat: &ABeat) -> Option<Wrong>
-        ensures answer { result ≡ a_wrong self.old.policy (slice_get (board_of self.old).clients client) beat.now }
-        ensures state { board_of self.new ≡ after_a self.old.policy (board_of self.old) client (slice_get (board_of self.old).clients client) beat.now }
+    fn judge_request(&mut self, client: u8, beat: &ABeat) -> Result<Option<Wrong>, AllocError>
+        ensures answer { IfOk result (λ wrong. wrong ≡ a_wrong self.old.policy (slice_get (board_of self.old).clients client) beat.now) }
+        ensures state { OnOk result (board_of self.new ≡ after_a self.old.policy (board_of self.old) client (slice_get (board_of self.old).clients client) beat.now) }
+        ensures refused { OnErr result (board_of self.new ≡ board_of self.old) }
         ensures policy { self.new.policy ≡ self.old.policy }
     {
         let number = usize::from(client);
         let Some(found) = self.clients.get(number) else {
-            return Some(Wrong::NoClient);
+            return Ok(Some(Wrong::NoClient));
         };
         let begun = found.has_begun();
-        match self.take_beat(number, beat) {
-            Err(rule) => return Some(Wrong::Request(rule)),
-            Ok(Progress::More) => self.go_on(client, beat, begun),
-            Ok(Progress::Whole) => self.accept(number, begun),
+        let progress = match found.judge(self.policy, beat) {
+            Ok(progress) => progress,
+            Err(rule) => return Ok(Some(Wrong::Request(rule))),
+        };
+        self.make_room(beat)?;
+        self.take_beat(number, beat, progress);
+        match progress {
+            Progress::More => self.go_on(client, beat, begun),
+            Progress::Whole => self.accept(number, begun),
         }
-        None
+        Ok(None)
     }
 
-    /// A client's port takes a beat on channel A.
-    fn take_beat(&mut self, client: usize, beat: &ABeat) -> Result<Progress, TlRule>
+    /// Makes room for the page of what a beat gives, where it may act there. The one error is that memory was refused.
+    fn make_room(&mut self, beat: &ABeat) -> Result<(), AllocError>
+        ensures board { board_of self.new ≡ board_of self.old }
+        ensures rest { self.new ≡ record self.old { memory = self.new.memory } }
+        ensures room { OnOk result (HasRoomForBeat self.old.errors self.new.memory beat.now) }
+    {
+        let Some(operation) = Operation::named(beat.opcode, beat.param) else {
+            return Ok(());
+        };
+        if beat.corrupt && self.errors == Errors::Strict {
+            return Ok(());
+        }
+        self.serial.make_room(operation, beat.address)
+    }
+
+    /// A client's port takes a beat on channel A, to which it gave this answer.
+    fn take_beat(&mut self, client: usize, beat: &ABeat, progress: Progress)
         requires client { client < length self.old.clients }
-        ensures answer { (found : ClientBoard) → slice_get (board_of self.old).clients client ≡ Some found → result ≡ answer_to self.old.policy found beat.now }
+        requires told { (found : ClientBoard) → slice_get (board_of self.old).clients client ≡ Some found → answer_to self.old.policy found beat.now ≡ Ok progress }
         ensures state { (found : ClientBoard) → slice_get (board_of self.old).clients client ≡ Some found
-            → board_of self.new ≡ with_client client (record found { front = front_after found.front (joined found.limits found.front beat.now) result }) (board_of self.old) }
-        ensures request { (found : ClientBoard) → slice_get (board_of self.old).clients client ≡ Some found → result ≡ Ok Whole
+            → board_of self.new ≡ with_client client (record found { front = front_after found.front (joined found.limits found.front beat.now) (Ok progress) }) (board_of self.old) }
+        ensures request { (found : ClientBoard) → slice_get (board_of self.old).clients client ≡ Some found → progress ≡ Whole
             → self.new.request ≡ joined found.limits found.front beat.now }
-        ensures checked { result ≡ Ok Whole → IsCheckedRequest self.new.request }
-        ensures free { (found : ClientBoard) → slice_get (board_of self.new).clients client ≡ Some found → result ≡ Ok Whole → IsFreeOf self.new.request.source found }
-        ensures first { (found : ClientBoard) → slice_get (board_of self.old).clients client ≡ Some found → found.front ≡ None → result ≡ Ok More → IsFirstBeat beat.now }
+        ensures checked { progress ≡ Whole → IsCheckedRequest self.new.request }
+        ensures asked { progress ≡ Whole → IsAskedBy self.new.request beat.now }
+        ensures free { (found : ClientBoard) → slice_get (board_of self.new).clients client ≡ Some found → progress ≡ Whole → IsFreeOf self.new.request.source found }
+        ensures first { (found : ClientBoard) → slice_get (board_of self.old).clients client ≡ Some found → found.front ≡ None → progress ≡ More → IsFirstBeat beat.now }
         ensures clients { length self.new.clients ≡ length self.old.clients }
+        ensures memory { self.new.memory ≡ self.old.memory }
         ensures policy { self.new.policy ≡ self.old.policy }
     {
         let Scoreboard {
@@ -402,7 +451,7 @@ impl Scoreboard {
             request,
             ..
         } = self;
-        clients[client].take_beat(*policy, beat, request)
+        clients[client].take_beat(*policy, beat, progress, request);
     }
 
     /// A beat of a message came that isn't its last: where requests take effect in real time, its first beat has it begin, and with a later
@@ -410,6 +459,7 @@ impl Scoreboard {
     fn go_on(&mut self, client: u8, beat: &ABeat, begun: bool)
         requires client { client < length self.old.clients }
         requires first { begun ≡ false → IsFirstBeat beat.now }
+        requires room { HasRoomForBeat self.old.errors self.old.memory beat.now }
         ensures state { (found : ClientBoard) (message : HeldMessage) → slice_get (board_of self.old).clients client ≡ Some found
             → (begun ≡ false → message ≡ joined found.limits None beat.now) → found.front ≡ Some message
             → board_of self.new ≡ continued_on self.old.policy (board_of self.old) client found message begun }
@@ -442,6 +492,7 @@ impl Scoreboard {
         requires policy { self.old.policy ≡ RealTime }
         requires client { client < length self.old.clients }
         requires first { IsFirstBeat beat.now }
+        requires room { HasRoomForBeat self.old.errors self.old.memory beat.now }
         ensures state { (found : ClientBoard) → slice_get (board_of self.old).clients client ≡ Some found
             → board_of self.new
             ≡ begun_on (board_of self.old) client (record found { early = early_due self.old.errors (request_of (joined found.limits None beat.now)) })
@@ -452,18 +503,17 @@ impl Scoreboard {
             errors,
             clients,
             serial,
-            indeterminate,
             request,
             joining,
             ..
         } = self;
         request.begin(client, beat);
         let place = place_of(serial, *errors, request);
-        joining.start_footprint(indeterminate, place, request);
+        joining.start_footprint(serial, place, request);
         limit(joining, clients);
         joining.fail_if(fails_by_now(serial, *errors, request));
         let footprint = joining.footprint();
-        mark_beside(indeterminate, clients, footprint);
+        mark_beside(serial, clients, footprint);
         give_way(clients, footprint);
         clients[usize::from(client)].begin(joining, early_due(*errors, request));
     }
@@ -472,6 +522,7 @@ impl Scoreboard {
     fn accept(&mut self, client: usize, begun: bool)
         requires client { client < length self.old.clients }
         requires checked { IsCheckedRequest self.old.request }
+        requires room { HasRoomToGive self.old.memory (acting self.old.errors (request_of self.old.request)) }
         requires free { (found : ClientBoard) → slice_get (board_of self.old).clients client ≡ Some found → IsFreeOf self.old.request.source found }
         ensures state { (found : ClientBoard) → slice_get (board_of self.old).clients client ≡ Some found
             → board_of self.new ≡ accepted_on self.old.policy (board_of self.old) client found self.old.request begun }
@@ -488,6 +539,7 @@ impl Scoreboard {
     fn accept_in_order(&mut self, client: usize)
         requires client { client < length self.old.clients }
         requires checked { IsCheckedRequest self.old.request }
+        requires room { HasRoomToGive self.old.memory (acting self.old.errors (request_of self.old.request)) }
         requires free { (found : ClientBoard) → slice_get (board_of self.old).clients client ≡ Some found → IsFreeOf self.old.request.source found }
         ensures state { (found : ClientBoard) → slice_get (board_of self.old).clients client ≡ Some found
             → board_of self.new ≡ with_taken (board_of self.old) client found (request_of self.old.request) no_footprint }
@@ -502,6 +554,7 @@ impl Scoreboard {
         requires policy { self.old.policy ≡ RealTime }
         requires client { client < length self.old.clients }
         requires checked { IsCheckedRequest self.old.request }
+        requires room { HasRoomToGive self.old.memory (acting self.old.errors (request_of self.old.request)) }
         requires free { (found : ClientBoard) → slice_get (board_of self.old).clients client ≡ Some found → IsFreeOf self.old.request.source found }
         ensures state { (found : ClientBoard) → slice_get (board_of self.old).clients client ≡ Some found
             → board_of self.new
@@ -518,6 +571,7 @@ impl Scoreboard {
         requires policy { self.old.policy ≡ RealTime }
         requires client { client < length self.old.clients }
         requires checked { IsCheckedRequest self.old.request }
+        requires room { HasRoomToGive self.old.memory (acting self.old.errors (request_of self.old.request)) }
         requires free { (found : ClientBoard) → slice_get (board_of self.old).clients client ≡ Some found → IsFreeOf self.old.request.source found }
         ensures state { (found : ClientBoard) → slice_get (board_of self.old).clients client ≡ Some found
             → board_of self.new
@@ -531,9 +585,12 @@ impl Scoreboard {
     /// The request that came whole is carried out, without a footprint.
     fn carry_out(&mut self)
         requires checked { IsCheckedRequest self.old.request }
+        requires room { HasRoomToGive self.old.memory (request_of self.old.request) }
         ensures footprint { footprint_of self.new.joining.footprint ≡ no_footprint }
         ensures memory { memory_of self.new.memory ≡ carried_out (memory_of self.old.memory) (request_of self.old.request) }
         ensures flight { flight_of self.new.joining ≡ flight_for (memory_of self.old.memory) (footprint_of self.new.joining.footprint) (request_of self.old.request) }
+        ensures doubts { doubts_of self.new.memory ≡ doubts_of self.old.memory }
+        ensures rooms { rooms_of self.new.memory ≡ rooms_of self.old.memory }
         ensures rest { self.new ≡ record self.old { memory = self.new.memory; joining = self.new.joining } }
     {
         let Scoreboard {
@@ -557,7 +614,7 @@ impl Scoreboard {
     /// The request that was carried out is in flight, with its footprint, or has ended if its reply came before.
     fn put_in(&mut self, client: usize, replied: bool)
         requires client { client < length self.old.clients }
-        requires good { IsOnGoodPage self.old.memory.pages.faults (footprint_of self.old.joining.footprint) }
+        requires room { HasRoomToWrite (rooms_of self.old.memory) (footprint_of self.old.joining.footprint) }
         requires free { (found : ClientBoard) → slice_get (board_of self.old).clients client ≡ Some found → IsFreeOf self.old.joining.source found }
         ensures state { (found : ClientBoard) → slice_get (board_of self.old).clients client ≡ Some found
             → board_of self.new ≡ with_client client (with_whole replied (flight_of self.old.joining) found) (board_of self.old) }
@@ -577,61 +634,63 @@ impl Scoreboard {
         requires policy { self.old.policy ≡ RealTime }
         requires client { client < length self.old.clients }
         requires checked { IsCheckedRequest self.old.request }
+        requires room { HasRoomToGive self.old.memory (acting self.old.errors (request_of self.old.request)) }
         ensures footprint { (found : ClientBoard) → slice_get (board_of self.old).clients client ≡ Some found
             → footprint_of self.new.joining.footprint ≡ coming_on (board_of self.old) (request_of self.old.request) found.coming }
         ensures memory { memory_of self.new.memory ≡ carried_out (memory_of self.old.memory) (request_of self.old.request) }
         ensures flight { flight_of self.new.joining ≡ flight_for (memory_of self.old.memory) (footprint_of self.new.joining.footprint) (request_of self.old.request) }
-        ensures good { IsOnGoodPage self.new.memory.pages.faults (footprint_of self.new.joining.footprint) }
-        ensures bytes { is_marked self.new.indeterminate
-            ≡ after_given (is_marked self.old.indeterminate) (footprint_of self.new.joining.footprint) (bytes_given self.old.request) }
-        ensures rest { self.new ≡ record self.old { memory = self.new.memory; indeterminate = self.new.indeterminate; joining = self.new.joining } }
+        ensures room { HasRoomToWrite (rooms_of self.new.memory) (footprint_of self.new.joining.footprint) }
+        ensures bytes { doubts_of self.new.memory
+            ≡ after_given (doubts_of self.old.memory) (footprint_of self.new.joining.footprint) (bytes_given self.old.request) }
+        ensures rooms { rooms_of self.new.memory ≡ rooms_of self.old.memory }
+        ensures rest { self.new ≡ record self.old { memory = self.new.memory; joining = self.new.joining } }
     {
         let Scoreboard {
             errors,
             clients,
             serial,
-            indeterminate,
             request,
             joining,
             ..
         } = self;
         let place = place_of(serial, *errors, request);
-        joining.start_footprint(indeterminate, place, request);
+        joining.start_footprint(serial, place, request);
         clients[client].keep(joining);
         joining.carry_out(serial, request);
         joining.fail_by(*errors, place);
-        mark_own(indeterminate, joining.footprint(), request);
+        mark_own(serial, joining.footprint(), request);
     }
 
     /// The request that came whole in one beat is carried out, and gets its footprint beside those in flight and those that have begun.
     fn join(&mut self)
         requires policy { self.old.policy ≡ RealTime }
         requires checked { IsCheckedRequest self.old.request }
+        requires room { HasRoomToGive self.old.memory (acting self.old.errors (request_of self.old.request)) }
         ensures footprint { footprint_of self.new.joining.footprint ≡ joining_on (board_of self.old) (request_of self.old.request) }
         ensures memory { memory_of self.new.memory ≡ carried_out (memory_of self.old.memory) (request_of self.old.request) }
         ensures flight { flight_of self.new.joining ≡ flight_for (memory_of self.old.memory) (footprint_of self.new.joining.footprint) (request_of self.old.request) }
-        ensures good { IsOnGoodPage self.new.memory.pages.faults (footprint_of self.new.joining.footprint) }
+        ensures room { HasRoomToWrite (rooms_of self.new.memory) (footprint_of self.new.joining.footprint) }
         ensures clients { map client_of self.new.clients ≡ map (client_beside (footprint_of self.new.joining.footprint)) (map client_of self.old.clients) }
-        ensures bytes { is_marked self.new.indeterminate
-            ≡ after_joining (is_marked self.old.indeterminate) (footprints_of (map client_of self.old.clients)) (footprint_of self.new.joining.footprint) (bytes_given self.old.request) }
-        ensures rest { self.new ≡ record self.old { clients = self.new.clients; memory = self.new.memory; indeterminate = self.new.indeterminate; joining = self.new.joining } }
+        ensures bytes { doubts_of self.new.memory
+            ≡ after_joining (doubts_of self.old.memory) (footprints_of (map client_of self.old.clients)) (footprint_of self.new.joining.footprint) (bytes_given self.old.request) }
+        ensures rooms { rooms_of self.new.memory ≡ rooms_of self.old.memory }
+        ensures rest { self.new ≡ record self.old { clients = self.new.clients; memory = self.new.memory; joining = self.new.joining } }
     {
         let Scoreboard {
             errors,
             clients,
             serial,
-            indeterminate,
             request,
             joining,
             ..
         } = self;
         let place = place_of(serial, *errors, request);
-        joining.start_footprint(indeterminate, place, request);
+        joining.start_footprint(serial, place, request);
         limit(joining, clients);
         joining.carry_out(serial, request);
         joining.fail_by(*errors, place);
         let footprint = joining.footprint();
-        mark_written(indeterminate, clients, footprint, request);
+        mark_written(serial, clients, footprint, request);
         give_way(clients, footprint);
     }
 
@@ -684,10 +743,10 @@ impl Scoreboard {
     {
         let Scoreboard {
             clients,
-            indeterminate,
+            serial,
             ..
         } = self;
-        mark_shared(indeterminate, clients, span);
+        mark_shared(serial, clients, span);
         hit(clients, span);
     }
 

@@ -8,9 +8,9 @@ ghost use Rattle.score_setup.specs.ScoreSetups.{is_valid_to_score, limits_of};
 ghost use Rattle.scoreboard.specs.Boards.{answer_to, client_beside, client_footprints, early_after, early_left, has_replied, hit_client, is_spoiled, kept_from, next_to, opening_client, told_to, with_whole, wrong_reply};
 ghost use Rattle.scoreboard.specs.FailedBursts.{after_hit};
 ghost use Rattle.scoreboard.specs.Flights.{flights_after, is_of_source, next_reply, replies_left};
-ghost use Rattle.scoreboard.specs.InsideBoards.{AreOnGoodPages, IsFirstBeat, client_of, early_of, flight_of, flights_of, footprint_of, front_after, is_marked};
+ghost use Rattle.serial_memory.specs.SerialMemory.{IsCheckedRequest, doubts_of, rooms_of};
+ghost use Rattle.scoreboard.specs.InsideBoards.{HaveRoomToWrite, IsAskedBy, IsFirstBeat, IsMarkedAlone, client_of, early_of, flight_of, flights_of, footprint_of, front_after};
 ghost use Rattle.scoreboard.specs.Races.{beside_all, beside_dependent, unless_failed};
-ghost use Rattle.scoreboard.specs.SerialMemory.{IsCheckedRequest};
 
 use crate::failed_bursts::Span;
 use crate::flights::Flights;
@@ -19,9 +19,9 @@ use crate::in_flight::{InFlight, wrong_told};
 use crate::marks::{mark_dependent, mark_shared};
 use crate::{Errors, Policy, ReplyRule, Wrong};
 use score_setup::ScoreConfig;
+use serial_memory::SerialMemory;
 use std::alloc::{AllocError, Global};
 use std::marker::Model;
-use subordinate::Pages;
 use tl_checker::{Port, Progress, TlRule};
 use tl_messages::{ABeat, DBeat, Request};
 
@@ -67,7 +67,7 @@ impl Drop for Client {
 }
 
 impl Client {
-    /// A client of these limits, of which nothing was observed, with room for so many flags in each footprint. The one error is that
+    /// A client of these limits, of which nothing was observed, with room for so many words in each footprint. The one error is that
     /// memory was refused.
     pub(crate) fn new(
         alloc: Global,
@@ -109,35 +109,43 @@ impl Client {
         self.has_begun
     }
 
-    /// Takes a beat on channel A. Where it makes a request whole, this is put into `request`.
+    /// What its port answers to a beat on channel A.
+    pub(crate) fn judge(&self, policy: Policy, beat: &ABeat) -> Result<Progress, TlRule>
+        ensures { result ≡ answer_to policy (client_of self.now) beat.now }
+    {
+        self.port
+            .judge(beat, self.flights.is_busy(policy, beat.source))
+    }
+
+    /// Takes a beat on channel A, to which its port gave this answer. Where it makes a request whole, this is put into `request`.
     pub(crate) fn take_beat(
         &mut self,
         policy: Policy,
         beat: &ABeat,
+        progress: Progress,
         request: &mut Request,
-    ) -> Result<Progress, TlRule>
-        ensures answer { result ≡ answer_to policy (client_of self.old) beat.now }
-        ensures client { self.new ≡ record self.old { front = front_after self.old.front (joined self.old.limits self.old.front beat.now) result } }
-        ensures request { result ≡ Ok Whole → request.new ≡ joined self.old.limits self.old.front beat.now }
-        ensures checked { result ≡ Ok Whole → IsCheckedRequest request.new }
-        ensures free { result ≡ Ok Whole → list_any (is_of_source request.new.source) (flights_of self.old.flights).due ≡ false }
-        ensures first { self.old.front ≡ None → result ≡ Ok More → IsFirstBeat beat.now }
+    )
+        requires { answer_to policy (client_of self.old) beat.now ≡ Ok progress }
+        ensures client { self.new ≡ record self.old { front = front_after self.old.front (joined self.old.limits self.old.front beat.now) (Ok progress) } }
+        ensures request { progress ≡ Whole → request.new ≡ joined self.old.limits self.old.front beat.now }
+        ensures checked { progress ≡ Whole → IsCheckedRequest request.new }
+        ensures asked { progress ≡ Whole → IsAskedBy request.new beat.now }
+        ensures free { progress ≡ Whole → list_any (is_of_source request.new.source) (flights_of self.old.flights).due ≡ false }
+        ensures first { self.old.front ≡ None → progress ≡ More → IsFirstBeat beat.now }
     {
         let busy = self.flights.is_busy(policy, beat.source);
-        let answer = self.port.take_beat(beat, busy);
-        match answer {
-            Err(_) => {}
-            Ok(Progress::More) => {
+        self.port.take_judged(beat, busy, progress);
+        match progress {
+            Progress::More => {
                 self.has_begun = true;
                 self.corrupt |= beat.corrupt;
             }
-            Ok(Progress::Whole) => {
+            Progress::Whole => {
                 self.has_begun = false;
                 self.corrupt = false;
                 self.port.take_whole(request);
             }
         }
-        answer
     }
 
     /// A request of a source to which no reply is due is in flight, and none has begun any more; a box takes its place. One whose reply
@@ -256,10 +264,10 @@ impl Client {
     }
 
     /// All bytes are indeterminate of those of its requests, in flight or begun, of which what they write may depend on another.
-    pub(crate) fn mark(&self, marks: &mut Pages, other: &Footprint)
-        requires good { AreOnGoodPages marks.old.faults (client_footprints (client_of self.now)) }
-        ensures faults { marks.new.faults ≡ marks.old.faults }
-        ensures bytes { is_marked marks.new ≡ beside_dependent (is_marked marks.old) (footprint_of other.now) (client_footprints (client_of self.now)) }
+    pub(crate) fn mark(&self, marks: &mut SerialMemory, other: &Footprint)
+        requires room { HaveRoomToWrite (rooms_of marks.old) (client_footprints (client_of self.now)) }
+        ensures rest { IsMarkedAlone marks.old marks.new }
+        ensures bytes { doubts_of marks.new ≡ beside_dependent (doubts_of marks.old) (footprint_of other.now) (client_footprints (client_of self.now)) }
     {
         self.flights.mark(marks, other);
         mark_dependent(marks, &self.coming, other);
@@ -276,10 +284,10 @@ impl Client {
 
     /// What those of its requests may write, in flight or begun, is indeterminate that share a byte with a burst that was answered with an
     /// error.
-    pub(crate) fn mark_shared(&self, marks: &mut Pages, span: Span)
-        requires good { AreOnGoodPages marks.old.faults (client_footprints (client_of self.now)) }
-        ensures faults { marks.new.faults ≡ marks.old.faults }
-        ensures bytes { is_marked marks.new ≡ after_hit (is_marked marks.old) span (client_footprints (client_of self.now)) }
+    pub(crate) fn mark_shared(&self, marks: &mut SerialMemory, span: Span)
+        requires room { HaveRoomToWrite (rooms_of marks.old) (client_footprints (client_of self.now)) }
+        ensures rest { IsMarkedAlone marks.old marks.new }
+        ensures bytes { doubts_of marks.new ≡ after_hit (doubts_of marks.old) span (client_footprints (client_of self.now)) }
     {
         self.flights.mark_shared(marks, span);
         mark_shared(marks, &self.coming, span);

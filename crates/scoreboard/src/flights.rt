@@ -6,7 +6,8 @@ ghost use Rattle.bus_words.specs.Places.{without_first};
 ghost use Rattle.scoreboard.specs.Boards.{wrong_reply};
 ghost use Rattle.scoreboard.specs.FailedBursts.{after_hit, hit_flight};
 ghost use Rattle.scoreboard.specs.Flights.{begun_after, due_to, each_flight, flights_after, in_flight, is_busy, is_of_source, next_reply, replies_left};
-ghost use Rattle.scoreboard.specs.InsideBoards.{AreOnGoodPages, HaveRoom, flight_of, flights_of, footprint_of, is_marked};
+ghost use Rattle.serial_memory.specs.SerialMemory.{doubts_of, rooms_of};
+ghost use Rattle.scoreboard.specs.InsideBoards.{HaveRoom, HaveRoomToWrite, IsMarkedAlone, flight_of, flights_of, footprint_of};
 ghost use Rattle.scoreboard.specs.Races.{beside_all, beside_dependent, flight_beside};
 
 use crate::failed_bursts::Span;
@@ -14,10 +15,10 @@ use crate::footprint::Footprint;
 use crate::in_flight::InFlight;
 use crate::marks::{mark_dependent, mark_shared};
 use crate::{Policy, ReplyRule, Wrong};
+use serial_memory::SerialMemory;
 use std::alloc::{AllocError, Global};
 use std::marker::Model;
 use std::mem;
-use subordinate::Pages;
 use tl_messages::DBeat;
 
 /// How many requests of a client may be in flight: one of each source, and one whose reply has begun.
@@ -89,10 +90,10 @@ fn limit_by(joined: &mut InFlight, due: &[InFlight])
 }
 
 /// All bytes are indeterminate of those requests of which what they write may depend on another.
-fn mark_each(marks: &mut Pages, due: &[InFlight], other: &Footprint)
-    requires good { AreOnGoodPages marks.old.faults (map (λ flight. flight.footprint) (map flight_of due.now)) }
-    ensures faults { marks.new.faults ≡ marks.old.faults }
-    ensures bytes { is_marked marks.new ≡ beside_dependent (is_marked marks.old) (footprint_of other.now) (map (λ flight. flight.footprint) (map flight_of due.now)) }
+fn mark_each(marks: &mut SerialMemory, due: &[InFlight], other: &Footprint)
+    requires room { HaveRoomToWrite (rooms_of marks.old) (map (λ flight. flight.footprint) (map flight_of due.now)) }
+    ensures rest { IsMarkedAlone marks.old marks.new }
+    ensures bytes { doubts_of marks.new ≡ beside_dependent (doubts_of marks.old) (footprint_of other.now) (map (λ flight. flight.footprint) (map flight_of due.now)) }
 {
     for flight in due {
         mark_dependent(marks, flight.footprint(), other);
@@ -110,10 +111,10 @@ fn give_way_each(due: &mut [InFlight], other: &Footprint)
 }
 
 /// What those requests may write is indeterminate that share a byte with a burst that was answered with an error.
-fn mark_shared_each(marks: &mut Pages, due: &[InFlight], span: Span)
-    requires good { AreOnGoodPages marks.old.faults (map (λ flight. flight.footprint) (map flight_of due.now)) }
-    ensures faults { marks.new.faults ≡ marks.old.faults }
-    ensures bytes { is_marked marks.new ≡ after_hit (is_marked marks.old) span (map (λ flight. flight.footprint) (map flight_of due.now)) }
+fn mark_shared_each(marks: &mut SerialMemory, due: &[InFlight], span: Span)
+    requires room { HaveRoomToWrite (rooms_of marks.old) (map (λ flight. flight.footprint) (map flight_of due.now)) }
+    ensures rest { IsMarkedAlone marks.old marks.new }
+    ensures bytes { doubts_of marks.new ≡ after_hit (doubts_of marks.old) span (map (λ flight. flight.footprint) (map flight_of due.now)) }
 {
     for flight in due {
         mark_shared(marks, flight.footprint(), span);
@@ -131,7 +132,7 @@ fn hit_each(due: &mut [InFlight], span: Span)
 }
 
 impl Flights {
-    /// Nothing is in flight, and footprints have room for so many flags. The one error is that memory was refused.
+    /// Nothing is in flight, and footprints have room for so many words. The one error is that memory was refused.
     pub(crate) fn new(alloc: Global, room: usize) -> Result<Self, AllocError>
         requires { 1 ≤ room }
         ensures { IfOk result (λ made. made ≡ record { room = room; due = []; begun = None }) }
@@ -273,10 +274,10 @@ impl Flights {
     }
 
     /// All bytes are indeterminate of those of which what they write may depend on another.
-    pub(crate) fn mark(&self, marks: &mut Pages, other: &Footprint)
-        requires good { AreOnGoodPages marks.old.faults (map (λ flight. flight.footprint) (in_flight (flights_of self.now))) }
-        ensures faults { marks.new.faults ≡ marks.old.faults }
-        ensures bytes { is_marked marks.new ≡ beside_dependent (is_marked marks.old) (footprint_of other.now) (map (λ flight. flight.footprint) (in_flight (flights_of self.now))) }
+    pub(crate) fn mark(&self, marks: &mut SerialMemory, other: &Footprint)
+        requires room { HaveRoomToWrite (rooms_of marks.old) (map (λ flight. flight.footprint) (in_flight (flights_of self.now))) }
+        ensures rest { IsMarkedAlone marks.old marks.new }
+        ensures bytes { doubts_of marks.new ≡ beside_dependent (doubts_of marks.old) (footprint_of other.now) (map (λ flight. flight.footprint) (in_flight (flights_of self.now))) }
     {
         mark_each(marks, &self.due, other);
         if let Some(flight) = &self.begun {
@@ -296,10 +297,10 @@ impl Flights {
     }
 
     /// What those may write is indeterminate that share a byte with a burst that was answered with an error.
-    pub(crate) fn mark_shared(&self, marks: &mut Pages, span: Span)
-        requires good { AreOnGoodPages marks.old.faults (map (λ flight. flight.footprint) (in_flight (flights_of self.now))) }
-        ensures faults { marks.new.faults ≡ marks.old.faults }
-        ensures bytes { is_marked marks.new ≡ after_hit (is_marked marks.old) span (map (λ flight. flight.footprint) (in_flight (flights_of self.now))) }
+    pub(crate) fn mark_shared(&self, marks: &mut SerialMemory, span: Span)
+        requires room { HaveRoomToWrite (rooms_of marks.old) (map (λ flight. flight.footprint) (in_flight (flights_of self.now))) }
+        ensures rest { IsMarkedAlone marks.old marks.new }
+        ensures bytes { doubts_of marks.new ≡ after_hit (doubts_of marks.old) span (map (λ flight. flight.footprint) (in_flight (flights_of self.now))) }
     {
         mark_shared_each(marks, &self.due, span);
         if let Some(flight) = &self.begun {

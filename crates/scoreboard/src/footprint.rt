@@ -1,41 +1,42 @@
 //! The bytes of the memory that a request may read and write which is in flight, or has begun.
-ghost use Rattle.std.specs.Prelude.{◌≡◌, ◌≢◌, ◌≤◌, ◌<◌, ◌+◌, ◌^◌, ◌&&◌, ℕ, IfOk, IfSome, false, length, not, slice_index_or, true};
+ghost use Rattle.std.specs.Prelude.{◌≡◌, ◌≢◌, ◌≤◌, ◌<◌, ◌+◌, ◌-◌, ◌*◌, ◌/◌, ◌%◌, ◌^◌, ◌&&◌, ℕ, IfOk, IfSome, false, length, nat_le, nat_lt, not, slice_index_or, true};
+ghost use Rattle.bus_words.specs.Lanes.{has_lane, word_address};
 ghost use Rattle.tl_messages.specs.Requests.{request_of};
-ghost use Rattle.subordinate.specs.Faults.{is_good, standing_at};
-ghost use Rattle.scoreboard.specs.InsideSerial.{IsMemoryRange};
-ghost use Rattle.scoreboard.specs.InsideBoards.{is_marked, footprint_of, determined_in};
+ghost use Rattle.serial_memory.specs.SerialMemory.{IsMemoryRange, doubts_of};
+ghost use Rattle.scoreboard.specs.InsideBoards.{determined_in, footprint_of, words_of};
 ghost use Rattle.scoreboard.specs.Boards.{kept_from};
 ghost use Rattle.scoreboard.specs.FailedBursts.{hit, shares};
 ghost use Rattle.scoreboard.specs.Flights.{no_footprint};
 ghost use Rattle.scoreboard.specs.Races.{alone, beside, covers, is_fixed, may_read, meets, unless_failed};
 
 use crate::failed_bursts::Span;
+use data_unit::full_mask;
+use serial_memory::SerialMemory;
 use std::alloc::{AllocError, Global};
 use std::marker::Model;
-use subordinate::Pages;
 use tl_messages::{Operation, Request};
 
 /// What a request does to the memory: whether it may read, and write, the `2^size` bytes at an address, whether it has failed, and
-/// which of the bytes are determined. All room is taken by `new`.
+/// which of the bytes are determined: of each of its words, a bit for each byte. All room is taken by `new`.
 pub(crate) struct Footprint {
     reads: bool,
     writes: bool,
     address: u32,
     size: u8,
     failed: bool,
-    determined: Vec<bool>,
+    determined: Vec<u8>,
 }
 
 impl Model for Footprint {
-    ghost use Rattle.std.specs.Prelude.{◌≤◌, ◌^◌, length};
-    ghost use Rattle.scoreboard.specs.InsideSerial.{IsMemoryRange};
-    ghost use Rattle.scoreboard.specs.InsideBoards.{FootprintState};
+    ghost use Rattle.std.specs.Prelude.{◌≤◌, length};
+    ghost use Rattle.serial_memory.specs.SerialMemory.{IsMemoryRange};
+    ghost use Rattle.scoreboard.specs.InsideBoards.{FootprintState, words_of};
 
     ghost Value = { FootprintState };
 
     ghost view = { λ r. record { reads = r.reads; writes = r.writes; address = r.address; size = r.size; failed = r.failed; determined = r.determined.items } };
 
-    ghost invariant = { λ r. (2 ^ r.size ≤ length r.determined.items) × IsMemoryRange r.address r.size };
+    ghost invariant = { λ r. (words_of r.size ≤ length r.determined.items) × IsMemoryRange r.address r.size };
 }
 
 // Written out, so that what lets go of one calls this, and proves nothing of its parts.
@@ -59,15 +60,8 @@ fn may_read(operation: Operation) -> bool
     operation.reply_has_data() || !operation.has_data()
 }
 
-/// Whether the byte at an address is indeterminate.
-fn is_indeterminate(marks: &Pages, address: u32) -> bool
-    ensures { result ≡ is_marked marks.now address }
-{
-    marks.byte(address).unwrap_or(0) != 0
-}
-
 impl Footprint {
-    /// That of a request of which nobody asks, with room for so many flags. The one error is that memory was refused.
+    /// That of a request of which nobody asks, with room for so many words. The one error is that memory was refused.
     pub(crate) fn new(alloc: Global, room: usize) -> Result<Self, AllocError>
         requires { 1 ≤ room }
         ensures { IfOk result (λ footprint. (footprint_of footprint ≡ no_footprint) × (length footprint.determined ≡ room)) }
@@ -78,7 +72,7 @@ impl Footprint {
             address: 0,
             size: 0,
             failed: false,
-            determined: vec![in alloc; false; room]?,
+            determined: vec![in alloc; 0; room]?,
         })
     }
 
@@ -128,12 +122,25 @@ impl Footprint {
         1 << self.size
     }
 
-    /// The address of its byte `i`, from 0.
-    pub(crate) fn address_of(&self, i: u32) -> u32
-        requires { i < 2 ^ self.now.size }
-        ensures { result ≡ self.now.address + i }
+    /// How many words it has a byte of.
+    pub(crate) fn words(&self) -> u32
+        ensures value { result ≡ words_of self.now.size }
+        ensures most { result ≤ 512 }
+        ensures range { IsMemoryRange self.now.address self.now.size }
     {
-        self.address + i
+        if self.size < 3 {
+            return 1;
+        }
+        1 << (self.size - 3)
+    }
+
+    /// The address of its word `k`, from 0.
+    pub(crate) fn word_at(&self, k: u32) -> u32
+        requires { k < words_of self.now.size }
+        ensures { result ≡ word_address self.now.address + 8 * k }
+    {
+        let _words = self.words();
+        self.address / 8 * 8 + 8 * k
     }
 
     /// Whether it has the byte at an address.
@@ -143,13 +150,44 @@ impl Footprint {
         self.address <= address && address - self.address < self.bytes()
     }
 
-    /// Whether its byte `i`, from 0, is determined.
-    pub(crate) fn is_determined(&self, i: u32) -> bool
-        requires { i < 2 ^ self.now.size }
-        ensures { result ≡ determined_in self.now (self.now.address + i) }
+    /// Whether one of its words is at an address.
+    fn has_word(&self, word: u32) -> bool
+        ensures value { result ≡ (nat_le (self.now.address / 8) (word / 8) && nat_lt (word / 8 - self.now.address / 8) (words_of self.now.size)) }
+        ensures range { IsMemoryRange self.now.address self.now.size }
     {
-        let _bytes = self.bytes();
-        self.determined[i as usize]
+        let words = self.words();
+        self.address / 8 <= word / 8 && word / 8 - self.address / 8 < words
+    }
+
+    /// Which bytes of the word at an address are its own, bit i for byte i.
+    pub(crate) fn lanes_in(&self, word: u32) -> u8
+        requires { word % 8 ≡ 0 }
+        ensures { (lane : ℕ) → lane < 8 → has_lane result lane ≡ covers (footprint_of self.now) (word + lane) }
+    {
+        if !self.has_word(word) {
+            return 0;
+        }
+        full_mask(self.address, self.size)
+    }
+
+    /// Which bytes of its word `k`, from 0, are determined; those that aren't its own don't count.
+    fn mask(&self, k: u32) -> u8
+        requires { k < words_of self.now.size }
+        ensures { result ≡ slice_index_or self.now.determined k 0 }
+    {
+        let _words = self.words();
+        self.determined[k as usize]
+    }
+
+    /// Which bytes of the word at an address are determined, bit i for byte i.
+    pub(crate) fn determined_in(&self, word: u32) -> u8
+        requires { word % 8 ≡ 0 }
+        ensures { (lane : ℕ) → lane < 8 → has_lane result lane ≡ determined_in self.now (word + lane) }
+    {
+        if !self.has_word(word) {
+            return 0;
+        }
+        self.lanes_in(word) & self.mask(word / 8 - self.address / 8)
     }
 
     /// Whether it and another have a byte in common.
@@ -172,11 +210,11 @@ impl Footprint {
     }
 
     /// It becomes a request that acts at an address, where it acts on a good page, alone.
-    pub(crate) fn start(&mut self, marks: &Pages, place: Option<u32>, request: &Request)
+    pub(crate) fn start(&mut self, marks: &SerialMemory, place: Option<u32>, request: &Request)
         requires range { IfSome place (λ address. IsMemoryRange address request.now.size) }
-        requires room { 2 ^ request.now.size ≤ length self.old.determined }
+        requires room { words_of request.now.size ≤ length self.old.determined }
         ensures room { length self.new.determined ≡ length self.old.determined }
-        ensures footprint { footprint_of self.new ≡ alone (is_marked marks.now) place (request_of request.now) }
+        ensures footprint { footprint_of self.new ≡ alone (doubts_of marks.now) place (request_of request.now) }
     {
         let operation = request.operation();
         self.reads = place.is_some() && may_read(operation);
@@ -187,44 +225,39 @@ impl Footprint {
         self.determine(marks);
     }
 
-    /// Sets whether its byte `i`, from 0, is determined.
-    fn put(&mut self, i: u32, determined: bool)
-        requires { i < 2 ^ self.old.size }
+    /// Sets which bytes of its word `k`, from 0, are determined.
+    fn put(&mut self, k: u32, mask: u8)
+        requires { k < words_of self.old.size }
         ensures rest { self.new ≡ record self.old { determined = self.new.determined } }
         ensures room { length self.new.determined ≡ length self.old.determined }
-        ensures own { slice_index_or self.new.determined i false ≡ determined }
-        ensures others { (k : ℕ) → k ≢ i → slice_index_or self.new.determined k false ≡ slice_index_or self.old.determined k false }
+        ensures own { slice_index_or self.new.determined k 0 ≡ mask }
+        ensures others { (j : ℕ) → j ≢ k → slice_index_or self.new.determined j 0 ≡ slice_index_or self.old.determined j 0 }
     {
-        let _bytes = self.bytes();
-        self.determined[i as usize] = determined;
+        let _words = self.words();
+        self.determined[k as usize] = mask;
     }
 
-    /// Whether its byte `i`, from 0, isn't both one that it may read and indeterminate.
-    fn is_known(&self, marks: &Pages, i: u32) -> bool
-        requires { i < 2 ^ self.now.size }
-        ensures { result ≡ not (self.now.reads && is_marked marks.now (self.now.address + i)) }
+    /// Which bytes of its word `k`, from 0, aren't both such as it may read and indeterminate.
+    fn known(&self, marks: &SerialMemory, k: u32) -> u8
+        requires { k < words_of self.now.size }
+        ensures { (lane : ℕ) → lane < 8 → has_lane result lane ≡ not (self.now.reads && doubts_of marks.now (word_address self.now.address + 8 * k + lane)) }
     {
-        !(self.reads && is_indeterminate(marks, self.address_of(i)))
-    }
-
-    /// Whether its byte `i`, from 0, is determined, and another doesn't have it.
-    fn is_determined_beside(&self, other: &Footprint, i: u32) -> bool
-        requires { i < 2 ^ self.now.size }
-        ensures { result ≡ (determined_in self.now (self.now.address + i) && not (covers (footprint_of other.now) (self.now.address + i))) }
-    {
-        self.is_determined(i) && !other.covers(self.address_of(i))
+        if !self.reads {
+            return 0xff;
+        }
+        !marks.doubts(self.word_at(k))
     }
 
     /// All of its bytes are determined, but those that it may read and that are indeterminate.
-    fn determine(&mut self, marks: &Pages)
+    fn determine(&mut self, marks: &SerialMemory)
         ensures room { length self.new.determined ≡ length self.old.determined }
         ensures footprint { footprint_of self.new ≡ record (footprint_of self.old) {
-          determined = λ x. covers (footprint_of self.old) x && not (self.old.reads && is_marked marks.now x);
+          determined = λ x. covers (footprint_of self.old) x && not (self.old.reads && doubts_of marks.now x);
         } }
     {
-        for i in 0..self.bytes() {
-            let known = self.is_known(marks, i);
-            self.put(i, known);
+        for k in 0..self.words() {
+            let known = self.known(marks, k);
+            self.put(k, known);
         }
     }
 
@@ -236,25 +269,10 @@ impl Footprint {
         if !other.writes || !self.meets(other) {
             return;
         }
-        for i in 0..self.bytes() {
-            let determined = self.is_determined_beside(other, i);
-            self.put(i, determined);
+        for k in 0..self.words() {
+            let mask = self.mask(k) & !other.lanes_in(self.word_at(k));
+            self.put(k, mask);
         }
-    }
-
-    /// Whether the byte at an address is one of its own, and determined.
-    fn is_determined_at(&self, address: u32) -> bool
-        ensures { result ≡ determined_in self.now address }
-    {
-        self.covers(address) && self.is_determined(address - self.address)
-    }
-
-    /// Whether its byte `i`, from 0, is determined, and also determined of another.
-    fn is_determined_with(&self, other: &Footprint, i: u32) -> bool
-        requires { i < 2 ^ self.now.size }
-        ensures { result ≡ (determined_in self.now (self.now.address + i) && determined_in other.now (self.now.address + i)) }
-    {
-        self.is_determined(i) && other.is_determined_at(self.address_of(i))
     }
 
     /// Of its bytes only those stay determined that are determined of another, and it has failed if that one has.
@@ -262,9 +280,9 @@ impl Footprint {
         ensures footprint { footprint_of self.new ≡ kept_from (footprint_of coming.now) (footprint_of self.old) }
         ensures room { length self.new.determined ≡ length self.old.determined }
     {
-        for i in 0..self.bytes() {
-            let kept = self.is_determined_with(coming, i);
-            self.put(i, kept);
+        for k in 0..self.words() {
+            let mask = self.mask(k) & coming.determined_in(self.word_at(k));
+            self.put(k, mask);
         }
         self.failed |= coming.failed;
     }
@@ -275,8 +293,8 @@ impl Footprint {
         ensures room { length self.new.determined ≡ length self.old.determined }
         ensures rest { self.new ≡ record self.old { failed = true; determined = self.new.determined } }
     {
-        for i in 0..self.bytes() {
-            self.put(i, false);
+        for k in 0..self.words() {
+            self.put(k, 0);
         }
         self.failed = true;
     }
@@ -308,8 +326,9 @@ impl Footprint {
         if !self.reads {
             return true;
         }
-        for i in 0..self.bytes() {
-            if !self.is_determined(i) {
+        for k in 0..self.words() {
+            let word = self.word_at(k);
+            if self.determined_in(word) != self.lanes_in(word) {
                 return false;
             }
         }
@@ -326,6 +345,6 @@ impl Footprint {
         self.address = 0;
         self.size = 0;
         self.failed = false;
-        self.put(0, false);
+        self.put(0, 0);
     }
 }

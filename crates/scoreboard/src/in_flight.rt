@@ -7,20 +7,18 @@ ghost use Rattle.responses.specs.Shown.{shown};
 ghost use Rattle.scoreboard.specs.Boards.{differs_in, due_beat, is_payload, kept_from, reply_rules, tells_error, tells_otherwise, unless_indeterminate, wrong_by, wrong_reply};
 ghost use Rattle.scoreboard.specs.FailedBursts.{hit_flight};
 ghost use Rattle.scoreboard.specs.Flights.{no_footprint};
-ghost use Rattle.scoreboard.specs.InsideBoards.{fails_by, flight_of, footprint_of, is_marked};
-ghost use Rattle.scoreboard.specs.InsideSerial.{IsMemoryRange};
+ghost use Rattle.serial_memory.specs.SerialMemory.{HasRoomToGive, IsCheckedRequest, IsMemoryRange, carried_out, doubts_of, meaning_in, memory_of, rooms_of};
+ghost use Rattle.scoreboard.specs.InsideBoards.{fails_by, flight_of, footprint_of, words_of};
 ghost use Rattle.scoreboard.specs.Races.{alone, flight_beside, unless_failed};
-ghost use Rattle.scoreboard.specs.SerialMemory.{IsCheckedRequest, carried_out, meaning_in, memory_of};
 
 use crate::failed_bursts::Span;
 use crate::footprint::Footprint;
-use crate::serial::SerialMemory;
 use crate::{Errors, Policy, ReplyRule, Wrong};
-use bus_words::lane_byte;
+use bus_words::{has_lane, lane_byte};
+use serial_memory::SerialMemory;
 use std::alloc::{AllocError, Global};
 use std::marker::Model;
 use std::mem;
-use subordinate::Pages;
 use tl_messages::{DBeat, ReplyBox, Request, beats_of};
 
 /// A request in flight: its source, the beats of its reply, of which some may have come, and its footprint.
@@ -84,12 +82,11 @@ fn differs_in(footprint: &Footprint, k: u16, due: u64, payload: u64, lane: u8) -
     requires { lane < 8 }
     ensures { result ≡ differs_in (footprint_of footprint.now) k due payload lane }
 {
-    let first = footprint.address() % 8;
-    let place = 8 * u32::from(k) + u32::from(lane);
-    if place < first || place - first >= footprint.bytes() {
+    if u32::from(k) >= footprint.words() {
         return false;
     }
-    footprint.is_determined(place - first) && lane_byte(due, lane) != lane_byte(payload, lane)
+    let determined = footprint.determined_in(footprint.word_at(u32::from(k)));
+    has_lane(determined, lane) && lane_byte(due, lane) != lane_byte(payload, lane)
 }
 
 /// Whether a beat, as beat `k` of a reply, tells of a determined byte something else than the one that is due: beats without data
@@ -168,7 +165,7 @@ pub(crate) fn wrong_told(
 }
 
 impl InFlight {
-    /// A box for a request, whose footprint has room for so many flags. The one error is that memory was refused.
+    /// A box for a request, whose footprint has room for so many words. The one error is that memory was refused.
     pub(crate) fn new(alloc: Global, room: usize) -> Result<Self, AllocError>
         requires { 1 ≤ room }
         ensures { IfOk result (λ made. length made.footprint.determined ≡ room) }
@@ -207,10 +204,15 @@ impl InFlight {
     }
 
     /// Its footprint becomes that of a request that acts at an address, where it acts on a good page, alone.
-    pub(crate) fn start_footprint(&mut self, marks: &Pages, place: Option<u32>, request: &Request)
+    pub(crate) fn start_footprint(
+        &mut self,
+        marks: &SerialMemory,
+        place: Option<u32>,
+        request: &Request,
+    )
         requires range { IfSome place (λ address. IsMemoryRange address request.now.size) }
-        requires room { 2 ^ request.now.size ≤ length self.old.footprint.determined }
-        ensures footprint { footprint_of self.new.footprint ≡ alone (is_marked marks.now) place (request_of request.now) }
+        requires room { words_of request.now.size ≤ length self.old.footprint.determined }
+        ensures footprint { footprint_of self.new.footprint ≡ alone (doubts_of marks.now) place (request_of request.now) }
         ensures room { length self.new.footprint.determined ≡ length self.old.footprint.determined }
     {
         self.footprint.start(marks, place, request);
@@ -261,8 +263,11 @@ impl InFlight {
 
     /// It becomes a request that is carried out, of whose reply no beat came; its footprint stays.
     pub(crate) fn carry_out(&mut self, serial: &mut SerialMemory, request: &Request)
-        requires { IsCheckedRequest request.now }
+        requires checked { IsCheckedRequest request.now }
+        requires room { HasRoomToGive serial.old (request_of request.now) }
         ensures memory { memory_of serial.new ≡ carried_out (memory_of serial.old) (request_of request.now) }
+        ensures doubts { doubts_of serial.new ≡ doubts_of serial.old }
+        ensures rooms { rooms_of serial.new ≡ rooms_of serial.old }
         ensures flight { self.new ≡ record {
           source = request.now.source;
           beats = shown (request_of request.now) (meaning_in (memory_of serial.old) (request_of request.now)).reply;

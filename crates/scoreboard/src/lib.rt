@@ -12,12 +12,10 @@ mod in_flight;
 mod marks;
 mod names;
 mod places;
-mod serial;
 
 use axi_checker::{AxiBeat, AxiRule};
 pub use board::Scoreboard;
 pub use places::AxiPlaces;
-pub use serial::SerialMemory;
 use tl_checker::TlRule;
 use tl_messages::{ABeat, DBeat};
 

@@ -5,11 +5,11 @@ use Rattle.std.specs.Io.KnownBytes.{Appends, Consumes, Keeps, IsAtEnd, prepend_k
 use Rattle.std.specs.Str.Lines.{strip_carriage_return}
 use Rattle.line_text.proofs.Parts.{Lacks, Lacks-push}
 use Rattle.script_text.proofs.Progress.{LastText, Progress, failed_within, grown_after, line_step-not_plain, line_step-late, lines_result-went, lines_result-fault}
-use Rattle.script_text.proofs.ScriptLines.{lines_of-line, lines_of-last, begins, begins-not_plain, lines_of-some}
+use Rattle.script_text.proofs.ScriptLines.{ended_lines_of-line, lines_of-line, lines_of-last, begins, begins-not_plain, lines_of-some}
 use Rattle.line_text.proofs.TraceTexts.{some_after, some_before}
 use Rattle.script_text.specs.Reads.{BlockState, IsSmall, Stops, Takes, TakesByte, left}
-use Rattle.script_text.specs.Scripts.{Reading, TextResult, EndsAs, HasText, IsAllJudged, IsFront, IsSettled, LineStep, Tells, after_text, ended, line_step, lines_result, text_from, text_of, text_before_failure}
-use Rattle.script_text.specs.Steps.{GivesText, Goes, Speaks, TakesStep, TakesRest}
+use Rattle.script_text.specs.Scripts.{Reading, TextResult, AreCarriedOut, EndsAs, EndsOrStops, HasText, IsAllJudged, IsFront, IsSettled, LineStep, StopsForMemory, Tells, after_text, ended, line_step, lines_result, text_failing_from, text_from, text_of, text_before_failure}
+use Rattle.script_text.specs.Steps.{GivesText, Goes, Speaks, Stands, TakesStep, TakesRest}
 use Rattle.line_text.specs.Words.{lines_of}
 use Rattle.script_text.specs.declared.faults.ScriptFault.{ScriptFault}
 use Rattle.script_text.specs.declared.faults.ScriptFault.TheVariants.{Script, Setup, Read, Write, NoMemory}
@@ -38,6 +38,10 @@ speaks_well : {S A : Type 0} (reading : Reading S A) (step : LineStep S) (line :
     → IsOk whole.result × HasText whole
 speaks_well reading step (line, some) number whole told = rw told (line.may_end number, some_before line.text (reading.ending line.next number).output some)
 
+stands_well : {S A : Type 0} (reading : Reading S A) (step : LineStep S) (line : Stands reading step) (number : ℕ) (whole : TextResult A) → whole ≡ after_text line.text (reading.ending line.next number)
+    → IsOk whole.result
+stands_well reading step line number whole told = rw told (line.may_end number)
+
 gives_well : {S A : Type 0} (reading : Reading S A) (step : LineStep S) (line : GivesText reading step) (number : ℕ) (whole : TextResult A) → whole ≡ after_text line.0.text (reading.ending line.0.next number)
     → IsOk whole.result × HasText whole
 gives_well reading step (line, some) number whole told = rw told (line.may_end number, some number)
@@ -59,41 +63,67 @@ told_with_fault reading state number line fault lacks some stops =
 tells_after : {A : Type 0} (whole rest : TextResult A) (text : List ℕ) (old new newer : Option (List ℕ)) (result : Result A ScriptFault) → whole ≡ after_text text rest → Appends old new text → Tells rest new newer result → Tells whole old newer result
 tells_after whole rest text old new newer result told before (written, same) = rw told ((Appends-trans old new newer text rest.output before written, same))
 
-pub TakesRest-line : {S A : Type 0} (reading : Reading S A) (is_silent : S → Bool) (state next : S) (number : ℕ) (line : List ℕ) (w v z : Option (List ℕ)) (wrote : Bool) (result : Result A ScriptFault) → Lacks 10 line → 0 < length line
-    → Goes reading (line_step reading state number (strip_carriage_return line)) is_silent state next w v wrote → TakesRest (reading.ending next (number + 1)) (is_silent next) v z result
-    → TakesRest (text_from reading state number line) (is_silent state) w z result
-TakesRest-line {A = A} reading is_silent state next number line w v z wrote result lacks some goes ends = by_result result ends
+-- the text of the last line, once it has a line feed
+failing_line : {S A : Type 0} (reading : Reading S A) (state next : S) (number : ℕ) (line text : List ℕ) → Lacks 10 line → line_step reading state number (strip_carriage_return line) ≡ Ok (text, next)
+    → (text_failing_from reading state number (line ++ 10 ∷ [])).output ≡ text
+failing_line {A = A} reading state next number line text lacks went =
+    ap (λ (told : TextResult A). told.output)
+    (ap (lines_result reading (λ s n. ended (Err Read)) state number) (ended_lines_of-line line [] lacks)
+    ∙ lines_result-went reading (λ s n. ended (Err Read)) state next number (strip_carriage_return line) text [] went)
+    ∙ append-nil text
+
+-- how a script that asks for memory in mid-run ends at its last line
+abbrev LastRest : {S A : Type 0} → Reading S A → Bool → (S → Bool) → S → ℕ → List ℕ → Option (List ℕ) → Option (List ℕ) → Result A ScriptFault → Type 0
+LastRest reading grows is_silent state number line w z result =
+    TakesRest (text_from reading state number line) (text_failing_from reading state number (line ++ 10 ∷ [])).output grows (is_silent state) w z result
+
+pub TakesRest-line : {S A : Type 0} (reading : Reading S A) (grows : Bool) (is_silent : S → Bool) (state next : S) (number : ℕ) (line : List ℕ) (w v z : Option (List ℕ)) (wrote : Bool) (result : Result A ScriptFault) → Lacks 10 line → 0 < length line
+    → Goes reading (line_step reading state number (strip_carriage_return line)) is_silent state next w v wrote → TakesRest (reading.ending next (number + 1)) [] grows (is_silent next) v z result
+    → LastRest reading grows is_silent state number line w z result
+TakesRest-line {A = A} reading grows is_silent state next number line w v z wrote result lacks some goes ends = by_result result ends
   where
     told : text_from reading state number line ≡ after_text goes.text (reading.ending next (number + 1))
     told = told_with_line reading state next number line goes.text lacks some goes.step_is
 
-    by_result : (r : Result A ScriptFault) → TakesRest (reading.ending next (number + 1)) (is_silent next) v z r → TakesRest (text_from reading state number line) (is_silent state) w z r
+    -- the line's text stands, and nothing behind it
+    written : Keeps v z ⊎ Appends v z [] → Appends w z (text_failing_from reading state number (line ++ 10 ∷ [])).output
+    written (inl kept) = rw (failing_line reading state next number line goes.text lacks goes.step_is) (Appends-kept w v z goes.text goes.written kept)
+    written (inr none) = rw (failing_line reading state next number line goes.text lacks goes.step_is) (Appends-kept w v z goes.text goes.written (Keeps-none v z none))
+
+    by_result : (r : Result A ScriptFault) → TakesRest (reading.ending next (number + 1)) [] grows (is_silent next) v z r → LastRest reading grows is_silent state number line w z r
     by_result (Ok answer) tells = tells_after _ _ goes.text w v z (Ok answer) told goes.written tells
     by_result (Err (Script l word)) tells = tells_after _ _ goes.text w v z (Err (Script l word)) told goes.written tells
     by_result (Err (Setup fault)) tells = tells_after _ _ goes.text w v z (Err (Setup fault)) told goes.written tells
     by_result (Err Read) wrong = wrong
     by_result (Err Write) (ok, has) = (ok_after _ _ goes.text told ok, text_after _ _ goes.text told has)
-    by_result (Err NoMemory) (still, ok, kept) =
+    by_result (Err NoMemory) (ok, inl (still, kept)) =
         let quiet = goes.silent still in
-        (quiet.0, ok_after _ _ goes.text told ok, Keeps-trans w v z (Keeps-none w v (rw quiet.1 at goes.written)) kept)
+        (ok_after _ _ goes.text told ok, inl (quiet.0, Keeps-trans w v z (Keeps-none w v (rw quiet.1 at goes.written)) kept))
+    by_result (Err NoMemory) (ok, inr (may, none)) = (ok_after _ _ goes.text told ok, inr (may, inr (written none)))
 
 tells_fault : {A : Type 0} (whole : TextResult A) (fault : ScriptFault) (before after : Option (List ℕ)) → whole ≡ ended (Err fault) → Keeps before after → Tells whole before after (Err fault)
 tells_fault whole fault before after told kept = rw told ((Appends-none before after kept, refl))
 
-pub TakesRest-fault : {S A : Type 0} (reading : Reading S A) (is_silent : S → Bool) (state next : S) (number : ℕ) (line : List ℕ) (w v : Option (List ℕ)) (fault : ScriptFault) → Lacks 10 line → 0 < length line
-    → TakesStep reading (line_step reading state number (strip_carriage_return line)) is_silent state next w v (Err fault) → TakesRest (text_from reading state number line) (is_silent state) w v (Err fault)
-TakesRest-fault reading is_silent state next number line w v (Script l word) lacks some (stops, kept) = tells_fault _ _ w v (told_with_fault reading state number line _ lacks some stops) kept
-TakesRest-fault reading is_silent state next number line w v (Setup fault) lacks some (stops, kept) = tells_fault _ _ w v (told_with_fault reading state number line _ lacks some stops) kept
-TakesRest-fault reading is_silent state next number line w v Read lacks some stops = stops
-TakesRest-fault reading is_silent state next number line w v Write lacks some speaks =
+pub TakesRest-fault : {S A : Type 0} (reading : Reading S A) (grows : Bool) (is_silent : S → Bool) (state next : S) (number : ℕ) (line : List ℕ) (w v : Option (List ℕ)) (fault : ScriptFault) → Lacks 10 line → 0 < length line
+    → TakesStep reading grows (line_step reading state number (strip_carriage_return line)) is_silent state next w v (Err fault) → LastRest reading grows is_silent state number line w v (Err fault)
+TakesRest-fault reading grows is_silent state next number line w v (Script l word) lacks some (stops, kept) = tells_fault _ _ w v (told_with_fault reading state number line _ lacks some stops) kept
+TakesRest-fault reading grows is_silent state next number line w v (Setup fault) lacks some (stops, kept) = tells_fault _ _ w v (told_with_fault reading state number line _ lacks some stops) kept
+TakesRest-fault reading grows is_silent state next number line w v Read lacks some stops = stops
+TakesRest-fault reading grows is_silent state next number line w v Write lacks some speaks =
     speaks_well reading _ speaks (number + 1) _ (told_with_line reading state speaks.0.next number line speaks.0.text lacks some speaks.0.step_is)
-TakesRest-fault reading is_silent state next number line w v NoMemory lacks some (quiet, gives, kept) =
-    (quiet, (gives_well reading _ gives (number + 1) _ (told_with_line reading state gives.0.next number line gives.0.text lacks some gives.0.step_is)).0, kept)
+TakesRest-fault reading grows is_silent state next number line w v NoMemory lacks some (inl (quiet, gives), kept) =
+    ((gives_well reading _ gives (number + 1) _ (told_with_line reading state gives.0.next number line gives.0.text lacks some gives.0.step_is)).0, inl (quiet, kept))
+TakesRest-fault reading grows is_silent state next number line w v NoMemory lacks some (inr (may, stands), kept) =
+    (stands_well reading _ stands (number + 1) _ (told_with_line reading state stands.next number line stands.text lacks some stands.step_is), inr (may, inl kept))
 
 -- ---- the whole call
 
 abbrev pub Ends : {S A : Type 0} → Reading S A → S → Option (List ℕ) → Option (List ℕ) → Option (List ℕ) → Option (List ℕ) → Result A ScriptFault → Type 0
 Ends reading start input rest old new result = EndsAs reading.most_lines (text_of reading start) (text_before_failure reading start) input rest old new result
+
+-- or in mid-run, where the script grows
+abbrev pub EndsOr : {S A : Type 0} → Reading S A → Bool → S → Option (List ℕ) → Option (List ℕ) → Option (List ℕ) → Option (List ℕ) → Result A ScriptFault → Type 0
+EndsOr reading grows start input rest old new result = EndsOrStops grows reading.most_lines (text_of reading start) (text_before_failure reading start) input rest old new result
 
 -- which is nothing while the script is silent
 silent_within : {S A : Type 0} (reading : Reading S A) (is_silent : S → Bool) (start state : S) (number : ℕ) (block : BlockState) (input rest old new : Option (List ℕ)) (line : List ℕ)
@@ -122,10 +152,10 @@ written_till : {S A : Type 0} (reading : Reading S A) (is_silent : S → Bool) (
 written_till reading is_silent start state number block input rest old new flushed so_far kept = Appends-kept old new flushed so_far.text so_far.written kept
 
 -- to the input's end
-pub Ends-rest : {S A : Type 0} (reading : Reading S A) (is_silent : S → Bool) (start state : S) (number : ℕ) (block later : BlockState) (input rest after old new flushed newer : Option (List ℕ)) (line : List ℕ) (result : Result A ScriptFault)
+pub Ends-rest : {S A : Type 0} (reading : Reading S A) (grows : Bool) (is_silent : S → Bool) (start state : S) (number : ℕ) (block later : BlockState) (input rest after old new flushed newer : Option (List ℕ)) (line : List ℕ) (result : Result A ScriptFault)
     → Progress reading is_silent start state number block input rest old new → 130 * number + length line ≤ 130 * reading.most_lines + 131 → Lacks 10 line → Takes block later rest after line → later.ahead ≡ [] → IsAtEnd after
-    → Keeps new flushed → TakesRest (text_from reading state number line) (is_silent state) flushed newer result → Ends reading start input after old newer result
-Ends-rest {A = A} reading is_silent start state number block later input rest after old new flushed newer line result so_far within lacks taken none at_end flushes takes = by_result result takes
+    → Keeps new flushed → LastRest reading grows is_silent state number line flushed newer result → EndsOr reading grows start input after old newer result
+Ends-rest {A = A} reading grows is_silent start state number block later input rest after old new flushed newer line result so_far within lacks taken none at_end flushes takes = by_result result takes
   where
     read : List ℕ
     read = so_far.read ++ line
@@ -145,13 +175,30 @@ Ends-rest {A = A} reading is_silent start state number block later input rest af
     whole_input : IsAllJudged [] after
     whole_input = (refl, at_end)
 
-    by_result : (r : Result A ScriptFault) → TakesRest (text_from reading state number line) (is_silent state) flushed newer r → Ends reading start input after old newer r
-    by_result (Ok answer) told = record { judged = read; ahead = []; consumed = all; bound = bound; block = omega arith; ends = (whole_input, tells (Ok answer) told) }
-    by_result (Err (Script l word)) told = record { judged = read; ahead = []; consumed = all; bound = bound; block = omega arith; ends = (inl whole_input, tells (Err (Script l word)) told) }
-    by_result (Err (Setup fault)) told = record { judged = read; ahead = []; consumed = all; bound = bound; block = omega arith; ends = (inl whole_input, tells (Err (Setup fault)) told) }
+    -- memory was refused in mid-run: these lines were carried out
+    stops : (lines text : List ℕ) → AreCarriedOut lines read [] after → IsOk (text_from reading state number line).result → (text_before_failure reading start lines).output ≡ so_far.text ++ text → Appends flushed newer text
+        → StopsForMemory reading.most_lines (text_of reading start) (text_before_failure reading start) input after old newer
+    stops lines text carried ok is appended =
+        record {
+          judged = read;
+          ahead = [];
+          lines = lines;
+          consumed = all;
+          bound = bound;
+          block = omega arith;
+          sound = ok_after _ _ so_far.text (so_far.whole line) ok;
+          carried_out = carried;
+          written = rw is (Appends-trans old flushed newer so_far.text text written appended);
+        }
+
+    by_result : (r : Result A ScriptFault) → LastRest reading grows is_silent state number line flushed newer r → EndsOr reading grows start input after old newer r
+    by_result (Ok answer) told = inl (record { judged = read; ahead = []; consumed = all; bound = bound; block = omega arith; ends = (whole_input, tells (Ok answer) told) })
+    by_result (Err (Script l word)) told = inl (record { judged = read; ahead = []; consumed = all; bound = bound; block = omega arith; ends = (inl whole_input, tells (Err (Script l word)) told) })
+    by_result (Err (Setup fault)) told = inl (record { judged = read; ahead = []; consumed = all; bound = bound; block = omega arith; ends = (inl whole_input, tells (Err (Setup fault)) told) })
     by_result (Err Read) told = absurd told
     by_result (Err Write) (ok, some) =
-        record {
+        inl
+        (record {
           judged = read;
           ahead = [];
           consumed = all;
@@ -161,9 +208,10 @@ Ends-rest {A = A} reading is_silent start state number block later input rest af
             ok_after _ _ so_far.text (so_far.whole line) ok,
             (read, inr (refl, whole_input), grown_after _ _ _ so_far.text Read (failed_within reading is_silent start state number block input rest old new line so_far lacks) (so_far.whole line) some),
           );
-        }
-    by_result (Err NoMemory) (quiet, ok, kept) =
-        record {
+        })
+    by_result (Err NoMemory) (ok, inl (quiet, kept)) =
+        inl
+        (record {
           judged = read;
           ahead = [];
           consumed = all;
@@ -176,7 +224,23 @@ Ends-rest {A = A} reading is_silent start state number block later input rest af
               (read, inr (refl, whole_input), silent_within reading is_silent start state number block input rest old new line so_far lacks quiet, inr whole_input),
             ),
           );
-        }
+        })
+    by_result (Err NoMemory) (ok, inr (may, inl kept)) =
+        inr (
+          may,
+          refl,
+          stops read [] (inl (inr (refl, whole_input))) ok
+              (ap (λ (told : TextResult A). told.output) (failed_within reading is_silent start state number block input rest old new line so_far lacks))
+              (Appends-none flushed newer kept),
+        )
+    by_result (Err NoMemory) (ok, inr (may, inr appended)) =
+        inr (
+          may,
+          refl,
+          stops (read ++ 10 ∷ []) _ (inr (refl, whole_input)) ok
+              (ap (λ (told : TextResult A). told.output) (ap (text_before_failure reading start) (append_assoc so_far.read line (10 ∷ [])) ∙ so_far.failed (line ++ 10 ∷ [])))
+              appended,
+        )
 
 -- at a fault that stands whatever follows
 settled : {S A : Type 0} (reading : Reading S A) (start state : S) (number : ℕ) (ahead : List ℕ) (rest old new newer : Option (List ℕ)) (read text tail : List ℕ) (fault : ScriptFault)
@@ -191,10 +255,10 @@ settled reading start state number ahead rest old new newer read text tail fault
     )
 
 -- at a fault of a line
-pub Ends-fault : {S A : Type 0} (reading : Reading S A) (is_silent : S → Bool) (start state next : S) (number : ℕ) (block later : BlockState) (input rest after old new flushed newer : Option (List ℕ)) (line : List ℕ) (fault : ScriptFault)
+pub Ends-fault : {S A : Type 0} (reading : Reading S A) (grows : Bool) (is_silent : S → Bool) (start state next : S) (number : ℕ) (block later : BlockState) (input rest after old new flushed newer : Option (List ℕ)) (line : List ℕ) (fault : ScriptFault)
     → Progress reading is_silent start state number block input rest old new → number ≤ reading.most_lines → Lacks 10 line → length line ≤ 129 → Takes block later rest after (line ++ 10 ∷ []) → IsSmall later → Keeps new flushed
-    → TakesStep reading (line_step reading state number (strip_carriage_return line)) is_silent state next flushed newer (Err fault) → Ends reading start input after old newer (Err fault)
-Ends-fault {S} reading is_silent start state next number block later input rest after old new flushed newer line fault so_far within lacks short taken few flushes takes = by_fault fault takes
+    → TakesStep reading grows (line_step reading state number (strip_carriage_return line)) is_silent state next flushed newer (Err fault) → EndsOr reading grows start input after old newer (Err fault)
+Ends-fault {S} reading grows is_silent start state next number block later input rest after old new flushed newer line fault so_far within lacks short taken few flushes takes = by_fault fault takes
   where
     tail : List ℕ
     tail = line ++ 10 ∷ []
@@ -220,28 +284,30 @@ Ends-fault {S} reading is_silent start state next number block later input rest 
     front : IsFront (so_far.read ++ line) (so_far.read ++ tail) later.ahead after
     front = inl (sym (append_assoc so_far.read line (10 ∷ [])))
 
-    by_fault : (f : ScriptFault) → TakesStep reading (line_step reading state number (strip_carriage_return line)) is_silent state next flushed newer (Err f) → Ends reading start input after old newer (Err f)
+    by_fault : (f : ScriptFault) → TakesStep reading grows (line_step reading state number (strip_carriage_return line)) is_silent state next flushed newer (Err f) → EndsOr reading grows start input after old newer (Err f)
     by_fault (Script l word) (stops, kept) =
-        record {
+        inl
+        (record {
           judged = so_far.read ++ tail;
           ahead = later.ahead;
           consumed = all;
           bound = bound;
           block = small later few;
           ends = settled reading start state number later.ahead after old flushed newer so_far.read so_far.text tail _ so_far.whole (told _ stops) written kept;
-        }
+        })
     by_fault (Setup f) (stops, kept) =
-        record {
+        inl
+        (record {
           judged = so_far.read ++ tail;
           ahead = later.ahead;
           consumed = all;
           bound = bound;
           block = small later few;
           ends = settled reading start state number later.ahead after old flushed newer so_far.read so_far.text tail _ so_far.whole (told _ stops) written kept;
-        }
+        })
     by_fault Read stops = absurd stops
     by_fault Write speaks =
-        let well = speaks_well reading _ speaks (number + 1) _ (after_line speaks.0.text speaks.0.next speaks.0.step_is) in record {
+        let well = speaks_well reading _ speaks (number + 1) _ (after_line speaks.0.text speaks.0.next speaks.0.step_is) in inl (record {
           judged = so_far.read ++ tail;
           ahead = later.ahead;
           consumed = all;
@@ -255,9 +321,25 @@ Ends-fault {S} reading is_silent start state next number block later input rest 
               grown_after _ _ _ so_far.text Read (failed_within reading is_silent start state number block input rest old new line so_far lacks) (so_far.whole tail) well.1,
             ),
           );
-        }
-    by_fault NoMemory (quiet, gives, kept) =
-        let well = gives_well reading _ gives (number + 1) _ (after_line gives.0.text gives.0.next gives.0.step_is) in record {
+        })
+    by_fault NoMemory (inr (may, stands), kept) =
+        inr (
+          may,
+          refl,
+          record {
+            judged = so_far.read ++ tail;
+            ahead = later.ahead;
+            lines = so_far.read ++ line;
+            consumed = all;
+            bound = bound;
+            block = small later few;
+            sound = ok_after _ _ so_far.text (so_far.whole tail) (stands_well reading _ stands (number + 1) _ (after_line stands.text stands.next stands.step_is));
+            carried_out = inl front;
+            written = rw (failed_within reading is_silent start state number block input rest old new line so_far lacks) (rw (append-nil so_far.text) (Appends-kept old flushed newer so_far.text written kept));
+          },
+        )
+    by_fault NoMemory (inl (quiet, gives), kept) =
+        let well = gives_well reading _ gives (number + 1) _ (after_line gives.0.text gives.0.next gives.0.step_is) in inl (record {
           judged = so_far.read ++ tail;
           ahead = later.ahead;
           consumed = all;
@@ -275,7 +357,7 @@ Ends-fault {S} reading is_silent start state next number block later input rest 
               ),
             ),
           );
-        }
+        })
 
 -- at a line that is too long
 pub Ends-long : {S A : Type 0} (reading : Reading S A) (is_silent : S → Bool) (start state : S) (number : ℕ) (block later : BlockState) (input rest after old new flushed : Option (List ℕ)) (line : List ℕ) (byte : ℕ)
@@ -395,9 +477,18 @@ Ends-unread reading is_silent start state number block later input rest after ol
     Ends-flush reading is_silent start state number block later input rest after old new flushed [] so_far (omega (arith, late)) taken none text few
 Ends-unread reading is_silent start state number block later input rest after old new flushed NoMemory so_far late part few flushes = absurd part
 
+-- a line more than a script may have writes nothing
+unread : {S A : Type 0} (reading : Reading S A) (grows : Bool) (is_silent : S → Bool) (state : S) (number : ℕ) (w z : Option (List ℕ)) (result : Result A ScriptFault) → number ≡ reading.most_lines + 1
+    → TakesRest (reading.ending state number) [] grows (is_silent state) w z result → LastRest reading grows is_silent state number [] w z result
+unread {A = A} reading grows is_silent state number w z result late takes =
+    let none : (text_failing_from reading state number (10 ∷ [])).output ≡ [] =
+    ap (λ (told : TextResult A). told.output) (lines_result-fault reading (λ s n. ended (Err Read)) state number [] [] (Script number 0) (rw late (line_step-late reading state []))) in
+    rw none takes
+
 -- at the input's end, after as many lines as may stand
-pub Ends-full : {S A : Type 0} (reading : Reading S A) (is_silent : S → Bool) (start state : S) (number : ℕ) (block later : BlockState) (input rest after old new flushed newer : Option (List ℕ)) (result : Result A ScriptFault)
+pub Ends-full : {S A : Type 0} (reading : Reading S A) (grows : Bool) (is_silent : S → Bool) (start state : S) (number : ℕ) (block later : BlockState) (input rest after old new flushed newer : Option (List ℕ)) (result : Result A ScriptFault)
     → Progress reading is_silent start state number block input rest old new → number ≡ reading.most_lines + 1 → TakesByte block later rest after (Ok None) → Keeps new flushed
-    → TakesRest (reading.ending state number) (is_silent state) flushed newer result → Ends reading start input after old newer result
-Ends-full reading is_silent start state number block later input rest after old new flushed newer result so_far late (taken, none, at_end) flushes takes =
-    Ends-rest reading is_silent start state number block later input rest after old new flushed newer [] result so_far (omega (arith, late)) nothing taken none at_end flushes takes
+    → TakesRest (reading.ending state number) [] grows (is_silent state) flushed newer result → EndsOr reading grows start input after old newer result
+Ends-full reading grows is_silent start state number block later input rest after old new flushed newer result so_far late (taken, none, at_end) flushes takes =
+    Ends-rest reading grows is_silent start state number block later input rest after old new flushed newer [] result so_far (omega (arith, late)) nothing taken none at_end flushes
+    (unread reading grows is_silent state number flushed newer result late takes)

@@ -1,6 +1,7 @@
 mod Blocks
 mod ConfigLines
 mod Endings
+pub mod FixedEndings
 pub mod LineRooms
 pub mod PageLists
 mod PlainLines

@@ -8,7 +8,7 @@ use Rattle.script_text.specs.Forms.{told_as}
 use Rattle.script_text.specs.Scripts.{LineStep}
 use Rattle.script_text.specs.Stages.{GivesSome, Kind, OpensAs, OpensStage, Opening, Running, SettingUp, Stage, Writes, command_step, is_misplaced, nothing_written, reading_of, set_up_with, setup_step, unless_refused, world_at}
 use Rattle.script_text.specs.SetupLines.{config_line, with_config}
-use Rattle.script_text.specs.Steps.{GivesText, TakesStep}
+use Rattle.script_text.specs.Steps.{GivesText, Stands, TakesStep}
 use Rattle.script_text.specs.declared.faults.ScriptFault.{ScriptFault}
 use Rattle.script_text.specs.declared.faults.ScriptFault.TheVariants.{Script, Setup, Read, Write, NoMemory}
 use Rattle.script_text.specs.declared.keywords.Form.{Form}
@@ -56,20 +56,30 @@ gives kind (Ok world) number command some ok =
 gives kind (Err fault) number command some ok = search rules
 
 -- what a command works on wasn't made
-pub TakesStep-unopened : {S W C : Type 0} (kind : Kind S W C) (stage next : Stage S W) (number : ℕ) (command : C) (writer : Option (List ℕ)) (fault : ScriptFault) → GivesSome kind
+pub TakesStep-unopened : {S W C : Type 0} (kind : Kind S W C) (grows : Bool) (stage next : Stage S W) (number : ℕ) (command : C) (writer : Option (List ℕ)) (fault : ScriptFault) → GivesSome kind
     → OpensStage (world_at kind stage number) (nothing_written stage) next (Err fault)
-    → TakesStep (reading_of kind) (command_step kind (world_at kind stage number) number command) nothing_written stage next writer writer (Err fault)
-TakesStep-unopened kind stage next number command writer (Script line word) some refused = (ap (λ found. command_step kind found number command) refused, Keeps-refl writer)
-TakesStep-unopened kind stage next number command writer (Setup fault) some refused = (ap (λ found. command_step kind found number command) refused, Keeps-refl writer)
-TakesStep-unopened kind stage next number command writer Read some refused = refused
-TakesStep-unopened kind stage next number command writer Write some refused = absurd refused
-TakesStep-unopened kind stage next number command writer NoMemory some (silent, ok) = (silent, gives kind (world_at kind stage number) number command some ok, Keeps-refl writer)
+    → TakesStep (reading_of kind) grows (command_step kind (world_at kind stage number) number command) nothing_written stage next writer writer (Err fault)
+TakesStep-unopened kind grows stage next number command writer (Script line word) some refused = (ap (λ found. command_step kind found number command) refused, Keeps-refl writer)
+TakesStep-unopened kind grows stage next number command writer (Setup fault) some refused = (ap (λ found. command_step kind found number command) refused, Keeps-refl writer)
+TakesStep-unopened kind grows stage next number command writer Read some refused = refused
+TakesStep-unopened kind grows stage next number command writer Write some refused = absurd refused
+TakesStep-unopened kind grows stage next number command writer NoMemory some (silent, ok) = (inl (silent, gives kind (world_at kind stage number) number command some ok), Keeps-refl writer)
 
--- a command's text was written
-pub TakesStep-written : {S W C : Type 0} (kind : Kind S W C) (stage : Stage S W) (number : ℕ) (world next : W) (command : C) (before after : Option (List ℕ)) (wrote : Bool) → world_at kind stage number ≡ Ok world
-    → Writes {E = ScriptFault} (kind.commanded world number command) next before after (Ok wrote)
-    → TakesStep (reading_of kind) (command_step kind (world_at kind stage number) number command) nothing_written stage (Running next) before after (Ok wrote)
-TakesStep-written kind stage number world next command before after wrote found (written, is, quiet, speaks) =
+-- a command, of what was made
+abbrev stands : {S W C : Type 0} (kind : Kind S W C) (stage : Stage S W) (number : ℕ) (world : W) (command : C) → world_at kind stage number ≡ Ok world → Stands (reading_of kind) (command_step kind (world_at kind stage number) number command)
+stands kind stage number world command found =
+    record {
+      text = (kind.commanded world number command).0;
+      next = Running (kind.commanded world number command).1;
+      step_is = ap (λ w. command_step kind w number command) found;
+      may_end = λ n. refl;
+    }
+
+-- a command's text was written, or it wasn't carried out
+pub TakesStep-carried : {S W C : Type 0} (kind : Kind S W C) (grows : Bool) (stage : Stage S W) (number : ℕ) (world next : W) (command : C) (before after : Option (List ℕ)) (result : Result Bool ScriptFault) → world_at kind stage number ≡ Ok world
+    → Writes grows (kind.commanded world number command) next before after result
+    → TakesStep (reading_of kind) grows (command_step kind (world_at kind stage number) number command) nothing_written stage (Running next) before after result
+TakesStep-carried kind grows stage number world next command before after (Ok wrote) found (written, is, quiet, speaks) =
     record {
       text = (kind.commanded world number command).0;
       step_is = ap (λ w. command_step kind w number command) found ∙ ap (λ w. Ok ((kind.commanded world number command).0, Running w)) (sym is);
@@ -78,20 +88,11 @@ TakesStep-written kind stage number world next command before after wrote found 
       speaks = λ some. (speaks some, λ n. refl);
       silent = λ still. search rules;
     }
-
--- the writer failed at a command's text
-pub TakesStep-unwritten : {S W C : Type 0} (kind : Kind S W C) (stage next : Stage S W) (number : ℕ) (world : W) (command : C) (before after : Option (List ℕ)) → world_at kind stage number ≡ Ok world
-    → (kind.commanded world number command).0 ≢ []
-    → TakesStep (reading_of kind) (command_step kind (world_at kind stage number) number command) nothing_written stage next before after (Err Write)
-TakesStep-unwritten kind stage next number world command before after found some = (
-  record {
-    text = (kind.commanded world number command).0;
-    next = Running (kind.commanded world number command).1;
-    step_is = ap (λ w. command_step kind w number command) found;
-    may_end = λ n. refl;
-  },
-  some,
-)
+TakesStep-carried kind grows stage number world next command before after (Err (Script line word)) found fails = absurd fails
+TakesStep-carried kind grows stage number world next command before after (Err (Setup fault)) found fails = absurd fails
+TakesStep-carried kind grows stage number world next command before after (Err Read) found fails = absurd fails
+TakesStep-carried kind grows stage number world next command before after (Err Write) found some = (stands kind stage number world command found, some)
+TakesStep-carried kind grows stage number world next command before after (Err NoMemory) found (may, kept) = (inr (may, stands kind stage number world command found), kept)
 
 abbrev world_in : {S W : Type 0} → W → Stage S W → W
 world_in other Opening = other
@@ -129,9 +130,9 @@ pub setup_step-added : {S W C : Type 0} (kind : Kind S W C) (stage next : Stage 
 setup_step-added kind stage next number words f takes fits says = rw (takes, fits, says) refl
 
 -- before the first command there are lines without text
-pub TakesStep-quiet : {S W C : Type 0} (kind : Kind S W C) (stage next : Stage S W) (step : LineStep (Stage S W)) (writer : Option (List ℕ)) → step ≡ Ok ([], next) → nothing_written stage ≡ true
-    → TakesStep (reading_of kind) step nothing_written stage next writer writer (Ok false)
-TakesStep-quiet kind stage next step writer is before =
+pub TakesStep-quiet : {S W C : Type 0} (kind : Kind S W C) (grows : Bool) (stage next : Stage S W) (step : LineStep (Stage S W)) (writer : Option (List ℕ)) → step ≡ Ok ([], next) → nothing_written stage ≡ true
+    → TakesStep (reading_of kind) grows step nothing_written stage next writer writer (Ok false)
+TakesStep-quiet kind grows stage next step writer is before =
     record {
       text = [];
       step_is = is;

@@ -1,5 +1,5 @@
 -- How a script is read, whatever its lines do, and how a call that reads one ends (this project's profile).
-use Rattle.std.specs.Prelude.{◌≡◌, ◌≢◌, ◌≤◌, ◌⊎◌, ℕ, ◌+◌, ◌*◌, not, ◌||◌, List, [], ◌∷◌, ◌++◌, length, Option, Result, Ok, Err, IsOk, if◌then◌else◌, nat_lt}
+use Rattle.std.specs.Prelude.{◌≡◌, ◌≢◌, ◌≤◌, ◌⊎◌, ℕ, ◌+◌, ◌*◌, Bool, true, not, ◌||◌, List, [], ◌∷◌, ◌++◌, length, Option, Result, Ok, Err, IsOk, if◌then◌else◌, nat_lt}
 use Rattle.std.specs.Io.KnownBytes.{Appends, Consumes, Keeps, IsAtEnd}
 use Rattle.line_text.specs.Words.{lines_of, ended_lines_of, is_plain_line, is_skipped, words_of}
 use Rattle.script_text.specs.declared.faults.ScriptFault.{ScriptFault}
@@ -57,9 +57,13 @@ text_from reading state number input = lines_result reading reading.ending state
 abbrev pub text_of : {S A : Type 0} → Reading S A → S → List ℕ → TextResult A
 text_of reading start input = text_from reading start 1 input
 
+-- the text of the lines whose line feed was read, from a state and a line's number on, where the reader failed after these bytes
+abbrev pub text_failing_from : {S A : Type 0} → Reading S A → S → ℕ → List ℕ → TextResult A
+text_failing_from reading state number input = lines_result reading (λ state number. ended (Err Read)) state number (ended_lines_of input)
+
 -- the text where the reader failed after these bytes: that of the lines whose line feed was read, and a fault in them comes first
 abbrev pub text_before_failure : {S A : Type 0} → Reading S A → S → List ℕ → TextResult A
-text_before_failure reading start input = lines_result reading (λ state number. ended (Err Read)) start 1 (ended_lines_of input)
+text_before_failure reading start input = text_failing_from reading start 1 input
 
 -- ---- how a call ends
 
@@ -123,3 +127,29 @@ pub record EndsAs {A : Type 0} (most_lines : ℕ) (whole before_failure : List �
   pub bound : length judged ≤ 130 * most_lines + 1
   pub block : length ahead ≤ 65536
   pub ends : EndsAfter whole before_failure judged ahead rest old new result
+
+-- ---- a script that may ask for memory at each of its lines
+
+-- the lines that were carried out: those before the last that was judged, or at the input's end all of them, the last of which then has a line feed
+-- here
+abbrev pub AreCarriedOut : List ℕ → List ℕ → List ℕ → Option (List ℕ) → Type 0
+AreCarriedOut lines judged ahead rest = IsFront lines judged ahead rest ⊎ ((lines ≡ judged ++ 10 ∷ []) × IsAllJudged ahead rest)
+
+-- where memory was refused in mid-run: no line is at fault, and the text of the lines that were carried out was written. What left the reader is
+-- bounded as it is wherever a call ends
+pub record StopsForMemory {A : Type 0} (most_lines : ℕ) (whole before_failure : List ℕ → TextResult A) (input rest old new : Option (List ℕ)) : Type 0 where
+  pub judged : List ℕ
+  pub ahead : List ℕ
+  pub lines : List ℕ
+  pub consumed : Consumes input rest (judged ++ ahead)
+  pub bound : length judged ≤ 130 * most_lines + 1
+  pub block : length ahead ≤ 65536
+  pub sound : IsOk (whole judged).result
+  pub carried_out : AreCarriedOut lines judged ahead rest
+  pub written : Appends old new (before_failure lines).output
+
+-- how a call ends that asks for memory also in mid-run, where the script `grows`
+abbrev pub EndsOrStops : {A : Type 0} → Bool → ℕ → (List ℕ → TextResult A) → (List ℕ → TextResult A) → Option (List ℕ) → Option (List ℕ) → Option (List ℕ) → Option (List ℕ) → Result A ScriptFault → Type 0
+EndsOrStops grows most_lines whole before_failure input rest old new result =
+    EndsAs most_lines whole before_failure input rest old new result
+    ⊎ ((grows ≡ true) × (result ≡ Err NoMemory) × StopsForMemory most_lines whole before_failure input rest old new)

@@ -1,6 +1,6 @@
 -- What every kind of script has in common: a `config` line, other set-up lines, and then commands (this project's profile).
 use Rattle.std.specs.Prelude.{◌≡◌, ◌≢◌, ◌<◌, ◌≤◌, ◌+◌, ◌^◌, ℕ, Bool, true, false, not, ◌||◌, List, [], ◌++◌, length, Option, Some, None, Result, Ok, Err, IsOk, if◌then◌else◌, nat_le}
-use Rattle.std.specs.Io.KnownBytes.{Appends}
+use Rattle.std.specs.Io.KnownBytes.{Appends, Keeps}
 use Rattle.setups.specs.Setups.{SetupLists}
 use Rattle.setups.specs.declared.SetupFault.{SetupFault}
 use Rattle.setups.specs.declared.SetupFault.TheVariants as refused
@@ -193,15 +193,24 @@ OpensAs opened (Err refused.BadConfig) = opened ≡ Err refused.BadConfig
 OpensAs opened (Err (refused.Map fault)) = opened ≡ Err (refused.Map fault)
 OpensAs opened (Err (refused.Device fault)) = opened ≡ Err (refused.Device fault)
 
--- a text was written, and `wrote` tells whether there is any; where the writer failed there was
-abbrev pub Writes : {W E : Type 0} → List ℕ × W → W → Option (List ℕ) → Option (List ℕ) → Result Bool E → Type 0
-Writes given new before after (Ok wrote) = Appends before after given.0 × (new ≡ given.1) × (wrote ≡ false → given.0 ≡ []) × (wrote ≡ true → given.0 ≢ [])
-Writes given new before after (Err fault) = given.0 ≢ []
+-- why a text wasn't written: the writer failed, which it does only where there is some; or, of a kind that `grows`, memory was refused before that
+abbrev pub FailsAt : Bool → List ℕ → Option (List ℕ) → Option (List ℕ) → ScriptFault → Type 0
+FailsAt grows text before after (Script line word) = ⊥
+FailsAt grows text before after (SetupRefused fault) = ⊥
+FailsAt grows text before after Read = ⊥
+FailsAt grows text before after Write = text ≢ []
+FailsAt grows text before after NoMemory = (grows ≡ true) × Keeps before after
 
--- a script's last text was written with its result; where the writer failed there was some
-abbrev pub WritesEnd : {E : Type 0} → List ℕ × Bool → Option (List ℕ) → Option (List ℕ) → Result Bool E → Type 0
-WritesEnd given before after (Ok answer) = Appends before after given.0 × (given.1 ≡ answer)
-WritesEnd given before after (Err fault) = given.0 ≢ []
+-- a text was written, and `wrote` tells whether there is any
+abbrev pub Writes : {W : Type 0} → Bool → List ℕ × W → W → Option (List ℕ) → Option (List ℕ) → Result Bool ScriptFault → Type 0
+Writes grows given new before after (Ok wrote) =
+    Appends before after given.0 × (new ≡ given.1) × (wrote ≡ false → given.0 ≡ []) × (wrote ≡ true → given.0 ≢ [])
+Writes grows given new before after (Err fault) = FailsAt grows given.0 before after fault
+
+-- a script's last text was written with its result
+abbrev pub WritesEnd : Bool → List ℕ × Bool → Option (List ℕ) → Option (List ℕ) → Result Bool ScriptFault → Type 0
+WritesEnd grows given before after (Ok answer) = Appends before after given.0 × (given.1 ≡ answer)
+WritesEnd grows given before after (Err fault) = FailsAt grows given.0 before after fault
 
 -- a command has text, or a script that ends after it
 abbrev pub GivesSome : {S W C : Type 0} → Kind S W C → Type 0

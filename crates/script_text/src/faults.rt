@@ -1,5 +1,7 @@
 //! Why a script isn't carried out to its end.
+use line_text::WriteFault;
 use setups::SetupFault;
+use std::alloc::AllocError;
 use thiserror::Error;
 
 /// Why a script isn't carried out to its end (this project's profile).
@@ -25,4 +27,26 @@ pub enum ScriptFault {
     /// Memory was refused.
     #[error("out of memory")]
     NoMemory,
+}
+
+impl From<WriteFault> for ScriptFault {
+    ghost use Rattle.std.specs.Prelude.{◌≡◌};
+    ghost use Rattle.script_text.specs.declared.faults.ScriptFault.TheVariants as script_fault;
+
+    ghost from_gives = { λ fault result. result ≡ script_fault.Write };
+
+    fn from(_: WriteFault) -> ScriptFault {
+        ScriptFault::Write
+    }
+}
+
+impl From<AllocError> for ScriptFault {
+    ghost use Rattle.std.specs.Prelude.{◌≡◌};
+    ghost use Rattle.script_text.specs.declared.faults.ScriptFault.TheVariants as script_fault;
+
+    ghost from_gives = { λ fault result. result ≡ script_fault.NoMemory };
+
+    fn from(_: AllocError) -> ScriptFault {
+        ScriptFault::NoMemory
+    }
 }

@@ -1,5 +1,5 @@
 //! What every kind of script has in common: a `config` line, other set-up lines, and then commands.
-ghost use Rattle.std.specs.Prelude.{◌≡◌, ◌<◌, false, true};
+ghost use Rattle.std.specs.Prelude.{◌≡◌, ◌<◌, [], false, true};
 ghost use Rattle.script_text.specs.Forms.{told_as};
 ghost use Rattle.script_text.specs.Stages.{OpensAs, Opening, OpensStage, TakesLine, Writes, WritesEnd, command_step, early_step, is_misplaced, nothing_written, other_step, reading_of, set_up_with, setup_step, stage_as, stage_ending, told_step, world_at};
 ghost use Rattle.script_text.specs.Steps.{TakesRest, TakesStep};
@@ -8,7 +8,7 @@ use crate::driver::Script;
 use crate::faults::ScriptFault;
 use crate::keywords::Form;
 use crate::setup_lines::{ScriptSetup, is_setup_form, setup_line};
-use line_text::{Words, WriteFault};
+use line_text::Words;
 use setups::SetupFault;
 use std::alloc::Global;
 use std::io::Write;
@@ -16,6 +16,7 @@ use std::marker::Model;
 
 /// A kind of script: the lines that it has, and what its commands do.
 pub trait Kind {
+    ghost use Rattle.std.specs.Prelude.{Bool};
     ghost use Rattle.script_text.specs.Stages.{GivesSome, Kind as Rules};
 
     /// What its set-up lines add up to.
@@ -38,6 +39,9 @@ pub trait Kind {
 
     /// What its lines do.
     ghost rules: { Rules Self.Own State Self.Command };
+
+    /// Whether what commands work on may ask for memory at each command, and at the input's end.
+    ghost grows: { Bool };
 
     /// How many lines a script may have.
     fn most_lines() -> u32
@@ -73,19 +77,24 @@ pub trait Kind {
     ) -> Result<Self::World, SetupFault>
         ensures { OpensAs (rules.opened own.now (Self.Setup.lists setup.now)) (told_as said result) };
 
-    /// Carries out a command, by the number of its line, and writes its text. The answer is whether there was any.
+    /// Carries out a command, by the number of its line, and writes its text. The answer is whether there was any. A fault is
+    /// that of the writer, or that memory was refused.
     fn carry_out<W: Write>(
         &mut self,
         world: &mut Self::World,
         number: u32,
         command: &Self::Command,
         writer: &mut W,
-    ) -> Result<bool, WriteFault>
-        ensures { Writes (rules.commanded (said world.old) number command.now) (said world.new) (W.contents writer.old) (W.contents writer.new) result };
+    ) -> Result<bool, ScriptFault>
+        ensures { Writes grows (rules.commanded (said world.old) number command.now) (said world.new) (W.contents writer.old) (W.contents writer.new) result };
 
-    /// Writes the text of the input's end. The answer is what the script answers.
-    fn end<W: Write>(&mut self, world: &mut Self::World, writer: &mut W) -> Result<bool, WriteFault>
-        ensures { WritesEnd (rules.ending (said world.old)) (W.contents writer.old) (W.contents writer.new) result };
+    /// Writes the text of the input's end. The answer is what the script answers; a fault is as above.
+    fn end<W: Write>(
+        &mut self,
+        world: &mut Self::World,
+        writer: &mut W,
+    ) -> Result<bool, ScriptFault>
+        ensures { WritesEnd grows (rules.ending (said world.old)) (W.contents writer.old) (W.contents writer.new) result };
 
     /// Its `config` line is read as its rules say.
     ghost reads_port: { Self.Setup.port_field ≡ rules.port_field };
@@ -175,7 +184,7 @@ impl<K: Kind> StagedScript<K> {
         form: Form,
         _writer: &mut W,
     ) -> Result<bool, ScriptFault>
-        ensures { TakesStep (reading_of K.rules) (setup_step K.rules (stage_as K.said self.old) number words.now form) nothing_written (stage_as K.said self.old) (stage_as K.said self.new) (W.contents _writer.old) (W.contents _writer.new) result }
+        ensures { TakesStep (reading_of K.rules) K.grows (setup_step K.rules (stage_as K.said self.old) number words.now form) nothing_written (stage_as K.said self.old) (stage_as K.said self.new) (W.contents _writer.old) (W.contents _writer.new) result }
     {
         if !K::takes(form) || self.is_misplaced(form, words) {
             return Err(ScriptFault::Script {
@@ -197,7 +206,7 @@ impl<K: Kind> StagedScript<K> {
         words: &Words<'_>,
         writer: &mut W,
     ) -> Result<bool, ScriptFault>
-        ensures { TakesStep (reading_of K.rules) (other_step K.rules (stage_as K.said self.old) number words.now) nothing_written (stage_as K.said self.old) (stage_as K.said self.new) (W.contents writer.old) (W.contents writer.new) result }
+        ensures { TakesStep (reading_of K.rules) K.grows (other_step K.rules (stage_as K.said self.old) number words.now) nothing_written (stage_as K.said self.old) (stage_as K.said self.new) (W.contents writer.old) (W.contents writer.new) result }
     {
         let Stage::SettingUp(_, own) = &mut self.stage else {
             return Err(ScriptFault::Script {
@@ -225,7 +234,7 @@ impl<K: Kind> StagedScript<K> {
         writer: &mut W,
     ) -> Result<bool, ScriptFault>
         requires { nothing_written (stage_as K.said self.old) ≡ true }
-        ensures { TakesStep (reading_of K.rules) (early_step K.rules (stage_as K.said self.old) number words.now) nothing_written (stage_as K.said self.old) (stage_as K.said self.new) (W.contents writer.old) (W.contents writer.new) result }
+        ensures { TakesStep (reading_of K.rules) K.grows (early_step K.rules (stage_as K.said self.old) number words.now) nothing_written (stage_as K.said self.old) (stage_as K.said self.new) (W.contents writer.old) (W.contents writer.new) result }
     {
         if K::passes(words) {
             return Ok(false);
@@ -282,16 +291,13 @@ impl<K: Kind> StagedScript<K> {
         command: &K::Command,
         writer: &mut W,
     ) -> Result<bool, ScriptFault>
-        ensures { TakesStep (reading_of K.rules) (command_step K.rules (world_at K.rules (stage_as K.said self.old) number) number command.now) nothing_written (stage_as K.said self.old) (stage_as K.said self.new) (W.contents writer.old) (W.contents writer.new) result }
+        ensures { TakesStep (reading_of K.rules) K.grows (command_step K.rules (world_at K.rules (stage_as K.said self.old) number) number command.now) nothing_written (stage_as K.said self.old) (stage_as K.said self.new) (W.contents writer.old) (W.contents writer.new) result }
     {
         self.open(alloc, number)?;
         let Stage::Running(world) = &mut self.stage else {
             unreachable!();
         };
-        let Ok(wrote) = self.kind.carry_out(world, number, command, writer) else {
-            return Err(ScriptFault::Write);
-        };
-        Ok(wrote)
+        self.kind.carry_out(world, number, command, writer)
     }
 
     /// Takes a line that says a command.
@@ -302,7 +308,7 @@ impl<K: Kind> StagedScript<K> {
         words: &Words<'_>,
         writer: &mut W,
     ) -> Result<bool, ScriptFault>
-        ensures { TakesStep (reading_of K.rules) (told_step K.rules (stage_as K.said self.old) number (K.rules.command_of words.now)) nothing_written (stage_as K.said self.old) (stage_as K.said self.new) (W.contents writer.old) (W.contents writer.new) result }
+        ensures { TakesStep (reading_of K.rules) K.grows (told_step K.rules (stage_as K.said self.old) number (K.rules.command_of words.now)) nothing_written (stage_as K.said self.old) (stage_as K.said self.new) (W.contents writer.old) (W.contents writer.new) result }
     {
         let read = K::command_of(words);
         let command = match &read {
@@ -324,13 +330,13 @@ impl<K: Kind> StagedScript<K> {
         number: u32,
         writer: &mut W,
     ) -> Result<bool, ScriptFault>
-        ensures { TakesRest (stage_ending K.rules (stage_as K.said self.old) number) (nothing_written (stage_as K.said self.old)) (W.contents writer.old) (W.contents writer.new) result }
+        ensures { TakesRest (stage_ending K.rules (stage_as K.said self.old) number) [] K.grows (nothing_written (stage_as K.said self.old)) (W.contents writer.old) (W.contents writer.new) result }
     {
         self.open(alloc, number)?;
         let Stage::Running(world) = &mut self.stage else {
             unreachable!();
         };
-        self.kind.end(world, writer).map_err(|_| ScriptFault::Write)
+        self.kind.end(world, writer)
     }
 }
 
@@ -347,6 +353,8 @@ impl<K: Kind + Drop> Script for StagedScript<K> {
     ghost reading = { reading_of K.rules };
 
     ghost is_silent = { nothing_written };
+
+    ghost grows = { K.grows };
 
     fn most_lines() -> u32 {
         K::most_lines()

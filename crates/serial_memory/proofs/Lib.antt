@@ -1,5 +1,5 @@
 pub mod PutWords
 pub mod RequestWords
-pub mod WordReads
 pub mod Words
+pub mod WordReads
 pub mod Written

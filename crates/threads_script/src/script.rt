@@ -8,7 +8,7 @@ use std::alloc::Global;
 use std::io::Write;
 
 impl Script for Asked {
-    ghost use Rattle.std.specs.Prelude.{true};
+    ghost use Rattle.std.specs.Prelude.{false, true};
     ghost use Rattle.threads_script.specs.Asked.{AskedLists, threads_reading};
 
     type Answer = Asked;
@@ -20,6 +20,8 @@ impl Script for Asked {
     ghost reading = { threads_reading };
 
     ghost is_silent = { λ asked. true };
+
+    ghost grows = { false };
 
     fn most_lines() -> u32 {
         65_536

@@ -18,7 +18,7 @@ fn what_is_left_after_each_beat(rt: HostRuntime) -> Result<(), Fail> {
         let mut board = Scoreboard::new(rt.alloc(), policy, Errors::Strict, &setup)?;
         for (place, (seen, outstanding, open)) in SEEN.iter().enumerate() {
             let case = (policy, place);
-            same(&rt, case, board.judge(seen), None);
+            same(&rt, case, board.judge(seen)?, None);
             let left = (board.outstanding(), board.open_bursts());
             same(&rt, case, left, (*outstanding, *open));
         }
@@ -32,7 +32,7 @@ fn bytes_from_the_request_on(rt: HostRuntime) -> Result<(), Fail> {
     for policy in POLICIES {
         let mut board = Scoreboard::new(rt.alloc(), policy, Errors::Strict, &setup)?;
         same(&rt, policy, board.byte(0x1000f), Some(0));
-        same(&rt, policy, board.judge(&ObservedBeat::A(0, PUT)), None);
+        same(&rt, policy, board.judge(&ObservedBeat::A(0, PUT))?, None);
         for (address, byte) in [
             (0x10007, Some(0)),
             (0x10008, Some(0x88)),
@@ -75,7 +75,7 @@ fn what_is_wrong(rt: HostRuntime) -> Result<(), Fail> {
     for policy in POLICIES {
         let mut board = Scoreboard::new(rt.alloc(), policy, Errors::Strict, &setup)?;
         for (place, (seen, wrong)) in WRONG.iter().enumerate() {
-            same(&rt, (policy, place), board.judge(seen), *wrong);
+            same(&rt, (policy, place), board.judge(seen)?, *wrong);
         }
     }
     Ok(())
@@ -110,12 +110,12 @@ fn a_port_of_many_ids(rt: HostRuntime) -> Result<(), Fail> {
     for policy in POLICIES {
         let mut board = Scoreboard::new(rt.alloc(), policy, Errors::Strict, &setup)?;
         for k in 0..16 {
-            same(&rt, (policy, k), board.judge(&read(254)), None);
+            same(&rt, (policy, k), board.judge(&read(254))?, None);
         }
         let deep = Some(Wrong::Axi(AxiRule::Depth));
-        same(&rt, policy, board.judge(&read(254)), deep);
+        same(&rt, policy, board.judge(&read(254))?, deep);
         let far = Some(Wrong::Axi(AxiRule::IdRange));
-        same(&rt, policy, board.judge(&read(255)), far);
+        same(&rt, policy, board.judge(&read(255))?, far);
         same(&rt, policy, board.open_bursts(), 16);
     }
     Ok(())

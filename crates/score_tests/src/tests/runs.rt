@@ -37,7 +37,7 @@ fn what_a_run_shows(rt: HostRuntime) -> Result<(), Fail> {
     for policy in [Policy::AcceptanceOrder, Policy::RealTime] {
         let mut board = Scoreboard::new(rt.alloc(), policy, Errors::Strict, &judged)?;
         for (place, beat) in beats.iter().enumerate() {
-            same(&rt, (policy, place), board.judge(beat), None);
+            same(&rt, (policy, place), board.judge(beat)?, None);
         }
     }
     Ok(())

@@ -19,7 +19,7 @@ use Rattle.scoreboard.specs.Boards.{Board, ClientBoard, opening_board, opening_c
 use Rattle.scoreboard.specs.Flights.{no_flights}
 use Rattle.scoreboard.specs.Observed.{Observed, nothing_observed, requests_in}
 use Rattle.scoreboard.specs.Right.{IsRightNow, is_of, replies_to}
-use Rattle.scoreboard.specs.SerialMemory.{Memory, carried_out}
+use Rattle.serial_memory.specs.SerialMemory.{Memory, carried_out}
 use Rattle.scoreboard.proofs.acceptance_order.DueLists.{AreDues, AreOf}
 use Rattle.scoreboard.proofs.acceptance_order.Owed.{IsOwed, eqb_same, flying}
 use Rattle.scoreboard.proofs.acceptance_order.SeenLists.{bytes_after_all-append, replies-append, replies-count, shown_to-append}

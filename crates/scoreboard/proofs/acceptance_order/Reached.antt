@@ -15,7 +15,7 @@ use Rattle.scoreboard.specs.Observed.{Observed, nothing_observed, observed_in, r
 use Rattle.scoreboard.specs.Right.{HasClient, IsContiguous, IsRight, IsRightNow}
 use Rattle.scoreboard.specs.declared.Policy.TheVariants.{AcceptanceOrder}
 use Rattle.scoreboard.specs.declared.ObservedBeat.{ObservedBeat}
-use Rattle.scoreboard.specs.SerialMemory.{Memory}
+use Rattle.serial_memory.specs.SerialMemory.{Memory}
 use Rattle.scoreboard.specs.declared.ObservedBeat.TheVariants.{A, D, Axi as OnAxi, Drained}
 use Rattle.scoreboard.proofs.acceptance_order.BoardOf.{IsBoardOf, board_opens, right_opens}
 use Rattle.scoreboard.proofs.acceptance_order.ReplySteps.{axi_right, next_contiguous, reply_right, step_axi, step_drained, step_reply}

@@ -28,7 +28,7 @@ use Rattle.scoreboard.specs.Flights.{is_busy, no_footprint}
 use Rattle.scoreboard.specs.Observed.{Observed, is_complete, requests_in, with_begun, with_message, with_request_beat}
 use Rattle.scoreboard.specs.Right.{IsFree, IsRightNow, IsTold, left_of, replies_to}
 use Rattle.scoreboard.specs.declared.Policy.TheVariants.{AcceptanceOrder}
-use Rattle.scoreboard.specs.SerialMemory.{Memory, meaning_in}
+use Rattle.serial_memory.specs.SerialMemory.{Memory, meaning_in}
 use Rattle.scoreboard.proofs.acceptance_order.BoardOf.{IsBoardOf, IsClientOf, IsWith, memory_left, memory_with, replies_to-other, replies_to-own, shown_some, shown_source}
 use Rattle.scoreboard.proofs.acceptance_order.DueLists.{IsDue}
 use Rattle.scoreboard.proofs.acceptance_order.Owed.{eqb_same, flying_more, free-left, left-free, none_flying, owed_other, owed_own, same_or_not}

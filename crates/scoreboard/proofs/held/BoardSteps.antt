@@ -1,25 +1,24 @@
 -- What a board holds after a beat, client by client, and that it stays held so.
-use Rattle.std.proofs.Common.{◌≡◌, ℕ, ◌<◌, ◌≤◌, Bool, false, List, map, set, length, get_or, Some, refl, sym, subst, ◌∙◌, ap, ap₂}
-use Rattle.std.specs.Prelude.{slice_get, unwrap_or}
+use Rattle.std.proofs.Common.{◌≡◌, ℕ, ◌<◌, ◌≤◌, ◌/◌, Bool, true, false, List, map, set, length, get_or, Some, refl, sym, subst, ◌∙◌, ap, ap₂}
+use Rattle.std.specs.Prelude.{IfSome, slice_get, unwrap_or}
 use Rattle.std.specs.Option.{option_map}
 use Rattle.std.proofs.lemmas.List.{length-map, length-set, map-set}
 use Rattle.std.proofs.lemmas.Option.{same_Some, slice_get-map, slice_get_read}
 use Rattle.bus_words.proofs.MappedPlaces.{map_some}
 use Rattle.bus_words.proofs.PlaceChanges.{all-got, all-set}
-use Rattle.subordinate.specs.Faults.{Faults}
-use Rattle.subordinate.specs.InsidePages.{PagesState}
+use Rattle.tl_messages.specs.Operations.{has_data}
 use Rattle.tl_messages.specs.Requests.{HeldMessage, WholeRequest, begun, bytes_given, request_of}
 use Rattle.tl_messages.specs.declared.ABeat.{ABeat}
 use Rattle.tl_messages.specs.declared.DBeat.{DBeat}
 use Rattle.scoreboard.specs.Boards.{Board, ClientBoard, acting, after_d, begun_on, client_beside, client_footprints, coming_on, early_after, early_due, fails, flight_for, footprints_of, given_on, has_replied, hit_client, joined_on, joining_on, told_to, with_accepted, with_client, with_taken, with_whole}
 use Rattle.scoreboard.specs.FailedBursts.{Span}
 use Rattle.scoreboard.specs.Flights.{Footprint, InFlight, flights_after, is_of_source}
-use Rattle.scoreboard.specs.InsideBoards.{AreOnGoodPages, BoardState, ClientState, ClientsHaveRoom, FlightState, IsFreeOf, board_of, client_of, flight_of, flights_of, footprint_of, is_marked}
+use Rattle.scoreboard.specs.InsideBoards.{HaveRoomToWrite, BoardState, ClientState, ClientsHaveRoom, FlightState, IsFreeOf, board_of, client_of, flight_of, flights_of, footprint_of}
 use Rattle.scoreboard.specs.Races.{after_given, after_joining, beside_dependent, flight_beside, joining, unless_failed}
-use Rattle.scoreboard.specs.SerialMemory.{Memory, carried_out, memory_of, place_in}
+use Rattle.serial_memory.specs.SerialMemory.{HasRoomToGive, Memory, MemoryState, carried_out, doubts_of, memory_of, place_in, rooms_of}
 use Rattle.scoreboard.specs.declared.Errors.{Errors}
 use Rattle.scoreboard.specs.declared.Errors.TheVariants.{Any, Strict}
-use Rattle.scoreboard.proofs.held.ClientFootprints.{all_beside, all_hit, good_client, good_each}
+use Rattle.scoreboard.proofs.held.ClientFootprints.{all_beside, all_hit, room_client, room_each}
 use Rattle.scoreboard.proofs.held.Marks.{nothing_given}
 use Rattle.scoreboard.proofs.MappedLists.{any_map}
 
@@ -48,40 +47,40 @@ replied state number found new beat there is =
 
 -- ---- what stays so where a client changes
 
-abbrev pub AreKept : ℕ → Faults → List ClientState → Type 0
-AreKept room faults clients = (length clients ≤ 8) × ClientsHaveRoom room clients × AreOnGoodPages faults (footprints_of (map client_of clients))
+abbrev pub AreKept : ℕ → (ℕ → Bool) → List ClientState → Type 0
+AreKept room rooms clients = (length clients ≤ 8) × ClientsHaveRoom room clients × HaveRoomToWrite rooms (footprints_of (map client_of clients))
 
-pub client_kept : (room : ℕ) (faults : Faults) (clients : List ClientState) (number : ℕ) (found new : ClientState) → slice_get clients number ≡ Some found
-    → new.flights.room ≡ found.flights.room → (AreOnGoodPages faults (client_footprints (client_of found)) → AreOnGoodPages faults (client_footprints (client_of new))) → AreKept room faults clients
-    → AreKept room faults (set clients number new)
-client_kept room faults clients number found new there same keeps held =
+pub client_kept : (room : ℕ) (rooms : ℕ → Bool) (clients : List ClientState) (number : ℕ) (found new : ClientState) → slice_get clients number ≡ Some found
+    → new.flights.room ≡ found.flights.room → (HaveRoomToWrite rooms (client_footprints (client_of found)) → HaveRoomToWrite rooms (client_footprints (client_of new))) → AreKept room rooms clients
+    → AreKept room rooms (set clients number new)
+client_kept room rooms clients number found new there same keeps held =
     let has = λ (client : ClientState). client.flights.room ≡ room in
-    let good = λ (client : ClientState). AreOnGoodPages faults (client_footprints (client_of client)) in (
+    let good = λ (client : ClientState). HaveRoomToWrite rooms (client_footprints (client_of client)) in (
       rw (length-set clients number new) held.0,
       all-set has clients number new held.1 (same ∙ all-got has clients number found held.1 there),
-      good_client faults clients number new held.2 (keeps (all-got good clients number found (good_each faults clients held.2) there)),
+      room_client rooms clients number new held.2 (keeps (all-got good clients number found (room_each rooms clients held.2) there)),
     )
 
 -- and where all change that are on good pages, and stay there
-all_kept : (room : ℕ) (faults : Faults) (clients new : List ClientState) (change : ClientBoard → ClientBoard) → map client_of new ≡ map change (map client_of clients)
-    → (AreOnGoodPages faults (footprints_of (map client_of clients)) → AreOnGoodPages faults (footprints_of (map change (map client_of clients))))
-    → (ClientsHaveRoom room clients → ClientsHaveRoom room new) → AreKept room faults clients → AreKept room faults new
-all_kept room faults clients new change is good rooms held =
+all_kept : (room : ℕ) (rooms : ℕ → Bool) (clients new : List ClientState) (change : ClientBoard → ClientBoard) → map client_of new ≡ map change (map client_of clients)
+    → (HaveRoomToWrite rooms (footprints_of (map client_of clients)) → HaveRoomToWrite rooms (footprints_of (map change (map client_of clients))))
+    → (ClientsHaveRoom room clients → ClientsHaveRoom room new) → AreKept room rooms clients → AreKept room rooms new
+all_kept room rooms clients new change is good fits held =
     let many = sym (length-map new client_of) ∙ ap length is ∙ length-map (map client_of clients) change ∙ length-map clients client_of in (
       rw many held.0,
-      rooms held.1,
-      subst (λ (cs : List ClientBoard). AreOnGoodPages faults (footprints_of cs)) (sym is) (good held.2),
+      fits held.1,
+      subst (λ (cs : List ClientBoard). HaveRoomToWrite rooms (footprints_of cs)) (sym is) (good held.2),
     )
 
 -- that have given way
-pub beside_kept : (room : ℕ) (faults : Faults) (clients given : List ClientState) (footprint : Footprint) → map client_of given ≡ map (client_beside footprint) (map client_of clients)
-    → (ClientsHaveRoom room clients → ClientsHaveRoom room given) → AreKept room faults clients → AreKept room faults given
-beside_kept room faults clients given footprint is rooms held = all_kept room faults clients given (client_beside footprint) is (all_beside faults footprint (map client_of clients)) rooms held
+pub beside_kept : (room : ℕ) (rooms : ℕ → Bool) (clients given : List ClientState) (footprint : Footprint) → map client_of given ≡ map (client_beside footprint) (map client_of clients)
+    → (ClientsHaveRoom room clients → ClientsHaveRoom room given) → AreKept room rooms clients → AreKept room rooms given
+beside_kept room rooms clients given footprint is fits held = all_kept room rooms clients given (client_beside footprint) is (all_beside rooms footprint (map client_of clients)) fits held
 
 -- of which those are hit that share a byte with a burst
-pub hit_kept : (room : ℕ) (faults : Faults) (clients new : List ClientState) (span : Span) → map client_of new ≡ map (hit_client span) (map client_of clients)
-    → (ClientsHaveRoom room clients → ClientsHaveRoom room new) → AreKept room faults clients → AreKept room faults new
-hit_kept room faults clients new span is rooms held = all_kept room faults clients new (hit_client span) is (all_hit faults span (map client_of clients)) rooms held
+pub hit_kept : (room : ℕ) (rooms : ℕ → Bool) (clients new : List ClientState) (span : Span) → map client_of new ≡ map (hit_client span) (map client_of clients)
+    → (ClientsHaveRoom room clients → ClientsHaveRoom room new) → AreKept room rooms clients → AreKept room rooms new
+hit_kept room rooms clients new span is fits held = all_kept room rooms clients new (hit_client span) is (all_hit rooms span (map client_of clients)) fits held
 
 -- ---- a request that is taken in
 
@@ -92,7 +91,7 @@ put_there state number found new joining replied is =
 
 -- a board with what a request changes that is carried out
 abbrev pub with_changes : BoardState → BoardState → BoardState
-with_changes now old = record old { clients = now.clients; memory = now.memory; indeterminate = now.indeterminate; joining = now.joining }
+with_changes now old = record old { clients = now.clients; memory = now.memory; joining = now.joining }
 
 -- one was carried out, and nothing changed but this
 pub record IsCarriedOut (old now : BoardState) : Type 0 where
@@ -110,36 +109,37 @@ taken_as replied board number client q footprint =
 
 put_taken : (old now : BoardState) (number : ℕ) (found : ClientBoard) (replied : Bool) → IsCarriedOut old now
     → with_client number (with_whole replied (flight_of now.joining) found) (board_of now)
-    ≡ taken_as replied (record (board_of old) { clients = map client_of now.clients; indeterminate = is_marked now.indeterminate }) number found (request_of old.request) (footprint_of now.joining.footprint)
+    ≡ taken_as replied (record (board_of old) { clients = map client_of now.clients; indeterminate = doubts_of now.memory }) number found (request_of old.request) (footprint_of now.joining.footprint)
 put_taken old now number found replied is =
-    ap {B = Board} (λ (b : BoardState). put (flight_of now.joining) (record (board_of b) { clients = map client_of now.clients; memory = memory_of now.memory; indeterminate = is_marked now.indeterminate })) is.rest
-    ∙ ap₂ {C = Board} (λ (flight : InFlight) (memory : Memory). put flight (record (board_of old) { clients = map client_of now.clients; memory = memory; indeterminate = is_marked now.indeterminate })) is.flight is.memory
+    ap {B = Board} (λ (b : BoardState). put (flight_of now.joining) (record (board_of b) { clients = map client_of now.clients; memory = memory_of now.memory; indeterminate = doubts_of now.memory })) is.rest
+    ∙ ap₂ {C = Board} (λ (flight : InFlight) (memory : Memory). put flight (record (board_of old) { clients = map client_of now.clients; memory = memory; indeterminate = doubts_of now.memory })) is.flight is.memory
   where
     put : InFlight → Board → Board
     put flight board = with_client number (with_whole replied flight found) board
 
 -- without a footprint
 pub taken : (old now : BoardState) (number : ℕ) (found : ClientBoard) (footprint : Footprint) → IsCarriedOut old now
-    → now ≡ record old { memory = now.memory; joining = now.joining } → footprint_of now.joining.footprint ≡ footprint
+    → now ≡ record old { memory = now.memory; joining = now.joining } → doubts_of now.memory ≡ doubts_of old.memory → footprint_of now.joining.footprint ≡ footprint
     → with_client number (with_accepted (flight_of now.joining) found) (board_of now) ≡ with_taken (board_of old) number found (request_of old.request) footprint
-taken old now number found footprint is rest own =
+taken old now number found footprint is rest doubts own =
     put_taken old now number found false is
-    ∙ ap (λ (b : BoardState). with_taken (record (board_of old) { clients = map client_of b.clients; indeterminate = is_marked b.indeterminate }) number found (request_of old.request) (footprint_of now.joining.footprint)) rest
+    ∙ ap (λ (b : BoardState). with_taken (record (board_of old) { clients = map client_of b.clients; indeterminate = doubts_of now.memory }) number found (request_of old.request) (footprint_of now.joining.footprint)) rest
+    ∙ ap {B = Board} (λ (indeterminate : ℕ → Bool). with_taken (record (board_of old) { indeterminate = indeterminate }) number found (request_of old.request) (footprint_of now.joining.footprint)) doubts
     ∙ ap (with_taken (board_of old) number found (request_of old.request)) own
 
 -- of one that had begun the bytes are given besides
 pub given_taken : (old now : BoardState) (number : ℕ) (found : ClientBoard) (replied : Bool) → replied ≡ has_replied old.errors found → IsCarriedOut old now
-    → now ≡ record old { memory = now.memory; indeterminate = now.indeterminate; joining = now.joining }
+    → now ≡ record old { memory = now.memory; joining = now.joining }
     → footprint_of now.joining.footprint ≡ coming_on (board_of old) (request_of old.request) found.coming
-    → is_marked now.indeterminate ≡ after_given (is_marked old.indeterminate) (footprint_of now.joining.footprint) (bytes_given old.request)
+    → doubts_of now.memory ≡ after_given (doubts_of old.memory) (footprint_of now.joining.footprint) (bytes_given old.request)
     → with_client number (with_whole replied (flight_of now.joining) found) (board_of now)
     ≡ given_on (board_of old) number found (request_of old.request) (coming_on (board_of old) (request_of old.request) found.coming)
 given_taken old now number found replied told is rest footprint marked =
     put_taken old now number found replied is
-    ∙ ap (λ (b : BoardState). taken_as replied (record (board_of old) { clients = map client_of b.clients; indeterminate = is_marked now.indeterminate }) number found (request_of old.request) own_footprint) rest
+    ∙ ap (λ (b : BoardState). taken_as replied (record (board_of old) { clients = map client_of b.clients; indeterminate = doubts_of now.memory }) number found (request_of old.request) own_footprint) rest
     ∙ ap {B = Board} (λ (indeterminate : ℕ → Bool). taken_as replied (record (board_of old) { indeterminate = indeterminate }) number found (request_of old.request) own_footprint) marked
     ∙ ap {B = Board}
-    (λ (b : Bool). taken_as b (record (board_of old) { indeterminate = after_given (is_marked old.indeterminate) own_footprint (bytes_given old.request) }) number found (request_of old.request) own_footprint) told
+    (λ (b : Bool). taken_as b (record (board_of old) { indeterminate = after_given (doubts_of old.memory) own_footprint (bytes_given old.request) }) number found (request_of old.request) own_footprint) told
     ∙ ap (given_on (board_of old) number found (request_of old.request)) footprint
   where
     own_footprint : Footprint
@@ -164,7 +164,7 @@ free_beside source footprint client free =
 pub joined_taken : (old now : BoardState) (number : ℕ) (found : ClientBoard) → IsCarriedOut old now
     → footprint_of now.joining.footprint ≡ joining_on (board_of old) (request_of old.request)
     → map client_of now.clients ≡ map (client_beside (footprint_of now.joining.footprint)) (map client_of old.clients)
-    → is_marked now.indeterminate ≡ after_joining (is_marked old.indeterminate) (footprints_of (map client_of old.clients)) (footprint_of now.joining.footprint) (bytes_given old.request)
+    → doubts_of now.memory ≡ after_joining (doubts_of old.memory) (footprints_of (map client_of old.clients)) (footprint_of now.joining.footprint) (bytes_given old.request)
     → with_client number (with_accepted (flight_of now.joining) (client_beside (footprint_of now.joining.footprint) found)) (board_of now)
     ≡ joined_on (board_of old) number found (request_of old.request) (joining_on (board_of old) (request_of old.request))
 joined_taken old now number found is footprint given marked =
@@ -198,12 +198,31 @@ early_same Strict one other beat = refl
 early_same Any one other beat = refl
 
 -- behind those that have given way, a request has begun
-pub begun_behind : (old : BoardState) (given : List ClientState) (marks : PagesState) (request : HeldMessage) (joining : FlightState) (number : ℕ) (found : ClientBoard) (new : ClientState) (footprint : Footprint)
+pub begun_behind : (old : BoardState) (given : List ClientState) (marks : MemoryState) (request : HeldMessage) (joining : FlightState) (number : ℕ) (found : ClientBoard) (new : ClientState) (footprint : Footprint)
     → map client_of given ≡ map (client_beside footprint) (map client_of old.clients)
-    → is_marked marks ≡ beside_dependent (is_marked old.indeterminate) footprint (footprints_of (map client_of old.clients))
+    → memory_of marks ≡ memory_of old.memory
+    → doubts_of marks ≡ beside_dependent (doubts_of old.memory) footprint (footprints_of (map client_of old.clients))
     → client_of new ≡ record (client_beside footprint found) { coming = footprint }
-    → board_of (record old { clients = set given number new; indeterminate = marks; request = request; joining = joining }) ≡ begun_on (board_of old) number found footprint
-begun_behind old given marks request joining number found new footprint gives marked is =
-    ap₂ {C = Board} (λ (clients : List ClientBoard) (indeterminate : ℕ → Bool). record (board_of old) { clients = clients; indeterminate = indeterminate })
+    → board_of (record old { clients = set given number new; memory = marks; request = request; joining = joining }) ≡ begun_on (board_of old) number found footprint
+begun_behind old given marks request joining number found new footprint gives same marked is =
+    ap {B = Board} (λ (memory : Memory). record (board_of old) { clients = map client_of (set given number new); memory = memory; indeterminate = doubts_of marks }) same
+    ∙ ap₂ {C = Board} (λ (clients : List ClientBoard) (indeterminate : ℕ → Bool). record (board_of old) { clients = clients; indeterminate = indeterminate })
     (map-set client_of given number new ∙ ap₂ (λ (clients : List ClientBoard) (client : ClientBoard). set clients number client) gives is)
-    (marked ∙ ap (λ (m : ℕ → Bool). beside_dependent m footprint (footprints_of (map client_of old.clients))) (sym (nothing_given (is_marked old.indeterminate) footprint)))
+    (marked ∙ ap (λ (m : ℕ → Bool). beside_dependent m footprint (footprints_of (map client_of old.clients))) (sym (nothing_given (doubts_of old.memory) footprint)))
+
+-- ---- room
+
+-- where a request has room as it may act, it has room as it acts
+pub room_plain : (errors : Errors) (state : MemoryState) (q : WholeRequest) → HasRoomToGive state (acting errors q) → HasRoomToGive state q
+room_plain Strict state q room = room
+room_plain Any state q room = λ carries. by_corrupt carries q.corrupt refl
+  where
+    by_corrupt : has_data q.operation ≡ true → (b : Bool) → q.corrupt ≡ b → IfSome (place_in (memory_of state) q) (λ address. rooms_of state (address / 4096) ≡ true)
+    by_corrupt carries true is = rw is tt
+    by_corrupt carries false is = rw is (room carries)
+
+-- and the page at which it may act has it, if it gives bytes
+pub room_acting : (errors : Errors) (state : MemoryState) (q : WholeRequest) → HasRoomToGive state (acting errors q) → has_data q.operation ≡ true
+    → IfSome (place_in (memory_of state) (acting errors q)) (λ address. rooms_of state (address / 4096) ≡ true)
+room_acting Strict state q room = room
+room_acting Any state q room = room

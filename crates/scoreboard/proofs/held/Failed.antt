@@ -7,7 +7,7 @@ use Rattle.scoreboard.specs.Boards.{acting, fails, flight_for, kept_from}
 use Rattle.scoreboard.specs.Flights.{Footprint, InFlight}
 use Rattle.scoreboard.specs.InsideBoards.{FlightState, FootprintState, fails_by, flight_of, footprint_of}
 use Rattle.scoreboard.specs.Races.{unless_failed}
-use Rattle.scoreboard.specs.SerialMemory.{Memory, meaning_in, place_in}
+use Rattle.serial_memory.specs.SerialMemory.{Memory, meaning_in, place_in}
 use Rattle.scoreboard.specs.declared.Errors.{Errors}
 use Rattle.scoreboard.specs.declared.Errors.TheVariants.{Any, Strict}
 

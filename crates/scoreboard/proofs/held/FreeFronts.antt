@@ -5,16 +5,20 @@ use Rattle.std.specs.List.{list_any}
 use Rattle.std.proofs.lemmas.Bool.{or_parts}
 use Rattle.bus_words.specs.Places.{without_first}
 use Rattle.tl_messages.specs.Requests.{HeldMessage}
+use Rattle.tl_messages.specs.Operations.{opcode_of, operation_of, param_of}
 use Rattle.tl_messages.specs.declared.ABeat.{ABeat}
+use Rattle.tl_messages.specs.declared.AtomicOp.TheVariants.{Add, And, Max, MaxU, Min, MinU, Or, Swap, Xor}
+use Rattle.tl_messages.specs.declared.Operation.{Operation}
+use Rattle.tl_messages.specs.declared.Operation.TheVariants.{Atomic, Get, Intent, PutFull, PutPartial}
 use Rattle.tl_checker.specs.Ports.{PortState, joined, judged, port_after}
 use Rattle.tl_checker.specs.RequestRules.{TlPortLimits}
 use Rattle.tl_checker.specs.declared.Progress.{Progress}
 use Rattle.tl_checker.specs.declared.Progress.TheVariants.{More, Whole}
 use Rattle.tl_checker.specs.declared.TlRule.{TlRule}
-use Rattle.tl_checker.proofs.BeatRules.{first_none, right_named}
+use Rattle.tl_checker.proofs.BeatRules.{first_none, later_none, later_parts, right_named}
 use Rattle.tl_checker.proofs.Taking.{answered_parts}
 use Rattle.scoreboard.specs.Flights.{Flights, Footprint, InFlight, begun_is_of, due_after, each_flight, flights_after, is_busy, is_of_source}
-use Rattle.scoreboard.specs.InsideBoards.{IsFirstBeat, IsFrontFree, flight_changed, front_corrupt}
+use Rattle.scoreboard.specs.InsideBoards.{IsAskedBy, IsFirstBeat, IsFrontFree, flight_changed, front_corrupt}
 use Rattle.scoreboard.specs.declared.Policy.{Policy}
 use Rattle.scoreboard.specs.declared.Policy.TheVariants.{AcceptanceOrder, RealTime}
 use Rattle.scoreboard.proofs.MappedLists.{any_map}
@@ -88,3 +92,28 @@ pub front_changed : (front : Option HeldMessage) (flights : Flights) (change : F
     → IsFrontFree front (each_flight (flight_changed change) flights)
 front_changed None flights change free = tt
 front_changed (Some held) flights change free = any_map (is_of_source held.source) (flight_changed change) flights.due ∙ free
+
+-- an operation is the one of its opcode and param
+named_again : (operation : Operation) → operation_of (opcode_of operation) (param_of operation) ≡ operation
+named_again PutFull = refl
+named_again PutPartial = refl
+named_again (Atomic Min) = refl
+named_again (Atomic Max) = refl
+named_again (Atomic MinU) = refl
+named_again (Atomic MaxU) = refl
+named_again (Atomic Add) = refl
+named_again (Atomic Xor) = refl
+named_again (Atomic Or) = refl
+named_again (Atomic And) = refl
+named_again (Atomic Swap) = refl
+named_again Get = refl
+named_again (Intent true) = refl
+named_again (Intent false) = refl
+
+-- a request that is whole with a beat asks what the beat asks
+pub asked_by : (limits : TlPortLimits) (front : Option HeldMessage) (beat : ABeat) (busy : Bool) (told : Progress) → judged limits front beat busy ≡ Ok told → IsAskedBy (joined limits front beat) beat
+asked_by limits None beat busy told is = record { operation = refl; address = refl; corrupt = λ corrupt. corrupt }
+asked_by limits (Some held) beat busy told is =
+    let parts = answered_parts _ _ told is in
+    let control = (later_parts held beat (later_none limits held beat busy parts.0)).0 in
+    record { operation = sym (rw (control.opcode, control.param) (named_again held.operation)); address = sym control.address; corrupt = λ corrupt. grind (arith, corrupt) }

@@ -1,83 +1,142 @@
--- The bytes indeterminate, as one after another is marked.
-use Rattle.std.proofs.Common.{◌≡◌, ℕ, zero, suc, ◌+◌, ◌%◌, ◌<◌, ◌≤◌, ◌==◌, Bool, true, false, ◌&&◌, not, List, [], ◌∷◌, Option, length, if◌then◌else◌, refl, sym, ◌∙◌, ap, arith, inl, inr}
-use Rattle.std.specs.Prelude.{is_some, nat_lt}
+-- The bytes indeterminate, as one word after another is marked.
+use Rattle.std.proofs.Common.{◌≡◌, ℕ, ◌+◌, ◌-◌, ◌*◌, ◌/◌, ◌%◌, ◌^◌, ◌<◌, ◌≤◌, ◌==◌, Bool, true, false, ◌&&◌, List, [], ◌∷◌, Option, Some, None, length, if◌then◌else◌, refl, sym, ◌∙◌, ap, arith, true≢false, inl, inr}
+use Rattle.std.specs.Prelude.{is_some, nat_le, nat_lt, slice_get}
 use Rattle.std.proofs.Math.Path.{fun_ext}
-use Rattle.std.proofs.lemmas.Bool.{cases_lt, eq-eqb, eqb-false, eqb-true}
+use Rattle.std.proofs.lemmas.Bool.{cases_lt, eqb-true}
 use Rattle.std.proofs.lemmas.Bool.Decides.{nat_tests}
-use Rattle.bus_words.specs.Lanes.{given_at, has_lane, lane_byte}
+use Rattle.bus_words.specs.Lanes.{given_at, has_lane, lane_byte, word_address}
+use Rattle.bus_words.proofs.PlaceChanges.{all-got}
 use Rattle.tl_messages.specs.Lanes.{in_lanes}
-use Rattle.subordinate.specs.Effects.{strobes_byte}
-use Rattle.meaning.specs.Meaning.{Bytes}
+use Rattle.tl_messages.specs.Operations.{beats_of, has_data}
+use Rattle.tl_messages.specs.Requests.{HeldMessage, beat_at, bytes_given}
+use Rattle.tl_messages.specs.declared.MaskedWord.{MaskedWord}
+use Rattle.tl_checker.specs.Sound.{IsRightMask}
+use Rattle.data_unit.proofs.AlignedLanes.{in_lanes-lane_of}
+use Rattle.burst_plan.proofs.RequestWrites.{given_at-bytes_given}
+use Rattle.sparse_memory.specs.SparseMemory.{put_flags}
 use Rattle.meaning.proofs.GivenBytes.{given_before, given_past}
-use Rattle.scoreboard.specs.InsideSerial.{data_of, put_in_word, write_at}
-use Rattle.scoreboard.proofs.memory_words.PutWords.{in_word, out_of_word}
+use Rattle.serial_memory.proofs.PutWords.{length-bytes_given}
+use Rattle.serial_memory.proofs.RequestWords
+use Rattle.serial_memory.proofs.RequestWords.{beat_there}
+use Rattle.serial_memory.specs.SerialMemory.{IsCheckedRequest, IsMemoryRange, MemoryState}
 use Rattle.scoreboard.specs.Flights.{Footprint}
+use Rattle.scoreboard.specs.InsideBoards.{IsMarkedAlone, words_of}
 use Rattle.scoreboard.specs.Races.{after_given, beside_dependent}
+use Rattle.scoreboard.proofs.held.FootprintBytes.{own_lane_of_word, place_below, within, word_place}
 
--- ---- one byte
+-- ---- memories of which only the doubts differ
 
--- a byte is set where the word of one byte is put
-pub one_marked : (m new : Bytes) (address word mask : ℕ) (indeterminate : Bool) → new ≡ put_in_word address 0 (record { word = word; mask = mask }) m
-    → ((lane : ℕ) → lane < 8 → has_lane mask lane ≡ in_lanes address 0 lane) → ((lane : ℕ) → lane < 8 → lane_byte word lane ≡ (if indeterminate then 1 else 0)) → (x : ℕ)
-    → not (new x == 0) ≡ (if x == address then indeterminate else not (m x == 0))
-one_marked m new address word mask indeterminate is lanes flags x = ap (λ (f : Bytes). not (f x == 0)) is ∙ by_test (x == address) refl
+pub marked_none : (state : MemoryState) → IsMarkedAlone state state
+marked_none state = record { memory = refl; rooms = refl }
+
+pub marked_then : {old between new : MemoryState} → IsMarkedAlone old between → IsMarkedAlone between new → IsMarkedAlone old new
+marked_then first next = record { memory = next.memory ∙ first.memory; rooms = next.rooms ∙ first.rooms }
+
+-- ---- one word
+
+-- the flags of a word are put where its bytes pass a test
+pub word_marked : (passes told now new : ℕ → Bool) (word flags mask : ℕ) → new ≡ put_flags word flags mask now → word % 8 ≡ 0
+    → ((lane : ℕ) → lane < 8 → has_lane mask lane ≡ passes (word + lane)) → ((lane : ℕ) → lane < 8 → has_lane flags lane ≡ told (word + lane)) → (x : ℕ)
+    → new x ≡ (if passes x && word_address x == word then told x else now x)
+word_marked passes told now new word flags mask is whole strobes marks x = ap (λ (f : ℕ → Bool). f x) is ∙ by_test (word_address x == word) refl
   where
-    flag : (d : Bool) → not ((if d then 1 else 0) == 0) ≡ d
-    flag true = refl
-    flag false = refl
+    own : word_address word ≡ word
+    own = omega (arith, whole)
 
-    by_test : (b : Bool) → (x == address) ≡ b → not (put_in_word address 0 (record { word = word; mask = mask }) m x == 0) ≡ (if b then indeterminate else not (m x == 0))
-    by_test true is =
-        let e = eqb-true x address is in
-        let lane : in_lanes address 0 (x % 8) ≡ true = rw (eq-eqb (address % 8) (x % 8) (ap (λ y. y % 8) (sym e))) refl in
-        let strobe : strobes_byte 8 (write_at address 0) 1 (data_of (record { word = word; mask = mask })) x ≡ true =
-        in_word address 0 (record { word = word; mask = mask }) x (omega arith) (omega (arith, e)) (omega (arith, e)) ∙ lanes (x % 8) (omega arith) ∙ lane in
-        rw (strobe, flags (x % 8) (omega arith)) (flag indeterminate)
-    by_test false is =
-        let none : strobes_byte 8 (write_at address 0) 1 (data_of (record { word = word; mask = mask })) x ≡ false =
-        out_of_word address 0 (record { word = word; mask = mask }) x (omega arith) (λ low high. eqb-false x address is (omega (arith, low, high))) in
-        rw none refl
+    by_test : (b : Bool) → (word_address x == word) ≡ b → put_flags word flags mask now x ≡ (if passes x && b then told x else now x)
+    by_test true here =
+        let place : word + x % 8 ≡ x = omega (arith, eqb-true (word_address x) word here) in
+        let strobe : has_lane mask (x % 8) ≡ passes x = strobes (x % 8) (omega arith) ∙ ap passes place in
+        let mark : has_lane flags (x % 8) ≡ told x = marks (x % 8) (omega arith) ∙ ap told place in
+        rw (own, here, strobe, mark) (grind arith)
+    by_test false other = rw (own, other) (grind arith)
 
-pub ones : (lane : ℕ) → lane < 8 → lane_byte 72340172838076673 lane ≡ 1
-ones zero below = refl
-ones (suc zero) below = refl
-ones (suc (suc zero)) below = refl
-ones (suc (suc (suc zero))) below = refl
-ones (suc (suc (suc (suc zero)))) below = refl
-ones (suc (suc (suc (suc (suc zero))))) below = refl
-ones (suc (suc (suc (suc (suc (suc zero)))))) below = refl
-ones (suc (suc (suc (suc (suc (suc (suc zero))))))) below = refl
-ones (suc (suc (suc (suc (suc (suc (suc (suc lane)))))))) below = absurd (omega (arith, below))
+-- ---- the words before a place, their bytes marked where they pass a test; the others as they were
 
--- ---- the bytes before a place that pass a test, marked by their addresses; the others as they were
+module _ (passes told d : ℕ → Bool) (address size : ℕ) (inside : (x : ℕ) → passes x ≡ true → (address ≤ x) × (x < address + 2 ^ size)) where
+  abbrev pub marked_to : ℕ → ℕ → Bool
+  marked_to k x = if passes x && nat_lt (word_address x) (word_address address + 8 * k) then told x else d x
 
-module _ (passes told d : ℕ → Bool) where
-  abbrev pub marked_to : ℕ → ℕ → ℕ → Bool
-  marked_to address i x = if passes x && nat_lt x (address + i) then told x else d x
+  pub none_marked : (x : ℕ) → d x ≡ marked_to 0 x
+  none_marked x = by_test (passes x) refl
+    where
+      by_test : (b : Bool) → passes x ≡ b → d x ≡ (if b && nat_lt (word_address x) (word_address address + 8 * 0) then told x else d x)
+      by_test false is = refl
+      by_test true is = let low : nat_lt (word_address x) (word_address address + 8 * 0) ≡ false = grind (arith, nat_tests, (inside x is).0) in rw low refl
 
-  pub one_more_marked : (now new : ℕ → Bool) (address i : ℕ) → ((x : ℕ) → now x ≡ marked_to address i x)
-      → ((x : ℕ) → new x ≡ (if passes x && x == address + i then told x else now x)) → (x : ℕ) → new x ≡ marked_to address (i + 1) x
-  one_more_marked now new address i before step x = step x ∙ grind (arith, nat_tests, before x)
+  pub one_more_marked : (now new : ℕ → Bool) (k : ℕ) → ((x : ℕ) → now x ≡ marked_to k x)
+      → ((x : ℕ) → new x ≡ (if passes x && word_address x == word_address address + 8 * k then told x else now x)) → (x : ℕ) → new x ≡ marked_to (k + 1) x
+  one_more_marked now new k before step x = step x ∙ grind (arith, nat_tests, before x)
 
-  -- the byte at a place
-  pub mark_here : (new : ℕ → Bool) (place : ℕ) (mark : Bool) → passes place ≡ true → mark ≡ told place → ((x : ℕ) → new x ≡ (if x == place then mark else d x)) → (x : ℕ)
-      → new x ≡ (if passes x && x == place then told x else d x)
-  mark_here new place mark pass is each x = each x ∙ grind (arith, nat_tests, pass, is)
-
-  pub none_here : (place : ℕ) → passes place ≡ false → (x : ℕ) → d x ≡ (if passes x && x == place then told x else d x)
-  none_here place none x = grind (arith, nat_tests, none)
+  pub all_marked : IsMemoryRange address size → (k x : ℕ) → words_of size ≤ k → marked_to k x ≡ (if passes x then told x else d x)
+  all_marked range k x whole = by_test (passes x) refl
+    where
+      by_test : (b : Bool) → passes x ≡ b → (if b && nat_lt (word_address x) (word_address address + 8 * k) then told x else d x) ≡ (if b then told x else d x)
+      by_test false is = refl
+      by_test true is =
+          let at = inside x is in
+          let past : nat_lt (word_address x) (word_address address + 8 * k) ≡ true = grind (arith, nat_tests, place_below address size x range at.0 at.1, at.0, whole) in
+          rw past refl
 
 -- ---- what a request gives
 
 abbrev pub gives : List (Option ℕ) → ℕ → ℕ → Bool
 gives bytes address x = is_some (given_at bytes address x)
 
-module _ (bytes : List (Option ℕ)) (address : ℕ) (told d : ℕ → Bool) where
-  pub none_given : (x : ℕ) → d x ≡ marked_to (gives bytes address) told d address 0 x
-  none_given x = elim (cases_lt x address) [ inl low ↦ rw (given_before bytes address x low) refl | inr high ↦ grind (arith, nat_tests, high) ]
+-- its bytes are in its range
+pub given_inside : (held : HeldMessage) (address x : ℕ) → gives (bytes_given held) address x ≡ true → (address ≤ x) × (x < address + 2 ^ held.size)
+given_inside held address x is = elim (cases_lt x address) [
+  | inl low ↦ absurd (none (given_before (bytes_given held) address x low))
+  | inr high ↦ elim (cases_lt x (address + 2 ^ held.size)) [
+    | inl below ↦ (high, below)
+    | inr above ↦ absurd (none (given_past (bytes_given held) address x (omega (arith, above, length-bytes_given held))))
+  ]
+]
+  where
+    none : given_at (bytes_given held) address x ≡ None → ⊥
+    none out = true≢false (sym is ∙ ap is_some out)
 
-  pub all_given : (i x : ℕ) → length bytes ≤ i → marked_to (gives bytes address) told d address i x ≡ (if gives bytes address x then told x else d x)
-  all_given i x whole = elim (cases_lt x (address + i)) [ inl low ↦ grind (arith, nat_tests, low) | inr high ↦ rw (given_past bytes address x (omega (arith, whole, high))) refl ]
+given_if : (b : Bool) (n : ℕ) → b ≡ is_some (if b then Some n else None)
+given_if true n = refl
+given_if false n = refl
+
+-- a byte of one of its words is given where the mask has its lane
+pub mask_gives : (held : HeldMessage) (address k lane : ℕ) → IsCheckedRequest held → has_data held.operation ≡ true → address % 4096 ≡ held.address % 4096 → k < words_of held.size → lane < 8
+    → has_lane (beat_at held k).mask lane ≡ gives (bytes_given held) address (word_address address + 8 * k + lane)
+mask_gives held address k lane checked carries same below less = by_test (nat_le address x && nat_lt x (address + 2 ^ held.size)) refl
+  where
+    x : ℕ
+    x = word_address address + 8 * k + lane
+
+    beat : MaskedWord
+    beat = beat_at held k
+
+    range : IsMemoryRange address held.size
+    range = RequestWords.range held address checked same
+
+    enough : k < length held.beats
+    enough =
+        let count : length held.beats ≡ beats_of held.size true = checked.2.beats ∙ ap (beats_of held.size) carries in
+        omega (arith, count, below)
+
+    by_test : (b : Bool) → (nat_le address x && nat_lt x (address + 2 ^ held.size)) ≡ b → has_lane beat.mask lane ≡ gives (bytes_given held) address x
+    by_test true is =
+        let at = within address (2 ^ held.size) x is in
+        let place : (x - address) / 8 ≡ k = word_place address held.size k lane range below less at.0 at.1 in
+        let there : slice_get held.beats ((x - address) / 8) ≡ Some beat = rw place (beat_there held k enough) in
+        let given = given_at-bytes_given held address x beat carries (omega (arith, same)) at.0 at.1 there in
+        let own : x % 8 ≡ lane = omega (arith, less) in
+        rw (given, own) (given_if (has_lane beat.mask lane) (lane_byte beat.word lane))
+    by_test false is = by_tests (has_lane beat.mask lane) (gives (bytes_given held) address x) refl refl
+      where
+        by_tests : (has given : Bool) → has_lane beat.mask lane ≡ has → gives (bytes_given held) address x ≡ given → has ≡ given
+        by_tests false false lacks out = refl
+        by_tests has true lacks out = let at = given_inside held address x out in absurd (grind (arith, nat_tests, is, at))
+        by_tests true false has out =
+            let right = all-got (IsRightMask held.operation held.address held.size) held.beats k beat checked.2.masks (beat_there held k enough) in
+            let inside : in_lanes address held.size lane ≡ true =
+            in_lanes-lane_of address held.size lane ∙ ap (λ l. in_lanes l held.size lane) (omega (arith, same)) ∙ sym (in_lanes-lane_of held.address held.size lane) ∙ right.within lane less has in
+            sym (sym is ∙ sym (own_lane_of_word address held.size k lane range below less) ∙ inside)
 
 -- one that writes nothing leaves all as it is
 pub writes_nothing : (d : ℕ → Bool) (footprint : Footprint) (bytes : List (Option ℕ)) (footprints : List Footprint) → footprint.writes ≡ false → d ≡ beside_dependent (after_given d footprint bytes) footprint footprints

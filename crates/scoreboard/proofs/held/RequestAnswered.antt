@@ -14,7 +14,7 @@ use Rattle.scoreboard.specs.Boards.{Board, ClientBoard, a_wrong, accepted_on, af
 use Rattle.scoreboard.specs.Flights.{Footprint, InFlight, is_of_source, no_footprint}
 use Rattle.scoreboard.specs.InsideBoards.{ClientState, IsFreeOf, client_of, flights_of, front_after}
 use Rattle.scoreboard.specs.Races.{after_given, after_joining, joining, unless_failed}
-use Rattle.scoreboard.specs.SerialMemory.{carried_out}
+use Rattle.serial_memory.specs.SerialMemory.{carried_out}
 use Rattle.scoreboard.specs.declared.Errors.{Errors}
 use Rattle.scoreboard.specs.declared.Errors.TheVariants.{Any, Strict}
 use Rattle.scoreboard.specs.declared.Policy.{Policy}

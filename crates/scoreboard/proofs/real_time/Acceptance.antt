@@ -10,7 +10,7 @@ use Rattle.burst_plan.specs.PageMap.{address_of}
 use Rattle.subordinate.specs.Faults.{Faults}
 use Rattle.meaning.specs.Meaning.{Bytes, zeros}
 use Rattle.scoreboard.specs.Boards.{Board, ClientBoard, client_beside, flight_for, footprints_of, joined_on, with_accepted}
-use Rattle.scoreboard.specs.SerialMemory.{on_good_page, place_in}
+use Rattle.serial_memory.specs.SerialMemory.{on_good_page, place_in}
 use Rattle.scoreboard.specs.Orders.{Order, begun_to, has_ended}
 use Rattle.scoreboard.proofs.real_time.StepOrders.{first_of}
 use Rattle.scoreboard.specs.declared.Errors.TheVariants.{Strict}

@@ -24,7 +24,7 @@ use Rattle.scoreboard.specs.declared.ObservedBeat.{ObservedBeat}
 use Rattle.scoreboard.specs.declared.ObservedBeat.TheVariants.{A, D, Axi as OnAxi, Drained}
 use Rattle.scoreboard.specs.Orders.{Entry, Order, after_beat, begun_to, board_after, counted, has_ended, is_due, reply_beats, with_beat}
 use Rattle.scoreboard.specs.RealTime.{EndedBefore, IsOrderOf, KeepsRealTime, MayBecome, MayBecomeAll, acting_footprint, arranged, as_begun, becoming, begun_in, begun_next, completed, heard, numbered, struck, with_answered, with_failed, with_progress, with_request}
-use Rattle.scoreboard.specs.SerialMemory.{Memory}
+use Rattle.serial_memory.specs.SerialMemory.{Memory}
 use Rattle.scoreboard.proofs.real_time.RequestActs.{well_bytes}
 use Rattle.scoreboard.proofs.real_time.StepOrders as steps
 use Rattle.scoreboard.proofs.real_time.StepOrders.{GoesOn, GoesOnAnswered, GoesOnRequest, GoesOnTaken, HasFate, IsOrderFrom, IsPutIn, fated_of, finished, first_of, is_coming}

@@ -20,7 +20,7 @@ use Rattle.scoreboard.specs.Flights.{is_busy}
 use Rattle.scoreboard.specs.InsideBoards.{front_after}
 use Rattle.scoreboard.specs.Orders.{Entry, Order, begun_to, board_after, counted, has_ended, is_due, reply_beats, with_beat}
 use Rattle.scoreboard.specs.RealTime.{GivesBytes, MayBecome, acting_footprint, begun_from, begun_in, begun_next, completed, entry_of, heard, numbered, struck, with_answered, with_failed, with_progress, with_request}
-use Rattle.scoreboard.specs.SerialMemory.{Memory}
+use Rattle.serial_memory.specs.SerialMemory.{Memory}
 use Rattle.scoreboard.specs.declared.Errors.{Errors}
 use Rattle.scoreboard.specs.declared.Errors.TheVariants.{Strict}
 use Rattle.scoreboard.specs.declared.ObservedBeat.{ObservedBeat}

@@ -24,7 +24,7 @@ use Rattle.data_unit.proofs.NumberLaws.{lane_byte-lt}
 use Rattle.scoreboard.specs.Boards.{ClientBoard, answer_to}
 use Rattle.scoreboard.specs.Flights.{is_busy, is_of_source}
 use Rattle.scoreboard.specs.declared.Policy.TheVariants.{RealTime}
-use Rattle.scoreboard.proofs.memory_words.PutWords.{length-bytes_given}
+use Rattle.serial_memory.proofs.PutWords.{length-bytes_given}
 use Rattle.scoreboard.proofs.acceptance_order.RequestBeats.{ends_here, goes_on}
 use Rattle.scoreboard.proofs.real_time.FirstBeats.{more_put}
 use Rattle.scoreboard.proofs.real_time.RequestActs.{IsWell, atomic_data}

@@ -23,7 +23,7 @@ use Rattle.scoreboard.specs.Flights.{Footprint}
 use Rattle.scoreboard.specs.Orders.{Entry}
 use Rattle.scoreboard.specs.Races.{alone, unless_failed}
 use Rattle.scoreboard.specs.RealTime.{MayBecome}
-use Rattle.scoreboard.specs.SerialMemory.{Memory, on_good_page, place_in}
+use Rattle.serial_memory.specs.SerialMemory.{Memory, on_good_page, place_in}
 use Rattle.scoreboard.specs.declared.Errors.{Errors}
 use Rattle.scoreboard.specs.declared.Errors.TheVariants.{Any, Strict}
 use Rattle.scoreboard.proofs.MappedLists.{any_map}

@@ -17,7 +17,7 @@ use Rattle.scoreboard.specs.Boards.{Board, ClientBoard, after_all, after_seen, a
 use Rattle.scoreboard.specs.FailedBursts.{Span, failed_span, shares}
 use Rattle.scoreboard.specs.Orders.{Entry, Order, begun_to, board_after, counted, has_ended, is_due, reply_beats, with_beat}
 use Rattle.scoreboard.specs.RealTime.{acting_footprint, begun_from, begun_in, begun_next, completed, entry_of, heard, is_open, numbered, struck, with_answered, with_failed, with_progress, with_request}
-use Rattle.scoreboard.specs.SerialMemory.{Memory}
+use Rattle.serial_memory.specs.SerialMemory.{Memory}
 use Rattle.scoreboard.specs.declared.Errors.{Errors}
 use Rattle.scoreboard.specs.declared.Errors.TheVariants.{Any, Strict}
 use Rattle.scoreboard.specs.declared.ObservedBeat.{ObservedBeat}

@@ -17,7 +17,7 @@ use Rattle.scoreboard.specs.Boards.{Board, ClientBoard, acting, place_on}
 use Rattle.scoreboard.specs.Flights.{Footprint, InFlight}
 use Rattle.scoreboard.specs.Orders.{Entry, Order, begun_to, has_ended}
 use Rattle.scoreboard.specs.Races.{alone, beside}
-use Rattle.scoreboard.specs.SerialMemory.{on_good_page}
+use Rattle.serial_memory.specs.SerialMemory.{on_good_page}
 use Rattle.tl_messages.specs.Requests.{WholeRequest}
 use Rattle.scoreboard.proofs.MappedLists.{any_map}
 use Rattle.scoreboard.proofs.real_time.Ahead.{IsAhead, IsComing, Shadow, comes, shadow_of}

@@ -15,7 +15,7 @@ use Rattle.scoreboard.specs.Boards.{Board, ClientBoard, coming_on, flight_for, g
 use Rattle.scoreboard.specs.Flights.{Flights, Footprint, InFlight, no_footprint, due_to, is_of_source}
 use Rattle.scoreboard.specs.Orders.{Entry, Order, has_ended, reply_beats}
 use Rattle.scoreboard.specs.RealTime.{MayBecome}
-use Rattle.scoreboard.specs.SerialMemory.{carried_out}
+use Rattle.serial_memory.specs.SerialMemory.{carried_out}
 use Rattle.scoreboard.specs.declared.Errors.TheVariants.{Any, Strict}
 use Rattle.scoreboard.specs.Races.{after_given}
 use Rattle.bus_words.specs.Places.{without_first}

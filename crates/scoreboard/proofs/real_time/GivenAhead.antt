@@ -14,7 +14,7 @@ use Rattle.scoreboard.specs.Boards.{Board, ClientBoard, coming_on, fails, flight
 use Rattle.scoreboard.specs.Flights.{Flights, Footprint, InFlight, due_to, is_of_source}
 use Rattle.scoreboard.specs.Races.{after_given, alone, covers, is_fixed, may_read, may_write, unless_failed}
 use Rattle.scoreboard.specs.RealTime.{MayBecome}
-use Rattle.scoreboard.specs.SerialMemory.{carried_out, place_in}
+use Rattle.serial_memory.specs.SerialMemory.{carried_out, place_in}
 use Rattle.scoreboard.specs.declared.Errors.TheVariants.{Any}
 use Rattle.scoreboard.proofs.real_time.Ahead.{HasBecome, HasBeside, IsAhead, IsBehind, IsFinal, IsGiven, IsSame, NoneFated, Shadow, comes, fates_other, fates_own, fates_with, will_give}
 use Rattle.scoreboard.proofs.real_time.AlikeBeats.{Same}

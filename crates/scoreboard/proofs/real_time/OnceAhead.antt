@@ -16,7 +16,7 @@ use Rattle.scoreboard.specs.Flights.{Footprint, InFlight, is_of_source}
 use Rattle.scoreboard.specs.Orders.{Order}
 use Rattle.scoreboard.specs.Races.{after_given, after_joining, alone as alone_of, beside, covers, flight_beside, is_fixed, joining, may_read, may_write}
 use Rattle.scoreboard.specs.RealTime.{MayBecome}
-use Rattle.scoreboard.specs.SerialMemory.{place_in}
+use Rattle.serial_memory.specs.SerialMemory.{place_in}
 use Rattle.scoreboard.specs.declared.Errors.TheVariants.{Any}
 use Rattle.scoreboard.proofs.MappedLists.{any_map}
 use Rattle.scoreboard.proofs.real_time.Acceptance.{other_flight, own_flight, sources_beside}

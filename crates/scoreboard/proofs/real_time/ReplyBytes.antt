@@ -17,7 +17,7 @@ use Rattle.burst_plan.specs.declared.Region.{Region}
 use Rattle.responses.specs.Shown.{Reply}
 use Rattle.subordinate.specs.Faults.{Faults, Standing, IsGood, IsSlaveError, IsAbsent, is_bad, standing_at}
 use Rattle.meaning.specs.Meaning.{Bytes, Effect, acknowledged, bytes_at, denied, effect, meaning, no_byte_given, zeros}
-use Rattle.scoreboard.specs.SerialMemory.{on_good_page}
+use Rattle.serial_memory.specs.SerialMemory.{on_good_page}
 use Rattle.scoreboard.proofs.acceptance_order.Meanings.{meaning_none, meaning_some}
 
 -- the bytes of a range as they are, but for the hidden ones

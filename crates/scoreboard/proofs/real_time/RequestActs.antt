@@ -23,7 +23,7 @@ use Rattle.burst_plan.specs.PageMap.{address_of}
 use Rattle.subordinate.specs.Faults.{Faults, Standing, IsGood, IsSlaveError, IsAbsent, is_bad, is_good, standing_at}
 use Rattle.meaning.specs.Meaning.{Bytes, Effect, atomic_bytes, bytes_at, effect, meaning, with_bytes}
 use Rattle.meaning.proofs.GivenBytes.{given_before, given_past}
-use Rattle.scoreboard.specs.SerialMemory.{on_good_page}
+use Rattle.serial_memory.specs.SerialMemory.{on_good_page}
 use Rattle.scoreboard.proofs.acceptance_order.Meanings.{meaning_none, meaning_some}
 use Rattle.scoreboard.specs.Flights.{Footprint}
 use Rattle.scoreboard.specs.Races.{alone, covers}

@@ -1,5 +1,6 @@
-use Rattle.std.proofs.Common.{[], inl, refl, arith, rules}
+use Rattle.std.proofs.Common.{[], inl, refl, arith}
 use Rattle.std.proofs.KnownBytes.{Consumes-nil, Keeps-refl}
+use Rattle.script_text.proofs.FixedEndings.{EndsAs-fixed}
 use Rattle.run_script.proofs.script.run_text.Goals as goal
 
 -- nothing was read yet
@@ -15,4 +16,4 @@ returns-in_default g c =
     }
 
 pub returns : goal.returns
-returns g c = search rules
+returns g c = EndsAs-fixed _ _ _ _ _ _ _ _ (rw c.new-script.ensures at c.read_script.ensures)

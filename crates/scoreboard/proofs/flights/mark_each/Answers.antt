@@ -1,37 +1,39 @@
 -- One of them more.
-use Rattle.std.proofs.Common.{◌∙◌, ◌||◌, ◌&&◌, ap, map, refl, subst, sym, take}
+use Rattle.std.proofs.Common.{◌∙◌, ◌||◌, ◌&&◌, ap, map, subst, sym, take}
 use Rattle.std.proofs.lemmas.List.{take_all}
 use Rattle.bus_words.proofs.MappedPlaces.{all-mapped}
 use Rattle.bus_words.proofs.PlaceChanges.{all-at}
+use Rattle.serial_memory.specs.SerialMemory.{doubts_of, rooms_of}
 use Rattle.scoreboard.specs.Flights.{InFlight}
-use Rattle.scoreboard.specs.InsideBoards.{FlightState, FootprintState, IsOnGoodPage, flight_of, footprint_of, is_marked}
+use Rattle.scoreboard.specs.InsideBoards.{FlightState, FootprintState, HasRoomToWrite, flight_of, footprint_of}
 use Rattle.scoreboard.specs.Races.{beside_dependent, covers, depends_on}
 use Rattle.scoreboard.proofs.held.Others.{beside_dependent-last, beside_dependent-none, footprints_in, footprints_next}
+use Rattle.scoreboard.proofs.held.Marks.{marked_none, marked_then}
 use Rattle.scoreboard.proofs.flights.mark_each.Goals as goal
 
 pub loop-flight-init : goal.loop-flight-init
-loop-flight-init c = (refl, sym (beside_dependent-none (is_marked c.args.marks.now) (footprint_of c.args.other.now)))
+loop-flight-init c = (marked_none c.args.marks.now, sym (beside_dependent-none (doubts_of c.args.marks.now) (footprint_of c.args.other.now)))
 
 pub mark_dependent-requires : goal.mark_dependent-requires
 mark_dependent-requires c =
     let due = c.args.due.now in
-    let good = λ (flight : FlightState). IsOnGoodPage c.args.marks.now.faults (footprint_of flight.footprint) in
-    let all = all-mapped _ flight_of due (all-mapped (IsOnGoodPage c.args.marks.now.faults) (λ (flight : InFlight). flight.footprint) (map flight_of due) c.requires.good) in
-    record { good = rw (c.loop-flight.invariant.0, c.footprint.ensures) (subst good (sym c.flight-item.is) (all-at good due c.loop-flight.flight-index c.flight-item.result all c.loop-flight-test.true)) }
+    let good = λ (flight : FlightState). HasRoomToWrite (rooms_of c.args.marks.now) (footprint_of flight.footprint) in
+    let all = all-mapped _ flight_of due (all-mapped (HasRoomToWrite (rooms_of c.args.marks.now)) (λ (flight : InFlight). flight.footprint) (map flight_of due) c.requires.room) in
+    record { room = rw c.footprint.ensures (subst (λ rooms. HasRoomToWrite rooms (footprint_of c.flight-item.result.footprint)) (sym c.loop-flight.invariant.0.rooms) (subst good (sym c.flight-item.is) (all-at good due c.loop-flight.flight-index c.flight-item.result all c.loop-flight-test.true))) }
 
 pub loop-flight-preserved : goal.loop-flight-preserved
 loop-flight-preserved c =
     let due = c.args.due.now in
     let i = c.loop-flight.flight-index in
     let other = footprint_of c.args.other.now in
-    let m = is_marked c.args.marks.now in (
-      c.mark_dependent.ensures.faults ∙ c.loop-flight.invariant.0,
-      beside_dependent-last m (is_marked c.loop-flight.marks) (is_marked c.mark_dependent.new.marks) other (footprints_in (take i due)) (footprint_of c.flight-item.result.footprint) c.loop-flight.invariant.1
-          (λ x. c.mark_dependent.ensures.bytes x ∙ ap (λ (r : FootprintState). is_marked c.loop-flight.marks x || depends_on (footprint_of r) other && covers (footprint_of r) x) c.footprint.ensures)
+    let m = doubts_of c.args.marks.now in (
+      marked_then c.loop-flight.invariant.0 c.mark_dependent.ensures.rest,
+      beside_dependent-last m (doubts_of c.loop-flight.marks) (doubts_of c.mark_dependent.new.marks) other (footprints_in (take i due)) (footprint_of c.flight-item.result.footprint) c.loop-flight.invariant.1
+          (λ x. c.mark_dependent.ensures.bytes x ∙ ap (λ (r : FootprintState). doubts_of c.loop-flight.marks x || depends_on (footprint_of r) other && covers (footprint_of r) x) c.footprint.ensures)
           ∙ ap (beside_dependent m other) (sym (footprints_next due i c.flight-item.result c.loop-flight-test.true c.flight-item.is)),
     )
 
 pub returns-clause-bytes : goal.returns-clause-bytes
 returns-clause-bytes c =
     c.loop-flight.invariant.1
-    ∙ ap (λ due. beside_dependent (is_marked c.args.marks.now) (footprint_of c.args.other.now) (footprints_in due)) (take_all c.loop-flight.flight-index c.args.due.now c.loop-flight-test.false)
+    ∙ ap (λ due. beside_dependent (doubts_of c.args.marks.now) (footprint_of c.args.other.now) (footprints_in due)) (take_all c.loop-flight.flight-index c.args.due.now c.loop-flight-test.false)

@@ -1,33 +1,47 @@
--- One byte more.
-use Rattle.std.proofs.Common.{◌≡◌, ◌+◌, ◌^◌, true, if◌then◌else◌, ◌==◌, refl, ap, arith, ◌∙◌}
-use Rattle.std.specs.Prelude.{nat_le}
-use Rattle.std.proofs.lemmas.Bool.Decides.{nat_tests}
-use Rattle.scoreboard.specs.InsideBoards.{is_marked}
-use Rattle.scoreboard.proofs.held.Marks.{mark_here, one_more_marked}
-use Rattle.scoreboard.proofs.held.FootprintBytes.{good_byte}
+-- One word more.
+use Rattle.std.proofs.Common.{◌≡◌, ℕ, Bool, ◌+◌, ◌*◌, ◌/◌, ◌<◌, ◌≤◌, ◌^◌, true, ap, arith, sym, ◌∙◌}
+use Rattle.bus_words.specs.Lanes.{word_address}
+use Rattle.sparse_memory.specs.SparseMemory.{put_flags}
+use Rattle.serial_memory.specs.SerialMemory.{doubts_of, rooms_of}
+use Rattle.scoreboard.specs.InsideBoards.{FootprintState, footprint_of}
+use Rattle.scoreboard.specs.Races.{covers}
+use Rattle.scoreboard.proofs.held.Marks.{all_marked, marked_none, marked_then, none_marked, one_more_marked, word_marked}
+use Rattle.scoreboard.proofs.held.FootprintBytes.{every_lane, room_word, within}
 use Rattle.scoreboard.proofs.marks.mark_all.Goals as goal
 
-pub loop-i-init : goal.loop-i-init
-loop-i-init c = (refl, λ x. grind (arith, nat_tests))
+inside : (r : FootprintState) (x : ℕ) → covers (footprint_of r) x ≡ true → (r.address ≤ x) × (x < r.address + 2 ^ r.size)
+inside r x is = within r.address (2 ^ r.size) x is
 
-pub mark-requires : goal.mark-requires
-mark-requires c = record {
-  good = rw (c.loop-i.invariant.0, c.address_of.ensures)
-      (good_byte c.args.marks.now.faults c.args.footprint.now.address c.args.footprint.now.size c.loop-i.i c.bytes-i-end.ensures.range (omega arith) c.requires.good);
-}
+pub loop-k-init : goal.loop-k-init
+loop-k-init c =
+    let r = c.args.footprint.now in
+    (marked_none c.args.marks.now, none_marked (covers (footprint_of r)) (λ y. true) (doubts_of c.args.marks.now) r.address r.size (inside r))
 
-pub loop-i-preserved : goal.loop-i-preserved
-loop-i-preserved c =
-    let first = c.args.footprint.now.address in
-    let now = is_marked c.loop-i.marks in
-    let new = is_marked c.mark.new.marks in (
-      c.mark.ensures.faults ∙ c.loop-i.invariant.0,
-      one_more_marked (nat_le first) (λ y. true) (is_marked c.args.marks.now) now new first c.loop-i.i c.loop-i.invariant.1
-          (mark_here (nat_le first) (λ y. true) now new (first + c.loop-i.i) true (grind (arith, nat_tests)) refl
-          (λ y. c.mark.ensures.bytes y ∙ ap (λ a. if y == a then true else now y) c.address_of.ensures)),
+pub put_doubts-requires : goal.put_doubts-requires
+put_doubts-requires c =
+    let r = c.args.footprint.now in
+    record {
+      room = ap (λ (rooms : ℕ → Bool). rooms (c.word_at-word.result / 4096)) c.loop-k.invariant.0.rooms
+          ∙ ap (λ a. rooms_of c.args.marks.now (a / 4096)) c.word_at-word.ensures
+          ∙ room_word (rooms_of c.args.marks.now) r.address r.size c.loop-k.k c.words-k-end.ensures.range (omega arith) c.requires.room;
+    }
+
+pub loop-k-preserved : goal.loop-k-preserved
+loop-k-preserved c =
+    let r = c.args.footprint.now in
+    let own = covers (footprint_of r) in
+    let now = doubts_of c.loop-k.marks in
+    let new = doubts_of c.put_doubts.new.self in (
+      marked_then c.loop-k.invariant.0 (record { memory = c.put_doubts.ensures.memory; rooms = c.put_doubts.ensures.rooms }),
+      one_more_marked own (λ y. true) (doubts_of c.args.marks.now) r.address r.size (inside r) now new c.loop-k.k c.loop-k.invariant.1
+          (word_marked own (λ y. true) now new (word_address r.address + 8 * c.loop-k.k) 255 c.lanes_in.result
+          (c.put_doubts.ensures.doubts ∙ ap (λ w. put_flags w 255 c.lanes_in.result now) c.word_at-word.ensures) (omega arith)
+          (λ lane less. c.lanes_in.ensures lane less ∙ ap (λ a. own (a + lane)) c.word_at-word.ensures) every_lane),
     )
 
 pub returns-clause-bytes : goal.returns-clause-bytes
 returns-clause-bytes c x =
-    let whole : c.loop-i.i ≡ 2 ^ c.args.footprint.now.size = omega arith in
-    c.loop-i.invariant.1 x ∙ rw whole (grind arith)
+    let r = c.args.footprint.now in
+    c.loop-k.invariant.1 x
+    ∙ all_marked (covers (footprint_of r)) (λ y. true) (doubts_of c.args.marks.now) r.address r.size (inside r) c.words-k-end.ensures.range c.loop-k.k x (omega arith)
+    ∙ grind arith

@@ -1,24 +1,41 @@
--- One byte more.
-use Rattle.std.proofs.Common.{◌≤◌, ◌&&◌, not, length, refl, arith, sym, ◌∙◌}
+-- One word more.
+use Rattle.std.proofs.Common.{ℕ, Bool, ◌≡◌, ◌+◌, ◌/◌, ◌^◌, ◌<◌, ◌≤◌, ◌&&◌, not, true, ap, refl, arith, sym, ◌∙◌}
 use Rattle.std.proofs.Math.Path.{fun_ext}
-use Rattle.tl_messages.specs.Requests.{bytes_given}
-use Rattle.scoreboard.proofs.memory_words.PutWords.{length-bytes_given}
-use Rattle.scoreboard.specs.InsideBoards.{is_marked, determined_in}
-use Rattle.scoreboard.proofs.held.Marks.{all_given, gives, none_given, one_more_marked}
+use Rattle.tl_messages.specs.Requests.{HeldMessage, bytes_given}
+use Rattle.serial_memory.specs.SerialMemory.{doubts_of}
+use Rattle.scoreboard.specs.InsideBoards.{determined_in}
+use Rattle.scoreboard.proofs.held.Marks.{all_marked, given_inside, gives, marked_none, marked_then, none_marked, one_more_marked}
 use Rattle.scoreboard.proofs.marks.mark_given.Goals as goal
 
-pub loop-i-init : goal.loop-i-init
-loop-i-init c = (refl, none_given (bytes_given c.args.request.now) c.args.footprint.now.address _ (is_marked c.args.marks.now))
+inside : (held : HeldMessage) (address size : ℕ) → size ≡ held.size → (x : ℕ) → gives (bytes_given held) address x ≡ true → (address ≤ x) × (x < address + 2 ^ size)
+inside held address size same x is = let at = given_inside held address x is in (at.0, rw same at.1)
 
-pub loop-i-preserved : goal.loop-i-preserved
-loop-i-preserved c = (
-  c.mark_byte.ensures.faults ∙ c.loop-i.invariant.0,
-  one_more_marked (gives (bytes_given c.args.request.now) c.args.footprint.now.address) (λ y. not (determined_in c.args.footprint.now y && c.is_fixed-fixed.result)) (is_marked c.args.marks.now) (is_marked c.loop-i.marks) (is_marked c.mark_byte.new.marks)
-      c.args.footprint.now.address c.loop-i.i c.loop-i.invariant.1 c.mark_byte.ensures.bytes,
-)
+pub loop-k-init : goal.loop-k-init
+loop-k-init c =
+    let r = c.args.footprint.now in
+    let held = c.args.request.now in (
+      marked_none c.args.marks.now,
+      none_marked (gives (bytes_given held) r.address) (λ y. not (determined_in r y && c.is_fixed-fixed.result)) (doubts_of c.args.marks.now) r.address r.size (inside held r.address r.size c.requires.size),
+    )
+
+pub mark_word-requires-clause-room : goal.mark_word-requires-clause-room
+mark_word-requires-clause-room c = ap (λ (rooms : ℕ → Bool). rooms (c.args.footprint.now.address / 4096)) c.loop-k.invariant.0.rooms ∙ c.requires.room
+
+pub loop-k-preserved : goal.loop-k-preserved
+loop-k-preserved c =
+    let r = c.args.footprint.now in
+    let held = c.args.request.now in (
+      marked_then c.loop-k.invariant.0 c.mark_word.ensures.rest,
+      one_more_marked (gives (bytes_given held) r.address) (λ y. not (determined_in r y && c.is_fixed-fixed.result)) (doubts_of c.args.marks.now) r.address r.size
+          (inside held r.address r.size c.requires.size) (doubts_of c.loop-k.marks) (doubts_of c.mark_word.new.marks) c.loop-k.k c.loop-k.invariant.1 c.mark_word.ensures.bytes,
+    )
 
 pub returns-clause-bytes : goal.returns-clause-bytes
 returns-clause-bytes c =
-    let whole : length (bytes_given c.args.request.now) ≤ c.loop-i.i = rw (length-bytes_given c.args.request.now, sym c.requires.size) (omega arith) in
+    let r = c.args.footprint.now in
+    let held = c.args.request.now in
     fun_ext (λ x.
-    c.loop-i.invariant.1 x ∙ all_given (bytes_given c.args.request.now) c.args.footprint.now.address (λ y. not (determined_in c.args.footprint.now y && c.is_fixed-fixed.result)) (is_marked c.args.marks.now) c.loop-i.i x whole ∙ rw (c.requires.writes, c.is_fixed-fixed.ensures) refl)
+    c.loop-k.invariant.1 x
+    ∙ all_marked (gives (bytes_given held) r.address) (λ y. not (determined_in r y && c.is_fixed-fixed.result)) (doubts_of c.args.marks.now) r.address r.size
+    (inside held r.address r.size c.requires.size) c.words-k-end.ensures.range c.loop-k.k x (omega arith)
+    ∙ rw (c.requires.writes, c.is_fixed-fixed.ensures) refl)

@@ -1,23 +1,21 @@
 -- It begins by its parts.
-use Rattle.std.proofs.Common.{◌≡◌, ◌<◌, ℕ, List, Option, Some, ap, ap₂, arith, length, map, rules, set, subst, sym, true, ◌∙◌}
+use Rattle.std.proofs.Common.{◌≡◌, ◌<◌, ℕ, Bool, List, Option, Some, ap, ap₂, arith, length, map, refl, rules, set, subst, sym, true, ◌∙◌}
 use Rattle.std.specs.Prelude.{IfSome, slice_get}
 use Rattle.std.specs.Vec.{with_items}
 use Rattle.std.proofs.lemmas.List.{places, with_items_is}
 use Rattle.bus_words.proofs.PlaceChanges.{all-got}
-use Rattle.subordinate.specs.Faults.{is_good, standing_at}
 use Rattle.tl_messages.specs.Requests.{HeldMessage, begun, request_of}
 use Rattle.tl_messages.specs.declared.DBeat.{DBeat}
 use Rattle.scoreboard.specs.Boards.{Board, ClientBoard, begun_on, client_beside, client_footprints, early_due, fails, footprints_of, joining_on, place_on}
 use Rattle.scoreboard.specs.Flights.{Footprint}
-use Rattle.scoreboard.specs.InsideBoards.{AreOnGoodPages, BoardState, ClientState, ClientsHaveRoom, FootprintState, IsOnGoodPage, board_of, client_of, footprint_of, is_marked, room_by}
-use Rattle.scoreboard.specs.InsideSerial.{IsMemoryRange}
+use Rattle.scoreboard.specs.InsideBoards.{BoardState, ClientState, ClientsHaveRoom, FootprintState, HasRoomForBeat, HasRoomToWrite, HaveRoomToWrite, IsAskedBy, board_of, client_of, footprint_of, room_by}
+use Rattle.serial_memory.specs.SerialMemory.{IsMemoryRange, doubts_of, memory_of, rooms_of}
 use Rattle.scoreboard.specs.Races.{alone, beside_all, beside_dependent, unless_failed}
-use Rattle.scoreboard.specs.SerialMemory.{memory_of}
 use Rattle.scoreboard.specs.contracts.board.Scoreboard.{the_view}
-use Rattle.scoreboard.proofs.held.BoardSteps.{AreKept, begun_behind, beside_kept, client_is, client_kept, early_same, is_there, joining_same, there_at}
-use Rattle.scoreboard.proofs.held.ClientFootprints.{good_coming, good_joining, good_unless_failed}
+use Rattle.scoreboard.proofs.held.BoardSteps.{AreKept, begun_behind, beside_kept, client_is, client_kept, early_same, is_there, joining_same, room_acting, there_at}
+use Rattle.scoreboard.proofs.held.ClientFootprints.{room_coming, room_joining, room_unless_failed}
 use Rattle.scoreboard.proofs.held.FootprintBytes.{few_bytes}
-use Rattle.scoreboard.proofs.memory_words.RequestWords.{placed_range}
+use Rattle.serial_memory.proofs.RequestWords.{placed_range}
 use Rattle.scoreboard.proofs.board.Scoreboard.begin.Goals.{After-index_mut}
 use Rattle.scoreboard.proofs.board.Scoreboard.begin.Goals as goal
 
@@ -42,11 +40,11 @@ given c =
     c.give_way.ensures.clients
     ∙ ap₂ (λ (f : FootprintState) (cs : List ClientState). map (client_beside (footprint_of f)) (map client_of cs)) c.footprint-footprint.ensures c.deref_mut.ensures.value
 
-kept : (c : After-index_mut) → AreKept (room_by c.self.inside.policy) c.self.inside.serial.pages.faults c.give_way.new.clients
+kept : (c : After-index_mut) → AreKept (room_by c.self.inside.policy) (rooms_of c.self.inside.serial) c.give_way.new.clients
 kept c =
     let room = room_by c.self.inside.policy in
-    beside_kept room c.self.inside.serial.pages.faults c.self.inside.clients.items c.give_way.new.clients (footprint_of c.fail_if.new.self.footprint) (given c)
-    (λ have. c.give_way.ensures.room room (subst (ClientsHaveRoom room) (sym c.deref_mut.ensures.value) have)) (c.self.invariant.0, c.self.invariant.1, c.self.invariant.4)
+    beside_kept room (rooms_of c.self.inside.serial) c.self.inside.clients.items c.give_way.new.clients (footprint_of c.fail_if.new.self.footprint) (given c)
+    (λ have. c.give_way.ensures.room room (subst (ClientsHaveRoom room) (sym c.deref_mut.ensures.value) have)) (c.self.invariant.0, c.self.invariant.1, c.self.invariant.3)
 
 -- the one that begins it
 there : (c : After-index_mut) → slice_get c.give_way.new.clients c.from.result ≡ Some c.index_mut.result.now
@@ -70,28 +68,35 @@ joined c =
     ∙ ap₂ unless_failed c.fails_by_now.ensures
     (c.limit.ensures.footprint
     ∙ ap₂ (λ (f : Footprint) (cs : List ClientState). beside_all f (footprints_of (map client_of cs)))
-    (c.start_footprint.ensures.footprint ∙ ap (λ place. alone (is_marked c.self.inside.indeterminate) place (request_of c.begin.new.self)) c.place_of-place.ensures.place)
+    (c.start_footprint.ensures.footprint ∙ ap (λ place. alone (doubts_of c.self.inside.serial) place (request_of c.begin.new.self)) c.place_of-place.ensures.place)
     c.deref.ensures.value)
+
+-- it has room to write
+own_room : (c : goal.After-self-1) → HasRoomToWrite (rooms_of c.self.inside.serial) (footprint_of c.fail_if.new.self.footprint)
+own_room c =
+    let rooms = rooms_of c.self.inside.serial in
+    let request = c.begin.new.self in
+    let asked : IsAskedBy request c.args.beat.now = subst (λ (held : HeldMessage). IsAskedBy held c.args.beat.now) (sym c.begin.ensures) (record { operation = refl; address = refl; corrupt = λ corrupt. corrupt }) in
+    let room = subst (λ (b : BoardState). HasRoomForBeat b.errors b.memory c.args.beat.now) (sym c.self.view_is) c.requires.room request asked in
+    subst (HasRoomToWrite rooms) (sym (joined c))
+    (room_unless_failed rooms (fails c.self.inside.errors (memory_of c.self.inside.serial) (request_of request)) _
+    (room_joining rooms (doubts_of c.self.inside.serial) (footprints_of (map client_of c.self.inside.clients.items)) (place_on (board_of (the_view c.self.inside)) (request_of request)) (request_of request)
+    (room_acting c.self.inside.errors c.self.inside.serial (request_of request) room)))
 
 pub invariant_of-self : goal.invariant_of-self
 invariant_of-self c =
     let room = room_by c.self.inside.policy in
-    let faults = c.self.inside.serial.pages.faults in
+    let rooms = rooms_of c.self.inside.serial in
     let one = c.index_mut.result.now in
     let at = (goal.at.invariant_of-self c).After-index_mut in
-    let own_good = subst (IsOnGoodPage faults) (sym (joined c))
-    (good_unless_failed faults (fails c.self.inside.errors (memory_of c.self.inside.serial) (request_of c.begin.new.self)) _
-    (good_joining faults (is_marked c.self.inside.indeterminate) (footprints_of (map client_of c.self.inside.clients.items)) (place_on (board_of (the_view c.self.inside)) (request_of c.begin.new.self)) (request_of c.begin.new.self)
-    (subst (λ place. IfSome place (λ address. is_good (standing_at faults address) ≡ true)) c.place_of-place.ensures.place c.place_of-place.ensures.good))) in
-    let all = client_kept room faults c.give_way.new.clients c.from.result one c.begin-2.new.self (there at) (ap (λ (client : ClientState). client.flights.room) c.begin-2.ensures.client)
-    (λ good. subst (λ (client : ClientState). AreOnGoodPages faults (client_footprints (client_of client))) (sym c.begin-2.ensures.client)
-    (good_coming faults (footprint_of c.fail_if.new.self.footprint) (client_of one) good own_good)) (kept at) in
-    let own_room = all-got (λ (client : ClientState). client.flights.room ≡ room) c.give_way.new.clients c.from.result one (kept at).1 (there at) in (
+    let all = client_kept room rooms c.give_way.new.clients c.from.result one c.begin-2.new.self (there at) (ap (λ (client : ClientState). client.flights.room) c.begin-2.ensures.client)
+    (λ good. subst (λ (client : ClientState). HaveRoomToWrite rooms (client_footprints (client_of client))) (sym c.begin-2.ensures.client)
+    (room_coming rooms (footprint_of c.fail_if.new.self.footprint) (client_of one) good (own_room c))) (kept at) in
+    let same_room = all-got (λ (client : ClientState). client.flights.room ≡ room) c.give_way.new.clients c.from.result one (kept at).1 (there at) in (
       rw (held at) all.0,
       rw (held at) all.1,
-      c.begin-2.ensures.room ∙ own_room,
-      c.mark_beside.ensures.faults ∙ c.self.invariant.3,
-      rw (held at) all.2,
+      c.begin-2.ensures.room ∙ same_room,
+      rw (held at) (subst (λ (r : ℕ → Bool). HaveRoomToWrite r (footprints_of (map client_of (set c.give_way.new.clients c.from.result c.begin-2.new.self)))) (sym c.mark_beside.ensures.rest.rooms) all.2),
     )
 
 pub returns-clause-state : goal.returns-clause-state
@@ -105,12 +110,12 @@ returns-clause-state c found is =
     let same : client_of c.index_mut.result.now ≡ client_beside footprint found =
     client_is c.give_way.new.clients number c.index_mut.result.now (client_beside footprint found) (there at)
     (is_there (map client_of c.give_way.new.clients) (map client_of c.self.inside.clients.items) footprint number (given at) found is_here) in
-    let marked : is_marked c.mark_beside.new.marks ≡ beside_dependent (is_marked old.indeterminate) footprint (footprints_of (map client_of old.clients)) =
+    let marked : doubts_of c.mark_beside.new.marks ≡ beside_dependent (doubts_of old.memory) footprint (footprints_of (map client_of old.clients)) =
     c.mark_beside.ensures.bytes
-    ∙ ap₂ (λ (f : FootprintState) (cs : List ClientState). beside_dependent (is_marked old.indeterminate) (footprint_of f) (footprints_of (map client_of cs))) c.footprint-footprint.ensures c.deref-2.ensures.value in
+    ∙ ap₂ (λ (f : FootprintState) (cs : List ClientState). beside_dependent (doubts_of old.memory) (footprint_of f) (footprints_of (map client_of cs))) c.footprint-footprint.ensures c.deref-2.ensures.value in
     ap {B = Board}
-    (λ (cs : List ClientState). board_of (record old { clients = set cs number c.begin-2.new.self; indeterminate = c.mark_beside.new.marks; request = c.begin.new.self; joining = c.begin-2.new.flight })) (held at)
-    ∙ begun_behind old c.give_way.new.clients c.mark_beside.new.marks c.begin.new.self c.begin-2.new.flight number (record found { early = c.early_due.result }) c.begin-2.new.self footprint (given at) marked
+    (λ (cs : List ClientState). board_of (record old { clients = set cs number c.begin-2.new.self; memory = c.mark_beside.new.marks; request = c.begin.new.self; joining = c.begin-2.new.flight })) (held at)
+    ∙ begun_behind old c.give_way.new.clients c.mark_beside.new.marks c.begin.new.self c.begin-2.new.flight number (record found { early = c.early_due.result }) c.begin-2.new.self footprint (given at) c.mark_beside.ensures.rest.memory marked
     (ap client_of c.begin-2.ensures.client ∙ ap {B = ClientBoard} (λ (client : ClientBoard). record client { coming = footprint; early = c.early_due.result }) same)
     ∙ ap (λ (early : Option DBeat). begun_on (board_of old) number (record found { early = early }) footprint) c.early_due.ensures
     ∙ ap (begun_on (board_of old) number (record found { early = early_due old.errors (request_of c.begin.new.self) })) (joined c)

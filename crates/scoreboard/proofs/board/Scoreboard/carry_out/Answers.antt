@@ -3,7 +3,7 @@ use Rattle.std.proofs.Common.{ap, ◌∙◌}
 use Rattle.tl_messages.specs.Requests.{request_of}
 use Rattle.scoreboard.specs.Boards.{flight_for}
 use Rattle.scoreboard.specs.InsideBoards.{BoardState, footprint_of}
-use Rattle.scoreboard.specs.SerialMemory.{memory_of}
+use Rattle.serial_memory.specs.SerialMemory.{memory_of}
 use Rattle.scoreboard.proofs.held.Failed.{flight_carried}
 use Rattle.scoreboard.proofs.board.Scoreboard.carry_out.Goals as goal
 

@@ -3,9 +3,10 @@ use Rattle.std.proofs.Common.{◌≡◌, ℕ, Bool, List, ap, ap₂, map, rules,
 use Rattle.std.specs.Prelude.{Some}
 use Rattle.std.specs.Vec.{with_items}
 use Rattle.std.proofs.lemmas.List.{places, with_items_is}
+use Rattle.serial_memory.specs.SerialMemory.{Memory, doubts_of, rooms_of}
 use Rattle.scoreboard.specs.Boards.{Board, ClientBoard, footprints_of, hit_client, hit_on}
 use Rattle.scoreboard.specs.FailedBursts.{after_hit}
-use Rattle.scoreboard.specs.InsideBoards.{BoardState, ClientState, ClientsHaveRoom, board_of, client_of, is_marked, room_by}
+use Rattle.scoreboard.specs.InsideBoards.{BoardState, ClientState, ClientsHaveRoom, HaveRoomToWrite, board_of, client_of, room_by}
 use Rattle.scoreboard.specs.contracts.board.Scoreboard.{the_view}
 use Rattle.scoreboard.proofs.held.BoardSteps.{hit_kept}
 use Rattle.scoreboard.proofs.board.Scoreboard.hit.Goals as goal
@@ -19,14 +20,16 @@ struck c = c.hit.ensures.clients ∙ ap (λ (cs : List ClientState). map (hit_cl
 pub invariant_of-self : goal.invariant_of-self
 invariant_of-self c =
     let room = room_by c.self.inside.policy in
-    let kept = hit_kept room c.self.inside.serial.pages.faults c.self.inside.clients.items c.hit.new.clients c.args.span (struck c)
-    (λ have. c.hit.ensures.room room (subst (ClientsHaveRoom room) (sym c.deref_mut.ensures.value) have)) (c.self.invariant.0, c.self.invariant.1, c.self.invariant.4) in
-    (rw (held c) kept.0, rw (held c) kept.1, c.self.invariant.2, c.mark_shared.ensures.faults ∙ c.self.invariant.3, rw (held c) kept.2)
+    let kept = hit_kept room (rooms_of c.self.inside.serial) c.self.inside.clients.items c.hit.new.clients c.args.span (struck c)
+    (λ have. c.hit.ensures.room room (subst (ClientsHaveRoom room) (sym c.deref_mut.ensures.value) have)) (c.self.invariant.0, c.self.invariant.1, c.self.invariant.3) in
+    (rw (held c) kept.0, rw (held c) kept.1, c.self.invariant.2, rw (held c) (subst (λ rooms. HaveRoomToWrite rooms (footprints_of (map client_of c.hit.new.clients))) (sym c.mark_shared.ensures.rest.rooms) kept.2))
 
 pub returns-clause-state : goal.returns-clause-state
 returns-clause-state c =
     let board = board_of (the_view c.self.inside) in
-    ap₂ {C = Board} (λ (clients : List ClientBoard) (indeterminate : ℕ → Bool). record board { clients = clients; indeterminate = indeterminate })
+    let clients = (with_items c.self.inside.clients c.hit.new.clients).items in
+    ap {B = Board} (λ (memory : Memory). record board { clients = map client_of clients; memory = memory; indeterminate = doubts_of c.mark_shared.new.marks }) c.mark_shared.ensures.rest.memory
+    ∙ ap₂ {C = Board} (λ (clients : List ClientBoard) (indeterminate : ℕ → Bool). record board { clients = clients; indeterminate = indeterminate })
     (ap (map client_of) (held c) ∙ struck c)
-    (c.mark_shared.ensures.bytes ∙ ap (λ (cs : List ClientState). after_hit (is_marked c.self.inside.indeterminate) c.args.span (footprints_of (map client_of cs))) c.deref.ensures.value)
+    (c.mark_shared.ensures.bytes ∙ ap (λ (cs : List ClientState). after_hit (doubts_of c.self.inside.serial) c.args.span (footprints_of (map client_of cs))) c.deref.ensures.value)
     ∙ ap (λ (b : BoardState). hit_on (Some c.args.span) (board_of b)) c.self.view_is

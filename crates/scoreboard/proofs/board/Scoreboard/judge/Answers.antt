@@ -1,29 +1,56 @@
 -- The laws of both policies, by what the board says of a beat.
-use Rattle.std.proofs.Common.{sym, subst, ◌∙◌, ap}
+use Rattle.std.proofs.Common.{◌≡◌, [], ◌∷◌, ◌++◌, Err, None, Ok, Option, Result, ap, subst, sym, ◌∙◌}
+use Rattle.std.specs.Prelude.{◌↔◌, IfOk}
 use Rattle.scoreboard.specs.Boards.{wrong_at}
 use Rattle.scoreboard.specs.InsideBoards.{board_of}
+use Rattle.scoreboard.specs.Right.{IsRight}
 use Rattle.scoreboard.specs.RealTime.{JudgesRightly}
+use Rattle.scoreboard.specs.Wider.{IsWiderAlong, LetsRightPass}
 use Rattle.scoreboard.specs.declared.Policy.{Policy}
+use Rattle.scoreboard.specs.declared.Policy.TheVariants.{AcceptanceOrder}
+use Rattle.scoreboard.specs.declared.Wrong.{Wrong}
 use Rattle.scoreboard.proofs.acceptance_order.Reached.{memory_reached, right_exactly}
 use Rattle.scoreboard.proofs.real_time.JudgedRightly.{judges_rightly}
 use Rattle.scoreboard.proofs.real_time.RightRuns.{lets_right_pass}
 use Rattle.scoreboard.proofs.real_time.WiderRuns.{is_wider}
 use Rattle.scoreboard.proofs.board.Scoreboard.judge.Goals as goal
 
+-- what holds of the answer that the board gives
+of_answer : {X E : Type 0} (P Q : X → Type 0) (r : Result X E) → ((x : X) → P x → Q x) → IfOk r P → IfOk r Q
+of_answer P Q (Ok x) leads holds = leads x holds
+of_answer P Q (Err e) leads holds = tt
+
 pub returns-clause-exactly : goal.returns-clause-exactly
-returns-clause-exactly c ordered setup before reached =
-    rw (c.judge_by_board.ensures.answer, ordered) (right_exactly setup before (board_of c.args.self.now) c.args.seen.now reached)
+returns-clause-exactly c =
+    of_answer (λ (wrong : Option Wrong). wrong ≡ wrong_at c.args.self.now.policy (board_of c.args.self.now) c.args.seen.now) _ c.judge_by_board.result
+    (λ wrong is ordered setup before reached.
+    subst (λ (w : Option Wrong). (w ≡ None) ↔ IsRight setup (before ++ c.args.seen.now ∷ [])) (sym (is ∙ ap (λ (policy : Policy). wrong_at policy (board_of c.args.self.now) c.args.seen.now) ordered))
+    (right_exactly setup before (board_of c.args.self.now) c.args.seen.now reached))
+    c.judge_by_board.ensures.answer
 
 pub returns-clause-memory : goal.returns-clause-memory
 returns-clause-memory c ordered setup before reached = memory_reached setup before (board_of c.args.self.now) reached
 
 pub returns-clause-right : goal.returns-clause-right
-returns-clause-right c real_time = rw (c.judge_by_board.ensures.answer, real_time) (lets_right_pass (board_of c.args.self.now) c.args.seen.now)
+returns-clause-right c =
+    of_answer (λ (wrong : Option Wrong). wrong ≡ wrong_at c.args.self.now.policy (board_of c.args.self.now) c.args.seen.now) _ c.judge_by_board.result
+    (λ wrong is real_time.
+    subst (LetsRightPass (board_of c.args.self.now) c.args.seen.now) (sym (is ∙ ap (λ (policy : Policy). wrong_at policy (board_of c.args.self.now) c.args.seen.now) real_time))
+    (lets_right_pass (board_of c.args.self.now) c.args.seen.now))
+    c.judge_by_board.ensures.answer
 
 pub returns-clause-wider : goal.returns-clause-wider
-returns-clause-wider c real_time = rw (c.judge_by_board.ensures.answer, real_time) (is_wider (board_of c.args.self.now) c.args.seen.now)
+returns-clause-wider c =
+    of_answer (λ (wrong : Option Wrong). wrong ≡ wrong_at c.args.self.now.policy (board_of c.args.self.now) c.args.seen.now) _ c.judge_by_board.result
+    (λ wrong is real_time.
+    subst (IsWiderAlong (board_of c.args.self.now) c.args.seen.now) (sym (is ∙ ap (λ (policy : Policy). wrong_at policy (board_of c.args.self.now) c.args.seen.now) real_time))
+    (is_wider (board_of c.args.self.now) c.args.seen.now))
+    c.judge_by_board.ensures.answer
 
 pub returns-clause-rightly : goal.returns-clause-rightly
-returns-clause-rightly c real_time =
-    let same = c.judge_by_board.ensures.answer ∙ ap (λ (policy : Policy). wrong_at policy (board_of c.args.self.now) c.args.seen.now) real_time in
-    subst (JudgesRightly (board_of c.args.self.now) c.args.seen.now) (sym same) (judges_rightly (board_of c.args.self.now) c.args.seen.now)
+returns-clause-rightly c =
+    of_answer (λ (wrong : Option Wrong). wrong ≡ wrong_at c.args.self.now.policy (board_of c.args.self.now) c.args.seen.now) _ c.judge_by_board.result
+    (λ wrong is real_time.
+    subst (JudgesRightly (board_of c.args.self.now) c.args.seen.now) (sym (is ∙ ap (λ (policy : Policy). wrong_at policy (board_of c.args.self.now) c.args.seen.now) real_time))
+    (judges_rightly (board_of c.args.self.now) c.args.seen.now))
+    c.judge_by_board.ensures.answer

@@ -1,34 +1,24 @@
 -- There are at most eight clients, and the board holds what was made for it.
-use Rattle.std.proofs.Common.{◌≡◌, ◌≤◌, ap, length, map, refl, sym, ◌∙◌}
+use Rattle.std.proofs.Common.{◌≡◌, ◌≤◌, ap, length, map, refl, ◌∙◌}
 use Rattle.std.proofs.lemmas.List.{length-map}
-use Rattle.subordinate.specs.InsidePages.{PagesState}
 use Rattle.score_setup.specs.ScoreSetups.{lists_of}
 use Rattle.score_setup.proofs.ScoreSetupFaults.{valid_to_score}
 use Rattle.scoreboard.specs.Boards.{Board}
 use Rattle.scoreboard.specs.InsideBoards.{client_of}
-use Rattle.scoreboard.specs.SerialMemory.{MemoryState, opening_memory_state}
+use Rattle.serial_memory.specs.SerialMemory.{rooms_of}
 use Rattle.scoreboard.specs.declared.Errors.TheVariants.{Strict}
-use Rattle.scoreboard.proofs.acceptance_order.BoardClients.{board_opens, device_fine, few_clients, nothing_written}
+use Rattle.scoreboard.proofs.acceptance_order.BoardClients.{board_opens, device_fine, few_clients, nothing_written, pages_same}
 use Rattle.scoreboard.proofs.board.Scoreboard.opening.Goals as goal
 
 pub new-requires-2 : goal.new-requires-2
-new-requires-2 c = record { fine = rw (c.as_slice-pages.ensures.value, c.as_slice-bad.ensures.value) (device_fine (lists_of c.args.setup.now) c.requires) }
+new-requires-2 c =
+    record { fine = rw (c.deref.ensures.value, c.in_ok-ranges.ensures, c.as_slice-2.ensures.value, c.as_slice-3.ensures.value, pages_same c.args.setup.now.pages.items) (device_fine (lists_of c.args.setup.now) c.requires) }
 
 pub opening_clients-requires-clause-valid : goal.opening_clients-requires-clause-valid
 opening_clients-requires-clause-valid c = valid_to_score (lists_of c.args.setup.now) c.requires
 
 pub new-requires-3 : goal.new-requires-3
-new-requires-3 c = record { fine = rw (c.as_slice-pages.ensures.value, c.as_slice-bad.ensures.value) (device_fine (lists_of c.args.setup.now) c.requires) }
-
-pub new-requires-4 : goal.new-requires-4
-new-requires-4 c = valid_to_score (lists_of c.args.setup.now) c.requires
-
-serial : (c : goal.In_ok-joining) → c.in_ok-serial.serial ≡ opening_memory_state c.args.setup.now.regions.items c.args.setup.now.pages.items c.args.setup.now.bad_words.items
-serial c = c.in_ok-serial.ensures ∙ rw (c.in-Ok.ensures.ok, c.as_slice.ensures.value, c.as_slice-pages.ensures.value, c.as_slice-bad.ensures.value) refl
-
-marks : (c : goal.In_ok-joining) → c.in_ok-indeterminate.indeterminate
-    ≡ (opening_memory_state c.args.setup.now.regions.items c.args.setup.now.pages.items c.args.setup.now.bad_words.items).pages
-marks c = rw (← c.as_slice-pages.ensures.value, ← c.as_slice-bad.ensures.value) c.in_ok-indeterminate.ensures
+new-requires-3 c = valid_to_score (lists_of c.args.setup.now) c.requires
 
 pub invariant_of-result : goal.invariant_of-result
 invariant_of-result c =
@@ -37,8 +27,7 @@ invariant_of-result c =
       rw (length-map c.in_ok-clients.clients.items client_of) at few,
       rw (← c.room_by-room.ensures.room) c.in_ok-clients.ensures.1,
       c.in_ok-joining.ensures ∙ c.room_by-room.ensures.room,
-      ap (λ (pages : PagesState). pages.faults) (marks c) ∙ sym (ap (λ (memory : MemoryState). memory.pages.faults) (serial c)),
-      nothing_written c.in_ok-serial.serial.pages.faults setup c.in_ok-clients.clients.items c.in_ok-clients.ensures.0,
+      nothing_written (rooms_of c.in_ok-serial.serial) setup c.in_ok-clients.clients.items c.in_ok-clients.ensures.0,
     )
 
 pub returns : goal.returns
@@ -50,11 +39,12 @@ returns c = (
         errors = Strict;
         clients = c.in_ok-clients.clients.items;
         memory = c.in_ok-serial.serial;
-        indeterminate = c.in_ok-indeterminate.indeterminate;
         axi = c.in_ok-axi.axi;
         request = c.in_ok-request.request;
         joining = c.in_ok-joining.joining;
       })
-      c.in_ok-clients.ensures.0 (serial c) (marks c) (cc c.in_ok-axi.ensures)),
+      c.in_ok-clients.ensures.0
+      (c.in_ok-serial.ensures.memory ∙ rw (c.in-Ok.ensures.ok, c.as_slice.ensures.value, c.deref.ensures.value, c.in_ok-ranges.ensures, c.as_slice-2.ensures.value, c.as_slice-3.ensures.value) refl)
+      (c.in_ok-serial.ensures.doubts ∙ rw (c.deref.ensures.value, c.in_ok-ranges.ensures, c.as_slice-2.ensures.value) refl) (cc c.in_ok-axi.ensures)),
   refl,
 )

@@ -3,11 +3,12 @@ use Rattle.std.proofs.Common.{◌≡◌, Some, ap, rules, subst, sym, ◌∙◌,
 use Rattle.std.proofs.lemmas.Grind.{common_steps}
 use Rattle.std.specs.Prelude.{slice_get}
 use Rattle.bus_words.proofs.PlaceChanges.{all-got}
+use Rattle.serial_memory.specs.SerialMemory.{rooms_of}
 use Rattle.scoreboard.specs.Boards.{ClientBoard, client_footprints, with_client, with_whole}
-use Rattle.scoreboard.specs.InsideBoards.{AreOnGoodPages, BoardState, ClientState, IsFreeOf, IsOnGoodPage, board_of, client_of, flight_of, footprint_of, room_by}
+use Rattle.scoreboard.specs.InsideBoards.{HaveRoomToWrite, BoardState, ClientState, IsFreeOf, HasRoomToWrite, board_of, client_of, flight_of, footprint_of, room_by}
 use Rattle.scoreboard.specs.contracts.board.Scoreboard.{the_view}
 use Rattle.scoreboard.proofs.held.BoardSteps.{client_is, client_kept, client_there, put_there, there_at}
-use Rattle.scoreboard.proofs.held.ClientFootprints.{good_with_whole}
+use Rattle.scoreboard.proofs.held.ClientFootprints.{room_with_whole}
 use Rattle.scoreboard.proofs.board.Scoreboard.put_in.Goals as goal
 
 free : (c : goal.After-index_mut) → IsFreeOf c.self.inside.joining.source (client_of c.index_mut.result.now)
@@ -31,16 +32,15 @@ invariant_of-self c =
     let room = room_by c.self.inside.policy in
     let clients = c.self.inside.clients.items in
     let found = c.index_mut.result.now in
-    let faults = c.self.inside.serial.pages.faults in
-    let good = subst (λ (b : BoardState). IsOnGoodPage b.memory.pages.faults (footprint_of b.joining.footprint)) (sym c.self.view_is) c.requires.good in
-    let kept = client_kept room faults clients c.args.client found c.join.new.self (still c) c.join.ensures.own_room
-    (λ own_good. subst (λ (client : ClientBoard). AreOnGoodPages faults (client_footprints client)) (sym c.join.ensures.client)
-    (good_with_whole faults c.args.replied (flight_of c.self.inside.joining) (client_of found) own_good good))
-    (c.self.invariant.0, c.self.invariant.1, c.self.invariant.4) in (
+    let rooms = rooms_of c.self.inside.serial in
+    let good = subst (λ (b : BoardState). HasRoomToWrite (rooms_of b.memory) (footprint_of b.joining.footprint)) (sym c.self.view_is) c.requires.room in
+    let kept = client_kept room rooms clients c.args.client found c.join.new.self (still c) c.join.ensures.own_room
+    (λ own_good. subst (λ (client : ClientBoard). HaveRoomToWrite rooms (client_footprints client)) (sym c.join.ensures.client)
+    (room_with_whole rooms c.args.replied (flight_of c.self.inside.joining) (client_of found) own_good good))
+    (c.self.invariant.0, c.self.invariant.1, c.self.invariant.3) in (
       kept.0,
       kept.1,
       c.join.ensures.room ∙ all-got (λ (client : ClientState). client.flights.room ≡ room) clients c.args.client found c.self.invariant.1 (still c),
-      c.self.invariant.3,
       kept.2,
     )
 

@@ -1,9 +1,9 @@
 -- The one that is coming comes last.
-use Rattle.std.proofs.Common.{◌∙◌, ◌++◌, ◌∷◌, [], List, ap, map, subst, sym}
-use Rattle.subordinate.specs.Faults.{Faults}
+use Rattle.std.proofs.Common.{ℕ, Bool, ◌∙◌, ◌++◌, ◌∷◌, [], List, ap, map, subst, sym}
+use Rattle.serial_memory.specs.SerialMemory.{doubts_of, rooms_of}
 use Rattle.scoreboard.specs.Boards.{client_footprints}
 use Rattle.scoreboard.specs.Flights.{Footprint, InFlight, in_flight}
-use Rattle.scoreboard.specs.InsideBoards.{AreOnGoodPages, ClientState, FlightsState, FootprintState, IsOnGoodPage, client_of, flights_of, footprint_of, is_marked}
+use Rattle.scoreboard.specs.InsideBoards.{HaveRoomToWrite, ClientState, FlightsState, FootprintState, HasRoomToWrite, client_of, flights_of, footprint_of}
 use Rattle.scoreboard.specs.Races.{beside_dependent}
 use Rattle.scoreboard.proofs.held.ClientFootprints.{all_parts}
 use Rattle.scoreboard.proofs.held.Others.{beside_dependent-last}
@@ -13,25 +13,25 @@ abbrev flying : FlightsState → List Footprint
 flying flights = map (λ (flight : InFlight). flight.footprint) (in_flight (flights_of flights))
 
 -- those in flight and the one that is coming are on good pages
-parts : (faults : Faults) (flights : FlightsState) (coming : FootprintState) → AreOnGoodPages faults (flying flights ++ footprint_of coming ∷ [])
-    → AreOnGoodPages faults (flying flights) × AreOnGoodPages faults (footprint_of coming ∷ [])
-parts faults flights coming good = all_parts (IsOnGoodPage faults) (flying flights) (footprint_of coming ∷ []) good
+parts : (rooms : ℕ → Bool) (flights : FlightsState) (coming : FootprintState) → HaveRoomToWrite rooms (flying flights ++ footprint_of coming ∷ [])
+    → HaveRoomToWrite rooms (flying flights) × HaveRoomToWrite rooms (footprint_of coming ∷ [])
+parts rooms flights coming good = all_parts (HasRoomToWrite rooms) (flying flights) (footprint_of coming ∷ []) good
 
-good : (c : goal.After-mark-arg-1) → AreOnGoodPages c.args.marks.now.faults (flying c.self.inside.flights ++ footprint_of c.self.inside.coming ∷ [])
-good c = subst (λ (client : ClientState). AreOnGoodPages c.args.marks.now.faults (client_footprints (client_of client))) (sym c.self.view_is) c.requires.good
+good : (c : goal.After-mark-arg-1) → HaveRoomToWrite (rooms_of c.args.marks.now) (flying c.self.inside.flights ++ footprint_of c.self.inside.coming ∷ [])
+good c = subst (λ (client : ClientState). HaveRoomToWrite (rooms_of c.args.marks.now) (client_footprints (client_of client))) (sym c.self.view_is) c.requires.room
 
 pub mark-requires : goal.mark-requires
-mark-requires c = record { good = (parts c.args.marks.now.faults c.self.inside.flights c.self.inside.coming (good c)).0 }
+mark-requires c = record { room = (parts (rooms_of c.args.marks.now) c.self.inside.flights c.self.inside.coming (good c)).0 }
 
 pub mark_dependent-requires : goal.mark_dependent-requires
 mark_dependent-requires c =
-    let all = subst (λ (client : ClientState). AreOnGoodPages c.args.marks.now.faults (client_footprints (client_of client))) (sym c.self.view_is) c.requires.good in
-    record { good = rw c.mark.ensures.faults (parts c.args.marks.now.faults c.self.inside.flights c.self.inside.coming all).1.0 }
+    let all = subst (λ (client : ClientState). HaveRoomToWrite (rooms_of c.args.marks.now) (client_footprints (client_of client))) (sym c.self.view_is) c.requires.room in
+    record { room = subst (λ rooms. HasRoomToWrite rooms (footprint_of c.self.inside.coming)) (sym c.mark.ensures.rest.rooms) (parts (rooms_of c.args.marks.now) c.self.inside.flights c.self.inside.coming all).1.0 }
 
 pub returns-clause-bytes : goal.returns-clause-bytes
 returns-clause-bytes c =
-    let marks = is_marked c.args.marks.now in
+    let marks = doubts_of c.args.marks.now in
     let other = footprint_of c.args.other.now in
-    beside_dependent-last marks (is_marked c.mark.new.marks) (is_marked c.mark_dependent.new.marks) other
+    beside_dependent-last marks (doubts_of c.mark.new.marks) (doubts_of c.mark_dependent.new.marks) other
     (flying c.self.inside.flights) (footprint_of c.self.inside.coming) c.mark.ensures.bytes c.mark_dependent.ensures.bytes
     ∙ ap (λ (client : ClientState). beside_dependent marks other (client_footprints (client_of client))) c.self.view_is

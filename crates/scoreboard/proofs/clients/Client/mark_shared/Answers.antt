@@ -1,10 +1,10 @@
 -- The one that is coming comes last.
-use Rattle.std.proofs.Common.{◌∙◌, ◌++◌, ◌∷◌, [], List, ap, map, subst, sym}
-use Rattle.subordinate.specs.Faults.{Faults}
+use Rattle.std.proofs.Common.{ℕ, Bool, ◌∙◌, ◌++◌, ◌∷◌, [], List, ap, map, subst, sym}
+use Rattle.serial_memory.specs.SerialMemory.{doubts_of, rooms_of}
 use Rattle.scoreboard.specs.Boards.{client_footprints}
 use Rattle.scoreboard.specs.FailedBursts.{after_hit}
 use Rattle.scoreboard.specs.Flights.{Footprint, InFlight, in_flight}
-use Rattle.scoreboard.specs.InsideBoards.{AreOnGoodPages, ClientState, FlightsState, FootprintState, IsOnGoodPage, client_of, flights_of, footprint_of, is_marked}
+use Rattle.scoreboard.specs.InsideBoards.{HaveRoomToWrite, ClientState, FlightsState, FootprintState, HasRoomToWrite, client_of, flights_of, footprint_of}
 use Rattle.scoreboard.proofs.held.ClientFootprints.{all_parts}
 use Rattle.scoreboard.proofs.held.FailedResponses.{after_hit-last}
 use Rattle.scoreboard.proofs.clients.Client.mark_shared.Goals as goal
@@ -13,25 +13,25 @@ abbrev flying : FlightsState → List Footprint
 flying flights = map (λ (flight : InFlight). flight.footprint) (in_flight (flights_of flights))
 
 -- those in flight and the one that is coming are on good pages
-parts : (faults : Faults) (flights : FlightsState) (coming : FootprintState) → AreOnGoodPages faults (flying flights ++ footprint_of coming ∷ [])
-    → AreOnGoodPages faults (flying flights) × AreOnGoodPages faults (footprint_of coming ∷ [])
-parts faults flights coming good = all_parts (IsOnGoodPage faults) (flying flights) (footprint_of coming ∷ []) good
+parts : (rooms : ℕ → Bool) (flights : FlightsState) (coming : FootprintState) → HaveRoomToWrite rooms (flying flights ++ footprint_of coming ∷ [])
+    → HaveRoomToWrite rooms (flying flights) × HaveRoomToWrite rooms (footprint_of coming ∷ [])
+parts rooms flights coming good = all_parts (HasRoomToWrite rooms) (flying flights) (footprint_of coming ∷ []) good
 
-good : (c : goal.After-mark_shared-arg-1) → AreOnGoodPages c.args.marks.now.faults (flying c.self.inside.flights ++ footprint_of c.self.inside.coming ∷ [])
-good c = subst (λ (client : ClientState). AreOnGoodPages c.args.marks.now.faults (client_footprints (client_of client))) (sym c.self.view_is) c.requires.good
+good : (c : goal.After-mark_shared-arg-1) → HaveRoomToWrite (rooms_of c.args.marks.now) (flying c.self.inside.flights ++ footprint_of c.self.inside.coming ∷ [])
+good c = subst (λ (client : ClientState). HaveRoomToWrite (rooms_of c.args.marks.now) (client_footprints (client_of client))) (sym c.self.view_is) c.requires.room
 
 pub mark_shared-requires : goal.mark_shared-requires
-mark_shared-requires c = record { good = (parts c.args.marks.now.faults c.self.inside.flights c.self.inside.coming (good c)).0 }
+mark_shared-requires c = record { room = (parts (rooms_of c.args.marks.now) c.self.inside.flights c.self.inside.coming (good c)).0 }
 
 pub mark_shared-requires-2 : goal.mark_shared-requires-2
 mark_shared-requires-2 c =
-    let all = subst (λ (client : ClientState). AreOnGoodPages c.args.marks.now.faults (client_footprints (client_of client))) (sym c.self.view_is) c.requires.good in
-    record { good = rw c.mark_shared.ensures.faults (parts c.args.marks.now.faults c.self.inside.flights c.self.inside.coming all).1.0 }
+    let all = subst (λ (client : ClientState). HaveRoomToWrite (rooms_of c.args.marks.now) (client_footprints (client_of client))) (sym c.self.view_is) c.requires.room in
+    record { room = subst (λ rooms. HasRoomToWrite rooms (footprint_of c.self.inside.coming)) (sym c.mark_shared.ensures.rest.rooms) (parts (rooms_of c.args.marks.now) c.self.inside.flights c.self.inside.coming all).1.0 }
 
 pub returns-clause-bytes : goal.returns-clause-bytes
 returns-clause-bytes c =
-    let marks = is_marked c.args.marks.now in
+    let marks = doubts_of c.args.marks.now in
     let span = c.args.span in
-    after_hit-last marks (is_marked c.mark_shared.new.marks) (is_marked c.mark_shared-2.new.marks) span
+    after_hit-last marks (doubts_of c.mark_shared.new.marks) (doubts_of c.mark_shared-2.new.marks) span
     (flying c.self.inside.flights) (footprint_of c.self.inside.coming) c.mark_shared.ensures.bytes c.mark_shared-2.ensures.bytes
     ∙ ap (λ (client : ClientState). after_hit marks span (client_footprints (client_of client))) c.self.view_is

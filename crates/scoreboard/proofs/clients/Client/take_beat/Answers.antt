@@ -1,26 +1,33 @@
 -- A message that has begun is of a free source, and its first beat is right.
-use Rattle.std.proofs.Common.{◌≡◌, Ok, sym, ◌∙◌, ap}
+use Rattle.std.proofs.Common.{◌≡◌, Ok, Result, sym, ◌∙◌, ap}
 use Rattle.tl_checker.specs.Ports.{judged}
+use Rattle.tl_checker.specs.declared.Progress.{Progress}
 use Rattle.tl_checker.specs.declared.Progress.TheVariants.{More, Whole}
-use Rattle.scoreboard.specs.InsideBoards.{ClientState, flights_of}
+use Rattle.tl_checker.specs.declared.TlRule.{TlRule}
+use Rattle.scoreboard.specs.Boards.{answer_to}
+use Rattle.scoreboard.specs.Flights.{is_busy}
+use Rattle.scoreboard.specs.InsideBoards.{ClientState, client_of, flights_of}
 use Rattle.scoreboard.proofs.held.FreeFronts.{first_taken, joined_free, more_right, whole_joined}
 use Rattle.scoreboard.proofs.clients.Client.take_beat.Goals as goal
 
-pub invariant_of-self-in-Ok-More : goal.invariant_of-self-in-Ok-More
-invariant_of-self-in-Ok-More c =
-    let answer = c.take_beat-answer.ensures.answer ∙ ap (judged c.self.inside.port.limits c.self.inside.port.front c.args.beat.now) c.is_busy-busy.ensures in
-    let more : c.take_beat-answer.result ≡ Ok More = c.in-Ok-More.is ∙ ap Ok (rw c.in-Ok-More.is at c.in-Ok-More.field-0-is) in
-    let right = more_right c.args.policy c.self.inside.port c.take_beat-answer.new.self c.args.beat.now (flights_of c.self.inside.flights) c.take_beat-answer.result c.self.inside.corrupt c.self.invariant.0
-    c.self.invariant.1 c.self.invariant.2 c.self.invariant.5 answer c.take_beat-answer.ensures.port more in
+pub invariant_of-self : goal.invariant_of-self
+invariant_of-self c =
+    let told : judged c.self.inside.port.limits c.self.inside.port.front c.args.beat.now (is_busy c.args.policy (flights_of c.self.inside.flights) c.args.beat.now.source) ≡ Ok c.args.progress =
+    ap (λ (client : ClientState). answer_to c.args.policy (client_of client) c.args.beat.now) c.self.view_is ∙ c.requires in
+    let right = more_right c.args.policy c.self.inside.port c.take_judged.new.self c.args.beat.now (flights_of c.self.inside.flights) (Ok c.args.progress) c.self.inside.corrupt c.self.invariant.0
+    c.self.invariant.1 c.self.invariant.2 c.self.invariant.5 (sym told) c.take_judged.ensures (ap (λ (progress : Progress). Ok progress) c.in-More.is) in
     (right.0, right.1, right.2, right.3, c.self.invariant.4, right.4)
 
-pub returns-in-Ok-More-clause-first : goal.returns-in-Ok-More-clause-first
-returns-in-Ok-More-clause-first c none more =
-    first_taken c.self.inside.port.limits c.self.inside.port.front c.args.beat.now c.is_busy-busy.result c.self.invariant.1
-    (ap (λ (client : ClientState). client.front) c.self.view_is ∙ none) (sym c.take_beat-answer.ensures.answer ∙ more)
+pub returns-in-More-clause-first : goal.returns-in-More-clause-first
+returns-in-More-clause-first c none more =
+    let told : judged c.self.inside.port.limits c.self.inside.port.front c.args.beat.now (is_busy c.args.policy (flights_of c.self.inside.flights) c.args.beat.now.source) ≡ Ok c.args.progress =
+    ap (λ (client : ClientState). answer_to c.args.policy (client_of client) c.args.beat.now) c.self.view_is ∙ c.requires in
+    first_taken c.self.inside.port.limits c.self.inside.port.front c.args.beat.now _ c.self.invariant.1
+    (ap (λ (client : ClientState). client.front) c.self.view_is ∙ none) (told ∙ ap (λ (progress : Progress). Ok progress) more)
 
-pub returns-in-Ok-Whole-clause-free : goal.returns-in-Ok-Whole-clause-free
-returns-in-Ok-Whole-clause-free c whole =
-    let answer = c.take_beat-answer.ensures.answer ∙ ap (judged c.self.inside.port.limits c.self.inside.port.front c.args.beat.now) c.is_busy-busy.ensures in
-    let stands = whole_joined c.self.inside.port c.take_beat-answer.new.self c.args.beat.now c.take_beat-answer.result c.take_whole.new.room c.take_beat-answer.ensures.port c.take_whole.ensures.request whole in
-    rw (stands, ← c.self.view_is) (joined_free c.args.policy c.self.inside.port.limits c.self.inside.port.front c.args.beat.now (flights_of c.self.inside.flights) Whole c.self.invariant.2 (sym answer ∙ whole))
+pub returns-in-Whole-clause-free : goal.returns-in-Whole-clause-free
+returns-in-Whole-clause-free c whole =
+    let told : judged c.self.inside.port.limits c.self.inside.port.front c.args.beat.now (is_busy c.args.policy (flights_of c.self.inside.flights) c.args.beat.now.source) ≡ Ok c.args.progress =
+    ap (λ (client : ClientState). answer_to c.args.policy (client_of client) c.args.beat.now) c.self.view_is ∙ c.requires in
+    let stands = whole_joined c.self.inside.port c.take_judged.new.self c.args.beat.now (Ok c.args.progress) c.take_whole.new.room c.take_judged.ensures c.take_whole.ensures.request (ap (λ (progress : Progress). Ok progress) whole) in
+    rw (stands, ← c.self.view_is) (joined_free c.args.policy c.self.inside.port.limits c.self.inside.port.front c.args.beat.now (flights_of c.self.inside.flights) c.args.progress c.self.invariant.2 told)

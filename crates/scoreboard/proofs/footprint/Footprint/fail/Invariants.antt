@@ -1,9 +1,7 @@
--- The bytes before this one aren't determined.
-use Rattle.std.proofs.Common.{◌≡◌, ◌<◌, ℕ, get_or, length, false}
+-- The words before this one have no byte that is determined.
+use Rattle.std.proofs.Common.{◌≡◌, ◌<◌, ℕ, get_or, length}
 use Rattle.scoreboard.proofs.footprint.Footprint.fail.Given as goal
 
-abbrev pub invariant-loop-i : goal.invariant-loop-i
-invariant-loop-i l =
-    (l.self ≡ record l.fn.self { determined = l.self.determined })
-    × ((k : ℕ) → k < l.i → get_or l.self.determined k false ≡ false)
-    × (length l.self.determined ≡ length l.fn.self.determined)
+abbrev pub invariant-loop-k : goal.invariant-loop-k
+invariant-loop-k l =
+    (l.self ≡ record l.fn.self { determined = l.self.determined }) × ((j : ℕ) → j < l.k → get_or l.self.determined j 0 ≡ 0) × (length l.self.determined ≡ length l.fn.self.determined)

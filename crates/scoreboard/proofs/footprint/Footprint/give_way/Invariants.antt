@@ -1,12 +1,14 @@
--- The bytes before this one are determined or not as they have to be, and those from it on as they were.
-use Rattle.std.proofs.Common.{◌≡◌, ◌<◌, ◌≤◌, ◌+◌, ◌&&◌, not, ℕ, get_or, length, false}
+-- The words before this one are determined or not as they have to be, and those from it on as they were.
+use Rattle.std.proofs.Common.{◌≡◌, ◌<◌, ◌≤◌, ◌+◌, ◌*◌, ◌&&◌, not, ℕ, get_or, length}
+use Rattle.bus_words.specs.Lanes.{has_lane, word_address}
 use Rattle.scoreboard.specs.InsideBoards.{footprint_of}
 use Rattle.scoreboard.specs.Races.{covers}
 use Rattle.scoreboard.proofs.footprint.Footprint.give_way.Given as goal
 
-abbrev pub invariant-loop-i : goal.invariant-loop-i
-invariant-loop-i l =
+abbrev pub invariant-loop-k : goal.invariant-loop-k
+invariant-loop-k l =
     (l.self ≡ record l.fn.self { determined = l.self.determined })
-    × ((k : ℕ) → k < l.i → get_or l.self.determined k false ≡ (get_or l.fn.self.determined k false && not (covers (footprint_of l.other) (l.fn.self.address + k))))
-    × ((k : ℕ) → l.i ≤ k → get_or l.self.determined k false ≡ get_or l.fn.self.determined k false)
+    × ((j : ℕ) → j < l.k → (lane : ℕ) → lane < 8 → has_lane (get_or l.self.determined j 0) lane
+    ≡ (has_lane (get_or l.fn.self.determined j 0) lane && not (covers (footprint_of l.other) (word_address l.fn.self.address + 8 * j + lane))))
+    × ((j : ℕ) → l.k ≤ j → get_or l.self.determined j 0 ≡ get_or l.fn.self.determined j 0)
     × (length l.self.determined ≡ length l.fn.self.determined)

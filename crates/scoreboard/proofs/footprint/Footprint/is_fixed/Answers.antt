@@ -1,23 +1,26 @@
--- A byte that isn't determined is one of the range.
-use Rattle.std.proofs.Common.{◌≡◌, ◌+◌, ◌<◌, ◌^◌, ◌||◌, not, Bool, true, false, ap, refl, sym, ◌∙◌, arith}
-use Rattle.scoreboard.specs.InsideBoards.{FootprintState, determined_in}
-use Rattle.bus_words.proofs.Ranges.{all_pass, one_fails}
+-- A byte that isn't determined is one of a word's.
+use Rattle.std.proofs.Common.{◌≡◌, ◌+◌, ◌*◌, ap, sym, ◌∙◌, arith, below_more}
+use Rattle.bus_words.specs.Lanes.{has_lane}
+use Rattle.scoreboard.specs.InsideBoards.{FootprintState, determined_in, footprint_of}
+use Rattle.scoreboard.specs.Races.{covers}
+use Rattle.scoreboard.proofs.held.FootprintBytes.{all_fixed, not_fixed}
 use Rattle.scoreboard.proofs.footprint.Footprint.is_fixed.Goals as goal
 
-pub returns-then-not-is_determined : goal.returns-then-not-is_determined
-returns-then-not-is_determined c =
-    let reads : c.args.self.now.reads ≡ true = ap (λ (r : FootprintState). r.reads) (sym c.self.view_is) ∙ c.if-not-self.false in
-    let footprint = c.args.self.now in
-    let below : c.loop-i.i < 2 ^ footprint.size = omega arith in
-    let fails = one_fails (λ i. determined_in footprint (footprint.address + i)) 0 (2 ^ footprint.size) c.loop-i.i below (ap (λ i. determined_in footprint (footprint.address + i)) (omega arith) ∙ sym c.is_determined.ensures ∙ c.if-not-is_determined.true) in
-    rw (reads, fails) refl
+pub returns-then-determined_in-lanes_in : goal.returns-then-determined_in-lanes_in
+returns-then-determined_in-lanes_in c =
+    let reads = ap (λ (r : FootprintState). r.reads) (sym c.self.view_is) ∙ c.if-not-self.false in
+    not_fixed c.args.self.now c.word_at-word.result c.determined_in.result c.lanes_in.result (omega arith) (omega arith) reads c.determined_in.ensures c.lanes_in.ensures c.if-determined_in-lanes_in.true
+
+pub loop-k-preserved : goal.loop-k-preserved
+loop-k-preserved c =
+    let r = c.args.self.now in
+    below_more _ _ c.loop-k.invariant (λ lane less covered.
+    ap (λ a. determined_in r (a + lane)) (sym c.word_at-word.ensures)
+    ∙ sym (c.determined_in.ensures lane less)
+    ∙ ap (λ mask. has_lane mask lane) c.if-determined_in-lanes_in.false
+    ∙ c.lanes_in.ensures lane less
+    ∙ ap (λ a. covers (footprint_of r) (a + lane)) c.word_at-word.ensures
+    ∙ covered)
 
 pub returns : goal.returns
-returns c =
-    let footprint = c.args.self.now in
-    let all = all_pass (λ i. determined_in footprint (footprint.address + i)) 0 (2 ^ footprint.size) (λ k below. ap (λ i. determined_in footprint (footprint.address + i)) (omega arith) ∙ c.loop-i.invariant k (omega arith)) in
-    rw all (either (not footprint.reads))
-  where
-    either : (b : Bool) → true ≡ (b || true)
-    either true = refl
-    either false = refl
+returns c = all_fixed c.args.self.now c.words-k-end.ensures.range (λ k lane below less. c.loop-k.invariant k (omega arith) lane less)

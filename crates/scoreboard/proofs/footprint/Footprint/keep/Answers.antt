@@ -1,28 +1,30 @@
--- One byte more; and at the end all of them.
-use Rattle.std.proofs.Common.{◌≡◌, ◌<◌, ◌^◌, ◌+◌, ◌&&◌, ◌||◌, Bool, ap, refl, ◌∙◌, below_more, arith}
+-- One word more; and at the end all of them.
+use Rattle.std.proofs.Common.{◌≡◌, ◌<◌, ◌^◌, ◌+◌, ◌*◌, ◌&&◌, ◌||◌, Bool, ap, ap₂, get_or, refl, ◌∙◌, below_more, arith}
+use Rattle.bus_words.specs.Lanes.{has_lane, word_address}
+use Rattle.bus_words.proofs.MaskLaws.{has_lane-and}
 use Rattle.scoreboard.specs.InsideBoards.{FootprintState, determined_in, footprint_of}
-use Rattle.scoreboard.proofs.held.FootprintBytes.{determined_at, kept}
+use Rattle.scoreboard.proofs.held.FootprintBytes.{kept}
 use Rattle.scoreboard.proofs.footprint.Footprint.keep.Goals as goal
 
-pub loop-i-preserved : goal.loop-i-preserved
-loop-i-preserved c =
-    let same = c.loop-i.invariant.0 in
-    let wide : c.loop-i.self.size ≡ c.args.self.now.size = ap (λ (r : FootprintState). r.size) same in
-    let start : c.loop-i.self.address ≡ c.args.self.now.address = ap (λ (r : FootprintState). r.address) same in
-    let below : c.loop-i.i < 2 ^ c.loop-i.self.size = rw wide (omega arith) in (
+pub loop-k-preserved : goal.loop-k-preserved
+loop-k-preserved c =
+    let same = c.loop-k.invariant.0 in (
       cc (c.put.ensures.rest, ap (λ (r : FootprintState). record r { determined = c.put.new.self.determined }) same),
-      below_more _ _ (λ k less. c.put.ensures.others k (omega (arith, less)) ∙ c.loop-i.invariant.1 k less)
-          (c.put.ensures.own ∙ c.is_determined_with-kept.ensures
-          ∙ ap (λ b. b && determined_in c.args.coming.now (c.loop-i.self.address + c.loop-i.i)) (determined_at c.loop-i.self c.loop-i.i below ∙ c.loop-i.invariant.2 c.loop-i.i (omega arith))
-          ∙ rw start refl),
-      (λ k above. c.put.ensures.others k (omega (arith, above)) ∙ c.loop-i.invariant.2 k (omega (arith, above))),
-      c.put.ensures.room ∙ c.loop-i.invariant.3,
+      below_more _ _ (λ j below lane less. ap (λ mask. has_lane mask lane) (c.put.ensures.others j (omega (arith, below))) ∙ c.loop-k.invariant.1 j below lane less)
+          (λ lane less. ap (λ mask. has_lane mask lane) c.put.ensures.own
+          ∙ has_lane-and c.mask.result c.determined_in.result lane
+          ∙ ap₂ (λ (a b : Bool). a && b) (ap (λ mask. has_lane mask lane) (c.mask.ensures ∙ c.loop-k.invariant.2 c.loop-k.k (omega arith)))
+          (c.determined_in.ensures lane less)
+          ∙ ap (λ a. has_lane (get_or c.args.self.now.determined c.loop-k.k 0) lane && determined_in c.args.coming.now (a + lane))
+          (c.word_at.ensures ∙ ap (λ (r : FootprintState). word_address r.address + 8 * c.loop-k.k) same)),
+      (λ j above. c.put.ensures.others j (omega (arith, above)) ∙ c.loop-k.invariant.2 j (omega (arith, above))),
+      c.put.ensures.room ∙ c.loop-k.invariant.3,
     )
 
 pub returns-clause-footprint : goal.returns-clause-footprint
 returns-clause-footprint c =
     let old = c.args.self.now in
     let failed = λ (b : Bool) (r : FootprintState). record r { failed = r.failed || b } in
-    let new = failed c.args.coming.now.failed c.loop-i.self in
-    ap footprint_of (ap (failed c.coming.inside.failed) c.self.view_is ∙ ap (λ (r : FootprintState). failed r.failed c.loop-i.self) c.coming.view_is)
-    ∙ kept old new (footprint_of c.args.coming.now) (ap (failed c.args.coming.now.failed) c.loop-i.invariant.0) (λ k below. c.loop-i.invariant.1 k (omega arith))
+    let new = failed c.args.coming.now.failed c.loop-k.self in
+    ap footprint_of (ap (failed c.coming.inside.failed) c.self.view_is ∙ ap (λ (r : FootprintState). failed r.failed c.loop-k.self) c.coming.view_is)
+    ∙ kept old new (footprint_of c.args.coming.now) c.words-k-end.ensures.range (ap (failed c.args.coming.now.failed) c.loop-k.invariant.0) (λ k lane below less. c.loop-k.invariant.1 k (omega arith) lane less)

@@ -1,4 +1,0 @@
-pub mod PutWords
-pub mod RequestWords
-pub mod WordRanges
-pub mod WordReads

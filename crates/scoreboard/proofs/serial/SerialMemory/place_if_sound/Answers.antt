@@ -1,5 +1,0 @@
-use Rattle.std.proofs.Common.{rules}
-use Rattle.scoreboard.proofs.serial.SerialMemory.place_if_sound.Goals as goal
-
-pub returns-clause-place : goal.returns-clause-place
-returns-clause-place c = search rules
