@@ -591,6 +591,49 @@ INPUTS = {
         AW 0 14000 0 3 1 -> axi 15 PLACE
         -> outstanding 0 open 2
         """,
+    **{
+        f"the first and the last of all pages, by profile {profile}": f"""{CONFIG}
+        region 0 524288 80000 gpah
+        region 80000 524288 0 gpah
+        page 0 1048576 good
+        profile {profile}
+        A 0 0 0 3 5 7ffffff8 ff 1122334455667788 0
+        D 0 0 0 3 5 0 0 0
+        A 0 0 0 3 5 80000000 ff 8877665544332211 0
+        D 0 0 0 3 5 0 0 0
+        mem ffffffff -> = mem 11
+        mem 00000000 -> = mem 11
+        mem 80000000 -> = mem 00
+        A 1 4 0 3 6 7ffffff8 ff 0 0
+        D 1 1 0 3 6 0 1122334455667789 0 -> reply 7 PAYLOAD expected D 1 1 0 3 6 0 1122334455667788 0
+        -> outstanding 0 open 0
+        """
+        for profile in ("bridge", "tilelink")
+    },
+    "lines of pages, and one too many": f"""{CONFIG}
+        {lines("page 10 1 good", 1024)}
+        page 10 1 good -> fault at word 1
+        """,
+    "pages of two kinds between each other": f"""{CONFIG}
+        region 0 1024 1000 gpah
+        page 1000 512 good
+        page 1200 1 slverr
+        page 1201 511 good
+        mem 11fffff -> = mem 00
+        mem 1200000 -> = mem --
+        mem 13fffff -> = mem 00
+        mem 1400000 -> = mem --
+        -> outstanding 0 open 0
+        """,
+    "a page in two lines, counted from the first on": f"""{CONFIG}
+        page 1000 512 good
+        page 10ff 1048575 good
+        mem 0 -> set-up fault: PageTwice 512
+        """,
+    "pages past the last": f"{CONFIG}\npage 10 300 good\npage ffffe 3 slverr\nmem 0 -> set-up fault: PageRange 302",
+    "pages past the last number": f"{CONFIG}\npage ffffffff 2 good -> fault at word 1",
+    "a line of no page": f"{CONFIG}\npage 10 0 good -> fault at word 3",
+    "a line of more pages than there are": f"{CONFIG}\npage 0 1048577 good -> fault at word 3",
     "places before the config line": f"axi strict -> fault at word 1\n{CONFIG}",
     "places a second time": f"{SETUP}\naxi strict\naxi strict -> fault at word 1",
     "places behind a beat": f"{SETUP}\n{PUT}\naxi strict -> fault at word 1",

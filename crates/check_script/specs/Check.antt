@@ -2,12 +2,14 @@
 use Rattle.std.specs.Prelude.{ℕ, Bool, true, false, List, [], ◌∷◌, None, Result, Ok, Err}
 use Rattle.config.specs.Configs.{is_valid}
 use Rattle.config.specs.declared.Config.{Config as Limits}
+use Rattle.setups.specs.Setups.{SetupLists}
 use Rattle.setups.specs.declared.SetupFault.{SetupFault}
 use Rattle.setups.specs.declared.SetupFault.TheVariants.{BadConfig}
 use Rattle.line_text.specs.Fields.{read_as, byte_field}
 use Rattle.script_text.specs.Forms.{form_of, told_as}
 use Rattle.line_text.specs.OfferLines.{offer_line}
 use Rattle.script_text.specs.Scripts.{Reading}
+use Rattle.script_text.specs.SetupRules.{bridge_rules}
 use Rattle.script_text.specs.Stages.{Kind, Stage, command_by_form, is_config_form, reading_of}
 use Rattle.line_text.specs.Words.{dec_at, word_at}
 use Rattle.script_text.specs.declared.keywords.Form.{Form}
@@ -36,12 +38,12 @@ opened config true = Ok (opening_table config)
 opened config false = Err BadConfig
 
 -- of the set-up lines it has `config` alone; at the input's end it tells whether something was refused, and writes nothing
-abbrev pub check_kind : Kind (Unit {0}) PortTable CheckCommand
+abbrev pub check_kind : Kind SetupLists (Unit {0}) PortTable CheckCommand
 check_kind =
     record {
       most_lines = 65536;
       takes = is_config_form;
-      port_field = byte_field;
+      set_up = bridge_rules;
       own_opening = tt;
       own_line = λ own words. None;
       passes = λ words. false;
@@ -51,5 +53,5 @@ check_kind =
       ending = λ table. ([], table.refused);
     }
 
-abbrev pub check_reading : Reading (Stage (Unit {0}) PortTable) Bool
+abbrev pub check_reading : Reading (Stage SetupLists (Unit {0}) PortTable) Bool
 check_reading = reading_of check_kind

@@ -9,7 +9,7 @@ ghost use Rattle.check_script.specs.ClientPorts.{check_text, table_after, verdic
 use crate::client_ports::{ClientPorts, Verdict};
 use crate::lines::{CheckCommand, check_command};
 use line_text::{Words, WriteFault, a_line, refused_line, write_text};
-use script_text::{Form, Kind, ScriptFault, StagedScript, read_script};
+use script_text::{Form, Kind, ScriptFault, ScriptSetup, StagedScript, read_script};
 use setups::{Setup, SetupFault};
 use std::alloc::Global;
 use std::io::{Read, Write};
@@ -49,8 +49,8 @@ fn judge<W: Write>(
 }
 
 impl Kind for CheckScript {
-    ghost use Rattle.std.proofs.Common.{refl};
     ghost use Rattle.std.specs.Prelude.{false};
+    ghost use Rattle.setups.specs.Setups.{SetupLists, lists_of};
     ghost use Rattle.check_script.specs.Check.{check_kind};
     ghost use Rattle.check_script.specs.ClientPorts.{PortTable};
     ghost use Rattle.check_script.specs.CommandTexts.{check_gives};
@@ -62,6 +62,10 @@ impl Kind for CheckScript {
     type World = ClientPorts;
 
     type Command = CheckCommand;
+
+    ghost Lists = { SetupLists };
+
+    ghost lists = { lists_of };
 
     ghost State = { PortTable };
 
@@ -77,6 +81,18 @@ impl Kind for CheckScript {
 
     fn takes(form: Form) -> bool {
         matches!(form, Form::Config)
+    }
+
+    fn of_config(words: &Words<'_>) -> Result<Setup, u32> {
+        Setup::of_config(words)
+    }
+
+    fn has_no_room(setup: &Setup, form: Form, words: &Words<'_>) -> bool {
+        setup.has_no_room(form, words)
+    }
+
+    fn add(setup: &mut Setup, form: Form, words: &Words<'_>) -> Result<(), u32> {
+        setup.add(form, words)
     }
 
     fn own_opening() {}
@@ -124,8 +140,6 @@ impl Kind for CheckScript {
     ) -> Result<bool, ScriptFault> {
         Ok(ports.refused())
     }
-
-    ghost reads_port = { refl };
 
     ghost gives_text = { check_gives };
 }

@@ -1,7 +1,7 @@
 -- `tlbridge run`: what each line of its script does (this project's profile).
 use Rattle.std.specs.Prelude.{ℕ, Bool, true, false, List, [], ◌∷◌, ◌++◌, None, Result, Err}
 use Rattle.tl_messages.specs.Lines.{a_text}
-use Rattle.setups.specs.Setups.{setup_fault}
+use Rattle.setups.specs.Setups.{SetupLists, setup_fault}
 use Rattle.world.specs.World.{WorldState, Outcome, opening_world, next, byte_of, drained, work_left}
 use Rattle.world.specs.declared.Step.{Step}
 use Rattle.world.specs.declared.Step.TheVariants as step
@@ -11,6 +11,7 @@ use Rattle.line_text.specs.OfferLines.{offer_line}
 use Rattle.line_text.specs.Traces.{held_text, reply_text, drained_text, mem_text, work_text}
 use Rattle.run_script.specs.Answers.{answer_text}
 use Rattle.script_text.specs.Scripts.{Reading}
+use Rattle.script_text.specs.SetupRules.{bridge_rules}
 use Rattle.script_text.specs.Stages.{Kind, Stage, command_by_form, reading_of, unless_refused}
 use Rattle.line_text.specs.Words.{is_dec_to, dec_at, hex_at, word_at}
 use Rattle.script_text.specs.declared.keywords.Form.{Form}
@@ -72,12 +73,12 @@ commanded world Work = (work_text (work_left world), world)
 -- ---- `tlbridge run`
 
 -- it has every set-up line and none of its own, and writes nothing at the input's end
-abbrev pub run_kind : Kind (Unit {0}) WorldState Command
+abbrev pub run_kind : Kind SetupLists (Unit {0}) WorldState Command
 run_kind =
     record {
       most_lines = 65536;
       takes = λ form. true;
-      port_field = byte_field;
+      set_up = bridge_rules;
       own_opening = tt;
       own_line = λ own words. None;
       passes = λ words. false;
@@ -87,5 +88,5 @@ run_kind =
       ending = λ world. ([], false);
     }
 
-abbrev pub run_reading : Reading (Stage (Unit {0}) WorldState) Bool
+abbrev pub run_reading : Reading (Stage SetupLists (Unit {0}) WorldState) Bool
 run_reading = reading_of run_kind

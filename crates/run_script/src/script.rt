@@ -11,7 +11,7 @@ use crate::lines::{Command, command_of};
 use line_text::{
     Words, WriteFault, a_line, burst_lines, drained_line, mem_line, reply_lines, work_line,
 };
-use script_text::{Form, Kind, ScriptFault, StagedScript, read_script};
+use script_text::{Form, Kind, ScriptFault, ScriptSetup, StagedScript, read_script};
 use std::alloc::Global;
 use std::io::{Read, Write};
 use tl_messages::ReplyBox;
@@ -84,8 +84,8 @@ fn command<W: Write>(
 }
 
 impl Kind for RunScript {
-    ghost use Rattle.std.proofs.Common.{refl};
     ghost use Rattle.std.specs.Prelude.{false};
+    ghost use Rattle.setups.specs.Setups.{SetupLists, lists_of};
     ghost use Rattle.run_script.specs.CommandTexts.{run_gives};
     ghost use Rattle.run_script.specs.Run.{run_kind};
     ghost use Rattle.world.specs.World.{WorldState};
@@ -97,6 +97,10 @@ impl Kind for RunScript {
     type World = World;
 
     type Command = Command;
+
+    ghost Lists = { SetupLists };
+
+    ghost lists = { lists_of };
 
     ghost State = { WorldState };
 
@@ -112,6 +116,18 @@ impl Kind for RunScript {
 
     fn takes(_form: Form) -> bool {
         true
+    }
+
+    fn of_config(words: &Words<'_>) -> Result<Setup, u32> {
+        Setup::of_config(words)
+    }
+
+    fn has_no_room(setup: &Setup, form: Form, words: &Words<'_>) -> bool {
+        setup.has_no_room(form, words)
+    }
+
+    fn add(setup: &mut Setup, form: Form, words: &Words<'_>) -> Result<(), u32> {
+        setup.add(form, words)
     }
 
     fn own_opening() {}
@@ -149,8 +165,6 @@ impl Kind for RunScript {
     fn end<W: Write>(&mut self, _world: &mut World, _writer: &mut W) -> Result<bool, ScriptFault> {
         Ok(false)
     }
-
-    ghost reads_port = { refl };
 
     ghost gives_text = { run_gives };
 }

@@ -15,7 +15,7 @@ use Rattle.scoreboard.specs.declared.Policy.TheVariants.{AcceptanceOrder, RealTi
 use Rattle.scoreboard.specs.declared.ObservedBeat.{ObservedBeat}
 use Rattle.scoreboard.specs.declared.Wrong.{Wrong}
 use Rattle.script_text.specs.Forms.{told_as}
-use Rattle.setups.specs.Setups.{SetupLists}
+use Rattle.score_setup.specs.ScoreSetups.{RangeLists}
 
 -- ---- profile PROFILE
 
@@ -107,8 +107,8 @@ pub record PolicyBoard : Type 0 where
   pub board : Board
 
 -- nothing was observed, and errors are told so
-abbrev pub opening_board : Policy → Errors → SetupLists → PolicyBoard
-opening_board policy errors setup = record { policy = policy; board = boards.opening_with errors setup }
+abbrev pub opening_board : Policy → Errors → RangeLists → PolicyBoard
+opening_board policy errors setup = record { policy = policy; board = boards.opening_from errors (boards.beginning_of setup) }
 
 -- what is wrong with a beat, if anything is
 abbrev pub wrong_in : PolicyBoard → ObservedBeat → Option Wrong

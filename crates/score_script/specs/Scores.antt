@@ -17,9 +17,8 @@ use Rattle.scoreboard.specs.declared.ObservedBeat.TheVariants.{A, D, Axi, Draine
 use Rattle.scoreboard.specs.declared.Wrong.{Wrong}
 use Rattle.script_text.specs.Scripts.{Reading}
 use Rattle.script_text.specs.Stages.{Kind, Opening, Stage, reading_of, unless_refused}
-use Rattle.line_text.specs.Fields.{short_field}
-use Rattle.score_setup.specs.ScoreSetups.{score_setup_fault}
-use Rattle.setups.specs.Setups.{SetupLists}
+use Rattle.score_setup.specs.ScoreSetups.{RangeLists, one_by_one, score_setup_fault}
+use Rattle.script_text.specs.SetupRules.{score_rules}
 
 -- the board; the regions to which bursts have to go, where that is asked for; the beat that is held, which is that of the last line, where that is an
 -- A line; and how many beats were judged, and how many of them are wrong
@@ -31,7 +30,7 @@ pub record Score : Type 0 where
   pub wrong : ℕ
 
 -- a score of which nothing was observed
-abbrev pub opening_score : Asked → SetupLists → Score
+abbrev pub opening_score : Asked → RangeLists → Score
 opening_score asked setup =
     record {
       board = opening_board (policy_of asked.policy) (errors_of asked.errors) setup;
@@ -136,25 +135,25 @@ closing settled = (
 -- it has every set-up line, and a `profile`, an `axi` and an `errors` line of its own; without the first the profile is `bridge`, without the second no
 -- place is judged, and without the third errors are told as this project's bridge tells them. An answer that only settles a beat is passed over before
 -- the first command
-abbrev pub score_kind : Kind Asked Score Command
+abbrev pub score_kind : Kind RangeLists Asked Score Command
 score_kind =
     record {
       most_lines = 4294967294;
       takes = λ form. true;
-      port_field = short_field;
+      set_up = score_rules;
       own_opening = nothing_asked;
       own_line = own_line;
       passes = only_settles;
       command_of = command_of;
-      opened = λ asked setup. unless_refused (opening_score asked setup) (score_setup_fault setup);
+      opened = λ asked setup. unless_refused (opening_score asked setup) (score_setup_fault (one_by_one setup));
       commanded = λ score number said. (finds_text (finds score number said), (finds score number said).after);
       ending = λ score. closing (settling score);
     }
 
 -- an observation as it is read: a board is made at the end where none was
-abbrev pub score_reading : Reading (Stage Asked Score) Bool
+abbrev pub score_reading : Reading (Stage RangeLists Asked Score) Bool
 score_reading = reading_of score_kind
 
 -- no line was read
-abbrev pub opening_state : Stage Asked Score
+abbrev pub opening_state : Stage RangeLists Asked Score
 opening_state = Opening

@@ -1,7 +1,7 @@
 //! What was found of the beats that were read so far, and what each line finds.
 ghost use Rattle.std.specs.Prelude.{◌≡◌, ◌⊎◌, Err, IfErr, IfOk, IfSome, None, OnOk, Some, if◌then◌else◌, is_some, true};
 ghost use Rattle.script_text.specs.Stages.{WritesEnd};
-ghost use Rattle.score_setup.specs.ScoreSetups.{lists_of, score_setup_fault};
+ghost use Rattle.score_setup.specs.ScoreSetups.{lists_of, ranges_of, score_setup_fault};
 ghost use Rattle.setups.specs.declared.SetupFault.TheVariants.{NoMemory};
 ghost use Rattle.score_script.specs.Scores.{beats_judged, client_of, closing, counted, finds, found, judging, misplaced_in, observing, opening_score, settling};
 ghost use Rattle.score_script.specs.ScoreStates.{score_of};
@@ -132,7 +132,7 @@ impl Score {
     pub(crate) fn new(alloc: Global, asked: Asked, setup: &ScoreSetup) -> Result<Score, SetupFault>
         ensures refused { IfSome (score_setup_fault (lists_of setup.now)) (λ fault. result ≡ Err fault) }
         ensures want { IfErr result (λ fault. (score_setup_fault (lists_of setup.now) ≡ Some fault) ⊎ (fault ≡ NoMemory)) }
-        ensures opens { IfOk result (λ score. score_of score ≡ opening_score asked (lists_of setup.now)) }
+        ensures opens { IfOk result (λ score. score_of score ≡ opening_score asked (ranges_of setup.now)) }
     {
         let policy = asked.policy.unwrap_or(Policy::AcceptanceOrder);
         let errors = asked.errors.unwrap_or(Errors::Strict);

@@ -9,7 +9,7 @@ use crate::profiles::Asked;
 use crate::score::{Command, Score};
 use line_text::Words;
 use score_setup::ScoreSetup;
-use script_text::{Form, Kind, ScriptFault, StagedScript, read_script};
+use script_text::{Form, Kind, ScriptFault, ScriptSetup, StagedScript, read_script};
 use setups::SetupFault;
 use std::alloc::Global;
 use std::io::{Read, Write};
@@ -19,8 +19,8 @@ use std::io::{Read, Write};
 struct ScoreScript;
 
 impl Kind for ScoreScript {
-    ghost use Rattle.std.proofs.Common.{refl};
     ghost use Rattle.std.specs.Prelude.{true};
+    ghost use Rattle.score_setup.specs.ScoreSetups.{RangeLists, ranges_of};
     ghost use Rattle.score_script.specs.CommandTexts.{score_gives};
     ghost use Rattle.score_script.specs.ScoreStates.{score_of};
     ghost use Rattle.score_script.specs.Scores.{Score, score_kind};
@@ -32,6 +32,10 @@ impl Kind for ScoreScript {
     type World = Score;
 
     type Command = Command;
+
+    ghost Lists = { RangeLists };
+
+    ghost lists = { ranges_of };
 
     ghost State = { Score };
 
@@ -48,6 +52,18 @@ impl Kind for ScoreScript {
 
     fn takes(_form: Form) -> bool {
         true
+    }
+
+    fn of_config(words: &Words<'_>) -> Result<ScoreSetup, u32> {
+        ScoreSetup::of_config(words)
+    }
+
+    fn has_no_room(setup: &ScoreSetup, form: Form, words: &Words<'_>) -> bool {
+        setup.has_no_room(form, words)
+    }
+
+    fn add(setup: &mut ScoreSetup, form: Form, words: &Words<'_>) -> Result<(), u32> {
+        setup.add(form, words)
     }
 
     fn own_opening() -> Asked {
@@ -89,8 +105,6 @@ impl Kind for ScoreScript {
     fn end<W: Write>(&mut self, score: &mut Score, writer: &mut W) -> Result<bool, ScriptFault> {
         score.close(writer)
     }
-
-    ghost reads_port = { refl };
 
     ghost gives_text = { score_gives };
 }

@@ -1,1 +1,2 @@
+mod PagesAlone
 pub mod ScoreSetupFaults

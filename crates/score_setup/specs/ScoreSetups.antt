@@ -1,12 +1,19 @@
 -- A set-up of a bridge that is only observed: its AXI4 port may have more IDs, and more bursts of an ID on the way, than that of this project's
--- bridge. All else is as in a set-up of the latter, and is said there (this project's profile).
-use Rattle.std.specs.Prelude.{◌*◌, Bool, ◌&&◌, Option, Some, if◌then◌else◌, nat_le}
+-- bridge, and its memory more pages, which are listed as ranges. All else is as in a set-up of the latter, and is said there (this project's profile).
+use Rattle.std.specs.Prelude.{ℕ, ◌*◌, Bool, ◌&&◌, List, Option, Some, if◌then◌else◌, nat_le}
 use Rattle.bus_words.specs.Lanes.{is_between}
 use Rattle.config.specs.Configs.{is_valid}
+use Rattle.burst_plan.specs.declared.Region.{Region}
 use Rattle.config.specs.declared.Config.{Config}
 use Rattle.setups.specs.Setups.{SetupLists, setup_fault}
 use Rattle.setups.specs.declared.SetupFault.{SetupFault}
 use Rattle.setups.specs.declared.SetupFault.TheVariants.{BadConfig}
+use Rattle.sparse_memory.specs.Ranges.{pages_in}
+use Rattle.sparse_memory.specs.declared.PageRange.{PageRange}
+use Rattle.sparse_memory.specs.declared.RangeKind.{RangeKind}
+use Rattle.sparse_memory.specs.declared.RangeKind.TheVariants.{SlaveError as ErrorRange, Zeros}
+use Rattle.subordinate.specs.declared.PageKind.{PageKind}
+use Rattle.subordinate.specs.declared.PageKind.TheVariants.{Good, SlaveError}
 use Rattle.score_setup.specs.declared.ScoreConfig.{ScoreConfig}
 use Rattle.score_setup.specs.declared.ScoreSetup.{ScoreSetup}
 
@@ -24,10 +31,35 @@ limits_of config =
       axi_bytes = config.axi_bytes;
     }
 
--- the lists of a set-up
+-- what pages of a kind are that begin as zeros
+abbrev pub range_kind : PageKind → RangeKind
+range_kind Good = Zeros
+range_kind SlaveError = ErrorRange
+
+-- a page by itself
+abbrev pub page_alone : ℕ × PageKind → PageRange
+page_alone page = record { first = page.0; count = 1; kind = range_kind page.1 }
+
+-- a set-up, with its pages as ranges
+pub record RangeLists : Type 0 where
+  pub config : Config
+  pub regions : List Region
+  pub ranges : List PageRange
+  pub bad_words : List ℕ
+
+-- the same with its pages one by one
+abbrev pub one_by_one : RangeLists → SetupLists
+one_by_one setup =
+    record { config = setup.config; regions = setup.regions; pages = pages_in setup.ranges; bad_words = setup.bad_words }
+
+-- the lists of a set-up, with its pages as ranges
+abbrev pub ranges_of : ScoreSetup → RangeLists
+ranges_of setup =
+    record { config = limits_of setup.config; regions = setup.regions.items; ranges = setup.pages.items; bad_words = setup.bad_words.items }
+
+-- the lists of a set-up, with its pages one by one
 abbrev pub lists_of : ScoreSetup → SetupLists
-lists_of setup =
-    record { config = limits_of setup.config; regions = setup.regions.items; pages = setup.pages.items; bad_words = setup.bad_words.items }
+lists_of setup = one_by_one (ranges_of setup)
 
 -- these limits with one ID, and one burst of it at a time
 abbrev pub with_one_burst : Config → Config

@@ -1,17 +1,18 @@
 //! What a bridge that is only observed is set up with, and why such a set-up is refused (this project's profile).
 #![tactic(auto)]
 
-ghost use Rattle.std.specs.Prelude.{◌≡◌, ◌*◌, ◌&&◌, [], None, nat_le};
+ghost use Rattle.std.specs.Prelude.{◌≡◌, ◌≤◌, ◌*◌, ◌&&◌, [], None, length, map, nat_le};
 ghost use Rattle.bus_words.specs.Lanes.{is_between};
 ghost use Rattle.config.specs.Configs.{port_of};
 ghost use Rattle.setups.specs.Setups.{lists_of as lists_of_bridge, setup_fault};
-ghost use Rattle.score_setup.specs.ScoreSetups.{is_valid_to_score, limits_of, lists_of, score_setup_fault, with_one_burst};
+ghost use Rattle.score_setup.specs.ScoreSetups.{is_valid_to_score, limits_of, lists_of, page_alone, score_setup_fault, with_one_burst};
 
 use arrayvec::ArrayVec;
 use burst_plan::{Region, region_fault};
 use config::Config;
 use setups::{Setup, SetupFault};
-use subordinate::{PageKind, device_fault};
+use sparse_memory::{PageRange, RangeKind, memory_fault};
+use subordinate::PageKind;
 use tl_checker::Level;
 
 /// The limits of a bridge that is only observed (this project's profile): those of this project's bridge, but for its AXI4 port.
@@ -42,8 +43,8 @@ pub struct ScoreSetup {
     pub config: ScoreConfig,
     /// The regions of TileLink pages, each leading to AXI pages.
     pub regions: ArrayVec<Region, 16>,
-    /// The memory's pages with their kinds; other pages are absent.
-    pub pages: ArrayVec<(u32, PageKind), 64>,
+    /// The memory's pages; other pages are absent.
+    pub pages: ArrayVec<PageRange, 1024>,
     /// The addresses of eight-byte words of good pages that went bad.
     pub bad_words: ArrayVec<u32, 64>,
 }
@@ -107,6 +108,33 @@ impl ScoreConfig {
     }
 }
 
+/// A page by itself, whose bytes start as zero.
+fn page_alone(page: &(u32, PageKind)) -> PageRange
+    ensures { result ≡ page_alone page.now }
+{
+    let kind = match page.1 {
+        PageKind::Good => RangeKind::Zeros,
+        PageKind::SlaveError => RangeKind::SlaveError,
+    };
+    PageRange {
+        first: page.0,
+        count: 1,
+        kind,
+    }
+}
+
+/// Each page of a list by itself.
+fn alone(pages: &[(u32, PageKind)]) -> ArrayVec<PageRange, 1024>
+    requires { length pages.now ≤ 1024 }
+    ensures { result.items ≡ map page_alone pages.now }
+{
+    let mut ranges = ArrayVec::new();
+    for page in pages {
+        ranges.push(page_alone(page));
+    }
+    ranges
+}
+
 impl ScoreSetup {
     /// A set-up with no regions, no pages and no bad words.
     pub fn new(config: ScoreConfig) -> ScoreSetup
@@ -132,9 +160,7 @@ impl ScoreSetup {
         copy.regions
             .try_extend_from_slice(setup.regions.as_slice())
             .unwrap();
-        copy.pages
-            .try_extend_from_slice(setup.pages.as_slice())
-            .unwrap();
+        copy.pages = alone(setup.pages.as_slice());
         copy.bad_words
             .try_extend_from_slice(setup.bad_words.as_slice())
             .unwrap();
@@ -153,7 +179,7 @@ pub fn score_setup_fault(setup: &ScoreSetup) -> Option<SetupFault>
     if let Some(fault) = region_fault(setup.regions.as_slice()) {
         return Some(SetupFault::Map(fault));
     }
-    match device_fault(setup.pages.as_slice(), setup.bad_words.as_slice()) {
+    match memory_fault(setup.pages.as_slice(), setup.bad_words.as_slice()) {
         Some(fault) => Some(SetupFault::Device(fault)),
         None => None,
     }

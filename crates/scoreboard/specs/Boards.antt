@@ -3,7 +3,7 @@
 -- tells a determined byte, so that the board keeps which bytes are determined, a request that writes races from its first beat on, and W beats may
 -- come before their AW. Where errors are told in any way a request that fails may be denied or corrupt as TileLink allows, and what it may have written
 -- is in doubt.
-use Rattle.std.specs.Prelude.{ℕ, ◌≡◌, ◌+◌, ◌-◌, ◌*◌, ◌==◌, Bool, true, false, ◌&&◌, ◌||◌, not, List, [], ◌∷◌, ◌++◌, map, length, sum_by, Option, Some, None, is_none, is_some, Result, Ok, Err, if◌then◌else◌, option_map, slice_get, slice_set, unwrap_or}
+use Rattle.std.specs.Prelude.{◌<◌, ◌/◌, ℕ, ◌≡◌, ◌+◌, ◌-◌, ◌*◌, ◌==◌, Bool, true, false, ◌&&◌, ◌||◌, not, List, [], ◌∷◌, ◌++◌, map, length, sum_by, Option, Some, None, is_none, is_some, Result, Ok, Err, if◌then◌else◌, option_map, slice_get, slice_set, unwrap_or}
 use Rattle.std.specs.Bool.{beq}
 use Rattle.std.specs.List.{flat_map, list_any, range_with_len}
 use Rattle.bus_words.specs.Lanes.{lane_byte, word_address}
@@ -22,8 +22,10 @@ use Rattle.axi_checker.specs.declared.AxiBeat.{AxiBeat}
 use Rattle.responses.specs.Shown.{beat_without_data, shown}
 use Rattle.config.specs.Configs.{axi_port_of, port_of}
 use Rattle.config.specs.declared.Config.{Config}
+use Rattle.score_setup.specs.ScoreSetups.{RangeLists, one_by_one}
 use Rattle.setups.specs.Setups.{SetupLists, faults_of}
-use Rattle.meaning.specs.Meaning.{acknowledged, zeros}
+use Rattle.sparse_memory.specs.Ranges.{is_unknown}
+use Rattle.meaning.specs.Meaning.{Bytes, acknowledged, zeros}
 use Rattle.std.specs.Option.{option_or}
 use Rattle.scoreboard.specs.AxiPorts.{PortBoard, drained, none_early, port_after, port_wrong}
 use Rattle.scoreboard.specs.FailedBursts.{Span, after_hit, failed_span, hit, hit_flight}
@@ -381,6 +383,26 @@ replies_open clients = sum_by (λ client. replies_left client.flights) clients
 abbrev pub opening_client : Config → ℕ → ClientBoard
 opening_client config client = record { limits = port_of config client; front = None; flights = no_flights; coming = no_footprint; early = None; told = false }
 
+-- what a board begins with: a set-up; the bytes of its memory at first, as far as they are known; and which of them nobody knows
+pub record Beginning : Type 0 where
+  pub lists : SetupLists
+  pub bytes : Bytes
+  pub unknown : ℕ → Bool
+
+-- bytes with which its memory may have begun: where these are known, they are as said
+pub record MayBegin (beginning : Beginning) (start : Bytes) : Type 0 where
+  pub said : (x : ℕ) → beginning.bytes x < 256
+  pub small : (x : ℕ) → start x < 256
+  pub known : (x : ℕ) → beginning.unknown x ≡ false → start x ≡ beginning.bytes x
+
+-- that of a set-up: zeros, but for the pages whose bytes nobody knows
+abbrev pub beginning_of : RangeLists → Beginning
+beginning_of setup = record { lists = one_by_one setup; bytes = zeros; unknown = λ address. is_unknown setup.ranges (address / 4096) }
+
+-- with zeros, which are known
+abbrev pub from_zeros : SetupLists → Beginning
+from_zeros setup = record { lists = setup; bytes = zeros; unknown = λ x. false }
+
 -- nothing was observed, all bytes are zero, and none is indeterminate; errors are told as this project's bridge tells them
 abbrev pub opening_board : SetupLists → Board
 opening_board setup =
@@ -395,6 +417,15 @@ opening_board setup =
 -- the same where errors are told in a way
 abbrev pub opening_with : Errors → SetupLists → Board
 opening_with errors setup = record (opening_board setup) { errors = errors }
+
+-- nothing was observed, and what nobody knows is indeterminate; errors are told in a way
+abbrev pub opening_from : Errors → Beginning → Board
+opening_from errors beginning =
+    record (opening_board beginning.lists) {
+      memory = record { regions = beginning.lists.regions; faults = faults_of beginning.lists; bytes = beginning.bytes };
+      indeterminate = beginning.unknown;
+      errors = errors;
+    }
 
 -- ---- lists of beats
 

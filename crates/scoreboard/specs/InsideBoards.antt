@@ -14,11 +14,6 @@ use Rattle.tl_checker.specs.declared.Progress.{Progress}
 use Rattle.tl_checker.specs.declared.Progress.TheVariants.{More, Whole}
 use Rattle.tl_checker.specs.declared.TlRule.{TlRule}
 use Rattle.axi_checker.specs.OpenBursts.{OpenBursts}
-use Rattle.subordinate.specs.declared.PageKind.{PageKind}
-use Rattle.subordinate.specs.declared.PageKind.TheVariants.{Good, SlaveError}
-use Rattle.sparse_memory.specs.declared.PageRange.{PageRange}
-use Rattle.sparse_memory.specs.declared.RangeKind.{RangeKind}
-use Rattle.sparse_memory.specs.declared.RangeKind.TheVariants.{Zeros, SlaveError as ErrorRange}
 use Rattle.axi_checker.specs.declared.AxiBeat.{AxiBeat}
 use Rattle.scoreboard.specs.AxiPorts.{PortBoard}
 use Rattle.scoreboard.specs.Boards.{Board, ClientBoard, acting, tells_error}
@@ -200,12 +195,3 @@ abbrev pub HaveRoomToWrite : (ℕ → Bool) → List Footprint → Type 0
 HaveRoomToWrite rooms footprints = AllByRecursion (HasRoomToWrite rooms) footprints
 
 -- ---- at the start
-
--- what a range of a page of some kind is
-abbrev pub range_kind : PageKind → RangeKind
-range_kind Good = Zeros
-range_kind SlaveError = ErrorRange
-
--- a page as a range of its own
-abbrev pub range_of_page : ℕ × PageKind → PageRange
-range_of_page page = record { first = page.0; count = 1; kind = range_kind page.1 }

@@ -8,7 +8,7 @@ use Rattle.burst_plan.specs.PageMap.{address_of}
 use Rattle.responses.specs.Shown.{shown}
 use Rattle.meaning.specs.Meaning.{Bytes, Effect, bytes_after_all, meaning, zeros}
 use Rattle.setups.specs.Setups.{SetupLists, faults_of}
-use Rattle.scoreboard.specs.Boards.{Board, after_all, due_beat, opening_with, tells_error, wrong_beat}
+use Rattle.scoreboard.specs.Boards.{Beginning, Board, after_all, due_beat, opening_from, tells_error, wrong_beat}
 use Rattle.serial_memory.specs.SerialMemory.{on_good_page}
 use Rattle.scoreboard.specs.declared.Errors.{Errors}
 use Rattle.scoreboard.specs.declared.Errors.TheVariants.{Any, Strict}
@@ -121,30 +121,30 @@ left_of setup asked test m [] = []
 left_of setup asked test m (entry ∷ order) =
     if test entry then shown_to setup asked entry m else left_of setup asked test (meaning_on setup entry.request m).after order
 
--- the beats that are due on a client's channel D, for the source of the beat that came, where the requests take effect in an order, all bytes zero before
-abbrev pub due_beats : SetupLists → Order → Asked → List DBeat
-due_beats setup order asked = left_of setup asked (is_due_in order asked.client asked.beat.source) zeros order
+-- the beats that are due on a client's channel D, for the source of the beat that came, where the requests take effect in an order, on these bytes
+abbrev pub due_beats : SetupLists → Bytes → Order → Asked → List DBeat
+due_beats setup start order asked = left_of setup asked (is_due_in order asked.client asked.beat.source) start order
 
 -- a beat on channel D is wrong in an order: nothing is due there, or a beat that isn't this one
-abbrev pub IsWrongIn : SetupLists → Order → Asked → Type 0
-IsWrongIn setup order asked = wrong_beat (due_beats setup order asked) asked.beat ≡ None → ⊥
+abbrev pub IsWrongIn : SetupLists → Bytes → Order → Asked → Type 0
+IsWrongIn setup start order asked = wrong_beat (due_beats setup start order asked) asked.beat ≡ None → ⊥
 
 -- a beat on channel D is wrong in an order as it is blamed: by the same rule, whatever beat is due there; and nothing is due where there is no such
 -- client
-abbrev pub IsWrongAs : SetupLists → Order → Asked → Wrong → Type 0
-IsWrongAs setup order asked NoClient = due_beats setup order asked ≡ []
-IsWrongAs setup order asked (Request broken) = ⊥
-IsWrongAs setup order asked (Reply broken due) =
-    (other : Option DBeat) × (wrong_beat (due_beats setup order asked) asked.beat ≡ Some (Reply broken other))
-IsWrongAs setup order asked (Axi broken) = ⊥
-IsWrongAs setup order asked Place = ⊥
+abbrev pub IsWrongAs : SetupLists → Bytes → Order → Asked → Wrong → Type 0
+IsWrongAs setup start order asked NoClient = due_beats setup start order asked ≡ []
+IsWrongAs setup start order asked (Request broken) = ⊥
+IsWrongAs setup start order asked (Reply broken due) =
+    (other : Option DBeat) × (wrong_beat (due_beats setup start order asked) asked.beat ≡ Some (Reply broken other))
+IsWrongAs setup start order asked (Axi broken) = ⊥
+IsWrongAs setup start order asked Place = ⊥
 
 -- the byte at an address, where all requests of an order took effect
-abbrev pub byte_left : SetupLists → Order → ℕ → ℕ
-byte_left setup order x = bytes_after_all (faults_of setup) setup.regions (map (λ entry. entry.request) order) zeros x
+abbrev pub byte_left : SetupLists → Bytes → Order → ℕ → ℕ
+byte_left setup start order x = bytes_after_all (faults_of setup) setup.regions (map (λ entry. entry.request) order) start x
 
 -- ---- whatever was seen
 
 -- the board after all beats since the start
-abbrev pub board_after : Errors → SetupLists → List ObservedBeat → Board
-board_after errors setup before = after_all RealTime (opening_with errors setup) before
+abbrev pub board_after : Errors → Beginning → List ObservedBeat → Board
+board_after errors beginning before = after_all RealTime (opening_from errors beginning) before

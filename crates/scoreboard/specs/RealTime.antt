@@ -4,6 +4,7 @@
 use Rattle.std.specs.Prelude.{ℕ, ◌≡◌, ◌^◌, ◌<◌, ◌≤◌, ◌==◌, ⊤, Bool, true, false, ◌&&◌, ◌||◌, not, List, [], ◌∷◌, ◌++◌, map, filter, length, Option, Some, None, Result, Ok, Err, if◌then◌else◌, is_some, nat_lt, option_map, slice_get, slice_index_or}
 use Rattle.std.specs.Option.{option_flatten}
 use Rattle.std.specs.List.{AllByRecursion, list_any, range_with_len}
+use Rattle.meaning.specs.Meaning.{Bytes}
 use Rattle.tl_messages.specs.Requests.{HeldMessage, WholeRequest, no_message, request_of}
 use Rattle.tl_messages.specs.declared.ABeat.{ABeat}
 use Rattle.tl_messages.specs.declared.AtomicOp.{AtomicOp}
@@ -13,8 +14,7 @@ use Rattle.tl_checker.specs.Ports.{joined}
 use Rattle.tl_checker.specs.declared.Progress.{Progress}
 use Rattle.tl_checker.specs.declared.Progress.TheVariants.{More, Whole}
 use Rattle.tl_checker.specs.declared.TlRule.{TlRule}
-use Rattle.setups.specs.Setups.{SetupLists}
-use Rattle.scoreboard.specs.Boards.{Board, ClientBoard, IsReached, after_seen, answer_to, is_spoiled, opening_with, told_to}
+use Rattle.scoreboard.specs.Boards.{Beginning, Board, ClientBoard, IsReached, MayBegin, after_seen, answer_to, is_spoiled, opening_from, told_to}
 use Rattle.scoreboard.specs.FailedBursts.{Span, failed_span, shares}
 use Rattle.scoreboard.specs.Flights.{Footprint}
 use Rattle.scoreboard.specs.Races.{alone, may_write}
@@ -116,8 +116,8 @@ begun_from board now [] = now
 begun_from board now (seen ∷ rest) = begun_from (after_seen policy.RealTime board seen) (begun_next board seen now) rest
 
 -- all that have begun since the start, each with how many beats of its reply came
-abbrev pub begun_in : Errors → SetupLists → List ObservedBeat → Order
-begun_in errors setup beats = begun_from (opening_with errors setup) [] beats
+abbrev pub begun_in : Errors → Beginning → List ObservedBeat → Order
+begun_in errors beginning beats = begun_from (opening_from errors beginning) [] beats
 
 -- a request by its number, from 0
 abbrev pub numbered : Order → ℕ → Entry
@@ -161,36 +161,36 @@ IsArrangement count numbers =
     (number : ℕ) → length (filter (λ other. other == number) numbers) ≡ (if nat_lt number count then 1 else 0)
 
 -- a request had ended before another began: it was whole, and its whole reply had come, in a first part of the beats, in which the other hadn't begun
-pub record EndedBefore (errors : Errors) (setup : SetupLists) (beats : List ObservedBeat) (number later : ℕ) : Type 0 where
+pub record EndedBefore (errors : Errors) (beginning : Beginning) (beats : List ObservedBeat) (number later : ℕ) : Type 0 where
   pub first : List ObservedBeat
   pub rest : List ObservedBeat
   pub parts : beats ≡ first ++ rest
-  pub begun : number < length (begun_in errors setup first)
-  pub ended : has_ended (numbered (begun_in errors setup first) number) ≡ true
-  pub not_yet : length (begun_in errors setup first) ≤ later
+  pub begun : number < length (begun_in errors beginning first)
+  pub ended : has_ended (numbered (begun_in errors beginning first) number) ≡ true
+  pub not_yet : length (begun_in errors beginning first) ≤ later
 
 -- behind none stands one that ended before it began
-abbrev pub KeepsRealTime : Errors → SetupLists → List ObservedBeat → List ℕ → Type 0
-KeepsRealTime errors setup beats [] = ⊤
-KeepsRealTime errors setup beats (later ∷ numbers) =
-    AllByRecursion (λ number. EndedBefore errors setup beats number later → ⊥) numbers × KeepsRealTime errors setup beats numbers
+abbrev pub KeepsRealTime : Errors → Beginning → List ObservedBeat → List ℕ → Type 0
+KeepsRealTime errors beginning beats [] = ⊤
+KeepsRealTime errors beginning beats (later ∷ numbers) =
+    AllByRecursion (λ number. EndedBefore errors beginning beats number later → ⊥) numbers × KeepsRealTime errors beginning beats numbers
 
 -- a list of numbers is an order of what has begun that keeps real time
-pub record IsOrderOf (errors : Errors) (setup : SetupLists) (beats : List ObservedBeat) (numbers : List ℕ) : Type 0 where
-  pub all : IsArrangement (length (begun_in errors setup beats)) numbers
-  pub keeps : KeepsRealTime errors setup beats numbers
+pub record IsOrderOf (errors : Errors) (beginning : Beginning) (beats : List ObservedBeat) (numbers : List ℕ) : Type 0 where
+  pub all : IsArrangement (length (begun_in errors beginning beats)) numbers
+  pub keeps : KeepsRealTime errors beginning beats numbers
 
 -- a request by its number, as it becomes
 abbrev pub becoming : Order → (ℕ → WholeRequest) → ℕ → Entry
 becoming begun requests number = record (numbered begun number) { request = requests number }
 
 -- the requests as a list of numbers has them, and as they become
-abbrev pub arranged : Errors → SetupLists → List ObservedBeat → (ℕ → WholeRequest) → List ℕ → Order
-arranged errors setup beats requests numbers = map (becoming (begun_in errors setup beats) requests) numbers
+abbrev pub arranged : Errors → Beginning → List ObservedBeat → (ℕ → WholeRequest) → List ℕ → Order
+arranged errors beginning beats requests numbers = map (becoming (begun_in errors beginning beats) requests) numbers
 
 -- what came of each: it may become that
-abbrev pub as_begun : Errors → SetupLists → List ObservedBeat → ℕ → WholeRequest
-as_begun errors setup beats number = (numbered (begun_in errors setup beats) number).request
+abbrev pub as_begun : Errors → Beginning → List ObservedBeat → ℕ → WholeRequest
+as_begun errors beginning beats number = (numbered (begun_in errors beginning beats) number).request
 
 -- ---- the laws
 
@@ -209,18 +209,18 @@ asked_on board client beat =
 -- nothing more comes, and all are carried out as they came. The beats so far may have been wrong; where none was, a list of them is one by which the
 -- board is reached
 pub record JudgesRightly (old : Board) (seen : ObservedBeat) (verdict : Option Wrong) : Type 0 where
-  pub some : (errors : Errors) (setup : SetupLists) (before : List ObservedBeat)
-      → IsOrderOf errors setup before (range_with_len 0 (length (begun_in errors setup before)))
-      × MayBecomeAll (begun_in errors setup before) (as_begun errors setup before)
-  pub reached : (errors : Errors) (setup : SetupLists) (before : List ObservedBeat) → IsReached policy.RealTime (opening_with errors setup) before old
-      → old ≡ board_after errors setup before
-  pub blamed : (errors : Errors) (setup : SetupLists) (before : List ObservedBeat) (requests : ℕ → WholeRequest) (numbers : List ℕ) (client : ℕ) (beat : DBeat)
-      (wrong : Wrong)
-      → old ≡ board_after errors setup before → seen ≡ D client beat → verdict ≡ Some wrong
-      → IsOrderOf errors setup before numbers → MayBecomeAll (begun_in errors setup before) requests
-      → IsWrongIn setup (arranged errors setup before requests numbers) (asked_on old client beat)
-      × IsWrongAs setup (arranged errors setup before requests numbers) (asked_on old client beat) wrong
-  pub bytes : (errors : Errors) (setup : SetupLists) (before : List ObservedBeat) (requests : ℕ → WholeRequest) (numbers : List ℕ) (x : ℕ)
-      → old ≡ board_after errors setup before → IsOrderOf errors setup before numbers → MayBecomeAll (begun_in errors setup before) requests
+  pub some : (errors : Errors) (beginning : Beginning) (before : List ObservedBeat)
+      → IsOrderOf errors beginning before (range_with_len 0 (length (begun_in errors beginning before)))
+      × MayBecomeAll (begun_in errors beginning before) (as_begun errors beginning before)
+  pub reached : (errors : Errors) (beginning : Beginning) (before : List ObservedBeat) → IsReached policy.RealTime (opening_from errors beginning) before old
+      → old ≡ board_after errors beginning before
+  pub blamed : (errors : Errors) (beginning : Beginning) (before : List ObservedBeat) (requests : ℕ → WholeRequest) (numbers : List ℕ) (client : ℕ) (beat : DBeat)
+      (wrong : Wrong) (start : Bytes)
+      → old ≡ board_after errors beginning before → seen ≡ D client beat → verdict ≡ Some wrong
+      → IsOrderOf errors beginning before numbers → MayBecomeAll (begun_in errors beginning before) requests → MayBegin beginning start
+      → IsWrongIn beginning.lists start (arranged errors beginning before requests numbers) (asked_on old client beat)
+      × IsWrongAs beginning.lists start (arranged errors beginning before requests numbers) (asked_on old client beat) wrong
+  pub bytes : (errors : Errors) (beginning : Beginning) (before : List ObservedBeat) (requests : ℕ → WholeRequest) (numbers : List ℕ) (x : ℕ) (start : Bytes)
+      → old ≡ board_after errors beginning before → IsOrderOf errors beginning before numbers → MayBecomeAll (begun_in errors beginning before) requests → MayBegin beginning start
       → old.indeterminate x ≡ false → is_awaited old x ≡ false
-      → byte_left setup (arranged errors setup before requests numbers) x ≡ old.memory.bytes x
+      → byte_left beginning.lists start (arranged errors beginning before requests numbers) x ≡ old.memory.bytes x

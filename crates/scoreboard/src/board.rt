@@ -1,17 +1,17 @@
 //! The scoreboard.
-ghost use Rattle.std.specs.Prelude.{◌≡◌, ◌<◌, ◌≤◌, ◌%◌, ◌⊎◌, ◌↔◌, ℕ, List, [], ◌∷◌, ◌++◌, true, false, length, map, None, Some, Err, Ok, IfErr, IfOk, IfSome, IsSome, IsTrue, OnErr, OnOk, slice_get};
+ghost use Rattle.std.specs.Prelude.{◌≡◌, ◌<◌, ◌≤◌, ◌%◌, ◌⊎◌, ◌↔◌, ℕ, List, [], ◌∷◌, ◌++◌, true, false, length, map, None, Some, Err, Ok, IfErr, IfOk, IfSome, IsTrue, OnErr, OnOk, slice_get};
 ghost use Rattle.std.specs.List.{range_with_len};
-ghost use Rattle.tl_messages.specs.Operations.{has_data, named_operation, reply_has_data};
+ghost use Rattle.tl_messages.specs.Operations.{has_data, reply_has_data};
 ghost use Rattle.tl_messages.specs.Requests.{bytes_given, request_of};
 ghost use Rattle.meaning.specs.InTurn.{bytes_of_all};
-ghost use Rattle.score_setup.specs.ScoreSetups.{is_valid_to_score, limits_of, lists_of, score_setup_fault};
+ghost use Rattle.score_setup.specs.ScoreSetups.{is_valid_to_score, limits_of, lists_of, ranges_of, score_setup_fault};
 ghost use Rattle.setups.specs.Setups.{SetupLists};
 ghost use Rattle.setups.specs.declared.SetupFault.TheVariants.{NoMemory};
 ghost use Rattle.subordinate.specs.Faults.{is_good, standing_at};
-ghost use Rattle.scoreboard.specs.Boards.{acting, client_beside, early_due, fails, footprints_of, hit_client, opening_client, replies_open};
+ghost use Rattle.scoreboard.specs.Boards.{acting, beginning_of, client_beside, early_due, fails, footprints_of, hit_client, opening_client, opening_from, replies_open};
 ghost use Rattle.scoreboard.specs.FailedBursts.{after_hit};
 ghost use Rattle.serial_memory.specs.SerialMemory.{HasRoomToGive, IsCheckedRequest, byte_at, carried_out, doubts_of, memory_of, place_in, rooms_of};
-ghost use Rattle.scoreboard.specs.InsideBoards.{ClientsHaveRoom, HasRoomForBeat, HasRoomToWrite, HaveRoomToWrite, IsAskedBy, IsMarkedAlone, client_of, footprint_of, range_of_page, room_by};
+ghost use Rattle.scoreboard.specs.InsideBoards.{ClientsHaveRoom, HasRoomForBeat, HasRoomToWrite, HaveRoomToWrite, IsAskedBy, IsMarkedAlone, client_of, footprint_of, room_by};
 ghost use Rattle.scoreboard.specs.Races.{after_given, after_joining, beside_all, beside_dependent};
 
 use crate::clients::Client;
@@ -26,10 +26,8 @@ use burst_plan::PageMap;
 use score_setup::{ScoreConfig, ScoreSetup, score_setup_fault};
 use serial_memory::SerialMemory;
 use setups::SetupFault;
-use sparse_memory::{PageRange, RangeKind};
 use std::alloc::{AllocError, Global};
 use std::marker::Model;
-use subordinate::PageKind;
 use tl_checker::{Progress, TlRule};
 use tl_messages::{ABeat, DBeat, Operation, Request};
 
@@ -119,28 +117,6 @@ fn outstanding_of(clients: &[Client]) -> u16
         count += client.outstanding();
     }
     count
-}
-
-/// A page as a range of its own.
-fn range_of_page(page: &(u32, PageKind)) -> PageRange
-    ensures { result ≡ range_of_page page.now }
-{
-    let kind = match page.1 {
-        PageKind::Good => RangeKind::Zeros,
-        PageKind::SlaveError => RangeKind::SlaveError,
-    };
-    PageRange {
-        first: page.0,
-        count: 1,
-        kind,
-    }
-}
-
-/// Each page of a list as a range of its own.
-fn ranges_of(alloc: Global, pages: &[(u32, PageKind)]) -> Result<Vec<PageRange>, AllocError>
-    ensures { IfOk result (λ ranges. ranges.items ≡ map range_of_page pages.now) }
-{
-    pages.iter().map(|page| range_of_page(page)).collect(alloc)
 }
 
 /// The address of a good page at which a request may act, if it has one: one that is corrupt may act all the same where errors are
@@ -278,7 +254,7 @@ fn hit(clients: &mut [Client], span: Span)
 }
 
 impl Scoreboard {
-    ghost use Rattle.scoreboard.specs.Boards.{ClientBoard, IsReached, a_wrong, accepted_on, after_a, after_axi, after_d, after_seen, answer_to, begun_on, coming_on, continued_on, d_wrong, flight_for, given_on, has_replied, hit_on, is_spoiled, joined_on, joining_on, opening_board, opening_with, with_client, with_taken, with_whole, wrong_at};
+    ghost use Rattle.scoreboard.specs.Boards.{ClientBoard, IsReached, a_wrong, accepted_on, after_a, after_axi, after_d, after_seen, answer_to, beginning_of, begun_on, coming_on, continued_on, d_wrong, flight_for, given_on, has_replied, hit_on, is_spoiled, joined_on, joining_on, opening_board, opening_from, with_client, with_taken, with_whole, wrong_at};
     ghost use Rattle.scoreboard.specs.Flights.{no_footprint};
     ghost use Rattle.scoreboard.specs.Races.{unless_failed};
     ghost use Rattle.scoreboard.specs.InsideBoards.{IsFirstBeat, IsFreeOf, board_of, flight_of, front_after, span_told};
@@ -305,7 +281,7 @@ impl Scoreboard {
     ) -> Result<Self, SetupFault>
         ensures refused { IfSome (score_setup_fault (lists_of setup.now)) (λ fault. result ≡ Err fault) }
         ensures want { IfErr result (λ fault. (score_setup_fault (lists_of setup.now) ≡ Some fault) ⊎ (fault ≡ NoMemory)) }
-        ensures opens { IfOk result (λ board. (board_of board ≡ opening_with errors (lists_of setup.now)) × (board.policy ≡ policy)) }
+        ensures opens { IfOk result (λ board. (board_of board ≡ opening_from errors (beginning_of (ranges_of setup.now))) × (board.policy ≡ policy)) }
     {
         if let Some(fault) = score_setup_fault(setup) {
             return Err(fault);
@@ -323,14 +299,18 @@ impl Scoreboard {
         setup: &ScoreSetup,
     ) -> Result<Self, AllocError>
         requires { score_setup_fault (lists_of setup.now) ≡ None }
-        ensures { IfOk result (λ board. (board_of board ≡ opening_with errors (lists_of setup.now)) × (board.policy ≡ policy)) }
+        ensures { IfOk result (λ board. (board_of board ≡ opening_from errors (beginning_of (ranges_of setup.now))) × (board.policy ≡ policy)) }
     {
         let Ok(map) = PageMap::new(alloc, setup.regions.as_slice()) else {
             return Err(AllocError);
         };
-        let ranges = ranges_of(alloc, setup.pages.as_slice())?;
         let room = room_by(policy);
-        let serial = SerialMemory::new(alloc, map, &ranges, setup.bad_words.as_slice())?;
+        let serial = SerialMemory::new(
+            alloc,
+            map,
+            setup.pages.as_slice(),
+            setup.bad_words.as_slice(),
+        )?;
         let clients = opening_clients(alloc, &setup.config, room)?;
         let axi = EarlyPort::new(alloc, &setup.config)?;
         let request = Request::new(alloc)?;

@@ -2,7 +2,7 @@
 ghost use Rattle.std.specs.Prelude.{◌≡◌, ◌<◌, ◌==◌, ◌+◌, ◌*◌, ◌%◌, ◌/◌, ◌&&◌, ◌||◌, ℕ, true, IsTrue, if◌then◌else◌, is_some, not};
 ghost use Rattle.bus_words.specs.Lanes.{given_at, has_lane, word_address};
 ghost use Rattle.tl_messages.specs.Operations.{has_data};
-ghost use Rattle.tl_messages.specs.Requests.{bytes_given, request_of};
+ghost use Rattle.tl_messages.specs.Requests.{bytes_given};
 ghost use Rattle.serial_memory.specs.SerialMemory.{IsCheckedRequest, doubts_of, rooms_of};
 ghost use Rattle.scoreboard.specs.InsideBoards.{HasRoomToWrite, IsMarkedAlone, determined_in, footprint_of, words_of};
 ghost use Rattle.scoreboard.specs.FailedBursts.{shares};

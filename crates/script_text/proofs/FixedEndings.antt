@@ -1,5 +1,5 @@
 -- How a call ends whose script never asks for memory in mid-run.
-use Rattle.std.proofs.Common.{◌⊎◌, inl, inr, ℕ, List, false, Option, Result, rules}
+use Rattle.std.proofs.Common.{inl, inr, ℕ, List, false, Option, Result, rules}
 use Rattle.script_text.specs.Scripts.{EndsAs, EndsOrStops, TextResult}
 use Rattle.script_text.specs.declared.faults.ScriptFault.{ScriptFault}
 

@@ -8,3 +8,4 @@ mod PlainLines
 mod Progress
 mod ScriptLines
 pub mod StageSteps
+pub mod ToldFields

@@ -5,7 +5,7 @@ use Rattle.setups.specs.Setups.{SetupLists}
 use Rattle.line_text.specs.Fields.{first_wrong, read_as, unless_wrong, address_field}
 use Rattle.script_text.specs.Forms.{count_field, kind_field}
 use Rattle.script_text.specs.SetupLines.{region_in, region_fields, page_fields, kind_in}
-use Rattle.script_text.specs.Stages.{HasRoomFor, has_no_room, setup_line}
+use Rattle.script_text.specs.SetupRules.{HasRoomFor, has_no_room, setup_line}
 use Rattle.line_text.specs.Words.{word_at, dec_at, hex_at}
 use Rattle.script_text.specs.declared.keywords.Form.{Form}
 use Rattle.script_text.specs.declared.keywords.Form.TheVariants as form

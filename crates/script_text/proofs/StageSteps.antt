@@ -3,16 +3,13 @@ use Rattle.std.proofs.Common.{◌≡◌, ◌≢◌, ◌⊎◌, inl, inr, ℕ, Li
 use Rattle.std.proofs.KnownBytes.{Appends-nil, Keeps-refl}
 use Rattle.burst_plan.specs.PageMap.{region_fault}
 use Rattle.config.specs.Configs.{is_valid}
-use Rattle.line_text.specs.Fields.{Field}
 use Rattle.script_text.specs.Forms.{told_as}
 use Rattle.script_text.specs.Scripts.{LineStep}
 use Rattle.script_text.specs.Stages.{GivesSome, Kind, OpensAs, OpensStage, Opening, Running, SettingUp, Stage, Writes, command_step, is_misplaced, nothing_written, reading_of, set_up_with, setup_step, unless_refused, world_at}
-use Rattle.script_text.specs.SetupLines.{config_line, with_config}
 use Rattle.script_text.specs.Steps.{GivesText, Stands, TakesStep}
 use Rattle.script_text.specs.declared.faults.ScriptFault.{ScriptFault}
 use Rattle.script_text.specs.declared.faults.ScriptFault.TheVariants.{Script, Setup, Read, Write, NoMemory}
 use Rattle.script_text.specs.declared.keywords.Form.{Form}
-use Rattle.script_text.specs.declared.keywords.Form.TheVariants as form
 use Rattle.setups.proofs.SetupFaults.{memory_never}
 use Rattle.setups.specs.Setups.{SetupLists, setup_fault}
 use Rattle.setups.specs.declared.SetupFault.{SetupFault}
@@ -45,18 +42,18 @@ pub opens_as : {V W : Type 0} (said : V → W) (opening : W) (setup : SetupLists
 opens_as said opening setup result = opens_unless said opening (setup_fault setup) result (memory_never (is_valid setup.config) (region_fault setup.regions) (device_fault setup.pages setup.bad_words))
 
 -- it was made before
-pub OpensStage-running : {S W C : Type 0} (kind : Kind S W C) (stage : Stage S W) (world : W) (number : ℕ) → stage ≡ Running world → (found : W) × (world_at kind stage number ≡ Ok found) × (stage ≡ Running found)
+pub OpensStage-running : {Z S W C : Type 0} (kind : Kind Z S W C) (stage : Stage Z S W) (world : W) (number : ℕ) → stage ≡ Running world → (found : W) × (world_at kind stage number ≡ Ok found) × (stage ≡ Running found)
 OpensStage-running kind stage world number there = (world, ap (λ s. world_at kind s number) there, there)
 
 -- ---- commands
 
-gives : {S W C : Type 0} (kind : Kind S W C) (found : Result W ScriptFault) (number : ℕ) (command : C) → GivesSome kind → IsOk found → GivesText (reading_of kind) (command_step kind found number command)
+gives : {Z S W C : Type 0} (kind : Kind Z S W C) (found : Result W ScriptFault) (number : ℕ) (command : C) → GivesSome kind → IsOk found → GivesText (reading_of kind) (command_step kind found number command)
 gives kind (Ok world) number command some ok =
     (record { text = (kind.commanded world number command).0; next = Running (kind.commanded world number command).1; step_is = refl; may_end = λ n. refl }, λ n. some world number command)
 gives kind (Err fault) number command some ok = search rules
 
 -- what a command works on wasn't made
-pub TakesStep-unopened : {S W C : Type 0} (kind : Kind S W C) (grows : Bool) (stage next : Stage S W) (number : ℕ) (command : C) (writer : Option (List ℕ)) (fault : ScriptFault) → GivesSome kind
+pub TakesStep-unopened : {Z S W C : Type 0} (kind : Kind Z S W C) (grows : Bool) (stage next : Stage Z S W) (number : ℕ) (command : C) (writer : Option (List ℕ)) (fault : ScriptFault) → GivesSome kind
     → OpensStage (world_at kind stage number) (nothing_written stage) next (Err fault)
     → TakesStep (reading_of kind) grows (command_step kind (world_at kind stage number) number command) nothing_written stage next writer writer (Err fault)
 TakesStep-unopened kind grows stage next number command writer (Script line word) some refused = (ap (λ found. command_step kind found number command) refused, Keeps-refl writer)
@@ -66,7 +63,7 @@ TakesStep-unopened kind grows stage next number command writer Write some refuse
 TakesStep-unopened kind grows stage next number command writer NoMemory some (silent, ok) = (inl (silent, gives kind (world_at kind stage number) number command some ok), Keeps-refl writer)
 
 -- a command, of what was made
-abbrev stands : {S W C : Type 0} (kind : Kind S W C) (stage : Stage S W) (number : ℕ) (world : W) (command : C) → world_at kind stage number ≡ Ok world → Stands (reading_of kind) (command_step kind (world_at kind stage number) number command)
+abbrev stands : {Z S W C : Type 0} (kind : Kind Z S W C) (stage : Stage Z S W) (number : ℕ) (world : W) (command : C) → world_at kind stage number ≡ Ok world → Stands (reading_of kind) (command_step kind (world_at kind stage number) number command)
 stands kind stage number world command found =
     record {
       text = (kind.commanded world number command).0;
@@ -76,7 +73,7 @@ stands kind stage number world command found =
     }
 
 -- a command's text was written, or it wasn't carried out
-pub TakesStep-carried : {S W C : Type 0} (kind : Kind S W C) (grows : Bool) (stage : Stage S W) (number : ℕ) (world next : W) (command : C) (before after : Option (List ℕ)) (result : Result Bool ScriptFault) → world_at kind stage number ≡ Ok world
+pub TakesStep-carried : {Z S W C : Type 0} (kind : Kind Z S W C) (grows : Bool) (stage : Stage Z S W) (number : ℕ) (world next : W) (command : C) (before after : Option (List ℕ)) (result : Result Bool ScriptFault) → world_at kind stage number ≡ Ok world
     → Writes grows (kind.commanded world number command) next before after result
     → TakesStep (reading_of kind) grows (command_step kind (world_at kind stage number) number command) nothing_written stage (Running next) before after result
 TakesStep-carried kind grows stage number world next command before after (Ok wrote) found (written, is, quiet, speaks) =
@@ -94,43 +91,30 @@ TakesStep-carried kind grows stage number world next command before after (Err R
 TakesStep-carried kind grows stage number world next command before after (Err Write) found some = (stands kind stage number world command found, some)
 TakesStep-carried kind grows stage number world next command before after (Err NoMemory) found (may, kept) = (inr (may, stands kind stage number world command found), kept)
 
-abbrev world_in : {S W : Type 0} → W → Stage S W → W
+abbrev world_in : {Z S W : Type 0} → W → Stage Z S W → W
 world_in other Opening = other
 world_in other (SettingUp setup own) = other
 world_in other (Running world) = world
 
 -- what was made is what a command works on
-pub opened_as : {S W : Type 0} (opened : Result W ScriptFault) (next : Stage S W) (world : W) → (made : W) × (opened ≡ Ok made) × (next ≡ Running made) → next ≡ Running world → opened ≡ Ok world
+pub opened_as : {Z S W : Type 0} (opened : Result W ScriptFault) (next : Stage Z S W) (world : W) → (made : W) × (opened ≡ Ok made) × (next ≡ Running made) → next ≡ Running world → opened ≡ Ok world
 opened_as opened next world (made, is, here) there = is ∙ ap (λ w. Ok (world_in made w)) (sym here ∙ there)
 
 -- ---- lines without text
 
 -- a set-up line may stand before the first command alone
-pub silent_before : {S W : Type 0} (stage : Stage S W) (f : Form) (words : List (List ℕ)) → is_misplaced stage f words ≡ false → nothing_written stage ≡ true
-silent_before Opening f words fits = refl
-silent_before (SettingUp setup own) f words fits = refl
-silent_before (Running world) f words fits = search rules
-
--- what is told of what was told
-pub told_twice : {X Y Z E : Type 0} (then : Y → Z) (first : X → Y) (result : Result X E) → told_as then (told_as first result) ≡ told_as (λ x. then (first x)) result
-told_twice then first (Ok x) = refl
-told_twice then first (Err fault) = refl
-
--- a `config` line gives a set-up alone, before any line of the kind's own
-pub config_opens : {Z S W C : Type 0} (kind : Kind S W C) (stage : Stage S W) (words : List (List ℕ)) (lists : Z → SetupLists) (port_field : Field) (made : Result Z ℕ) → port_field ≡ kind.port_field
-    → told_as lists made ≡ told_as with_config (config_line port_field words) → set_up_with kind stage words form.Config ≡ told_as (λ setup. SettingUp (lists setup) kind.own_opening) made
-config_opens {S = S} {W = W} kind stage words lists port_field made reads gives =
-    let open_as : SetupLists → Stage S W = λ setup. SettingUp setup kind.own_opening in
-    ap (λ field. told_as (λ config. open_as (with_config config)) (config_line field words)) (sym reads) ∙ sym (told_twice open_as with_config (config_line port_field words))
-    ∙ ap (told_as open_as) (sym gives) ∙ told_twice open_as lists made
+pub silent_before : {Z S W C : Type 0} (kind : Kind Z S W C) (stage : Stage Z S W) (f : Form) (words : List (List ℕ)) → is_misplaced kind stage f words ≡ false → nothing_written stage ≡ true
+silent_before kind Opening f words fits = refl
+silent_before kind (SettingUp setup own) f words fits = refl
+silent_before kind (Running world) f words fits = search rules
 
 -- a set-up line adds to the set-up
-pub setup_step-added : {S W C : Type 0} (kind : Kind S W C) (stage next : Stage S W) (number : ℕ) (words : List (List ℕ)) (f : Form) → kind.takes f ≡ true → is_misplaced stage f words ≡ false → set_up_with kind stage words f ≡ Ok next
+pub setup_step-added : {Z S W C : Type 0} (kind : Kind Z S W C) (stage next : Stage Z S W) (number : ℕ) (words : List (List ℕ)) (f : Form) → kind.takes f ≡ true → is_misplaced kind stage f words ≡ false → set_up_with kind stage words f ≡ Ok next
     → setup_step kind stage number words f ≡ Ok ([], next)
 setup_step-added kind stage next number words f takes fits says = rw (takes, fits, says) refl
 
 -- before the first command there are lines without text
-pub TakesStep-quiet : {S W C : Type 0} (kind : Kind S W C) (grows : Bool) (stage next : Stage S W) (step : LineStep (Stage S W)) (writer : Option (List ℕ)) → step ≡ Ok ([], next) → nothing_written stage ≡ true
+pub TakesStep-quiet : {Z S W C : Type 0} (kind : Kind Z S W C) (grows : Bool) (stage next : Stage Z S W) (step : LineStep (Stage Z S W)) (writer : Option (List ℕ)) → step ≡ Ok ([], next) → nothing_written stage ≡ true
     → TakesStep (reading_of kind) grows step nothing_written stage next writer writer (Ok false)
 TakesStep-quiet kind grows stage next step writer is before =
     record {

@@ -34,6 +34,10 @@ permissions_field _ = false
 abbrev pub count_field : Field
 count_field word = is_dec_to 64 word && nat_le 1 (digits_value 10 word)
 
+-- the same of a bridge that is only observed: 1 to 1,048,576, as many as there are of addresses of 32 bits
+abbrev pub range_count_field : Field
+range_count_field word = is_dec_to 1048576 word && nat_le 1 (digits_value 10 word)
+
 -- the kind of a page
 abbrev pub kind_field : Field
 kind_field word = bytes_eq word (codes "good") || bytes_eq word (codes "slverr")

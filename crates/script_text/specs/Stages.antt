@@ -1,49 +1,45 @@
 -- What every kind of script has in common: a `config` line, other set-up lines, and then commands (this project's profile).
-use Rattle.std.specs.Prelude.{◌≡◌, ◌≢◌, ◌<◌, ◌≤◌, ◌+◌, ◌^◌, ℕ, Bool, true, false, not, ◌||◌, List, [], ◌++◌, length, Option, Some, None, Result, Ok, Err, IsOk, if◌then◌else◌, nat_le}
+use Rattle.std.specs.Prelude.{◌≡◌, ◌≢◌, ℕ, Bool, true, false, not, ◌||◌, List, [], ◌++◌, Option, Some, None, Result, Ok, Err, IsOk, if◌then◌else◌}
 use Rattle.std.specs.Io.KnownBytes.{Appends, Keeps}
-use Rattle.setups.specs.Setups.{SetupLists}
 use Rattle.setups.specs.declared.SetupFault.{SetupFault}
 use Rattle.setups.specs.declared.SetupFault.TheVariants as refused
 use Rattle.script_text.specs.Forms.{told_as, form_of}
 use Rattle.script_text.specs.Scripts.{LineStep, Reading, TextResult, ended}
-use Rattle.script_text.specs.SetupLines.{config_line, region_line, page_line, bad_line, too_many_pages, with_config, with_line}
-use Rattle.line_text.specs.Fields.{Field}
+use Rattle.script_text.specs.SetupRules.{SetupRules}
 use Rattle.line_text.specs.Words.{word_at}
 use Rattle.script_text.specs.declared.faults.ScriptFault.{ScriptFault}
 use Rattle.script_text.specs.declared.faults.ScriptFault.TheVariants.{Script, Setup as SetupRefused, Read, Write, NoMemory}
 use Rattle.script_text.specs.declared.keywords.Form.{Form}
 use Rattle.script_text.specs.declared.keywords.Form.TheVariants as form
-use Rattle.script_text.specs.declared.setup_parser.SetupLine.{SetupLine}
-use Rattle.script_text.specs.declared.setup_parser.SetupLine.TheVariants.{Region, Pages, BadWord}
 use Rattle.script_text.specs.declared.stages.Stage.{Stage as StageHeld}
 use Rattle.script_text.specs.declared.stages.Stage.TheVariants as held
 
 -- how far a script has come: no line yet; set-up lines, and what the kind's own of these have said; or what its commands work on, once the first
 -- came
-pub data Stage (S W : Type 0) : Type 0 where
-  Opening : Stage S W
-  SettingUp : SetupLists → S → Stage S W
-  Running : W → Stage S W
+pub data Stage (Z S W : Type 0) : Type 0 where
+  Opening : Stage Z S W
+  SettingUp : Z → S → Stage Z S W
+  Running : W → Stage Z S W
 
--- a kind of script: how many lines it may have; which set-up lines it has of those that scripts share; which words IDS and DEPTH of its `config` line
--- may be; what its own set-up lines have said before the first of them, and with one line more, or that line's first wrong word, where it is one of
--- them; whether a line is passed over where it stands before the first command; what the words of a command's line say, or the first wrong word, which
--- is word 1 where no command begins so; what its commands work on, or why the set-up is refused; what a command writes, by the number of its line,
--- and what is there after it; and what is written at the input's end, with the result
-pub record Kind (S W C : Type 0) : Type 0 where
+-- a kind of script: how many lines it may have; which set-up lines it has of those that scripts share, and what they add up to; what its own set-up
+-- lines have said before the first of them, and with one line more, or that line's first wrong word, where it is one of them; whether a line is passed
+-- over where it stands before the first command; what the words of a command's line say, or the first wrong word, which is word 1 where no command
+-- begins so; what its commands work on, or why the set-up is refused; what a command writes, by the number of its line, and what is there after it;
+-- and what is written at the input's end, with the result
+pub record Kind (Z S W C : Type 0) : Type 0 where
   pub most_lines : ℕ
   pub takes : Form → Bool
-  pub port_field : Field
+  pub set_up : SetupRules Z
   pub own_opening : S
   pub own_line : S → List (List ℕ) → Option (Result S ℕ)
   pub passes : List (List ℕ) → Bool
   pub command_of : List (List ℕ) → Result C ℕ
-  pub opened : S → SetupLists → Result W SetupFault
+  pub opened : S → Z → Result W SetupFault
   pub commanded : W → ℕ → C → List ℕ × W
   pub ending : W → List ℕ × Bool
 
 -- whether no command was carried out yet
-abbrev pub nothing_written : {S W : Type 0} → Stage S W → Bool
+abbrev pub nothing_written : {Z S W : Type 0} → Stage Z S W → Bool
 nothing_written Opening = true
 nothing_written (SettingUp setup own) = true
 nothing_written (Running world) = false
@@ -62,38 +58,22 @@ abbrev pub is_config_form : Form → Bool
 is_config_form form.Config = true
 is_config_form _ = false
 
--- whether a set-up has no room for one line more of this form; it takes one `config` line, 16 regions, 64 pages and 64 bad words
-abbrev pub has_no_room : SetupLists → Form → List (List ℕ) → Bool
-has_no_room setup form.Config words = true
-has_no_room setup form.Region words = nat_le 16 (length setup.regions)
-has_no_room setup form.Page words = too_many_pages (length setup.pages) words
-has_no_room setup form.BadWord words = nat_le 64 (length setup.bad_words)
-has_no_room setup _ words = false
-
 -- whether a set-up line of this form may not stand here: `config` comes first, and set-up lines before all commands
-abbrev pub is_misplaced : {S W : Type 0} → Stage S W → Form → List (List ℕ) → Bool
-is_misplaced Opening form words = not (is_config_form form)
-is_misplaced (SettingUp setup own) form words = has_no_room setup form words
-is_misplaced (Running world) form words = true
+abbrev pub is_misplaced : {Z S W C : Type 0} → Kind Z S W C → Stage Z S W → Form → List (List ℕ) → Bool
+is_misplaced kind Opening form words = not (is_config_form form)
+is_misplaced kind (SettingUp setup own) form words = kind.set_up.has_no_room setup form words
+is_misplaced kind (Running world) form words = true
 
--- what a set-up line of each form but `config` says, or its first wrong word
-abbrev pub setup_line : Form → List (List ℕ) → Result SetupLine ℕ
-setup_line form.Region words = region_line words
-setup_line form.Page words = page_line words
-setup_line form.BadWord words = bad_line words
-setup_line _ words = Err 1
-
--- the set-up with one line more
-abbrev pub with_setup_line : {S W : Type 0} → Stage S W → SetupLine → Stage S W
-with_setup_line (SettingUp setup own) line = SettingUp (with_line setup line) own
-with_setup_line stage line = stage
+-- the set-up with one line more, of a form that isn't `config`
+abbrev pub with_setup_line : {Z S W C : Type 0} → Kind Z S W C → Stage Z S W → Form → List (List ℕ) → Result (Stage Z S W) ℕ
+with_setup_line kind (SettingUp setup own) form words = told_as (λ next. SettingUp next own) (kind.set_up.with_line setup form words)
+with_setup_line kind stage form words = Err 1
 
 -- how far a script has come with a line of a set-up form, or that line's first wrong word; `config` is the first, and before it no line of the kind's
 -- own has said anything
-abbrev pub set_up_with : {S W C : Type 0} → Kind S W C → Stage S W → List (List ℕ) → Form → Result (Stage S W) ℕ
-set_up_with kind stage words form.Config =
-    told_as (λ config. SettingUp (with_config config) kind.own_opening) (config_line kind.port_field words)
-set_up_with kind stage words form = told_as (with_setup_line stage) (setup_line form words)
+abbrev pub set_up_with : {Z S W C : Type 0} → Kind Z S W C → Stage Z S W → List (List ℕ) → Form → Result (Stage Z S W) ℕ
+set_up_with kind stage words form.Config = told_as (λ setup. SettingUp setup kind.own_opening) (kind.set_up.of_config words)
+set_up_with kind stage words form = with_setup_line kind stage form words
 
 -- a line that adds to what was said before writes nothing
 abbrev pub added_step : {X : Type 0} → ℕ → Result X ℕ → LineStep X
@@ -101,9 +81,9 @@ added_step number (Ok added) = Ok ([], added)
 added_step number (Err word) = Err (Script number word)
 
 -- a line of a set-up form: the kind has to have it, and it has to be able to stand here
-abbrev pub setup_step : {S W C : Type 0} → Kind S W C → Stage S W → ℕ → List (List ℕ) → Form → LineStep (Stage S W)
+abbrev pub setup_step : {Z S W C : Type 0} → Kind Z S W C → Stage Z S W → ℕ → List (List ℕ) → Form → LineStep (Stage Z S W)
 setup_step kind stage number words form =
-    if not (kind.takes form) || is_misplaced stage form words
+    if not (kind.takes form) || is_misplaced kind stage form words
     then Err (Script number 1)
     else added_step number (set_up_with kind stage words form)
 
@@ -115,19 +95,19 @@ set_up_as (Ok world) = Ok world
 set_up_as (Err fault) = Err (SetupRefused fault)
 
 -- what a command finds, which is made for the first; without a `config` line word 1 of this line is at fault
-abbrev pub world_at : {S W C : Type 0} → Kind S W C → Stage S W → ℕ → Result W ScriptFault
+abbrev pub world_at : {Z S W C : Type 0} → Kind Z S W C → Stage Z S W → ℕ → Result W ScriptFault
 world_at kind Opening number = Err (Script number 1)
 world_at kind (SettingUp setup own) number = set_up_as (kind.opened own setup)
 world_at kind (Running world) number = Ok world
 
 -- what a command writes, and what is there after it
-abbrev pub command_step : {S W C : Type 0} → Kind S W C → Result W ScriptFault → ℕ → C → LineStep (Stage S W)
+abbrev pub command_step : {Z S W C : Type 0} → Kind Z S W C → Result W ScriptFault → ℕ → C → LineStep (Stage Z S W)
 command_step kind (Err fault) number command = Err fault
 command_step kind (Ok world) number command =
     Ok ((kind.commanded world number command).0, Running (kind.commanded world number command).1)
 
 -- a line that says a command, or its first wrong word
-abbrev pub told_step : {S W C : Type 0} → Kind S W C → Stage S W → ℕ → Result C ℕ → LineStep (Stage S W)
+abbrev pub told_step : {Z S W C : Type 0} → Kind Z S W C → Stage Z S W → ℕ → Result C ℕ → LineStep (Stage Z S W)
 told_step kind stage number (Ok command) = command_step kind (world_at kind stage number) number command
 told_step kind stage number (Err word) = Err (Script number word)
 
@@ -139,43 +119,43 @@ command_by_form command_of words (Some form) = command_of form words
 -- ---- a line before the first command
 
 -- a set-up line of the kind's own adds to what these have said, and writes nothing; any other line is the first command
-abbrev pub own_step : {S W C : Type 0} → Kind S W C → Stage S W → SetupLists → ℕ → List (List ℕ) → Option (Result S ℕ) → LineStep (Stage S W)
+abbrev pub own_step : {Z S W C : Type 0} → Kind Z S W C → Stage Z S W → Z → ℕ → List (List ℕ) → Option (Result S ℕ) → LineStep (Stage Z S W)
 own_step kind stage setup number words (Some (Ok own)) = Ok ([], SettingUp setup own)
 own_step kind stage setup number words (Some (Err word)) = Err (Script number word)
 own_step kind stage setup number words None = told_step kind stage number (kind.command_of words)
 
 -- a line of no set-up form comes behind `config`
-abbrev pub other_step : {S W C : Type 0} → Kind S W C → Stage S W → ℕ → List (List ℕ) → LineStep (Stage S W)
+abbrev pub other_step : {Z S W C : Type 0} → Kind Z S W C → Stage Z S W → ℕ → List (List ℕ) → LineStep (Stage Z S W)
 other_step kind (SettingUp setup own) number words =
     own_step kind (SettingUp setup own) setup number words (kind.own_line own words)
 other_step kind stage number words = Err (Script number 1)
 
 -- a line that isn't passed over, by the form that its first word names
-abbrev pub form_step : {S W C : Type 0} → Kind S W C → Stage S W → ℕ → List (List ℕ) → Option Form → LineStep (Stage S W)
+abbrev pub form_step : {Z S W C : Type 0} → Kind Z S W C → Stage Z S W → ℕ → List (List ℕ) → Option Form → LineStep (Stage Z S W)
 form_step kind stage number words None = other_step kind stage number words
 form_step kind stage number words (Some form) =
     if is_setup_form form then setup_step kind stage number words form else other_step kind stage number words
 
-abbrev pub early_step : {S W C : Type 0} → Kind S W C → Stage S W → ℕ → List (List ℕ) → LineStep (Stage S W)
+abbrev pub early_step : {Z S W C : Type 0} → Kind Z S W C → Stage Z S W → ℕ → List (List ℕ) → LineStep (Stage Z S W)
 early_step kind stage number words =
     if kind.passes words then Ok ([], stage) else form_step kind stage number words (form_of (word_at words 1))
 
 -- ---- a whole script
 
 -- a line, by its words: behind the first command there are commands alone
-abbrev pub stage_step : {S W C : Type 0} → Kind S W C → Stage S W → ℕ → List (List ℕ) → LineStep (Stage S W)
+abbrev pub stage_step : {Z S W C : Type 0} → Kind Z S W C → Stage Z S W → ℕ → List (List ℕ) → LineStep (Stage Z S W)
 stage_step kind stage number words =
     if nothing_written stage then early_step kind stage number words else told_step kind stage number (kind.command_of words)
 
 -- at the input's end what commands work on is made where none came
-abbrev pub ending_of : {S W C : Type 0} → Kind S W C → Result W ScriptFault → TextResult Bool
+abbrev pub ending_of : {Z S W C : Type 0} → Kind Z S W C → Result W ScriptFault → TextResult Bool
 ending_of kind (Ok world) = record { output = (kind.ending world).0; result = Ok (kind.ending world).1 }
 ending_of kind (Err fault) = ended (Err fault)
 
-abbrev pub stage_ending : {S W C : Type 0} → Kind S W C → Stage S W → ℕ → TextResult Bool
+abbrev pub stage_ending : {Z S W C : Type 0} → Kind Z S W C → Stage Z S W → ℕ → TextResult Bool
 stage_ending kind stage number = ending_of kind (world_at kind stage number)
 
-abbrev pub reading_of : {S W C : Type 0} → Kind S W C → Reading (Stage S W) Bool
+abbrev pub reading_of : {Z S W C : Type 0} → Kind Z S W C → Reading (Stage Z S W) Bool
 reading_of kind = record { most_lines = kind.most_lines; step = stage_step kind; ending = stage_ending kind }
 
 -- what commands work on where a set-up has no fault
@@ -213,28 +193,22 @@ WritesEnd grows given before after (Ok answer) = Appends before after given.0 ×
 WritesEnd grows given before after (Err fault) = FailsAt grows given.0 before after fault
 
 -- a command has text, or a script that ends after it
-abbrev pub GivesSome : {S W C : Type 0} → Kind S W C → Type 0
-GivesSome {S} {W} {C} kind =
+abbrev pub GivesSome : {Z S W C : Type 0} → Kind Z S W C → Type 0
+GivesSome {Z} {S} {W} {C} kind =
     (world : W) (number : ℕ) (command : C) → (kind.commanded world number command).0 ++ (kind.ending (kind.commanded world number command).1).0 ≢ []
 
 -- ---- what the state of a script is in a clause
 
-abbrev pub stage_of : {Z S W : Type 0} → (Z → SetupLists) → StageHeld Z S W → Stage S W
-stage_of lists held.Opening = Opening
-stage_of lists (held.SettingUp setup own) = SettingUp (lists setup) own
-stage_of lists (held.Running world) = Running world
+abbrev pub stage_of : {Z S W : Type 0} → StageHeld Z S W → Stage Z S W
+stage_of held.Opening = Opening
+stage_of (held.SettingUp setup own) = SettingUp setup own
+stage_of (held.Running world) = Running world
 
--- a stage, with what commands work on said otherwise
-abbrev pub stage_as : {S V W : Type 0} → (V → W) → Stage S V → Stage S W
-stage_as said Opening = Opening
-stage_as said (SettingUp setup own) = SettingUp setup own
-stage_as said (Running world) = Running (said world)
-
--- a line that a set-up has room for
-abbrev pub HasRoomFor : SetupLists → SetupLine → Type 0
-HasRoomFor setup (Region region) = length setup.regions < 16
-HasRoomFor setup (Pages first count kind) = (length setup.pages + count ≤ 64) × (first + count ≤ 2 ^ 32)
-HasRoomFor setup (BadWord address) = length setup.bad_words < 64
+-- a stage, with the set-up and what commands work on said otherwise
+abbrev pub stage_as : {H Z S V W : Type 0} → (H → Z) → (V → W) → Stage H S V → Stage Z S W
+stage_as lists said Opening = Opening
+stage_as lists said (SettingUp setup own) = SettingUp (lists setup) own
+stage_as lists said (Running world) = Running (said world)
 
 -- a line was taken, or its first wrong word is told
 abbrev pub TakesLine : {X : Type 0} → Result X ℕ → X → Result (Unit {0}) ℕ → Type 0
@@ -243,8 +217,8 @@ TakesLine told new (Err word) = told ≡ Err word
 
 -- what a script's commands work on was made where there was none, or why it wasn't; memory is asked for only where it may be made and nothing
 -- was written
-abbrev pub OpensStage : {S W : Type 0} → Result W ScriptFault → Bool → Stage S W → Result (Unit {0}) ScriptFault → Type 0
-OpensStage {S} {W} opened silent new (Ok done) = (world : W) × (opened ≡ Ok world) × (new ≡ Running world)
+abbrev pub OpensStage : {Z S W : Type 0} → Result W ScriptFault → Bool → Stage Z S W → Result (Unit {0}) ScriptFault → Type 0
+OpensStage {Z} {S} {W} opened silent new (Ok done) = (world : W) × (opened ≡ Ok world) × (new ≡ Running world)
 OpensStage opened silent new (Err (Script line word)) = opened ≡ Err (Script line word)
 OpensStage opened silent new (Err (SetupRefused fault)) = opened ≡ Err (SetupRefused fault)
 OpensStage opened silent new (Err Read) = ⊥

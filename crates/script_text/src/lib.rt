@@ -13,6 +13,6 @@ mod stages;
 pub use driver::{Script, read_script};
 pub use faults::ScriptFault;
 pub use keywords::Form;
-pub use setup_lines::{ScriptSetup, is_setup_form, setup_line};
+pub use setup_lines::{ScriptSetup, add_line, is_setup_form, setup_line};
 pub use setup_parser::SetupLine;
 pub use stages::{Kind, StagedScript};

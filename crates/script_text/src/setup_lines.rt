@@ -1,7 +1,9 @@
 //! The set-up lines that may stand, what each says, and the set-up that they add up to.
 ghost use Rattle.std.specs.Prelude.{◌≡◌, ◌≤◌, ◌+◌, ◌++◌, ◌^◌, length};
-ghost use Rattle.script_text.specs.SetupLines.{pages_from, too_many_pages};
-ghost use Rattle.script_text.specs.Stages.{is_setup_form, setup_line};
+ghost use Rattle.setups.specs.Setups.{lists_of};
+ghost use Rattle.script_text.specs.SetupLines.{pages_from, too_many_pages, with_line};
+ghost use Rattle.script_text.specs.SetupRules.{HasRoomFor, setup_line};
+ghost use Rattle.script_text.specs.Stages.{is_setup_form};
 
 use crate::keywords::Form;
 use crate::setup_parser::{SetupLine, bad_line, config_line, page_count, page_line, region_line};
@@ -15,32 +17,32 @@ const MOST_PAGES: usize = 64;
 
 /// A set-up as the lines of a script add up to it.
 pub trait ScriptSetup {
-    ghost use Rattle.std.specs.Prelude.{◌≡◌};
-    ghost use Rattle.line_text.specs.Fields.{Field};
-    ghost use Rattle.setups.specs.Setups.{SetupLists};
+    ghost use Rattle.std.specs.Prelude.{◌≡◌, false};
     ghost use Rattle.script_text.specs.Forms.{told_as};
-    ghost use Rattle.script_text.specs.SetupLines.{config_line, with_config, with_line};
-    ghost use Rattle.script_text.specs.Stages.{HasRoomFor, has_no_room};
+    ghost use Rattle.script_text.specs.SetupRules.{SetupRules};
+    ghost use Rattle.script_text.specs.Stages.{TakesLine};
+
+    /// What its lists are.
+    ghost Lists: { Type 0 };
 
     /// Its lists.
-    ghost lists: { Self → SetupLists };
+    ghost lists: { Self → Lists };
 
-    /// Which words IDS and DEPTH of its `config` line may be.
-    ghost port_field: { Field };
+    /// What its lines may be, and what they add up to.
+    ghost rules: { SetupRules Lists };
 
     /// The set-up of a `config` line alone, or that line's first wrong word.
     fn of_config(words: &Words<'_>) -> Result<Self, u32>
-        ensures { told_as lists result ≡ told_as with_config (config_line port_field words.now) };
+        ensures { told_as lists result ≡ rules.of_config words.now };
 
-    /// Whether it has no room for one line more of this form: it takes one `config` line, 16 regions, 64 pages and 64 bad
-    /// words.
+    /// Whether it has no room for one line more of this form.
     fn has_no_room(&self, form: Form, words: &Words<'_>) -> bool
-        ensures { result ≡ has_no_room (lists self.now) form words.now };
+        ensures { result ≡ rules.has_no_room (lists self.now) form words.now };
 
-    /// Adds a line for which it has room.
-    fn add(&mut self, line: SetupLine)
-        requires { HasRoomFor (lists self.old) line }
-        ensures { lists self.new ≡ with_line (lists self.old) line };
+    /// Adds a line of a form that isn't `config`, for which it has room, or answers its first wrong word.
+    fn add(&mut self, form: Form, words: &Words<'_>) -> Result<(), u32>
+        requires { rules.has_no_room (lists self.old) form words.now ≡ false }
+        ensures { TakesLine (rules.with_line (lists self.old) form words.now) (lists self.new) result };
 }
 
 /// Whether a line of this form is a set-up line.
@@ -100,13 +102,27 @@ pub(crate) fn add_pages(
     }
 }
 
+/// Adds a line for which a set-up has room.
+pub fn add_line(setup: &mut Setup, line: SetupLine)
+    requires { HasRoomFor (lists_of setup.old) line }
+    ensures { lists_of setup.new ≡ with_line (lists_of setup.old) line }
+{
+    match line {
+        SetupLine::Region(region) => setup.regions.push(region),
+        SetupLine::Pages(first, count, kind) => add_pages(&mut setup.pages, first, count, kind),
+        SetupLine::BadWord(address) => setup.bad_words.push(address),
+    }
+}
+
 impl ScriptSetup for Setup {
-    ghost use Rattle.line_text.specs.Fields.{byte_field};
-    ghost use Rattle.setups.specs.Setups.{lists_of};
+    ghost use Rattle.setups.specs.Setups.{SetupLists, lists_of};
+    ghost use Rattle.script_text.specs.SetupRules.{bridge_rules};
+
+    ghost Lists = { SetupLists };
 
     ghost lists = { lists_of };
 
-    ghost port_field = { byte_field };
+    ghost rules = { bridge_rules };
 
     fn of_config(words: &Words<'_>) -> Result<Setup, u32> {
         Ok(Setup::new(config_line(words)?))
@@ -122,11 +138,9 @@ impl ScriptSetup for Setup {
         }
     }
 
-    fn add(&mut self, line: SetupLine) {
-        match line {
-            SetupLine::Region(region) => self.regions.push(region),
-            SetupLine::Pages(first, count, kind) => add_pages(&mut self.pages, first, count, kind),
-            SetupLine::BadWord(address) => self.bad_words.push(address),
-        }
+    fn add(&mut self, form: Form, words: &Words<'_>) -> Result<(), u32> {
+        let line = setup_line(form, words)?;
+        add_line(self, line);
+        Ok(())
     }
 }

@@ -1,11 +1,11 @@
 //! The set-up lines of a script.
-ghost use Rattle.std.specs.Prelude.{◌≡◌, ◌==◌, ◌||◌, not, false};
+ghost use Rattle.std.specs.Prelude.{◌≡◌, ◌==◌, ◌||◌, ◌∷◌, [], not, false};
 ghost use Rattle.std.specs.List.{list_all};
-ghost use Rattle.line_text.specs.Fields.{Reads, byte_field, first_wrong, short_field, unless_wrong};
+ghost use Rattle.line_text.specs.Fields.{Reads, address_field, byte_field, first_wrong, read_as, short_field, unless_wrong};
 ghost use Rattle.score_setup.specs.ScoreSetups.{limits_of};
-ghost use Rattle.script_text.specs.Forms.{levels_field, permissions_field, count_field, kind_field, told_as};
-ghost use Rattle.script_text.specs.SetupLines.{config_line, region_line, page_line, bad_line, bus_fields, bus_in, kind_in, level_at, levels_in, permissions_in};
-ghost use Rattle.line_text.specs.Words.{word_at, dec_at};
+ghost use Rattle.script_text.specs.Forms.{levels_field, permissions_field, count_field, kind_field, range_count_field, told_as};
+ghost use Rattle.script_text.specs.SetupLines.{config_line, region_line, page_line, bad_line, bus_fields, bus_in, kind_in, level_at, region_fields, region_in, levels_in, permissions_in};
+ghost use Rattle.line_text.specs.Words.{word_at, dec_at, hex_at};
 
 use burst_plan::Region;
 use config::Config;
@@ -153,15 +153,15 @@ fn permission(letter: u8, name: u8) -> Result<bool, u32>
 }
 
 /// `region TLPAGE PAGES AXIPAGE PERMS`.
-pub(crate) fn region_line(words: &Words<'_>) -> Result<SetupLine, u32>
-    ensures { result ≡ region_line words.now }
+pub(crate) fn region(words: &Words<'_>) -> Result<Region, u32>
+    ensures { result ≡ read_as region_fields words.now (region_in words.now) }
 {
     let tl_page = words.address(2)?;
     let pages = words.long(3)?;
     let axi_page = words.address(4)?;
     let [get, put, atomic, hint] = permissions(words)?;
     words.end(5)?;
-    Ok(SetupLine::Region(Region {
+    Ok(Region {
         tl_page,
         pages,
         axi_page,
@@ -169,7 +169,14 @@ pub(crate) fn region_line(words: &Words<'_>) -> Result<SetupLine, u32>
         put,
         atomic,
         hint,
-    }))
+    })
+}
+
+/// The same as a line of a set-up.
+pub(crate) fn region_line(words: &Words<'_>) -> Result<SetupLine, u32>
+    ensures { result ≡ region_line words.now }
+{
+    Ok(SetupLine::Region(region(words)?))
 }
 
 /// How many pages a `page` line has: 1 to 64.
@@ -182,7 +189,18 @@ pub(crate) fn page_count(words: &Words<'_>) -> Result<u8, u32>
     }
 }
 
-fn page_kind(words: &Words<'_>) -> Result<PageKind, u32>
+/// How many pages a `page` line of a bridge that is only observed has: 1 to 1,048,576.
+pub(crate) fn range_count(words: &Words<'_>) -> Result<u32, u32>
+    ensures { Reads (range_count_field (word_at words.now 3)) (dec_at words.now 3) 3 result }
+{
+    match words.dec(3, 1_048_576)? {
+        0 => Err(3),
+        count => Ok(count as u32),
+    }
+}
+
+/// What the pages of a `page` line are.
+pub(crate) fn page_kind(words: &Words<'_>) -> Result<PageKind, u32>
     ensures { Reads (kind_field (word_at words.now 4)) (kind_in (word_at words.now 4)) 4 result }
 {
     match words.at(4) {
@@ -204,10 +222,17 @@ pub(crate) fn page_line(words: &Words<'_>) -> Result<SetupLine, u32>
 }
 
 /// `bad ADDRESS`.
-pub(crate) fn bad_line(words: &Words<'_>) -> Result<SetupLine, u32>
-    ensures { result ≡ bad_line words.now }
+pub(crate) fn bad_word(words: &Words<'_>) -> Result<u32, u32>
+    ensures { result ≡ read_as (address_field ∷ []) words.now (hex_at words.now 2) }
 {
     let address = words.address(2)?;
     words.end(2)?;
-    Ok(SetupLine::BadWord(address))
+    Ok(address)
+}
+
+/// The same as a line of a set-up.
+pub(crate) fn bad_line(words: &Words<'_>) -> Result<SetupLine, u32>
+    ensures { result ≡ bad_line words.now }
+{
+    Ok(SetupLine::BadWord(bad_word(words)?))
 }

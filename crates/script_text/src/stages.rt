@@ -7,7 +7,7 @@ ghost use Rattle.script_text.specs.Steps.{TakesRest, TakesStep};
 use crate::driver::Script;
 use crate::faults::ScriptFault;
 use crate::keywords::Form;
-use crate::setup_lines::{ScriptSetup, is_setup_form, setup_line};
+use crate::setup_lines::is_setup_form;
 use line_text::Words;
 use setups::SetupFault;
 use std::alloc::Global;
@@ -20,7 +20,7 @@ pub trait Kind {
     ghost use Rattle.script_text.specs.Stages.{GivesSome, Kind as Rules};
 
     /// What its set-up lines add up to.
-    type Setup: ScriptSetup + Drop;
+    type Setup: Drop;
 
     /// What its own set-up lines have said.
     type Own: Drop;
@@ -31,6 +31,12 @@ pub trait Kind {
     /// What a line says that is a command.
     type Command: Drop;
 
+    /// What its rules say of a set-up.
+    ghost Lists: { Type 0 };
+
+    /// A set-up, as the rules say it.
+    ghost lists: { Self.Setup → Lists };
+
     /// What its rules say of what commands work on. It may have functions, which no model's value has.
     ghost State: { Type 0 };
 
@@ -38,7 +44,7 @@ pub trait Kind {
     ghost said: { Self.World → State };
 
     /// What its lines do.
-    ghost rules: { Rules Self.Own State Self.Command };
+    ghost rules: { Rules Lists Self.Own State Self.Command };
 
     /// Whether what commands work on may ask for memory at each command, and at the input's end.
     ghost grows: { Bool };
@@ -51,6 +57,19 @@ pub trait Kind {
     /// Whether it has set-up lines of this form.
     fn takes(form: Form) -> bool
         ensures { result ≡ rules.takes form };
+
+    /// The set-up of a `config` line alone, or that line's first wrong word.
+    fn of_config(words: &Words<'_>) -> Result<Self::Setup, u32>
+        ensures { told_as lists result ≡ rules.set_up.of_config words.now };
+
+    /// Whether a set-up has no room for one line more of this form.
+    fn has_no_room(setup: &Self::Setup, form: Form, words: &Words<'_>) -> bool
+        ensures { result ≡ rules.set_up.has_no_room (lists setup.now) form words.now };
+
+    /// Adds a line of a form that isn't `config` to a set-up that has room for it, or answers its first wrong word.
+    fn add(setup: &mut Self::Setup, form: Form, words: &Words<'_>) -> Result<(), u32>
+        requires { rules.set_up.has_no_room (lists setup.old) form words.now ≡ false }
+        ensures { TakesLine (rules.set_up.with_line (lists setup.old) form words.now) (lists setup.new) result };
 
     /// What its own set-up lines have said before the first of them.
     fn own_opening() -> Self::Own
@@ -75,7 +94,7 @@ pub trait Kind {
         own: &Self::Own,
         setup: &Self::Setup,
     ) -> Result<Self::World, SetupFault>
-        ensures { OpensAs (rules.opened own.now (Self.Setup.lists setup.now)) (told_as said result) };
+        ensures { OpensAs (rules.opened own.now (lists setup.now)) (told_as said result) };
 
     /// Carries out a command, by the number of its line, and writes its text. The answer is whether there was any. A fault is
     /// that of the writer, or that memory was refused.
@@ -95,9 +114,6 @@ pub trait Kind {
         writer: &mut W,
     ) -> Result<bool, ScriptFault>
         ensures { WritesEnd grows (rules.ending (said world.old)) (W.contents writer.old) (W.contents writer.new) result };
-
-    /// Its `config` line is read as its rules say.
-    ghost reads_port: { Self.Setup.port_field ≡ rules.port_field };
 
     /// A command has text, or a script that ends after it.
     ghost gives_text: { GivesSome rules };
@@ -124,9 +140,9 @@ pub struct StagedScript<K: Kind> {
 impl<K: Kind> Model for StagedScript<K> {
     ghost use Rattle.script_text.specs.Stages.{Stage as ScriptStage, stage_of};
 
-    ghost Value = { ScriptStage K.Own K.World };
+    ghost Value = { ScriptStage K.Setup K.Own K.World };
 
-    ghost view = { λ s. stage_of K.Setup.lists s.stage };
+    ghost view = { λ s. stage_of s.stage };
 }
 
 impl<K: Kind> StagedScript<K> {
@@ -142,38 +158,36 @@ impl<K: Kind> StagedScript<K> {
 
     /// Whether no command was carried out yet.
     fn nothing_written(&self) -> bool
-        ensures { result ≡ nothing_written (stage_as K.said self.now) }
+        ensures { result ≡ nothing_written (stage_as K.lists K.said self.now) }
     {
         !matches!(self.stage, Stage::Running(_))
     }
 
     /// Whether a set-up line of this form may not stand here.
     fn is_misplaced(&self, form: Form, words: &Words<'_>) -> bool
-        ensures { result ≡ is_misplaced (stage_as K.said self.now) form words.now }
+        ensures { result ≡ is_misplaced K.rules (stage_as K.lists K.said self.now) form words.now }
     {
         match &self.stage {
             Stage::Opening => !matches!(form, Form::Config),
-            Stage::SettingUp(setup, _) => setup.has_no_room(form, words),
+            Stage::SettingUp(setup, _) => K::has_no_room(setup, form, words),
             Stage::Running(_) => true,
         }
     }
 
     /// Takes a line of a set-up form that may stand here, or answers its first wrong word.
     fn set_up(&mut self, form: Form, words: &Words<'_>) -> Result<(), u32>
-        requires { is_misplaced (stage_as K.said self.old) form words.now ≡ false }
-        ensures { TakesLine (set_up_with K.rules (stage_as K.said self.old) words.now form) (stage_as K.said self.new) result }
+        requires { is_misplaced K.rules (stage_as K.lists K.said self.old) form words.now ≡ false }
+        ensures { TakesLine (set_up_with K.rules (stage_as K.lists K.said self.old) words.now form) (stage_as K.lists K.said self.new) result }
     {
         if matches!(form, Form::Config) {
-            let setup = K::Setup::of_config(words)?;
+            let setup = K::of_config(words)?;
             self.stage = Stage::SettingUp(setup, K::own_opening());
             return Ok(());
         }
-        let line = setup_line(form, words)?;
         let Stage::SettingUp(setup, _) = &mut self.stage else {
             return Err(1);
         };
-        setup.add(line);
-        Ok(())
+        K::add(setup, form, words)
     }
 
     /// Takes a line of a set-up form.
@@ -184,7 +198,7 @@ impl<K: Kind> StagedScript<K> {
         form: Form,
         _writer: &mut W,
     ) -> Result<bool, ScriptFault>
-        ensures { TakesStep (reading_of K.rules) K.grows (setup_step K.rules (stage_as K.said self.old) number words.now form) nothing_written (stage_as K.said self.old) (stage_as K.said self.new) (W.contents _writer.old) (W.contents _writer.new) result }
+        ensures { TakesStep (reading_of K.rules) K.grows (setup_step K.rules (stage_as K.lists K.said self.old) number words.now form) nothing_written (stage_as K.lists K.said self.old) (stage_as K.lists K.said self.new) (W.contents _writer.old) (W.contents _writer.new) result }
     {
         if !K::takes(form) || self.is_misplaced(form, words) {
             return Err(ScriptFault::Script {
@@ -206,7 +220,7 @@ impl<K: Kind> StagedScript<K> {
         words: &Words<'_>,
         writer: &mut W,
     ) -> Result<bool, ScriptFault>
-        ensures { TakesStep (reading_of K.rules) K.grows (other_step K.rules (stage_as K.said self.old) number words.now) nothing_written (stage_as K.said self.old) (stage_as K.said self.new) (W.contents writer.old) (W.contents writer.new) result }
+        ensures { TakesStep (reading_of K.rules) K.grows (other_step K.rules (stage_as K.lists K.said self.old) number words.now) nothing_written (stage_as K.lists K.said self.old) (stage_as K.lists K.said self.new) (W.contents writer.old) (W.contents writer.new) result }
     {
         let Stage::SettingUp(_, own) = &mut self.stage else {
             return Err(ScriptFault::Script {
@@ -233,8 +247,8 @@ impl<K: Kind> StagedScript<K> {
         words: &Words<'_>,
         writer: &mut W,
     ) -> Result<bool, ScriptFault>
-        requires { nothing_written (stage_as K.said self.old) ≡ true }
-        ensures { TakesStep (reading_of K.rules) K.grows (early_step K.rules (stage_as K.said self.old) number words.now) nothing_written (stage_as K.said self.old) (stage_as K.said self.new) (W.contents writer.old) (W.contents writer.new) result }
+        requires { nothing_written (stage_as K.lists K.said self.old) ≡ true }
+        ensures { TakesStep (reading_of K.rules) K.grows (early_step K.rules (stage_as K.lists K.said self.old) number words.now) nothing_written (stage_as K.lists K.said self.old) (stage_as K.lists K.said self.new) (W.contents writer.old) (W.contents writer.new) result }
     {
         if K::passes(words) {
             return Ok(false);
@@ -251,7 +265,7 @@ impl<K: Kind> StagedScript<K> {
     /// Makes what commands work on where there is none yet.
     #[inline]
     fn open(&mut self, alloc: Global, number: u32) -> Result<(), ScriptFault>
-        ensures { OpensStage (world_at K.rules (stage_as K.said self.old) number) (nothing_written (stage_as K.said self.old)) (stage_as K.said self.new) result }
+        ensures { OpensStage (world_at K.rules (stage_as K.lists K.said self.old) number) (nothing_written (stage_as K.lists K.said self.old)) (stage_as K.lists K.said self.new) result }
     {
         if let Stage::Running(_) = &self.stage {
             return Ok(());
@@ -262,7 +276,7 @@ impl<K: Kind> StagedScript<K> {
     /// Makes what commands work on. It is apart, since a function clears the room for its values at its entry.
     #[inline(never)]
     fn make(&mut self, alloc: Global, number: u32) -> Result<(), ScriptFault>
-        ensures { OpensStage (world_at K.rules (stage_as K.said self.old) number) (nothing_written (stage_as K.said self.old)) (stage_as K.said self.new) result }
+        ensures { OpensStage (world_at K.rules (stage_as K.lists K.said self.old) number) (nothing_written (stage_as K.lists K.said self.old)) (stage_as K.lists K.said self.new) result }
     {
         let (setup, own) = match &self.stage {
             Stage::Opening => {
@@ -291,7 +305,7 @@ impl<K: Kind> StagedScript<K> {
         command: &K::Command,
         writer: &mut W,
     ) -> Result<bool, ScriptFault>
-        ensures { TakesStep (reading_of K.rules) K.grows (command_step K.rules (world_at K.rules (stage_as K.said self.old) number) number command.now) nothing_written (stage_as K.said self.old) (stage_as K.said self.new) (W.contents writer.old) (W.contents writer.new) result }
+        ensures { TakesStep (reading_of K.rules) K.grows (command_step K.rules (world_at K.rules (stage_as K.lists K.said self.old) number) number command.now) nothing_written (stage_as K.lists K.said self.old) (stage_as K.lists K.said self.new) (W.contents writer.old) (W.contents writer.new) result }
     {
         self.open(alloc, number)?;
         let Stage::Running(world) = &mut self.stage else {
@@ -308,7 +322,7 @@ impl<K: Kind> StagedScript<K> {
         words: &Words<'_>,
         writer: &mut W,
     ) -> Result<bool, ScriptFault>
-        ensures { TakesStep (reading_of K.rules) K.grows (told_step K.rules (stage_as K.said self.old) number (K.rules.command_of words.now)) nothing_written (stage_as K.said self.old) (stage_as K.said self.new) (W.contents writer.old) (W.contents writer.new) result }
+        ensures { TakesStep (reading_of K.rules) K.grows (told_step K.rules (stage_as K.lists K.said self.old) number (K.rules.command_of words.now)) nothing_written (stage_as K.lists K.said self.old) (stage_as K.lists K.said self.new) (W.contents writer.old) (W.contents writer.new) result }
     {
         let read = K::command_of(words);
         let command = match &read {
@@ -330,7 +344,7 @@ impl<K: Kind> StagedScript<K> {
         number: u32,
         writer: &mut W,
     ) -> Result<bool, ScriptFault>
-        ensures { TakesRest (stage_ending K.rules (stage_as K.said self.old) number) [] K.grows (nothing_written (stage_as K.said self.old)) (W.contents writer.old) (W.contents writer.new) result }
+        ensures { TakesRest (stage_ending K.rules (stage_as K.lists K.said self.old) number) [] K.grows (nothing_written (stage_as K.lists K.said self.old)) (W.contents writer.old) (W.contents writer.new) result }
     {
         self.open(alloc, number)?;
         let Stage::Running(world) = &mut self.stage else {
@@ -346,9 +360,9 @@ impl<K: Kind + Drop> Script for StagedScript<K> {
     /// What a script that ends answers, as its kind says it.
     type Answer = bool;
 
-    ghost State = { Stage K.Own K.State };
+    ghost State = { Stage K.Lists K.Own K.State };
 
-    ghost state = { λ script. stage_as K.said script };
+    ghost state = { λ script. stage_as K.lists K.said script };
 
     ghost reading = { reading_of K.rules };
 

@@ -9,10 +9,11 @@ use Rattle.setups.specs.Setups.{SetupLists, lists_of}
 use Rattle.setups.specs.declared.Setup.{Setup}
 use Rattle.line_text.specs.Fields.{Field, byte_field, first_wrong, unless_wrong}
 use Rattle.line_text.specs.OfferLines.{offer_line}
-use Rattle.script_text.proofs.StageSteps.{told_twice}
+use Rattle.script_text.proofs.ToldFields.{told_twice}
 use Rattle.script_text.specs.Forms.{told_as}
 use Rattle.script_text.specs.SetupLines.{config_line, with_config}
-use Rattle.script_text.specs.Stages.{has_no_room, is_setup_form}
+use Rattle.script_text.specs.SetupRules.{has_no_room}
+use Rattle.script_text.specs.Stages.{is_setup_form}
 use Rattle.line_text.specs.Words.{dec_at, is_dec_to, word_at}
 use Rattle.script_text.specs.declared.keywords.Form.{Form}
 use Rattle.script_text.specs.declared.keywords.Form.TheVariants as form

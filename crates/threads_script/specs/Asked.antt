@@ -9,7 +9,8 @@ use Rattle.script_text.specs.Forms.{form_of, told_as}
 use Rattle.line_text.specs.OfferLines.{offer_line}
 use Rattle.script_text.specs.Scripts.{Reading, TextResult, ended}
 use Rattle.script_text.specs.SetupLines.{config_line, with_config, with_line}
-use Rattle.script_text.specs.Stages.{added_step, has_no_room, is_config_form, is_setup_form, setup_line}
+use Rattle.script_text.specs.SetupRules.{has_no_room, setup_line}
+use Rattle.script_text.specs.Stages.{added_step, is_config_form, is_setup_form}
 use Rattle.line_text.specs.Words.{is_dec_to, word_at, dec_at, hex_at}
 use Rattle.script_text.specs.declared.faults.ScriptFault.TheVariants.{Script, Setup}
 use Rattle.script_text.specs.declared.keywords.Form.{Form}

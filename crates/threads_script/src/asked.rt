@@ -10,7 +10,7 @@ use crate::line_parser::{address_line, thread_of, word_line};
 use crate::lists;
 use crate::lists::{lists_with_room, push_to};
 use line_text::{Words, offer_line};
-use script_text::{Form, ScriptSetup, is_setup_form, setup_line};
+use script_text::{Form, ScriptSetup, add_line, is_setup_form, setup_line};
 use setups::Setup;
 use std::alloc::{AllocError, Global};
 use std::marker::Model;
@@ -198,7 +198,7 @@ impl Asked {
         }
         let line = setup_line(form, words)?;
         if let Some(setup) = &mut self.setup {
-            setup.add(line);
+            add_line(setup, line);
         }
         Ok(())
     }

@@ -1,10 +1,11 @@
 //! A board of each policy: what a text doesn't ask of it.
-use super::{ACK, PUT, REGION, SEEN, board_set_up, same};
+use super::{ACK, DATA, GET, PUT, REGION, SEEN, board_set_up, same};
 use axi_beats::ArBeat;
 use axi_checker::{AxiBeat, AxiRule};
 use burst_plan::{MapFault, Region};
 use scoreboard::{Errors, ObservedBeat, Policy, ReplyRule, Scoreboard, Wrong};
 use setups::SetupFault;
+use sparse_memory::{PageRange, RangeKind};
 use std::test::Fail;
 use tl_checker::TlRule;
 use tl_messages::DBeat;
@@ -41,6 +42,43 @@ fn bytes_from_the_request_on(rt: HostRuntime) -> Result<(), Fail> {
         ] {
             same(&rt, (policy, address), board.byte(address), byte);
         }
+    }
+    Ok(())
+}
+
+/// Four pages whose bytes nobody knows: a Get of them may be told anything, until a Put gave them.
+const TOLD: [(ObservedBeat, Option<Wrong>); 8] = [
+    (ObservedBeat::A(1, GET), None),
+    (ObservedBeat::D(1, OTHER), None),
+    (ObservedBeat::A(0, PUT), None),
+    (ObservedBeat::D(0, ACK), None),
+    (ObservedBeat::A(1, GET), None),
+    (
+        ObservedBeat::D(1, OTHER),
+        Some(Wrong::Reply(ReplyRule::Payload, Some(DATA))),
+    ),
+    (ObservedBeat::A(1, GET), None),
+    (ObservedBeat::D(1, DATA), None),
+];
+
+/// Other data than the Put gives.
+const OTHER: DBeat = DBeat {
+    payload: 0xffff_ffff_0000_0000,
+    ..DATA
+};
+
+#[test]
+fn bytes_that_nobody_knows(rt: HostRuntime) -> Result<(), Fail> {
+    let mut setup = board_set_up(REGION).expect(&rt, "room");
+    setup.pages.clear();
+    setup.pages.push(PageRange {
+        first: 0x10,
+        count: 4,
+        kind: RangeKind::Unknown,
+    });
+    let mut board = Scoreboard::new(rt.alloc(), Policy::RealTime, Errors::Strict, &setup)?;
+    for (place, (seen, wrong)) in TOLD.iter().enumerate() {
+        same(&rt, place, board.judge(seen)?, *wrong);
     }
     Ok(())
 }

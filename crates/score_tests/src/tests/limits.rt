@@ -3,6 +3,7 @@ use super::{CONFIG, REGION, board_set_up, refused_set_up, same, set_up};
 use burst_plan::MapFault;
 use score_setup::{ScoreConfig, ScoreSetup, score_setup_fault};
 use setups::SetupFault;
+use sparse_memory::{PageRange, RangeKind};
 use tl_checker::Level;
 
 /// IDs and their depth, and whether a port may have so many.
@@ -17,6 +18,15 @@ const PORTS: [(u16, u16, bool); 9] = [
     (241, 17, false),
     (65_535, 65_535, false),
 ];
+
+/// A page by itself, whose bytes start as zero.
+fn page(first: u32) -> PageRange {
+    PageRange {
+        first,
+        count: 1,
+        kind: RangeKind::Zeros,
+    }
+}
 
 #[test]
 fn limits_of_the_port(rt: HostRuntime) {
@@ -46,7 +56,8 @@ fn a_set_up_of_a_bridge(rt: HostRuntime) {
     let setup = set_up(REGION).expect(&rt, "room");
     let read = board_set_up(REGION).expect(&rt, "room");
     same(&rt, "config", read.config, ScoreConfig::of(&setup.config));
-    same(&rt, "pages", read.pages.as_slice(), setup.pages.as_slice());
+    let pages = [page(0x10), page(0x11), page(0x12), page(0x13)];
+    same(&rt, "pages", read.pages.as_slice(), pages.as_slice());
     same(&rt, "fault", score_setup_fault(&read), None);
     let refused = refused_set_up().expect(&rt, "room");
     let fault = Some(SetupFault::Map(MapFault::RegionEmpty(0)));

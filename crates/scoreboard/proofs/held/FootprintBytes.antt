@@ -1,5 +1,5 @@
 -- The bytes of a request: they are in one page, and of one of its words after another each is determined or isn't.
-use Rattle.std.proofs.Common.{◌≡◌, ℕ, zero, suc, w8, ◌==◌, ◌+◌, ◌-◌, ◌*◌, ◌/◌, ◌%◌, ◌^◌, ◌<◌, ◌≤◌, min, max, Bool, true, false, ◌&&◌, ◌||◌, not, List, get_or, refl, sym, ◌∙◌, ap, ap₂, arith, inl, inr}
+use Rattle.std.proofs.Common.{◌≡◌, ℕ, zero, suc, w8, ◌==◌, ◌+◌, ◌-◌, ◌*◌, ◌/◌, ◌%◌, ◌^◌, ◌<◌, ◌≤◌, min, Bool, true, false, ◌&&◌, ◌||◌, not, List, get_or, refl, sym, ◌∙◌, ap, ap₂, arith, inl, inr}
 use Rattle.std.specs.Prelude.{nat_le, nat_lt}
 use Rattle.std.specs.List.{list_all, range_with_len}
 use Rattle.std.proofs.Math.Path.{fun_ext}
@@ -11,11 +11,10 @@ use Rattle.std.proofs.lemmas.Nat.{pow-add, pow_pos}
 use Rattle.std.proofs.lemmas.Nat.Bits.{bit_at-lt, bit_at_not}
 use Rattle.tl_messages.specs.Lanes.{in_lanes}
 use Rattle.data_unit.proofs.AlignedLanes.{in_lanes-aligned, in_lanes_every}
-use Rattle.bus_words.specs.Lanes.{has_lane, mask_of, word_address}
+use Rattle.bus_words.specs.Lanes.{has_lane, word_address}
 use Rattle.bus_words.proofs.MaskLaws.{has_lane-mask_of, mask_of-has_lane, mask_of-same}
 use Rattle.bus_words.proofs.Ranges.{all_pass, passes_at}
 use Rattle.meaning.proofs.SerialReplies.{in_page}
-use Rattle.serial_memory.specs.InsideSerial.{IsWordAt}
 use Rattle.serial_memory.specs.SerialMemory.{IsMemoryRange}
 use Rattle.serial_memory.proofs.PutWords.{sizes}
 use Rattle.serial_memory.proofs.Words.{same_word, word_aligned, word_in_page}

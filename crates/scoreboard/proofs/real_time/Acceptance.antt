@@ -8,7 +8,7 @@ use Rattle.tl_messages.specs.Requests.{WholeRequest}
 use Rattle.burst_plan.specs.declared.Region.{Region}
 use Rattle.burst_plan.specs.PageMap.{address_of}
 use Rattle.subordinate.specs.Faults.{Faults}
-use Rattle.meaning.specs.Meaning.{Bytes, zeros}
+use Rattle.meaning.specs.Meaning.{Bytes}
 use Rattle.scoreboard.specs.Boards.{Board, ClientBoard, client_beside, flight_for, footprints_of, joined_on, with_accepted}
 use Rattle.serial_memory.specs.SerialMemory.{on_good_page, place_in}
 use Rattle.scoreboard.specs.Orders.{Order, begun_to, has_ended}
@@ -123,14 +123,14 @@ module _ (board : Board) (number : ℕ) (client : ClientBoard) (q : WholeRequest
   abbrev its_place : Place
   its_place = due_at number q.source
 
-  pub explains_joined : (n : ℕ) (before after : Order) → IsWell q → list_any has_ended after ≡ false → Explains board (before ++ after)
-      → Explains (joined_on board number client q (sure_on board q)) (before ++ first_of Strict number q true n ∷ after)
-  explains_joined n before after well none explains =
+  pub explains_joined : {start : Bytes} (n : ℕ) (before after : Order) → IsWell q → list_any has_ended after ≡ false → Explains start board (before ++ after)
+      → Explains start (joined_on board number client q (sure_on board q)) (before ++ first_of Strict number q true n ∷ after)
+  explains_joined {start} n before after well none explains =
       let with_it =
       inserted board.memory.faults board.memory.regions (flight_at board.clients) (flight_at with_it_all) (footprints_of board.clients)
       board.indeterminate board.memory.bytes (first_of Strict number q true n) accepted well refl refl
       (joins_right board.memory.faults board.memory.regions board.indeterminate (footprint_at board.clients) (footprints_of board.clients) q are well)
-      are explains.apart explains.either (own_flight board number client q sure there free) (other_flight board number client q sure there free) before after zeros explains.entries none elsewhere explains.distinct explains.known refl
+      are explains.apart explains.either (own_flight board number client q sure there free) (other_flight board number client q sure there free) before after start explains.entries none elsewhere explains.distinct explains.known refl
       explains.small refl in
       record {
         sources =
@@ -160,7 +160,7 @@ module _ (board : Board) (number : ℕ) (client : ClientBoard) (q : WholeRequest
       nothing = ap (λ (f : Flights). due_to f q.source) (ap flights_in there) ∙ none_found q.source client.flights.due free
 
       elsewhere : AllByRecursion (IsElsewhere its_place) (before ++ after)
-      elsewhere = all_elsewhere board.memory.faults board.memory.regions (flight_at board.clients) its_place nothing (before ++ after) zeros explains.entries
+      elsewhere = all_elsewhere board.memory.faults board.memory.regions (flight_at board.clients) its_place nothing (before ++ after) start explains.entries
 
       not_due : (c : ℕ) → begun_at c ≡ its_place → ⊥
       not_due c same = let source = ap (λ (p : Place). p.source) same in absurd (cc (source))

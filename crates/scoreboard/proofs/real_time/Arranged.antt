@@ -15,8 +15,7 @@ use Rattle.tl_checker.specs.Ports.{joined}
 use Rattle.tl_checker.specs.declared.Progress.{Progress}
 use Rattle.tl_checker.specs.declared.Progress.TheVariants.{More, Whole}
 use Rattle.tl_checker.specs.declared.TlRule.{TlRule}
-use Rattle.setups.specs.Setups.{SetupLists}
-use Rattle.scoreboard.specs.Boards.{Board, ClientBoard, after_all, after_seen, answer_to, is_spoiled, opening_with}
+use Rattle.scoreboard.specs.Boards.{Beginning, Board, ClientBoard, after_all, after_seen, answer_to, is_spoiled, opening_from}
 use Rattle.scoreboard.specs.FailedBursts.{Span, failed_span, shares}
 use Rattle.scoreboard.specs.declared.Errors.{Errors}
 use Rattle.scoreboard.specs.declared.Policy.TheVariants as policy
@@ -215,12 +214,12 @@ fated_same fate errors client q r whole number told may = by_spoiled (is_spoiled
 -- ---- an order of all, as far as its requests have begun
 
 -- behind it
-kept_behind : (errors : Errors) (setup : SetupLists) (beats : List ObservedBeat) (later : ℕ) (left right : List ℕ) → KeepsRealTime errors setup beats (left ++ later ∷ right)
+kept_behind : (errors : Errors) (setup : Beginning) (beats : List ObservedBeat) (later : ℕ) (left right : List ℕ) → KeepsRealTime errors setup beats (left ++ later ∷ right)
     → AllByRecursion (λ number. EndedBefore errors setup beats number later → ⊥) right
 kept_behind errors setup beats later [] right keeps = keeps.0
 kept_behind errors setup beats later (first ∷ left) right keeps = kept_behind errors setup beats later left right keeps.1
 
-module _ (errors : Errors) (setup : SetupLists) (beats : List ObservedBeat) (requests : ℕ → WholeRequest) (numbers : List ℕ) (is_order : IsOrderOf errors setup beats numbers)
+module _ (errors : Errors) (setup : Beginning) (beats : List ObservedBeat) (requests : ℕ → WholeRequest) (numbers : List ℕ) (is_order : IsOrderOf errors setup beats numbers)
     (may : MayBecomeAll (begun_in errors setup beats) requests) where
   abbrev begun : List ObservedBeat → Order
   begun done = begun_in errors setup done
@@ -247,7 +246,7 @@ module _ (errors : Errors) (setup : SetupLists) (beats : List ObservedBeat) (req
   may_there : (done rest : List ObservedBeat) → beats ≡ done ++ rest → MayBecomeFated fate (begun done) requests
   may_there done rest is =
       may_from fate rest (board_after errors setup done) (begun done) requests (followed errors setup done)
-      (subst (λ (now : Order). MayBecomeFated fate now requests) (ap begun is ∙ from_parts done rest (opening_with errors setup) []) as_fate)
+      (subst (λ (now : Order). MayBecomeFated fate now requests) (ap begun is ∙ from_parts done rest (opening_from errors setup) []) as_fate)
     where
       as_fate : MayBecomeFated fate (begun beats) requests
       as_fate number small = may number small
@@ -318,7 +317,7 @@ module _ (errors : Errors) (setup : SetupLists) (beats : List ObservedBeat) (req
     longer = so_far (done ++ seen ∷ [])
 
     is_next : begun (done ++ seen ∷ []) ≡ now
-    is_next = from_parts done (seen ∷ []) (opening_with errors setup) []
+    is_next = from_parts done (seen ∷ []) (opening_from errors setup) []
 
     with_next : beats ≡ (done ++ seen ∷ []) ++ rest
     with_next = parts ∙ sym (append_assoc done (seen ∷ []) rest)
@@ -582,7 +581,7 @@ module _ (errors : Errors) (setup : SetupLists) (beats : List ObservedBeat) (req
     so_far (done ++ seen ∷ []),
     goes_on done seen rest is,
     fates_kept (done ++ seen ∷ []) rest (is ∙ sym (append_assoc done (seen ∷ []) rest)),
-    subst (λ (board : Board). IsOrderFrom fate board (so_far (done ++ seen ∷ [])) rest (so_far beats)) (after_snoc done seen (opening_with errors setup))
+    subst (λ (board : Board). IsOrderFrom fate board (so_far (done ++ seen ∷ [])) rest (so_far beats)) (after_snoc done seen (opening_from errors setup))
         (goes_from (done ++ seen ∷ []) rest (is ∙ sym (append_assoc done (seen ∷ []) rest))),
   )
 
@@ -597,7 +596,7 @@ module _ (errors : Errors) (setup : SetupLists) (beats : List ObservedBeat) (req
         any = spoiled_any errors setup beats;
         ends = each_below (λ entry. fate entry.number ≡ true → entry.spoiled ≡ true) (becoming (begun beats) requests) (length (begun beats)) numbers
             (λ k small fated. sym (ap fate ((counted_in errors setup beats).numbers k small)) ∙ fated);
-        from = subst (λ (o : Order). IsOrderFrom fate (opening_with errors setup) o beats (so_far beats)) (ap (map (becoming [] requests)) (none_yet numbers))
+        from = subst (λ (o : Order). IsOrderFrom fate (opening_from errors setup) o beats (so_far beats)) (ap (map (becoming [] requests)) (none_yet numbers))
             (goes_from [] beats refl);
       })
 
@@ -608,17 +607,17 @@ range_times : (from count number : ℕ)
 range_times from zero number = grind (arith, nat_tests)
 range_times from (suc count) number = grind (arith, nat_tests, range_times (from + 1) count number)
 
-none_before : (errors : Errors) (setup : SetupLists) (beats : List ObservedBeat) (later from count : ℕ) → later < from
+none_before : (errors : Errors) (setup : Beginning) (beats : List ObservedBeat) (later from count : ℕ) → later < from
     → AllByRecursion (λ number. EndedBefore errors setup beats number later → ⊥) (range_with_len from count)
 none_before errors setup beats later from zero behind = tt
 none_before errors setup beats later from (suc count) behind =
     ((λ ended. omega (arith, ended.begun, ended.not_yet, behind)), none_before errors setup beats later (from + 1) count (omega (arith, behind)))
 
-range_keeps : (errors : Errors) (setup : SetupLists) (beats : List ObservedBeat) (from count : ℕ) → KeepsRealTime errors setup beats (range_with_len from count)
+range_keeps : (errors : Errors) (setup : Beginning) (beats : List ObservedBeat) (from count : ℕ) → KeepsRealTime errors setup beats (range_with_len from count)
 range_keeps errors setup beats from zero = tt
 range_keeps errors setup beats from (suc count) = (none_before errors setup beats from (from + 1) count (omega arith), range_keeps errors setup beats (from + 1) count)
 
-pub first_beats : (errors : Errors) (setup : SetupLists) (beats : List ObservedBeat) → IsOrderOf errors setup beats (range_with_len 0 (length (begun_in errors setup beats)))
+pub first_beats : (errors : Errors) (setup : Beginning) (beats : List ObservedBeat) → IsOrderOf errors setup beats (range_with_len 0 (length (begun_in errors setup beats)))
 first_beats errors setup beats =
     record {
       all = λ number. grind (arith, nat_tests, range_times 0 (length (begun_in errors setup beats)) number);
@@ -628,7 +627,7 @@ first_beats errors setup beats =
 -- ---- where nothing more comes
 
 -- each may be what came of it
-pub nothing_more : (errors : Errors) (setup : SetupLists) (beats : List ObservedBeat) → MayBecomeAll (begun_in errors setup beats) (as_begun errors setup beats)
+pub nothing_more : (errors : Errors) (setup : Beginning) (beats : List ObservedBeat) → MayBecomeAll (begun_in errors setup beats) (as_begun errors setup beats)
 nothing_more errors setup beats number small =
     let well = ((followed errors setup beats).held number small).1 in
     record {

@@ -12,9 +12,8 @@ use Rattle.tl_checker.specs.RequestRules.{TlPortLimits}
 use Rattle.tl_checker.specs.declared.Progress.{Progress}
 use Rattle.tl_checker.specs.declared.Progress.TheVariants.{More, Whole}
 use Rattle.tl_checker.specs.declared.TlRule.{TlRule}
-use Rattle.setups.specs.Setups.{SetupLists}
 use Rattle.scoreboard.specs.AxiPorts.{port_after}
-use Rattle.scoreboard.specs.Boards.{Board, ClientBoard, after_a, after_all, after_seen, answer_to, answered_on, hit_on, is_spoiled, opening_with}
+use Rattle.scoreboard.specs.Boards.{Beginning, Board, ClientBoard, after_a, after_all, after_seen, answer_to, answered_on, hit_on, is_spoiled, opening_from}
 use Rattle.scoreboard.specs.FailedBursts.{Span, failed_span, shares}
 use Rattle.scoreboard.specs.Flights.{is_busy}
 use Rattle.scoreboard.specs.InsideBoards.{front_after}
@@ -384,12 +383,12 @@ followed_from [] board now follows = follows
 followed_from (seen ∷ beats) board now follows =
     followed_from beats (after_seen RealTime board seen) (begun_next board seen now) (followed_next board seen now follows)
 
-followed_opening : (errors : Errors) (setup : SetupLists) → IsFollowed (opening_with errors setup) []
-followed_opening errors setup = record { fronts = fronts_opening setup; held = λ number small. absurd (omega (arith, small)) }
+followed_opening : (errors : Errors) (setup : Beginning) → IsFollowed (opening_from errors setup) []
+followed_opening errors setup = record { fronts = fronts_opening setup.lists; held = λ number small. absurd (omega (arith, small)) }
 
 -- since the start
-pub followed : (errors : Errors) (setup : SetupLists) (beats : List ObservedBeat) → IsFollowed (board_after errors setup beats) (begun_in errors setup beats)
-followed errors setup beats = followed_from beats (opening_with errors setup) [] (followed_opening errors setup)
+pub followed : (errors : Errors) (setup : Beginning) (beats : List ObservedBeat) → IsFollowed (board_after errors setup beats) (begun_in errors setup beats)
+followed errors setup beats = followed_from beats (opening_from errors setup) [] (followed_opening errors setup)
 
 -- ---- what they may become after a beat, they may become before
 

@@ -10,6 +10,7 @@ use Rattle.tl_messages.specs.Requests.{HeldMessage, WholeRequest, request_of}
 use Rattle.burst_plan.specs.declared.Region.{Region}
 use Rattle.responses.specs.Shown.{shown}
 use Rattle.subordinate.specs.Faults.{Faults}
+use Rattle.meaning.specs.Meaning.{Bytes}
 use Rattle.scoreboard.specs.Boards.{Board, ClientBoard, begun_on, client_beside, early_due, fails, flight_for, footprints_of, is_spoiled, joining_on, place_on, with_accepted, with_client}
 use Rattle.scoreboard.specs.Flights.{Flights, Footprint, InFlight, is_of_source}
 use Rattle.scoreboard.specs.Orders.{Order}
@@ -33,7 +34,7 @@ use Rattle.scoreboard.proofs.real_time.ShadowJoins.{bytes_kept, certain_there, g
 use Rattle.scoreboard.proofs.real_time.ShadowPlaces.{finals_other, finals_own, finals_with, free_there, none_here, none_there, nothing_begun, reply_same}
 use Rattle.scoreboard.proofs.real_time.StepOrders.{first_of}
 
-module _ (board : Board) (shadow : Shadow) (order : Order) (explains : Explains (shadow_of board shadow) order) (ahead : IsAhead board shadow)
+module _ {start : Bytes} (board : Board) (shadow : Shadow) (order : Order) (explains : Explains start (shadow_of board shadow) order) (ahead : IsAhead board shadow)
     (number : ℕ) (client other_client : ClientBoard) (message : HeldMessage) (bytes : List (Option ℕ)) (spoiled : Bool) (n : ℕ) (fated : Bool)
     (there : slice_get board.clients number ≡ Some client) (there_too : slice_get shadow.clients number ≡ Some other_client) (front : client.front ≡ None)
     (free : list_any (is_of_source message.source) client.flights.due ≡ false)

@@ -13,10 +13,10 @@ use Rattle.burst_plan.specs.declared.Region.{Region}
 use Rattle.responses.specs.Shown.{Reply as ReplyTold, beat_without_data, shown}
 use Rattle.tl_messages.specs.Operations.{reply_has_data}
 use Rattle.subordinate.specs.Faults.{Faults}
-use Rattle.meaning.specs.Meaning.{Bytes, acknowledged, bytes_after_all, meaning, zeros}
+use Rattle.meaning.specs.Meaning.{Bytes, acknowledged, bytes_after_all, meaning}
 use Rattle.setups.specs.Setups.{SetupLists, faults_of}
 use Rattle.scoreboard.specs.AxiPorts.{PortBoard}
-use Rattle.scoreboard.specs.Boards.{Board, ClientBoard, IsReached, hit_on, after_all, after_seen, d_wrong, due_beat, early_flight, failed_beat, next_to, opening_board, opening_with, told_to, wrong_at, wrong_beat, wrong_by, wrong_reply, wrong_told}
+use Rattle.scoreboard.specs.Boards.{Beginning, Board, ClientBoard, IsReached, MayBegin, after_all, after_seen, d_wrong, due_beat, early_flight, failed_beat, hit_on, next_to, opening_board, opening_from, told_to, wrong_at, wrong_beat, wrong_by, wrong_reply, wrong_told}
 use Rattle.scoreboard.specs.AxiPorts.{port_after}
 use Rattle.scoreboard.specs.FailedBursts.{Span, failed_span}
 use Rattle.scoreboard.specs.Flights.{Footprint, InFlight, next_reply}
@@ -134,7 +134,7 @@ record Known (board : Board) (shadow : Shadow) (entry : Entry) : Type 0 where
   fated : IsFated shadow entry
   spoiled : shadow.fate entry.number ≡ true → entry.spoiled ≡ true
 
-module _ (board : Board) (shadow : Shadow) (order : Order) (follows : Follows board shadow order) where
+module _ {start : Bytes} (board : Board) (shadow : Shadow) (order : Order) (follows : Follows start board shadow order) where
   known_all : AllByRecursion (λ entry. shadow.fate entry.number ≡ true → entry.spoiled ≡ true) order → AllByRecursion (Known board shadow) order
   known_all = known_in order follows.marked follows.failing follows.open_ones follows.fated
     where
@@ -187,7 +187,7 @@ module _ (board : Board) (shadow : Shadow) (order : Order) (follows : Follows bo
 
 -- ---- a beat that is blamed, on a board that is followed
 
-module _ (setup : SetupLists) (board : Board) (shadow : Shadow) (order : Order) (number : ℕ) (beat : DBeat) (follows : Follows board shadow order)
+module _ {start : Bytes} (start_small : AreBytes start) (setup : SetupLists) (board : Board) (shadow : Shadow) (order : Order) (number : ℕ) (beat : DBeat) (follows : Follows start board shadow order)
     (ends : AllByRecursion (λ entry. shadow.fate entry.number ≡ true → entry.spoiled ≡ true) order)
     (faults : board.memory.faults ≡ faults_of setup) (regions : board.memory.regions ≡ setup.regions) where
   abbrev begun : Bool
@@ -209,17 +209,17 @@ module _ (setup : SetupLists) (board : Board) (shadow : Shadow) (order : Order) 
   all_known = known_all board shadow order follows ends
 
   abbrev Searched : Type 0
-  Searched = Looked setup asked flights (Known board shadow) test order (due_beats setup order asked)
+  Searched = Looked setup asked flights (Known board shadow) test order (due_beats setup start order asked)
 
   search_order : Searched
   search_order =
-      looked setup asked flights (Known board shadow) test order zeros (record { at = λ x. omega arith })
-      (subst₂ (λ (f : Faults) (r : List Region). Each f r (Stands f r flights) zeros (settle order)) faults regions follows.explains.entries) all_known
+      looked setup asked flights (Known board shadow) test order start start_small
+      (subst₂ (λ (f : Faults) (r : List Region). Each f r (Stands f r flights) start (settle order)) faults regions follows.explains.entries) all_known
 
   -- where nothing is due on the board, nor early
   nothing_left : flight_at board.clients place ≡ None → ((due : DBeat) → early_at board.clients number ≡ Some due → (due.source == beat.source) ≡ false)
-      → due_beats setup order asked ≡ []
-  nothing_left nothing no_early = left_none setup asked test order zeros (nobody_due board shadow order follows number beat.source nothing no_early)
+      → due_beats setup start order asked ≡ []
+  nothing_left nothing no_early = left_none setup asked test order start (nobody_due board shadow order follows number beat.source nothing no_early)
 
   -- where something is due
   module _ (due : InFlight) (here : flight_at board.clients place ≡ Some due) where
@@ -236,7 +236,7 @@ module _ (setup : SetupLists) (board : Board) (shadow : Shadow) (order : Order) 
         (ap (λ (b : Bool). is_some (flight_at shadow.clients (next_at b number beat.source))) (begun_settled board shadow order follows number)
         ∙ ap (λ (o : Option InFlight). is_some o) beside.there)
 
-    module _ (found : Found setup asked flights (Known board shadow) test (due_beats setup order asked)) where
+    module _ (found : Found setup asked flights (Known board shadow) test (due_beats setup start order asked)) where
       at : IsAt place found.entry
       at = due_place begun number beat.source found.entry found.passes
 
@@ -314,7 +314,7 @@ module _ (setup : SetupLists) (board : Board) (shadow : Shadow) (order : Order) 
               raw_broken sound broken there.0 there.1
 
       found_broken : (broken : ReplyRule) (told : Option DBeat) → wrong_told due.footprint asked.told due.beats beat ≡ Some (Reply broken told)
-          → IsBroken (due_beats setup order asked) beat broken
+          → IsBroken (due_beats setup start order asked) beat broken
       found_broken broken told is = subst (λ left. IsBroken left beat broken) (sym (found.is ∙ shown_whole)) (by_failed due.footprint.failed refl)
         where
           by_failed : (b : Bool) → due.footprint.failed ≡ b
@@ -327,10 +327,10 @@ module _ (setup : SetupLists) (board : Board) (shadow : Shadow) (order : Order) 
 
     -- blamed of a request that is due
     broken_due : (broken : ReplyRule) (told : Option DBeat) → wrong_told due.footprint asked.told due.beats beat ≡ Some (Reply broken told)
-        → IsBroken (due_beats setup order asked) beat broken
+        → IsBroken (due_beats setup start order asked) beat broken
     broken_due broken told is = by_look search_order
       where
-        by_look : Searched → IsBroken (due_beats setup order asked) beat broken
+        by_look : Searched → IsBroken (due_beats setup start order asked) beat broken
         by_look (inl nowhere) = absurd (both_ways (list_any test order) nowhere.0 some_due)
         by_look (inr found) = found_broken found broken told is
 
@@ -342,7 +342,7 @@ module _ (setup : SetupLists) (board : Board) (shadow : Shadow) (order : Order) 
     early_is = ap early_in there ∙ early
 
     -- one that may be told in the order is that message
-    module _ (found : Found setup asked flights (Known board shadow) test (due_beats setup order asked)) where
+    module _ (found : Found setup asked flights (Known board shadow) test (due_beats setup start order asked)) where
       record IsEarly : Type 0 where
         unwhole : found.entry.whole ≡ false
         may_come : found.entry.early ≡ true
@@ -416,7 +416,7 @@ module _ (setup : SetupLists) (board : Board) (shadow : Shadow) (order : Order) 
                   (or_parts found.entry.spoiled (access_fails setup found.entry.request) (sym (ap (λ (e : Errors). has_failed e setup found.entry) any) ∙ sound)).1
 
       early_broken : (broken : ReplyRule) (told : Option DBeat) → wrong_told client.coming asked.told (due ∷ []) beat ≡ Some (Reply broken told)
-          → IsBroken (due_beats setup order asked) beat broken
+          → IsBroken (due_beats setup start order asked) beat broken
       early_broken broken told is =
           subst (λ left. IsBroken left beat broken) (same_due ∙ sym (found.is ∙ shown_early)) (first_blamed client.coming asked.told due [] beat broken told is)
 
@@ -424,15 +424,15 @@ module _ (setup : SetupLists) (board : Board) (shadow : Shadow) (order : Order) 
     some_early = early_due_in board shadow order follows number beat.source nothing due early_is own_source
 
     broken_early : (broken : ReplyRule) (told : Option DBeat) → wrong_told client.coming asked.told (due ∷ []) beat ≡ Some (Reply broken told)
-        → IsBroken (due_beats setup order asked) beat broken
+        → IsBroken (due_beats setup start order asked) beat broken
     broken_early broken told is = by_look search_order
       where
-        by_look : Searched → IsBroken (due_beats setup order asked) beat broken
+        by_look : Searched → IsBroken (due_beats setup start order asked) beat broken
         by_look (inl nowhere) = absurd (both_ways (list_any test order) nowhere.0 some_early)
         by_look (inr found) = early_broken found broken told is
 
   blamed_of : (client : ClientBoard) → slice_get board.clients number ≡ Some client → (broken : ReplyRule) (told : Option DBeat)
-      → wrong_reply RealTime (told_to client) (next_to RealTime client beat.source) beat ≡ Some (Reply broken told) → IsBroken (due_beats setup order asked) beat broken
+      → wrong_reply RealTime (told_to client) (next_to RealTime client beat.source) beat ≡ Some (Reply broken told) → IsBroken (due_beats setup start order asked) beat broken
   blamed_of client there broken told is = by_flight (next_reply client.flights beat.source) refl
     where
       next : flight_at board.clients place ≡ next_reply client.flights beat.source
@@ -445,18 +445,18 @@ module _ (setup : SetupLists) (board : Board) (shadow : Shadow) (order : Order) 
       blamed_as_next o same = ap₂ (λ (t : Option Bool) (f : Option InFlight). wrong_reply RealTime t f beat) (sym told_is) (sym same) ∙ is
 
       nothing_due : flight_at board.clients place ≡ None → ((due : DBeat) → early_at board.clients number ≡ Some due → (due.source == beat.source) ≡ false)
-          → next_to RealTime client beat.source ≡ None → IsBroken (due_beats setup order asked) beat broken
+          → next_to RealTime client beat.source ≡ None → IsBroken (due_beats setup start order asked) beat broken
       nothing_due nothing no_early none =
           let unasked : Some (Reply Unasked None) ≡ Some (Reply broken told) = blamed_as_next None none in
           (None, rw (nothing_left nothing no_early) (grind (arith, unasked)))
 
-      by_early : next_reply client.flights beat.source ≡ None → (o : Option DBeat) → client.early ≡ o → IsBroken (due_beats setup order asked) beat broken
+      by_early : next_reply client.flights beat.source ≡ None → (o : Option DBeat) → client.early ≡ o → IsBroken (due_beats setup start order asked) beat broken
       by_early nothing None none =
           nothing_due (next ∙ nothing) (λ due its. absurd (cc (sym none ∙ sym (ap early_in there) ∙ its)))
           (ap₂ (λ (f : Option InFlight) (e : Option DBeat). option_or f (early_flight client e beat.source)) nothing none)
       by_early nothing (Some due) early = by_source (due.source == beat.source) refl
         where
-          by_source : (b : Bool) → (due.source == beat.source) ≡ b → IsBroken (due_beats setup order asked) beat broken
+          by_source : (b : Bool) → (due.source == beat.source) ≡ b → IsBroken (due_beats setup start order asked) beat broken
           by_source true own_source =
               let flight : next_to RealTime client beat.source ≡ Some (record { source = beat.source; beats = due ∷ []; footprint = client.coming }) =
               ap₂ (λ (f : Option InFlight) (e : Option DBeat). option_or f (early_flight client e beat.source)) nothing early ∙ rw own_source refl in
@@ -468,78 +468,78 @@ module _ (setup : SetupLists) (board : Board) (shadow : Shadow) (order : Order) 
               (λ its its_is. let one : Some due ≡ Some its = sym early ∙ sym (ap early_in there) ∙ its_is in
               let same : due ≡ its = cc (one) in sym (ap (λ (d : DBeat). d.source == beat.source) same) ∙ other) none
 
-      by_flight : (o : Option InFlight) → next_reply client.flights beat.source ≡ o → IsBroken (due_beats setup order asked) beat broken
+      by_flight : (o : Option InFlight) → next_reply client.flights beat.source ≡ o → IsBroken (due_beats setup start order asked) beat broken
       by_flight None nothing = by_early nothing client.early refl
       by_flight (Some due) here =
           broken_due due (next ∙ here) broken told
           (blamed_as_next (Some due) (ap (λ (f : Option InFlight). option_or f (early_flight client client.early beat.source)) here))
 
-  pub blamed_as : (wrong : Wrong) → wrong_at RealTime board (D number beat) ≡ Some wrong → IsWrongAs setup order (asked_on board number beat) wrong
+  pub blamed_as : (wrong : Wrong) → wrong_at RealTime board (D number beat) ≡ Some wrong → IsWrongAs setup start order (asked_on board number beat) wrong
   blamed_as wrong is = by_client (slice_get board.clients number) refl
     where
-      by_client : (o : Option ClientBoard) → slice_get board.clients number ≡ o → IsWrongAs setup order asked wrong
+      by_client : (o : Option ClientBoard) → slice_get board.clients number ≡ o → IsWrongAs setup start order asked wrong
       by_client None none =
           let same : NoClient ≡ wrong = grind (arith, none, is) in
-          subst (IsWrongAs setup order asked) same (nothing_left (none_due board.clients begun number beat.source none) (λ due its. absurd (cc (sym (ap early_in none) ∙ its))))
+          subst (IsWrongAs setup start order asked) same (nothing_left (none_due board.clients begun number beat.source none) (λ due its. absurd (cc (sym (ap early_in none) ∙ its))))
       by_client (Some client) there =
           let blamed = sym (ap (λ (o : Option ClientBoard). d_wrong RealTime o beat) there) ∙ is in
           let reply = blamed_reply (told_to client) (next_to RealTime client beat.source) beat wrong blamed in
-          subst (IsWrongAs setup order asked) (sym reply.2)
+          subst (IsWrongAs setup start order asked) (sym reply.2)
           (blamed_of client there reply.0 reply.1 (blamed ∙ ap (λ (w : Wrong). Some w) reply.2))
 
 -- ---- along lists of beats
 
 -- the port alone
-follows_port : (fate : ℕ → Bool) (board : Board) (port : PortBoard) (order : Order) → IsFollowed fate board order → IsFollowed fate (record board { axi = port }) order
-follows_port fate board port order (shadow, follows, is) = (
+follows_port : {start : Bytes} (fate : ℕ → Bool) (board : Board) (port : PortBoard) (order : Order) → IsFollowed start fate board order → IsFollowed start fate (record board { axi = port }) order
+follows_port {start} fate board port order (shadow, follows, is) = (
   shadow,
   follows_as board shadow board.clients port follows.ahead.sources refl (λ place. refl) (λ client. refl) (λ client. refl) (λ client. refl) order
       (explains_as (shadow_of board shadow) (settle order) shadow.clients port refl follows.explains.sources follows.explains.nothing follows.explains) follows,
   is,
 )
 
-follows_next : (fate : ℕ → Bool) (board : Board) (seen : ObservedBeat) (old new : Order) → GoesOn fate board seen old new → AllByRecursion (HasFate fate) new
-    → AreFronts board.clients → IsFollowed fate board old → IsFollowed fate (after_seen RealTime board seen) new
-follows_next fate board (A client beat) old new goes ends fronts followed = follows_request fate board old new fronts followed client beat ends goes
-follows_next fate board (D client beat) old new goes ends fronts followed =
-    subst (IsFollowed fate (after_seen RealTime board (D client beat))) (sym goes)
+follows_next : {start : Bytes} (fate : ℕ → Bool) (board : Board) (seen : ObservedBeat) (old new : Order) → GoesOn fate board seen old new → AllByRecursion (HasFate fate) new
+    → AreFronts board.clients → IsFollowed start fate board old → IsFollowed start fate (after_seen RealTime board seen) new
+follows_next {start} fate board (A client beat) old new goes ends fronts followed = follows_request fate board old new fronts followed client beat ends goes
+follows_next {start} fate board (D client beat) old new goes ends fronts followed =
+    subst (IsFollowed start fate (after_seen RealTime board (D client beat))) (sym goes)
     (follows_reply fate board old client beat followed (subst (AllByRecursion (HasFate fate)) goes ends))
-follows_next fate board (OnAxi beat) old new goes ends fronts followed =
-    subst (IsFollowed fate (after_seen RealTime board (OnAxi beat))) (sym goes)
+follows_next {start} fate board (OnAxi beat) old new goes ends fronts followed =
+    subst (IsFollowed start fate (after_seen RealTime board (OnAxi beat))) (sym goes)
     (follows_failed fate board (port_after RealTime board.axi beat) old beat (follows_port fate board (port_after RealTime board.axi beat) old followed))
-follows_next fate board Drained old new goes ends fronts followed =
-    subst (IsFollowed fate (after_seen RealTime board Drained)) (sym goes) (follows_port fate board (after_seen RealTime board Drained).axi old followed)
+follows_next {start} fate board Drained old new goes ends fronts followed =
+    subst (IsFollowed start fate (after_seen RealTime board Drained)) (sym goes) (follows_port fate board (after_seen RealTime board Drained).axi old followed)
 
-pub follows_all : (fate : ℕ → Bool) (beats : List ObservedBeat) (board : Board) (now order : Order) → IsOrderFrom fate board now beats order
-    → AreFronts board.clients → IsFollowed fate board now → IsFollowed fate (after_all RealTime board beats) order
-follows_all fate [] board now order goes fronts followed = subst (IsFollowed fate board) (sym goes) followed
-follows_all fate (seen ∷ beats) board now order goes fronts followed =
+pub follows_all : {start : Bytes} (fate : ℕ → Bool) (beats : List ObservedBeat) (board : Board) (now order : Order) → IsOrderFrom fate board now beats order
+    → AreFronts board.clients → IsFollowed start fate board now → IsFollowed start fate (after_all RealTime board beats) order
+follows_all {start} fate [] board now order goes fronts followed = subst (IsFollowed start fate board) (sym goes) followed
+follows_all {start} fate (seen ∷ beats) board now order goes fronts followed =
     follows_all fate beats (after_seen RealTime board seen) goes.0 order goes.3 (fronts_next board seen fronts)
     (follows_next fate board seen now goes.0 goes.1 goes.2 fronts followed)
 
 -- nothing has begun at the start
-follows_opening : (fate : ℕ → Bool) (errors : Errors) (setup : SetupLists) → ((number : ℕ) → fate number ≡ true → errors ≡ Any)
-    → IsFollowed fate (opening_with errors setup) []
-follows_opening fate errors setup any = (
+follows_opening : (start : Bytes) (fate : ℕ → Bool) (errors : Errors) (setup : Beginning) → MayBegin setup start → ((number : ℕ) → fate number ≡ true → errors ≡ Any)
+    → IsFollowed start fate (opening_from errors setup) []
+follows_opening start fate errors setup begins any = (
   record {
-    clients = (opening_board setup).clients;
-    bytes = zeros;
-    indeterminate = λ x. false;
+    clients = (opening_board setup.lists).clients;
+    bytes = setup.bytes;
+    indeterminate = setup.unknown;
     finals = λ client. request_of no_message;
     fate = fate;
     fates = λ place. false;
   },
   record {
-    explains = explains_opening setup;
+    explains = explains_opening start Strict setup begins;
     ahead = record {
-      sources = (explains_opening setup).sources;
-      small = (explains_opening setup).small;
+      sources = (explains_opening start Strict setup begins).sources;
+      small = (explains_opening start Strict setup begins).small;
       many = refl;
       placed = λ place flight is. absurd (cc (sym (nothing place) ∙ is));
       begun = λ client some. absurd (cc (sym (none_begun client) ∙ some));
       others = λ place other is none. absurd (cc (sym (nothing place) ∙ is));
       waits = λ client some. absurd (cc (sym (none_begun client) ∙ some));
-      known = λ x certain none unfated. record { byte = refl; certain = refl };
+      known = λ x certain none unfated. record { byte = refl; certain = certain };
       given = λ client x some determined gives_it. absurd (cc (sym (none_begun client) ∙ some));
     };
     marked = tt;
@@ -553,23 +553,23 @@ follows_opening fate errors setup any = (
   refl,
 )
   where
-    nothing : (place : Place) → flight_at (opening_board setup).clients place ≡ None
-    nothing place = none_in (opening_board setup).clients place (opening_flights setup.config 0 setup.config.clients place.client)
+    nothing : (place : Place) → flight_at (opening_board setup.lists).clients place ≡ None
+    nothing place = none_in (opening_board setup.lists).clients place (opening_flights setup.lists.config 0 setup.lists.config.clients place.client)
 
-    none_early : (client : ℕ) → early_at (opening_board setup).clients client ≡ None
-    none_early client = by_found (slice_get (opening_board setup).clients client) refl
+    none_early : (client : ℕ) → early_at (opening_board setup.lists).clients client ≡ None
+    none_early client = by_found (slice_get (opening_board setup.lists).clients client) refl
       where
-        by_found : (o : Option ClientBoard) → slice_get (opening_board setup).clients client ≡ o → early_in o ≡ None
+        by_found : (o : Option ClientBoard) → slice_get (opening_board setup.lists).clients client ≡ o → early_in o ≡ None
         by_found None is = refl
-        by_found (Some found) is = ap (λ (c : ClientBoard). c.early) (opening_at setup.config 0 setup.config.clients client found is).1
+        by_found (Some found) is = ap (λ (c : ClientBoard). c.early) (opening_at setup.lists.config 0 setup.lists.config.clients client found is).1
 
-    none_begun : (client : ℕ) → comes (opening_board setup).clients client ≡ false
-    none_begun client = by_client (slice_get (opening_board setup).clients client) refl
+    none_begun : (client : ℕ) → comes (opening_board setup.lists).clients client ≡ false
+    none_begun client = by_client (slice_get (opening_board setup.lists).clients client) refl
       where
-        by_client : (o : Option ClientBoard) → slice_get (opening_board setup).clients client ≡ o → is_some (front_in o) ≡ false
+        by_client : (o : Option ClientBoard) → slice_get (opening_board setup.lists).clients client ≡ o → is_some (front_in o) ≡ false
         by_client None is = refl
         by_client (Some found) is =
-            let opened = opening_at setup.config 0 setup.config.clients client found is in
+            let opened = opening_at setup.lists.config 0 setup.lists.config.clients client found is in
             ap (λ (c : ClientBoard). is_some c.front) opened.1
 
 -- where addresses lead stays
@@ -598,26 +598,26 @@ all_setup (seen ∷ beats) board =
 
 -- ---- the laws
 
-followed : (errors : Errors) (setup : SetupLists) (before : List ObservedBeat) (order : Order) → IsOrderOf errors setup before order
-    → (shadow : Shadow) × Follows (board_after errors setup before) shadow order × AllByRecursion (λ entry. shadow.fate entry.number ≡ true → entry.spoiled ≡ true) order
-followed errors setup before order orders =
+followed : (start : Bytes) (errors : Errors) (setup : Beginning) (before : List ObservedBeat) (order : Order) → MayBegin setup start → IsOrderOf errors setup before order
+    → (shadow : Shadow) × Follows start (board_after errors setup before) shadow order × AllByRecursion (λ entry. shadow.fate entry.number ≡ true → entry.spoiled ≡ true) order
+followed start errors setup before order begins orders =
     let (shadow, follows, is) =
-    follows_all orders.fate before (opening_with errors setup) [] order orders.from (fronts_opening setup) (follows_opening orders.fate errors setup orders.any) in
+    follows_all orders.fate before (opening_from errors setup) [] order orders.from (fronts_opening setup.lists) (follows_opening start orders.fate errors setup begins orders.any) in
     (shadow, follows, subst (λ (f : ℕ → Bool). AllByRecursion (λ entry. f entry.number ≡ true → entry.spoiled ≡ true) order) (sym is) orders.ends)
 
 pub blames_by_rule : BlamesByRule
-blames_by_rule errors setup before order client beat wrong orders blamed =
-    let same = all_setup before (opening_with errors setup) in
-    let (shadow, follows, ends) = followed errors setup before order orders in
-    blamed_as setup (board_after errors setup before) shadow order client beat follows ends same.faults same.regions wrong blamed
+blames_by_rule errors setup start before order client beat wrong begins orders blamed =
+    let same = all_setup before (opening_from errors setup) in
+    let (shadow, follows, ends) = followed start errors setup before order begins orders in
+    blamed_as (record { at = begins.small }) setup.lists (board_after errors setup before) shadow order client beat follows ends same.faults same.regions wrong blamed
 
 -- what is wrong by a rule is wrong
-pub wrong_as_in : (setup : SetupLists) (order : Order) (asked : Asked) (wrong : Wrong) → IsWrongAs setup order asked wrong → IsWrongIn setup order asked
-wrong_as_in setup order asked NoClient is none = absurd (cc (sym (ap (λ (beats : List DBeat). wrong_beat beats asked.beat) is) ∙ none))
-wrong_as_in setup order asked (Request broken) is none = absurd is
-wrong_as_in setup order asked (Reply broken due) is none = absurd (cc (sym is.1 ∙ none))
-wrong_as_in setup order asked (Axi broken) is none = absurd is
-wrong_as_in setup order asked WrongPlace is none = absurd is
+pub wrong_as_in : (setup : SetupLists) (start : Bytes) (order : Order) (asked : Asked) (wrong : Wrong) → IsWrongAs setup start order asked wrong → IsWrongIn setup start order asked
+wrong_as_in setup start order asked NoClient is none = absurd (cc (sym (ap (λ (beats : List DBeat). wrong_beat beats asked.beat) is) ∙ none))
+wrong_as_in setup start order asked (Request broken) is none = absurd is
+wrong_as_in setup start order asked (Reply broken due) is none = absurd (cc (sym is.1 ∙ none))
+wrong_as_in setup start order asked (Axi broken) is none = absurd is
+wrong_as_in setup start order asked WrongPlace is none = absurd is
 
 run_all : (setup : SetupLists) (order : Order) (m : Bytes)
     → bytes_after_all (faults_of setup) setup.regions (map (λ entry. entry.request) order) m ≡ run (faults_of setup) setup.regions m order
@@ -632,17 +632,17 @@ not_awaited x (client ∷ clients) none zero = grind (arith, none)
 not_awaited x (client ∷ clients) none (suc number) = not_awaited x clients (grind (arith, none)) number
 
 pub knows_bytes : KnowsBytes
-knows_bytes errors setup before order x orders certain awaited =
+knows_bytes errors setup start before order x begins orders certain awaited =
     let board = board_after errors setup before in
-    let same = all_setup before (opening_with errors setup) in
-    let (shadow, follows, ends) = followed errors setup before order orders in
+    let same = all_setup before (opening_from errors setup) in
+    let (shadow, follows, ends) = followed start errors setup before order begins orders in
     let both = follows.ahead.known x certain (λ client some.
     let become = follows.ahead.begun client some in
     none_given board.memory.faults board.memory.regions (coming_at board.clients client) (shadow.finals client) become.other x become.becomes
     (not_awaited x board.clients awaited client)) (none_fated board shadow order follows ends x) in
-    ap (λ (f : Bytes). f x) (run_all setup order zeros)
-    ∙ sym (ap₂ (λ (f : Faults) (r : List Region). run f r zeros order x) same.faults same.regions)
-    ∙ sym (ap (λ (f : Bytes). f x) (run_settled board.memory.faults board.memory.regions zeros order))
+    ap (λ (f : Bytes). f x) (run_all setup.lists order start)
+    ∙ sym (ap₂ (λ (f : Faults) (r : List Region). run f r start order x) same.faults same.regions)
+    ∙ sym (ap (λ (f : Bytes). f x) (run_settled board.memory.faults board.memory.regions start order))
     ∙ follows.explains.known x both.certain ∙ both.byte
 
 -- the board after beats none of which is wrong

@@ -13,7 +13,8 @@ use Rattle.tl_checker.specs.declared.Level.TheVariants.{Uh}
 use Rattle.subordinate.specs.Pages.{zero_words}
 use Rattle.subordinate.specs.declared.PageKind.TheVariants.{Good}
 use Rattle.setups.specs.Setups.{SetupLists}
-use Rattle.scoreboard.specs.Boards.{after_all, opening_board, wrong_at}
+use Rattle.meaning.specs.Meaning.{zeros}
+use Rattle.scoreboard.specs.Boards.{Beginning, after_all, from_zeros, opening_board, wrong_at}
 use Rattle.scoreboard.specs.Right.{IsRight}
 use Rattle.scoreboard.specs.declared.ReplyRule.TheVariants.{Corrupt, Denied, Payload, Unasked}
 use Rattle.scoreboard.specs.declared.ObservedBeat.{ObservedBeat}
@@ -36,6 +37,9 @@ setup =
       pages = (0x10, Good) ∷ [];
       bad_words = [];
     }
+
+abbrev beginning : Beginning
+beginning = from_zeros setup
 
 -- opcode, param, size, source, address, mask and payload
 abbrev a : ℕ → ℕ → ℕ → ℕ → ℕ → ℕ → ℕ → ABeat
@@ -65,22 +69,22 @@ abbrev race : List ObservedBeat
 race = put ∷ get ∷ []
 
 -- what the get is told is what stands there where it takes effect
-both_orders : (length (begun_in Strict setup race) ≡ 2)
-    × (due_beats setup (arranged Strict setup race (as_begun Strict setup race) (0 ∷ 1 ∷ [])) (asked 1 2) ≡ told 0xaa000000 ∷ [])
-    × (due_beats setup (arranged Strict setup race (as_begun Strict setup race) (1 ∷ 0 ∷ [])) (asked 1 2) ≡ told 0 ∷ [])
+both_orders : (length (begun_in Strict beginning race) ≡ 2)
+    × (due_beats setup zeros (arranged Strict beginning race (as_begun Strict beginning race) (0 ∷ 1 ∷ [])) (asked 1 2) ≡ told 0xaa000000 ∷ [])
+    × (due_beats setup zeros (arranged Strict beginning race (as_begun Strict beginning race) (1 ∷ 0 ∷ [])) (asked 1 2) ≡ told 0 ∷ [])
 unfolding zero_words
 both_orders = (refl, refl, refl)
 
 -- neither is blamed, nor is another value of the byte that both may have been told; and that the put's reply comes first says nothing of their order
-either_told : (wrong_at RealTime (board_after Strict setup race) (D 1 (told 0xaa000000)) ≡ None)
-    × (wrong_at RealTime (board_after Strict setup race) (D 1 (told 0)) ≡ None)
-    × (wrong_at RealTime (board_after Strict setup (race ++ D 0 acknowledged ∷ [])) (D 1 (told 0)) ≡ None)
+either_told : (wrong_at RealTime (board_after Strict beginning race) (D 1 (told 0xaa000000)) ≡ None)
+    × (wrong_at RealTime (board_after Strict beginning race) (D 1 (told 0)) ≡ None)
+    × (wrong_at RealTime (board_after Strict beginning (race ++ D 0 acknowledged ∷ [])) (D 1 (told 0)) ≡ None)
 unfolding zero_words
 either_told = (refl, refl, refl)
 
 -- a byte that nobody puts is the same in both orders; and the byte is indeterminate for none of those that come later: the put was alone when it came
-others_same : (wrong_at RealTime (board_after Strict setup race) (D 1 (told 0xaa000001)) ≡ Some (Reply Payload (Some (told 0xaa000000))))
-    × ((board_after Strict setup race).indeterminate 0x1000b ≡ false)
+others_same : (wrong_at RealTime (board_after Strict beginning race) (D 1 (told 0xaa000001)) ≡ Some (Reply Payload (Some (told 0xaa000000))))
+    × ((board_after Strict beginning race).indeterminate 0x1000b ≡ false)
 unfolding zero_words
 others_same = (refl, refl)
 
@@ -90,13 +94,13 @@ abbrev apart : List ObservedBeat
 apart = put ∷ D 0 acknowledged ∷ get ∷ []
 
 -- the board blames the beat, which is right in an order out of real time
-zero_blamed : (wrong_at RealTime (board_after Strict setup apart) (D 1 (told 0)) ≡ Some (Reply Payload (Some (told 0xaa000000))))
-    × (due_beats setup (arranged Strict setup apart (as_begun Strict setup apart) (1 ∷ 0 ∷ [])) (asked 1 2) ≡ told 0 ∷ [])
+zero_blamed : (wrong_at RealTime (board_after Strict beginning apart) (D 1 (told 0)) ≡ Some (Reply Payload (Some (told 0xaa000000))))
+    × (due_beats setup zeros (arranged Strict beginning apart (as_begun Strict beginning apart) (1 ∷ 0 ∷ [])) (asked 1 2) ≡ told 0 ∷ [])
 unfolding zero_words
 zero_blamed = (refl, refl)
 
 -- the order in which it would be right doesn't keep real time
-not_before : KeepsRealTime Strict setup apart (1 ∷ 0 ∷ []) → ⊥
+not_before : KeepsRealTime Strict beginning apart (1 ∷ 0 ∷ []) → ⊥
 unfolding zero_words
 not_before keeps =
     keeps.0.0
@@ -111,10 +115,10 @@ abbrev two_puts : List ObservedBeat
 two_puts = put ∷ again ∷ D 0 acknowledged ∷ D 1 (record acknowledged { source = 6 }) ∷ get ∷ []
 
 -- either is the last in an order, so whatever is told of the byte is right
-either_last : (wrong_at RealTime (board_after Strict setup two_puts) (D 1 (told 0xaa000000)) ≡ None)
-    × (wrong_at RealTime (board_after Strict setup two_puts) (D 1 (told 0xbb000000)) ≡ None)
-    × (due_beats setup (arranged Strict setup two_puts (as_begun Strict setup two_puts) (1 ∷ 0 ∷ 2 ∷ [])) (asked 1 2) ≡ told 0xaa000000 ∷ [])
-    × (due_beats setup (arranged Strict setup two_puts (as_begun Strict setup two_puts) (0 ∷ 1 ∷ 2 ∷ [])) (asked 1 2) ≡ told 0xbb000000 ∷ [])
+either_last : (wrong_at RealTime (board_after Strict beginning two_puts) (D 1 (told 0xaa000000)) ≡ None)
+    × (wrong_at RealTime (board_after Strict beginning two_puts) (D 1 (told 0xbb000000)) ≡ None)
+    × (due_beats setup zeros (arranged Strict beginning two_puts (as_begun Strict beginning two_puts) (1 ∷ 0 ∷ 2 ∷ [])) (asked 1 2) ≡ told 0xaa000000 ∷ [])
+    × (due_beats setup zeros (arranged Strict beginning two_puts (as_begun Strict beginning two_puts) (0 ∷ 1 ∷ 2 ∷ [])) (asked 1 2) ≡ told 0xbb000000 ∷ [])
 unfolding zero_words
 either_last = (refl, refl, refl, refl)
 
@@ -136,26 +140,26 @@ begun = first_word ∷ get ∷ []
 
 -- the put as it becomes with its last beat
 abbrev becomes : ℕ → WholeRequest
-becomes = as_begun Strict setup (begun ++ last_word ∷ [])
+becomes = as_begun Strict beginning (begun ++ last_word ∷ [])
 
 -- it counts among those that have begun, and the get may see what is still to come, or what was there
-seen_or_not : (length (begun_in Strict setup begun) ≡ 2)
-    × (due_beats setup (arranged Strict setup begun becomes (0 ∷ 1 ∷ [])) (asked 1 2) ≡ told 0xcc000000 ∷ [])
-    × (due_beats setup (arranged Strict setup begun becomes (1 ∷ 0 ∷ [])) (asked 1 2) ≡ told 0 ∷ [])
-    × (wrong_at RealTime (board_after Strict setup begun) (D 1 (told 0xcc000000)) ≡ None)
-    × (wrong_at RealTime (board_after Strict setup begun) (D 1 (told 0)) ≡ None)
+seen_or_not : (length (begun_in Strict beginning begun) ≡ 2)
+    × (due_beats setup zeros (arranged Strict beginning begun becomes (0 ∷ 1 ∷ [])) (asked 1 2) ≡ told 0xcc000000 ∷ [])
+    × (due_beats setup zeros (arranged Strict beginning begun becomes (1 ∷ 0 ∷ [])) (asked 1 2) ≡ told 0 ∷ [])
+    × (wrong_at RealTime (board_after Strict beginning begun) (D 1 (told 0xcc000000)) ≡ None)
+    × (wrong_at RealTime (board_after Strict beginning begun) (D 1 (told 0)) ≡ None)
 unfolding zero_words
 seen_or_not = (refl, refl, refl, refl, refl)
 
 -- its own reply isn't due before it is whole
-not_whole : (due_beats setup (arranged Strict setup begun becomes (0 ∷ 1 ∷ [])) (asked 0 7) ≡ [])
-    × (wrong_at RealTime (board_after Strict setup begun) (D 0 acknowledged_words) ≡ Some (Reply Unasked None))
+not_whole : (due_beats setup zeros (arranged Strict beginning begun becomes (0 ∷ 1 ∷ [])) (asked 0 7) ≡ [])
+    × (wrong_at RealTime (board_after Strict beginning begun) (D 0 acknowledged_words) ≡ Some (Reply Unasked None))
 unfolding zero_words
 not_whole = (refl, refl)
 
 -- a get changes nothing: once the put is whole its bytes are those of the memory
-sure_when_whole : ((board_after Strict setup (begun ++ last_word ∷ [])).indeterminate 0x1000b ≡ false)
-    × ((board_after Strict setup (begun ++ last_word ∷ [])).memory.bytes 0x1000b ≡ 0xcc)
+sure_when_whole : ((board_after Strict beginning (begun ++ last_word ∷ [])).indeterminate 0x1000b ≡ false)
+    × ((board_after Strict beginning (begun ++ last_word ∷ [])).memory.bytes 0x1000b ≡ 0xcc)
 unfolding zero_words
 sure_when_whole = (refl, refl)
 
@@ -164,12 +168,12 @@ abbrev overlapping : List ObservedBeat
 overlapping = first_word ∷ again ∷ D 1 (record acknowledged { source = 6 }) ∷ last_word ∷ D 0 acknowledged_words ∷ get ∷ []
 
 -- whichever is the last, so whatever is told of that byte is right, and wrong of its neighbour
-either_of_both : ((board_after Strict setup overlapping).indeterminate 0x1000b ≡ true)
-    × (wrong_at RealTime (board_after Strict setup overlapping) (D 1 (told 0xbb000000)) ≡ None)
-    × (wrong_at RealTime (board_after Strict setup overlapping) (D 1 (told 0xcc000000)) ≡ None)
-    × (due_beats setup (arranged Strict setup overlapping (as_begun Strict setup overlapping) (0 ∷ 1 ∷ 2 ∷ [])) (asked 1 2) ≡ told 0xbb000000 ∷ [])
-    × (due_beats setup (arranged Strict setup overlapping (as_begun Strict setup overlapping) (1 ∷ 0 ∷ 2 ∷ [])) (asked 1 2) ≡ told 0xcc000000 ∷ [])
-    × (wrong_at RealTime (board_after Strict setup overlapping) (D 1 (told 0xcc000001)) ≡ Some (Reply Payload (Some (told 0xcc000000))))
+either_of_both : ((board_after Strict beginning overlapping).indeterminate 0x1000b ≡ true)
+    × (wrong_at RealTime (board_after Strict beginning overlapping) (D 1 (told 0xbb000000)) ≡ None)
+    × (wrong_at RealTime (board_after Strict beginning overlapping) (D 1 (told 0xcc000000)) ≡ None)
+    × (due_beats setup zeros (arranged Strict beginning overlapping (as_begun Strict beginning overlapping) (0 ∷ 1 ∷ 2 ∷ [])) (asked 1 2) ≡ told 0xbb000000 ∷ [])
+    × (due_beats setup zeros (arranged Strict beginning overlapping (as_begun Strict beginning overlapping) (1 ∷ 0 ∷ 2 ∷ [])) (asked 1 2) ≡ told 0xcc000000 ∷ [])
+    × (wrong_at RealTime (board_after Strict beginning overlapping) (D 1 (told 0xcc000001)) ≡ Some (Reply Payload (Some (told 0xcc000000))))
 unfolding zero_words
 either_of_both = (refl, refl, refl, refl, refl, refl)
 
@@ -180,8 +184,8 @@ swap = A 1 (a 3 3 0 6 0x0b 0x08 0xdd000000)
 abbrev with_atomic : List ObservedBeat
 with_atomic = swap ∷ first_word ∷ []
 
-atomic_in_doubt : ((board_after Strict setup (swap ∷ [])).indeterminate 0x1000b ≡ false)
-    × ((board_after Strict setup with_atomic).indeterminate 0x1000b ≡ true)
+atomic_in_doubt : ((board_after Strict beginning (swap ∷ [])).indeterminate 0x1000b ≡ false)
+    × ((board_after Strict beginning with_atomic).indeterminate 0x1000b ≡ true)
 unfolding zero_words
 atomic_in_doubt = (refl, refl)
 
@@ -203,12 +207,12 @@ asked_by client beat = record { errors = Any; told = None; client = client; beat
 
 -- it may be acknowledged or denied, by the board and by the one order that there is; where errors are told as this project's bridge tells them it has to
 -- be denied
-either_answer : (wrong_at RealTime (board_after Any setup (spoiled ∷ [])) (D 0 acknowledged_word) ≡ None)
-    × (wrong_at RealTime (board_after Any setup (spoiled ∷ [])) (D 0 denied_word) ≡ None)
-    × (due_beats setup (arranged Any setup (spoiled ∷ []) (as_begun Any setup (spoiled ∷ [])) (0 ∷ [])) (asked_by 0 acknowledged_word) ≡ acknowledged_word ∷ [])
-    × (due_beats setup (arranged Any setup (spoiled ∷ []) (as_begun Any setup (spoiled ∷ [])) (0 ∷ [])) (asked_by 0 denied_word) ≡ denied_word ∷ [])
-    × (wrong_at RealTime (board_after Strict setup (spoiled ∷ [])) (D 0 acknowledged_word) ≡ Some (Reply Denied (Some denied_word)))
-    × (due_beats setup (arranged Strict setup (spoiled ∷ []) (as_begun Strict setup (spoiled ∷ [])) (0 ∷ [])) (asked 0 5) ≡ denied_word ∷ [])
+either_answer : (wrong_at RealTime (board_after Any beginning (spoiled ∷ [])) (D 0 acknowledged_word) ≡ None)
+    × (wrong_at RealTime (board_after Any beginning (spoiled ∷ [])) (D 0 denied_word) ≡ None)
+    × (due_beats setup zeros (arranged Any beginning (spoiled ∷ []) (as_begun Any beginning (spoiled ∷ [])) (0 ∷ [])) (asked_by 0 acknowledged_word) ≡ acknowledged_word ∷ [])
+    × (due_beats setup zeros (arranged Any beginning (spoiled ∷ []) (as_begun Any beginning (spoiled ∷ [])) (0 ∷ [])) (asked_by 0 denied_word) ≡ denied_word ∷ [])
+    × (wrong_at RealTime (board_after Strict beginning (spoiled ∷ [])) (D 0 acknowledged_word) ≡ Some (Reply Denied (Some denied_word)))
+    × (due_beats setup zeros (arranged Strict beginning (spoiled ∷ []) (as_begun Strict beginning (spoiled ∷ [])) (0 ∷ [])) (asked 0 5) ≡ denied_word ∷ [])
 unfolding zero_words
 either_answer = (refl, refl, refl, refl, refl, refl)
 
@@ -217,24 +221,24 @@ abbrev in_doubt : List ObservedBeat
 in_doubt = spoiled ∷ D 0 acknowledged_word ∷ get ∷ []
 
 -- nobody knows whether it was carried out, or what it wrote
-any_value : ((board_after Any setup in_doubt).indeterminate 0x1000b ≡ true)
-    × ((board_after Any setup in_doubt).memory.bytes 0x1000b ≡ 0)
-    × (wrong_at RealTime (board_after Any setup in_doubt) (D 1 (told 0xaa000000)) ≡ None)
-    × (wrong_at RealTime (board_after Any setup in_doubt) (D 1 (told 0)) ≡ None)
-    × (wrong_at RealTime (board_after Any setup in_doubt) (D 1 (told 0xbb000000)) ≡ None)
-    × ((board_after Strict setup in_doubt).indeterminate 0x1000b ≡ false)
-    × (wrong_at RealTime (board_after Strict setup in_doubt) (D 1 (told 0xaa000000)) ≡ Some (Reply Payload (Some (told 0))))
+any_value : ((board_after Any beginning in_doubt).indeterminate 0x1000b ≡ true)
+    × ((board_after Any beginning in_doubt).memory.bytes 0x1000b ≡ 0)
+    × (wrong_at RealTime (board_after Any beginning in_doubt) (D 1 (told 0xaa000000)) ≡ None)
+    × (wrong_at RealTime (board_after Any beginning in_doubt) (D 1 (told 0)) ≡ None)
+    × (wrong_at RealTime (board_after Any beginning in_doubt) (D 1 (told 0xbb000000)) ≡ None)
+    × ((board_after Strict beginning in_doubt).indeterminate 0x1000b ≡ false)
+    × (wrong_at RealTime (board_after Strict beginning in_doubt) (D 1 (told 0xaa000000)) ≡ Some (Reply Payload (Some (told 0))))
 unfolding zero_words
 any_value = (refl, refl, refl, refl, refl, refl, refl)
 
 -- the put as it is carried out all the same
 abbrev carried : ℕ → WholeRequest
-carried number = record (as_begun Any setup in_doubt number) { corrupt = false }
+carried number = record (as_begun Any beginning in_doubt number) { corrupt = false }
 
 -- it may become that
-may_be_carried : MayBecomeAll (begun_in Any setup in_doubt) carried
+may_be_carried : MayBecomeAll (begun_in Any beginning in_doubt) carried
 may_be_carried zero below =
-    let left = (nothing_more Any setup in_doubt 0 below).left refl refl
+    let left = (nothing_more Any beginning in_doubt 0 below).left refl refl
     in record {
       same = λ whole sound. absurd (false≢true (sym sound));
       fields = refl;
@@ -242,12 +246,12 @@ may_be_carried zero below =
       bytes = λ unwhole. absurd (false≢true (sym unwhole));
       left = λ whole spoilt. record { bytes = record { count = left.bytes.count; small = left.bytes.small }; within = left.within; full = left.full };
     }
-may_be_carried (suc zero) below = nothing_more Any setup in_doubt 1 below
+may_be_carried (suc zero) below = nothing_more Any beginning in_doubt 1 below
 may_be_carried (suc (suc number)) below = absurd (omega (arith, below))
 
 -- the get is told what the put gave, or what was there
-carried_or_not : (due_beats setup (arranged Any setup in_doubt carried (0 ∷ 1 ∷ [])) (asked_by 1 (told 0)) ≡ told 0xaa000000 ∷ [])
-    × (due_beats setup (arranged Any setup in_doubt (as_begun Any setup in_doubt) (0 ∷ 1 ∷ [])) (asked_by 1 (told 0)) ≡ told 0 ∷ [])
+carried_or_not : (due_beats setup zeros (arranged Any beginning in_doubt carried (0 ∷ 1 ∷ [])) (asked_by 1 (told 0)) ≡ told 0xaa000000 ∷ [])
+    × (due_beats setup zeros (arranged Any beginning in_doubt (as_begun Any beginning in_doubt) (0 ∷ 1 ∷ [])) (asked_by 1 (told 0)) ≡ told 0 ∷ [])
 unfolding zero_words
 carried_or_not = (refl, refl)
 
@@ -269,21 +273,21 @@ put_failed = put_word ∷ answered 0x10008 SlvErr
 
 -- it may be denied, or acknowledged, by the board and by the one order that there is; where errors are told as this project's bridge tells them it isn't
 -- denied, since nothing of it fails by the set-up
-failed_answer : (wrong_at RealTime (board_after Any setup put_failed) (D 0 denied_word) ≡ None)
-    × (wrong_at RealTime (board_after Any setup put_failed) (D 0 acknowledged_word) ≡ None)
-    × (due_beats setup (arranged Any setup put_failed (as_begun Any setup put_failed) (0 ∷ [])) (asked_by 0 denied_word) ≡ denied_word ∷ [])
-    × (due_beats setup (arranged Any setup put_failed (as_begun Any setup put_failed) (0 ∷ [])) (asked_by 0 acknowledged_word) ≡ acknowledged_word ∷ [])
-    × (wrong_at RealTime (board_after Strict setup put_failed) (D 0 denied_word) ≡ Some (Reply Denied (Some acknowledged_word)))
+failed_answer : (wrong_at RealTime (board_after Any beginning put_failed) (D 0 denied_word) ≡ None)
+    × (wrong_at RealTime (board_after Any beginning put_failed) (D 0 acknowledged_word) ≡ None)
+    × (due_beats setup zeros (arranged Any beginning put_failed (as_begun Any beginning put_failed) (0 ∷ [])) (asked_by 0 denied_word) ≡ denied_word ∷ [])
+    × (due_beats setup zeros (arranged Any beginning put_failed (as_begun Any beginning put_failed) (0 ∷ [])) (asked_by 0 acknowledged_word) ≡ acknowledged_word ∷ [])
+    × (wrong_at RealTime (board_after Strict beginning put_failed) (D 0 denied_word) ≡ Some (Reply Denied (Some acknowledged_word)))
 unfolding zero_words
 failed_answer = (refl, refl, refl, refl, refl)
 
 -- an answer that isn't an error tells nothing, nor does one to a burst of the word before or behind, one of no write, or one before the put came
-no_error : (wrong_at RealTime (board_after Any setup (put_word ∷ answered 0x10008 Okay)) (D 0 denied_word) ≡ Some (Reply Denied (Some acknowledged_word)))
-    × (wrong_at RealTime (board_after Any setup (put_word ∷ answered 0x10000 SlvErr)) (D 0 denied_word) ≡ Some (Reply Denied (Some acknowledged_word)))
-    × (wrong_at RealTime (board_after Any setup (put_word ∷ answered 0x10010 SlvErr)) (D 0 denied_word) ≡ Some (Reply Denied (Some acknowledged_word)))
-    × (wrong_at RealTime (board_after Any setup (put_word ∷ Axi (OnB (record { id = 0; resp = SlvErr })) ∷ [])) (D 0 denied_word)
+no_error : (wrong_at RealTime (board_after Any beginning (put_word ∷ answered 0x10008 Okay)) (D 0 denied_word) ≡ Some (Reply Denied (Some acknowledged_word)))
+    × (wrong_at RealTime (board_after Any beginning (put_word ∷ answered 0x10000 SlvErr)) (D 0 denied_word) ≡ Some (Reply Denied (Some acknowledged_word)))
+    × (wrong_at RealTime (board_after Any beginning (put_word ∷ answered 0x10010 SlvErr)) (D 0 denied_word) ≡ Some (Reply Denied (Some acknowledged_word)))
+    × (wrong_at RealTime (board_after Any beginning (put_word ∷ Axi (OnB (record { id = 0; resp = SlvErr })) ∷ [])) (D 0 denied_word)
     ≡ Some (Reply Denied (Some acknowledged_word)))
-    × (wrong_at RealTime (board_after Any setup (answered 0x10008 SlvErr ++ put_word ∷ [])) (D 0 denied_word)
+    × (wrong_at RealTime (board_after Any beginning (answered 0x10008 SlvErr ++ put_word ∷ [])) (D 0 denied_word)
     ≡ Some (Reply Denied (Some acknowledged_word)))
 unfolding zero_words
 no_error = (refl, refl, refl, refl, refl)
@@ -293,28 +297,28 @@ abbrev after_failed : List ObservedBeat
 after_failed = put_failed ++ D 0 denied_word ∷ get ∷ []
 
 -- nobody knows what was written, and the get may be told anything, but not that it failed
-failed_in_doubt : ((board_after Any setup after_failed).indeterminate 0x10008 ≡ true)
-    × ((board_after Any setup after_failed).indeterminate 0x1000f ≡ true)
-    × ((board_after Any setup after_failed).indeterminate 0x10010 ≡ false)
-    × (wrong_at RealTime (board_after Any setup after_failed) (D 1 (told 0xaa000000)) ≡ None)
-    × (wrong_at RealTime (board_after Any setup after_failed) (D 1 (told 0)) ≡ None)
-    × (wrong_at RealTime (board_after Any setup after_failed) (D 1 (told 0xbb000000)) ≡ None)
-    × (wrong_at RealTime (board_after Any setup after_failed) (D 1 (record (told 0) { denied = true; corrupt = true }))
+failed_in_doubt : ((board_after Any beginning after_failed).indeterminate 0x10008 ≡ true)
+    × ((board_after Any beginning after_failed).indeterminate 0x1000f ≡ true)
+    × ((board_after Any beginning after_failed).indeterminate 0x10010 ≡ false)
+    × (wrong_at RealTime (board_after Any beginning after_failed) (D 1 (told 0xaa000000)) ≡ None)
+    × (wrong_at RealTime (board_after Any beginning after_failed) (D 1 (told 0)) ≡ None)
+    × (wrong_at RealTime (board_after Any beginning after_failed) (D 1 (told 0xbb000000)) ≡ None)
+    × (wrong_at RealTime (board_after Any beginning after_failed) (D 1 (record (told 0) { denied = true; corrupt = true }))
     ≡ Some (Reply Denied (Some (told 0xaa000000))))
-    × ((board_after Strict setup after_failed).indeterminate 0x10008 ≡ false)
-    × (wrong_at RealTime (board_after Strict setup after_failed) (D 1 (told 0)) ≡ Some (Reply Payload (Some (told 0xaa000000))))
+    × ((board_after Strict beginning after_failed).indeterminate 0x10008 ≡ false)
+    × (wrong_at RealTime (board_after Strict beginning after_failed) (D 1 (told 0)) ≡ Some (Reply Payload (Some (told 0xaa000000))))
 unfolding zero_words
 failed_in_doubt = (refl, refl, refl, refl, refl, refl, refl, refl, refl)
 
 -- the put as it isn't carried out at all
 abbrev dropped : ℕ → WholeRequest
-dropped zero = record (as_begun Any setup after_failed 0) { corrupt = true }
-dropped (suc number) = as_begun Any setup after_failed (suc number)
+dropped zero = record (as_begun Any beginning after_failed 0) { corrupt = true }
+dropped (suc number) = as_begun Any beginning after_failed (suc number)
 
 -- it may become that
-may_be_dropped : MayBecomeAll (begun_in Any setup after_failed) dropped
+may_be_dropped : MayBecomeAll (begun_in Any beginning after_failed) dropped
 may_be_dropped zero below =
-    let left = (nothing_more Any setup after_failed 0 below).left refl refl
+    let left = (nothing_more Any beginning after_failed 0 below).left refl refl
     in record {
       same = λ whole sound. absurd (false≢true (sym sound));
       fields = refl;
@@ -322,11 +326,11 @@ may_be_dropped zero below =
       bytes = λ unwhole. absurd (false≢true (sym unwhole));
       left = λ whole spoilt. record { bytes = record { count = left.bytes.count; small = left.bytes.small }; within = left.within; full = left.full };
     }
-may_be_dropped (suc number) below = nothing_more Any setup after_failed (suc number) below
+may_be_dropped (suc number) below = nothing_more Any beginning after_failed (suc number) below
 
 -- the get is told what was there, or what the put gave
-dropped_or_not : (due_beats setup (arranged Any setup after_failed dropped (0 ∷ 1 ∷ [])) (asked_by 1 (told 0)) ≡ told 0 ∷ [])
-    × (due_beats setup (arranged Any setup after_failed (as_begun Any setup after_failed) (0 ∷ 1 ∷ [])) (asked_by 1 (told 0)) ≡ told 0xaa000000 ∷ [])
+dropped_or_not : (due_beats setup zeros (arranged Any beginning after_failed dropped (0 ∷ 1 ∷ [])) (asked_by 1 (told 0)) ≡ told 0 ∷ [])
+    × (due_beats setup zeros (arranged Any beginning after_failed (as_begun Any beginning after_failed) (0 ∷ 1 ∷ [])) (asked_by 1 (told 0)) ≡ told 0xaa000000 ∷ [])
 unfolding zero_words
 dropped_or_not = (refl, refl)
 
@@ -337,11 +341,11 @@ denied_words = record acknowledged_words { denied = true }
 
 -- its first beat has come: where errors are told in any way its reply may come, by the board and by the order that there is, and else not. It hasn't failed,
 -- so that it isn't denied
-early_answer : (wrong_at RealTime (board_after Any setup (first_word ∷ [])) (D 0 acknowledged_words) ≡ None)
-    × (due_beats setup (arranged Any setup (first_word ∷ []) (as_begun Any setup (first_word ∷ [])) (0 ∷ [])) (asked_by 0 acknowledged_words)
+early_answer : (wrong_at RealTime (board_after Any beginning (first_word ∷ [])) (D 0 acknowledged_words) ≡ None)
+    × (due_beats setup zeros (arranged Any beginning (first_word ∷ []) (as_begun Any beginning (first_word ∷ [])) (0 ∷ [])) (asked_by 0 acknowledged_words)
     ≡ acknowledged_words ∷ [])
-    × (wrong_at RealTime (board_after Any setup (first_word ∷ [])) (D 0 denied_words) ≡ Some (Reply Denied (Some acknowledged_words)))
-    × (wrong_at RealTime (board_after Strict setup (first_word ∷ [])) (D 0 acknowledged_words) ≡ Some (Reply Unasked None))
+    × (wrong_at RealTime (board_after Any beginning (first_word ∷ [])) (D 0 denied_words) ≡ Some (Reply Denied (Some acknowledged_words)))
+    × (wrong_at RealTime (board_after Strict beginning (first_word ∷ [])) (D 0 acknowledged_words) ≡ Some (Reply Unasked None))
 unfolding zero_words
 early_answer = (refl, refl, refl, refl)
 
@@ -353,10 +357,10 @@ abbrev first_spoiled : ObservedBeat
 first_spoiled = A 0 (record (a 0 0 4 7 0 0xff 1) { corrupt = true })
 
 -- it may be denied, or not
-early_denial : (wrong_at RealTime (board_after Any setup (first_absent ∷ [])) (D 0 denied_words) ≡ None)
-    × (wrong_at RealTime (board_after Any setup (first_absent ∷ [])) (D 0 acknowledged_words) ≡ None)
-    × (wrong_at RealTime (board_after Any setup (first_spoiled ∷ [])) (D 0 denied_words) ≡ None)
-    × (wrong_at RealTime (board_after Any setup (first_spoiled ∷ [])) (D 0 acknowledged_words) ≡ None)
+early_denial : (wrong_at RealTime (board_after Any beginning (first_absent ∷ [])) (D 0 denied_words) ≡ None)
+    × (wrong_at RealTime (board_after Any beginning (first_absent ∷ [])) (D 0 acknowledged_words) ≡ None)
+    × (wrong_at RealTime (board_after Any beginning (first_spoiled ∷ [])) (D 0 denied_words) ≡ None)
+    × (wrong_at RealTime (board_after Any beginning (first_spoiled ∷ [])) (D 0 acknowledged_words) ≡ None)
 unfolding zero_words
 early_denial = (refl, refl, refl, refl)
 
@@ -364,22 +368,22 @@ early_denial = (refl, refl, refl, refl)
 abbrev replied : List ObservedBeat
 replied = first_word ∷ D 0 acknowledged_words ∷ []
 
-early_once : (wrong_at RealTime (board_after Any setup replied) (D 0 acknowledged_words) ≡ Some (Reply Unasked None))
-    × (wrong_at RealTime (board_after Any setup (replied ++ last_word ∷ [])) (D 0 acknowledged_words) ≡ Some (Reply Unasked None))
-    × (due_beats setup (arranged Any setup (replied ++ last_word ∷ []) (as_begun Any setup (replied ++ last_word ∷ [])) (0 ∷ []))
+early_once : (wrong_at RealTime (board_after Any beginning replied) (D 0 acknowledged_words) ≡ Some (Reply Unasked None))
+    × (wrong_at RealTime (board_after Any beginning (replied ++ last_word ∷ [])) (D 0 acknowledged_words) ≡ Some (Reply Unasked None))
+    × (due_beats setup zeros (arranged Any beginning (replied ++ last_word ∷ []) (as_begun Any beginning (replied ++ last_word ∷ [])) (0 ∷ []))
     (asked_by 0 acknowledged_words) ≡ [])
 unfolding zero_words
 early_once = (refl, refl, refl)
 
 -- a get between the reply and the last beat may be told either, and one behind the last beat has to be told what was put
-races_until_whole : (wrong_at RealTime (board_after Any setup (replied ++ get ∷ [])) (D 1 (told 0)) ≡ None)
-    × (wrong_at RealTime (board_after Any setup (replied ++ get ∷ [])) (D 1 (told 0xcc000000)) ≡ None)
-    × (wrong_at RealTime (board_after Any setup (replied ++ last_word ∷ get ∷ [])) (D 1 (told 0)) ≡ Some (Reply Payload (Some (told 0xcc000000))))
+races_until_whole : (wrong_at RealTime (board_after Any beginning (replied ++ get ∷ [])) (D 1 (told 0)) ≡ None)
+    × (wrong_at RealTime (board_after Any beginning (replied ++ get ∷ [])) (D 1 (told 0xcc000000)) ≡ None)
+    × (wrong_at RealTime (board_after Any beginning (replied ++ last_word ∷ get ∷ [])) (D 1 (told 0)) ≡ Some (Reply Payload (Some (told 0xcc000000))))
 unfolding zero_words
 races_until_whole = (refl, refl, refl)
 
 -- so the order in which it would be right doesn't keep real time
-not_before_whole : KeepsRealTime Any setup (replied ++ last_word ∷ get ∷ []) (1 ∷ 0 ∷ []) → ⊥
+not_before_whole : KeepsRealTime Any beginning (replied ++ last_word ∷ get ∷ []) (1 ∷ 0 ∷ []) → ⊥
 unfolding zero_words
 not_before_whole keeps =
     keeps.0.0
@@ -402,23 +406,23 @@ abbrev when_refused : List ObservedBeat
 when_refused = get_absent ∷ D 1 refused ∷ []
 
 -- either may be its first beat, but what is denied is corrupt; and what the first tells of denied holds for the second
-first_holds : (wrong_at RealTime (board_after Any setup (get_absent ∷ [])) (D 1 refused) ≡ None)
-    × (wrong_at RealTime (board_after Any setup (get_absent ∷ [])) (D 1 passed) ≡ None)
-    × (wrong_at RealTime (board_after Any setup (get_absent ∷ [])) (D 1 (record refused { corrupt = false })) ≡ Some (Reply Corrupt (Some refused)))
-    × (wrong_at RealTime (board_after Any setup when_refused) (D 1 refused) ≡ None)
-    × (wrong_at RealTime (board_after Any setup when_refused) (D 1 passed) ≡ Some (Reply Denied (Some refused)))
-    × (due_beats setup (arranged Any setup when_refused (as_begun Any setup when_refused) (0 ∷ [])) (record (asked_by 1 passed) { told = Some true }) ≡ refused ∷ [])
+first_holds : (wrong_at RealTime (board_after Any beginning (get_absent ∷ [])) (D 1 refused) ≡ None)
+    × (wrong_at RealTime (board_after Any beginning (get_absent ∷ [])) (D 1 passed) ≡ None)
+    × (wrong_at RealTime (board_after Any beginning (get_absent ∷ [])) (D 1 (record refused { corrupt = false })) ≡ Some (Reply Corrupt (Some refused)))
+    × (wrong_at RealTime (board_after Any beginning when_refused) (D 1 refused) ≡ None)
+    × (wrong_at RealTime (board_after Any beginning when_refused) (D 1 passed) ≡ Some (Reply Denied (Some refused)))
+    × (due_beats setup zeros (arranged Any beginning when_refused (as_begun Any beginning when_refused) (0 ∷ [])) (record (asked_by 1 passed) { told = Some true }) ≡ refused ∷ [])
 unfolding zero_words
 first_holds = (refl, refl, refl, refl, refl, refl)
 
 -- ---- where the laws end
 
 -- beats before that are right don't make the next one right: nothing was observed, and a reply comes
-unasked : wrong_at RealTime (board_after Strict setup []) (D 0 acknowledged) ≡ Some (Reply Unasked None)
+unasked : wrong_at RealTime (board_after Strict beginning []) (D 0 acknowledged) ≡ Some (Reply Unasked None)
 unfolding zero_words
 unasked = refl
 
-not_whatever_comes_next : ((before : List ObservedBeat) → IsRight setup before → wrong_at RealTime (board_after Strict setup before) (D 0 acknowledged) ≡ None) → ⊥
+not_whatever_comes_next : ((before : List ObservedBeat) → IsRight setup before → wrong_at RealTime (board_after Strict beginning before) (D 0 acknowledged) ≡ None) → ⊥
 not_whatever_comes_next law = none-some (Reply Unasked None) (sym (law [] (right_nothing setup)) ∙ unasked)
 
 -- client 1 gets two words, and with the first of them asks for them again by the same source: a board of acceptance order finds the
@@ -433,7 +437,7 @@ abbrev twice : List ObservedBeat
 twice = get_two ∷ D 1 word ∷ get_two ∷ D 1 word ∷ []
 
 -- it finds the reply to the second request unasked, which one of real time has taken: beside one that found a source busy, this board may tell less
-not_behind_busy_sources : TellsNoMore (wrong_at AcceptanceOrder (after_all AcceptanceOrder (opening_board setup) twice) (D 1 word)) (wrong_at RealTime (board_after Strict setup twice) (D 1 word)) → ⊥
+not_behind_busy_sources : TellsNoMore (wrong_at AcceptanceOrder (after_all AcceptanceOrder (opening_board setup) twice) (D 1 word)) (wrong_at RealTime (board_after Strict beginning twice) (D 1 word)) → ⊥
 unfolding zero_words
 not_behind_busy_sources law = refuted law
   where

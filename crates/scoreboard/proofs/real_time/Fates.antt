@@ -11,9 +11,8 @@ use Rattle.tl_checker.specs.declared.Progress.{Progress}
 use Rattle.tl_checker.specs.declared.Progress.TheVariants.{More, Whole}
 use Rattle.tl_checker.specs.declared.TlRule.{TlRule}
 use Rattle.axi_checker.specs.declared.AxiBeat.{AxiBeat}
-use Rattle.setups.specs.Setups.{SetupLists}
 use Rattle.scoreboard.specs.AxiPorts.{PortBoard}
-use Rattle.scoreboard.specs.Boards.{Board, ClientBoard, after_all, after_seen, answer_to, is_spoiled, opening_with}
+use Rattle.scoreboard.specs.Boards.{Beginning, Board, ClientBoard, after_all, after_seen, answer_to, is_spoiled, opening_from}
 use Rattle.scoreboard.specs.FailedBursts.{Span, failed_span, shares}
 use Rattle.scoreboard.specs.Orders.{Entry, Order, begun_to, board_after, counted, has_ended, is_due, reply_beats, with_beat}
 use Rattle.scoreboard.specs.RealTime.{acting_footprint, begun_from, begun_in, begun_next, completed, entry_of, heard, is_open, numbered, struck, with_answered, with_failed, with_progress, with_request}
@@ -261,23 +260,23 @@ from_parts [] rest board now = refl
 from_parts (seen ∷ first) rest board now = from_parts first rest (after_seen RealTime board seen) (begun_next board seen now)
 
 -- since the start
-pub counted_in : (errors : Errors) (setup : SetupLists) (beats : List ObservedBeat) → IsCounted errors (begun_in errors setup beats)
+pub counted_in : (errors : Errors) (setup : Beginning) (beats : List ObservedBeat) → IsCounted errors (begun_in errors setup beats)
 counted_in errors setup beats =
-    (goes_from beats (opening_with errors setup) []
+    (goes_from beats (opening_from errors setup) []
     (record { each = λ k small. absurd (omega (arith, small)); numbers = λ k small. absurd (omega (arith, small)) })).counted
 
 -- from a first part of the beats to all of them
-pub goes_since : (errors : Errors) (setup : SetupLists) (done rest : List ObservedBeat)
+pub goes_since : (errors : Errors) (setup : Beginning) (done rest : List ObservedBeat)
     → GrowsTo errors (begun_in errors setup done) (begun_in errors setup (done ++ rest))
 goes_since errors setup done rest =
     let board = board_after errors setup done in
-    let same = errors_after done (opening_with errors setup) in
-    subst (GrowsTo errors (begun_in errors setup done)) (sym (from_parts done rest (opening_with errors setup) []))
+    let same = errors_after done (opening_from errors setup) in
+    subst (GrowsTo errors (begun_in errors setup done)) (sym (from_parts done rest (opening_from errors setup) []))
     (subst (λ e. GrowsTo e (begun_in errors setup done) (begun_from board (begun_in errors setup done) rest)) same
     (goes_from rest board (begun_in errors setup done) (subst (λ e. IsCounted e (begun_in errors setup done)) (sym same) (counted_in errors setup done))))
 
 -- none is spoiled but where errors are told in any way
-pub spoiled_any : (errors : Errors) (setup : SetupLists) (beats : List ObservedBeat) (number : ℕ) → (numbered (begun_in errors setup beats) number).spoiled ≡ true
+pub spoiled_any : (errors : Errors) (setup : Beginning) (beats : List ObservedBeat) (number : ℕ) → (numbered (begun_in errors setup beats) number).spoiled ≡ true
     → errors ≡ Any
 spoiled_any errors setup beats number is =
     elim (cases_lt number (length (begun_in errors setup beats))) [

@@ -94,8 +94,8 @@ pub record IsOpen (board : Board) (shadow : Shadow) (entry : Entry) : Type 0 whe
   pub failed : (coming_at board.clients entry.client).failed ≡ failed_at board.errors board.memory.faults board.memory.regions entry
   pub acts : ActsAs board entry.request (coming_at board.clients entry.client)
 
-pub record Follows (board : Board) (shadow : Shadow) (order : Order) : Type 0 where
-  pub explains : Explains (shadow_of board shadow) (settle order)
+pub record Follows (start : Bytes) (board : Board) (shadow : Shadow) (order : Order) : Type 0 where
+  pub explains : Explains start (shadow_of board shadow) (settle order)
   pub ahead : IsAhead board shadow
   pub marked : AllByRecursion (IsMarked board.clients) order
   pub failing : AllByRecursion (IsFailing board) order
@@ -106,8 +106,8 @@ pub record Follows (board : Board) (shadow : Shadow) (order : Order) : Type 0 wh
   pub early : (client : ℕ) (due : DBeat) → early_at board.clients client ≡ Some due → comes board.clients client ≡ true
 
 -- a board that is followed, with some shadow, where these are fated
-abbrev pub IsFollowed : (ℕ → Bool) → Board → Order → Type 0
-IsFollowed fate board order = (shadow : Shadow) × Follows board shadow order × (shadow.fate ≡ fate)
+abbrev pub IsFollowed : Bytes → (ℕ → Bool) → Board → Order → Type 0
+IsFollowed start fate board order = (shadow : Shadow) × Follows start board shadow order × (shadow.fate ≡ fate)
 
 -- ---- orders
 
@@ -161,8 +161,8 @@ module _ (board : Board) (shadow : Shadow) (clients : List ClientBoard) (port : 
             ahead.given client x (sym (same client) ∙ some) (sym (ap (λ (r : Footprint). r.determined x) (coming client)) ∙ determined) gives_it;
       }
 
-  pub follows_as : ((client : ℕ) → early_at clients client ≡ early_at board.clients client) → (order : Order) → Explains (shadow_of (record board { clients = clients; axi = port }) shadow) (settle order) → Follows board shadow order
-      → Follows (record board { clients = clients; axi = port }) shadow order
+  pub follows_as : {start : Bytes} → ((client : ℕ) → early_at clients client ≡ early_at board.clients client) → (order : Order) → Explains start (shadow_of (record board { clients = clients; axi = port }) shadow) (settle order) → Follows start board shadow order
+      → Follows start (record board { clients = clients; axi = port }) shadow order
   follows_as early order explains old =
       record {
         explains = explains;
@@ -195,7 +195,7 @@ module _ (board : Board) (shadow : Shadow) (clients : List ClientBoard) (port : 
 
 -- ---- a reply that has begun
 
-module _ (board : Board) (shadow : Shadow) (order : Order) (follows : Follows board shadow order) (number : ℕ) where
+module _ {start : Bytes} (board : Board) (shadow : Shadow) (order : Order) (follows : Follows start board shadow order) (number : ℕ) where
   -- has begun on both boards
   pub begun_both : is_some (flight_at board.clients (begun_at number)) ≡ is_some (flight_at shadow.clients (begun_at number))
   begun_both = by_both (flight_at board.clients (begun_at number)) (flight_at shadow.clients (begun_at number)) refl refl

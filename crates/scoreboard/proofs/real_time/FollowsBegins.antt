@@ -15,7 +15,7 @@ use Rattle.scoreboard.specs.RealTime.{MayBecome, may_reply}
 use Rattle.scoreboard.specs.declared.Errors.TheVariants.{Any, Strict}
 use Rattle.scoreboard.specs.Races.{beside, may_read}
 use Rattle.responses.specs.Shown.{beat_without_data}
-use Rattle.meaning.specs.Meaning.{acknowledged}
+use Rattle.meaning.specs.Meaning.{Bytes, acknowledged}
 use Rattle.scoreboard.specs.declared.Errors.{Errors}
 use Rattle.scoreboard.proofs.MappedLists.{any_map}
 use Rattle.scoreboard.proofs.real_time.Acceptance.{explains_joined}
@@ -34,7 +34,7 @@ use Rattle.scoreboard.proofs.real_time.ShadowPlaces.{finals_other, finals_own, f
 use Rattle.scoreboard.proofs.real_time.StepOrders.{first_of, is_coming}
 use Rattle.scoreboard.proofs.real_time.RequestActs.{IsWell}
 
-module _ (board : Board) (shadow : Shadow) (order : Order) (follows : Follows board shadow order) (number : ℕ) (client : ClientBoard)
+module _ {start : Bytes} (board : Board) (shadow : Shadow) (order : Order) (follows : Follows start board shadow order) (number : ℕ) (client : ClientBoard)
     (there : slice_get board.clients number ≡ Some client) where
   -- the same client on the shadow
   there_too : (other : ClientBoard) × (slice_get shadow.clients number ≡ Some other)
@@ -47,8 +47,8 @@ module _ (board : Board) (shadow : Shadow) (order : Order) (follows : Follows bo
   settle_put before after entry = map-append settled before (entry ∷ after)
 
   module _ (before after : Order) (parts : order ≡ before ++ after) (none : list_any has_ended after ≡ false) (front : client.front ≡ None) where
-    explains_parts : Explains (shadow_of board shadow) (settle before ++ settle after)
-    explains_parts = subst (Explains (shadow_of board shadow)) (ap settle parts ∙ map-append settled before after) follows.explains
+    explains_parts : Explains start (shadow_of board shadow) (settle before ++ settle after)
+    explains_parts = subst (Explains start (shadow_of board shadow)) (ap settle parts ∙ map-append settled before after) follows.explains
 
     none_settled : list_any has_ended (settle after) ≡ false
     none_settled = any_map has_ended settled after ∙ none
@@ -169,7 +169,7 @@ module _ (board : Board) (shadow : Shadow) (order : Order) (follows : Follows bo
           sym (same_flights (due_at number message.source)
           ∙ ap (λ (o : Option InFlight). is_some o) (none_here board shadow follows.ahead number message.source client there front free))
 
-      pub begun_follows : IsFollowed shadow.fate
+      pub begun_follows : IsFollowed start shadow.fate
           (begun_on (with_client number (record client { front = Some message }) board) number
           (record client { front = Some message; early = early_due board.errors (request_of message) })
           (joining_on (with_client number (record client { front = Some message }) board) (request_of message)))
@@ -178,7 +178,7 @@ module _ (board : Board) (shadow : Shadow) (order : Order) (follows : Follows bo
         now_shadow,
         record {
           explains =
-              subst (Explains (shadow_of now now_shadow)) (sym (settle_put before after entry))
+              subst (Explains start (shadow_of now now_shadow)) (sym (settle_put before after entry))
               (explains_joined (shadow_of board shadow) number other q there_too.1 free_too n (settle before) (settle after) well none_settled explains_parts);
           ahead =
               begins.begun_ahead board shadow (settle order) follows.explains follows.ahead number client other message bytes spoiled n fated there there_too.1 front free may any silent well;
@@ -318,13 +318,13 @@ module _ (board : Board) (shadow : Shadow) (order : Order) (follows : Follows bo
       own_fated : IsFated once_shadow once_entry
       own_fated whole alive = ap once_shadow.fates (ap (due_at number) (sym once_source)) ∙ fates_own shadow.fates (due_at number q.source) (shadow.fate n)
 
-      pub once_follows : IsFollowed shadow.fate (joined_on board number client q (joining_on board q))
+      pub once_follows : IsFollowed start shadow.fate (joined_on board number client q (joining_on board q))
           (before ++ record (first_of board.errors number q true n) { request = r } ∷ after)
       once_follows = (
         once_shadow,
         record {
           explains =
-              subst (Explains (shadow_of once_now once_shadow)) (sym (settle_put before after once_entry))
+              subst (Explains start (shadow_of once_now once_shadow)) (sym (settle_put before after once_entry))
               (explains_joined (shadow_of board shadow) number once_other r there_too.1 once_free n (settle before) (settle after)
               (well_as board.errors number q r n (shadow.fate n) may well) none_settled explains_parts);
           ahead = joins.once_ahead board shadow (settle order) follows.explains follows.ahead number client once_other q r n (shadow.fate n) there there_too.1 front free well may any_fated;

@@ -11,6 +11,7 @@ use Rattle.bus_words.proofs.MappedPlaces.{map_same}
 use Rattle.bus_words.proofs.StoredPlaces.{there_is}
 use Rattle.std.proofs.lemmas.Option.{slice_get_within}
 use Rattle.tl_messages.specs.Requests.{HeldMessage, WholeRequest}
+use Rattle.meaning.specs.Meaning.{Bytes}
 use Rattle.scoreboard.specs.Boards.{Board, ClientBoard, is_spoiled, with_client}
 use Rattle.scoreboard.specs.Flights.{Flights, Footprint, InFlight}
 use Rattle.scoreboard.specs.Orders.{Entry, Order}
@@ -77,7 +78,7 @@ pub spoiled_any : (errors : Errors) (q : WholeRequest) → is_spoiled errors q �
 spoiled_any Any q is = refl
 spoiled_any Strict q is = absurd (cc (is))
 
-module _ (board : Board) (shadow : Shadow) (order : Order) (follows : Follows board shadow order) (number : ℕ) (client : ClientBoard)
+module _ {start : Bytes} (board : Board) (shadow : Shadow) (order : Order) (follows : Follows start board shadow order) (number : ℕ) (client : ClientBoard)
     (there : slice_get board.clients number ≡ Some client) where
   -- the same client on the shadow
   pub there_too : (other : ClientBoard) × (slice_get shadow.clients number ≡ Some other)
@@ -122,7 +123,7 @@ module _ (board : Board) (shadow : Shadow) (order : Order) (follows : Follows bo
       (comes_changed changed front) (coming_changed changed coming) follows.ahead
 
   pub client_follows : (heard : ClientBoard) → heard.flights ≡ client.flights → heard.coming ≡ client.coming → is_some heard.front ≡ is_some client.front
-      → heard.early ≡ client.early → Follows (with_client number heard board) shadow order
+      → heard.early ≡ client.early → Follows start (with_client number heard board) shadow order
   client_follows heard flights coming front early =
       follows_as board shadow (set board.clients number heard) board.axi
       (sources_with board.clients number client heard there follows.ahead.sources (subst HaveSources (sym flights) (follows.ahead.sources number client there)))
@@ -131,15 +132,15 @@ module _ (board : Board) (shadow : Shadow) (order : Order) (follows : Follows bo
       (comes_changed heard front) (coming_changed heard coming) (early_changed heard early) order follows.explains follows
 
   -- a message goes on
-  pub goes_further : (message : HeldMessage) → is_some client.front ≡ true → Follows (with_client number (record client { front = Some message }) board) shadow order
+  pub goes_further : (message : HeldMessage) → is_some client.front ≡ true → Follows start (with_client number (record client { front = Some message }) board) shadow order
   goes_further message front = client_follows (record client { front = Some message }) refl refl (sym front) refl
 
   -- with a corrupt beat it fails, where that may be told in any way
   pub spoils : (q : WholeRequest) → is_spoiled board.errors q ≡ true
-      → Follows (with_client number (record client { coming = unless_failed true client.coming }) board) shadow (map (heard board.errors number q) order)
+      → Follows start (with_client number (record client { coming = unless_failed true client.coming }) board) shadow (map (heard board.errors number q) order)
   spoils q is =
       record {
-        explains = subst (Explains (shadow_of board shadow)) (sym (settle_heard board.errors number q order)) follows.explains;
+        explains = subst (Explains start (shadow_of board shadow)) (sym (settle_heard board.errors number q order)) follows.explains;
         ahead = record {
           sources = sources_with board.clients number client changed there follows.ahead.sources (follows.ahead.sources number client there);
           small = follows.ahead.small;

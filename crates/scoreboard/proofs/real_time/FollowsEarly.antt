@@ -11,7 +11,7 @@ use Rattle.std.proofs.lemmas.Option.{slice_get_within}
 use Rattle.std.proofs.lemmas.Bool.Decides.{nat_tests}
 use Rattle.bus_words.proofs.StoredPlaces.{get_set}
 use Rattle.tl_messages.specs.declared.DBeat.{DBeat}
-use Rattle.meaning.specs.Meaning.{acknowledged}
+use Rattle.meaning.specs.Meaning.{Bytes, acknowledged}
 use Rattle.scoreboard.specs.Boards.{Board, ClientBoard, after_d, early_after, early_left, told_to, with_client}
 use Rattle.scoreboard.specs.Flights.{Flights, Footprint, InFlight, flights_after, next_reply}
 use Rattle.scoreboard.specs.Orders.{Entry, Order, after_beat, begun_to, counted, is_due, with_beat}
@@ -29,7 +29,7 @@ use Rattle.scoreboard.proofs.real_time.ReplySteps.{next_at, none_due as none_at}
 use Rattle.scoreboard.proofs.real_time.StepOrders.{HasFate, is_coming}
 use Rattle.scoreboard.proofs.real_time.FollowsReplies.{EarlyDue, WholeDue, due_cases, early_there, flights_none, none_due, none_replied, replied}
 
-module _ (board : Board) (shadow : Shadow) (order : Order) (follows : Follows board shadow order) (number source : ℕ) where
+module _ {start : Bytes} (board : Board) (shadow : Shadow) (order : Order) (follows : Follows start board shadow order) (number source : ℕ) where
   abbrev begun : Bool
   begun = list_any (begun_to number) order
 
@@ -224,11 +224,11 @@ module _ (board : Board) (shadow : Shadow) (order : Order) (follows : Follows bo
           by_whole true whole = subst (IsFated shadow) (sym (whole_still entry marked.0 opened.0 whole)) (fated.0)
           by_whole false unwhole = by_due unwhole (is_due begun number source entry && entry.request.source == source) refl
 
-      pub early_replied : IsFollowed shadow.fate (with_client number (record client { early = None }) board) (after_beat order number source)
+      pub early_replied : IsFollowed start shadow.fate (with_client number (record client { early = None }) board) (after_beat order number source)
       early_replied = (
         shadow,
         record {
-          explains = subst (Explains (shadow_of heard shadow)) (sym (settle_same order follows.marked follows.open_ones)) follows.explains;
+          explains = subst (Explains start (shadow_of heard shadow)) (sym (settle_same order follows.marked follows.open_ones)) follows.explains;
           ahead = ahead_heard;
           marked = all_turned (IsMarked board.clients) (IsMarked heard.clients) (λ entry marked failing opened. (each_turned entry marked failing opened).0)
               order follows.marked follows.failing follows.open_ones;
@@ -260,11 +260,11 @@ module _ (board : Board) (shadow : Shadow) (order : Order) (follows : Follows bo
               by_due false is = rw is refl
               by_due true is = rw is (by_whole entry.whole)
 
-pub follows_reply : (fate : ℕ → Bool) (board : Board) (order : Order) (number : ℕ) (beat : DBeat) → IsFollowed fate board order
+pub follows_reply : {start : Bytes} (fate : ℕ → Bool) (board : Board) (order : Order) (number : ℕ) (beat : DBeat) → IsFollowed start fate board order
     → AllByRecursion (HasFate fate) (after_beat order number beat.source)
-    → IsFollowed fate (after_d board number (slice_get board.clients number) beat) (after_beat order number beat.source)
-follows_reply fate board order number beat followed ending =
-    subst (λ (f : ℕ → Bool). IsFollowed f (after_d board number (slice_get board.clients number) beat) (after_beat order number beat.source)) followed.2
+    → IsFollowed start fate (after_d board number (slice_get board.clients number) beat) (after_beat order number beat.source)
+follows_reply {start} fate board order number beat followed ending =
+    subst (λ (f : ℕ → Bool). IsFollowed start f (after_d board number (slice_get board.clients number) beat) (after_beat order number beat.source)) followed.2
     (by_client (slice_get board.clients number) refl)
   where
     ends : AllByRecursion (HasFate followed.0.fate) (after_beat order number beat.source)
@@ -277,9 +277,9 @@ follows_reply fate board order number beat followed ending =
     module_told : (client : ClientBoard) → slice_get board.clients number ≡ Some client → (changed : ClientBoard) → slice_get (set board.clients number changed) number ≡ Some changed
     module_told client there changed = get_set board.clients number changed (slice_get_within board.clients number client there)
 
-    by_client : (o : Option ClientBoard) → slice_get board.clients number ≡ o → IsFollowed followed.0.fate (after_d board number o beat) (after_beat order number beat.source)
+    by_client : (o : Option ClientBoard) → slice_get board.clients number ≡ o → IsFollowed start followed.0.fate (after_d board number o beat) (after_beat order number beat.source)
     by_client None none =
-        subst (IsFollowed followed.0.fate board)
+        subst (IsFollowed start followed.0.fate board)
         (sym (none_due board followed.0 order followed.1 number beat.source (none_at board.clients (list_any (begun_to number) order) number beat.source none) (none_of none))) (followed.0, followed.1, refl)
     by_client (Some client) there = by_next (next_reply client.flights beat.source) refl
       where
@@ -289,7 +289,7 @@ follows_reply fate board order number beat followed ending =
         heard : ClientBoard
         heard = record client { told = told }
 
-        heard_follows : Follows (with_client number heard board) followed.0 order
+        heard_follows : Follows start (with_client number heard board) followed.0 order
         heard_follows = client_follows board followed.0 order followed.1 number client there heard refl refl refl refl
 
         heard_there : slice_get (set board.clients number heard) number ≡ Some heard
@@ -297,15 +297,15 @@ follows_reply fate board order number beat followed ending =
 
         -- the client as it is then
         as_then : (early : Option DBeat) → early ≡ early_after client beat.source
-            → IsFollowed followed.0.fate (record board { clients = set (set board.clients number heard) number (record heard { flights = flights_after client.flights beat.source; early = early }) })
+            → IsFollowed start followed.0.fate (record board { clients = set (set board.clients number heard) number (record heard { flights = flights_after client.flights beat.source; early = early }) })
             (after_beat order number beat.source)
-            → IsFollowed followed.0.fate (after_d board number (Some client) beat) (after_beat order number beat.source)
+            → IsFollowed start followed.0.fate (after_d board number (Some client) beat) (after_beat order number beat.source)
         as_then early is after =
-            subst (λ (clients : List ClientBoard). IsFollowed followed.0.fate (record board { clients = clients }) (after_beat order number beat.source))
+            subst (λ (clients : List ClientBoard). IsFollowed start followed.0.fate (record board { clients = clients }) (after_beat order number beat.source))
             (set-set board.clients number heard (record heard { flights = flights_after client.flights beat.source; early = early })
             ∙ ap (λ (e : Option DBeat). set board.clients number (record heard { flights = flights_after client.flights beat.source; early = e })) is) after
 
-        by_next : (o : Option InFlight) → next_reply client.flights beat.source ≡ o → IsFollowed followed.0.fate (after_d board number (Some client) beat) (after_beat order number beat.source)
+        by_next : (o : Option InFlight) → next_reply client.flights beat.source ≡ o → IsFollowed start followed.0.fate (after_d board number (Some client) beat) (after_beat order number beat.source)
         by_next (Some due) is =
             as_then client.early (sym (ap (λ (o : Option InFlight). if is_some o then client.early else early_left client.early beat.source) is))
             (replied (with_client number heard board) followed.0 order heard_follows number beat.source heard heard_there ends due is)
@@ -315,23 +315,23 @@ follows_reply fate board order number beat followed ending =
             still = ap (λ (o : Option InFlight). if is_some o then client.early else early_left client.early beat.source) nothing
 
             none_has_it : early_left client.early beat.source ≡ client.early → ((due : DBeat) → client.early ≡ Some due → (due.source == beat.source) ≡ false)
-                → IsFollowed followed.0.fate (after_d board number (Some client) beat) (after_beat order number beat.source)
+                → IsFollowed start followed.0.fate (after_d board number (Some client) beat) (after_beat order number beat.source)
             none_has_it same no_early =
                 as_then client.early (sym (still ∙ same))
                 (none_replied (with_client number heard board) followed.0 order heard_follows number beat.source heard heard_there ends nothing no_early)
 
             by_source : (due : DBeat) → client.early ≡ Some due → (b : Bool) → (due.source == beat.source) ≡ b
-                → IsFollowed followed.0.fate (after_d board number (Some client) beat) (after_beat order number beat.source)
+                → IsFollowed start followed.0.fate (after_d board number (Some client) beat) (after_beat order number beat.source)
             by_source due is false other =
                 none_has_it (ap (λ (o : Option DBeat). early_left o beat.source) is ∙ rw other (sym is))
                 (λ its its_is. let one : Some due ≡ Some its = sym is ∙ its_is in let same : due ≡ its = cc (one) in sym (ap (λ (d : DBeat). d.source == beat.source) same) ∙ other)
             by_source due is true own =
                 as_then None (sym (still ∙ ap (λ (o : Option DBeat). early_left o beat.source) is ∙ rw own refl))
-                (subst (λ (flights : Flights). IsFollowed followed.0.fate (record board { clients = set (set board.clients number heard) number (record heard { flights = flights; early = None }) })
+                (subst (λ (flights : Flights). IsFollowed start followed.0.fate (record board { clients = set (set board.clients number heard) number (record heard { flights = flights; early = None }) })
                 (after_beat order number beat.source)) (sym (flights_none beat.source client.flights nothing))
                 (early_replied (with_client number heard board) followed.0 order heard_follows number beat.source heard heard_there nothing due is own))
 
-            by_early : (o : Option DBeat) → client.early ≡ o → IsFollowed followed.0.fate (after_d board number (Some client) beat) (after_beat order number beat.source)
+            by_early : (o : Option DBeat) → client.early ≡ o → IsFollowed start followed.0.fate (after_d board number (Some client) beat) (after_beat order number beat.source)
             by_early None is =
                 none_has_it (ap (λ (o : Option DBeat). early_left o beat.source) is ∙ sym is) (λ due its. absurd (cc (sym is ∙ its)))
             by_early (Some due) is = by_source due is (due.source == beat.source) refl

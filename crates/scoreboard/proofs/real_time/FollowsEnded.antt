@@ -6,6 +6,7 @@ use Rattle.std.proofs.Math.Path.{fun_ext}
 use Rattle.std.proofs.lemmas.Bool.Decides.{nat_tests}
 use Rattle.std.proofs.lemmas.Simd.{map-map}
 use Rattle.bus_words.proofs.MappedPlaces.{map_same}
+use Rattle.meaning.specs.Meaning.{Bytes}
 use Rattle.scoreboard.specs.Boards.{Board, ClientBoard, with_client}
 use Rattle.scoreboard.specs.Flights.{Footprint, InFlight}
 use Rattle.scoreboard.specs.Orders.{Entry, Order, has_ended}
@@ -20,7 +21,7 @@ use Rattle.scoreboard.proofs.real_time.Places.{Place, coming_at, due_at, flight_
 use Rattle.scoreboard.proofs.real_time.Removed.{Ends, Over, Still, away_from, coming_less, comes_less, early_less, ended, ended_ahead, ends, explains_ended, kept_at, without}
 use Rattle.scoreboard.proofs.real_time.StepOrders.{is_coming}
 
-module _ (board : Board) (shadow : Shadow) (order : Order) (follows : Follows board shadow order) (number source : ℕ) (client : ClientBoard)
+module _ {start : Bytes} (board : Board) (shadow : Shadow) (order : Order) (follows : Follows start board shadow order) (number source : ℕ) (client : ClientBoard)
     (there : slice_get board.clients number ≡ Some client) (none : comes board.clients number ≡ false) where
   -- the same client on the shadow
   there_too : (other : ClientBoard) × (slice_get shadow.clients number ≡ Some other)
@@ -99,12 +100,12 @@ module _ (board : Board) (shadow : Shadow) (order : Order) (follows : Follows bo
   -- where the one that ends has failed, if it is fated
   pub removed_follows : ((flight : InFlight) → flight_at board.clients (due_at number source) ≡ Some flight → shadow.fates (due_at number source) ≡ true
       → flight.footprint.failed ≡ true)
-      → IsFollowed shadow.fate (with_client number (without source client) board) (map (ended number source) order)
+      → IsFollowed start shadow.fate (with_client number (without source client) board) (map (ended number source) order)
   removed_follows spent = (
     now_shadow,
     record {
       explains =
-          subst (Explains (shadow_of now now_shadow)) (sym settle_ended)
+          subst (Explains start (shadow_of now now_shadow)) (sym settle_ended)
           (explains_ended (shadow_of board shadow) (settle order) follows.explains number source other there_too.1);
       ahead = ended_ahead board shadow follows.ahead number source client other there there_too.1 (follows.explains.sources number other there_too.1) none spent;
       marked = all_mapped (IsMarked board.clients) (IsMarked now.clients) (ended number source) order marked follows.marked;

@@ -11,6 +11,7 @@ use Rattle.bus_words.specs.Places.{AreDistinct}
 use Rattle.bus_words.proofs.MappedPlaces.{map_same}
 use Rattle.tl_messages.specs.Requests.{WholeRequest}
 use Rattle.axi_checker.specs.declared.AxiBeat.{AxiBeat}
+use Rattle.meaning.specs.Meaning.{Bytes}
 use Rattle.scoreboard.specs.AxiPorts.{PortBoard}
 use Rattle.scoreboard.specs.Boards.{Board, ClientBoard, footprints_of, hit_client, hit_on}
 use Rattle.scoreboard.specs.FailedBursts.{Span, failed_span, hit, hit_flight, shares}
@@ -113,7 +114,7 @@ behind_hit span fated mine theirs is = by_shares (shares span mine.footprint) re
           alike = λ unfated sound. absurd (cc (sound));
         })
 
-module _ (board : Board) (shadow : Shadow) (order : Order) (follows : Follows board shadow order) (span : Span) (any : board.errors ≡ Any) where
+module _ {start : Bytes} (board : Board) (shadow : Shadow) (order : Order) (follows : Follows start board shadow order) (span : Span) (any : board.errors ≡ Any) where
   abbrev clients : List ClientBoard
   clients = map (hit_client span) board.clients
 
@@ -316,11 +317,11 @@ module _ (board : Board) (shadow : Shadow) (order : Order) (follows : Follows bo
           subst (IsOpen now shadow) (sym same)
           (subst (λ (b : Bool). IsOpen now shadow (record entry { spoiled = b })) (ap (λ (e : Entry). e.spoiled) same) (it (sym (ap (λ (e : Entry). e.whole) same) ∙ unwhole)))
 
-  pub hit_follows : IsFollowed shadow.fate (hit_on (Some span) board) (map (struck board.memory span) order)
+  pub hit_follows : IsFollowed start shadow.fate (hit_on (Some span) board) (map (struck board.memory span) order)
   hit_follows = (
     shadow,
     record {
-      explains = subst (Explains (shadow_of board shadow)) (sym settle_struck) follows.explains;
+      explains = subst (Explains start (shadow_of board shadow)) (sym settle_struck) follows.explains;
       ahead = ahead;
       marked = all_mapped (IsMarked board.clients) (IsMarked clients) strike order marked follows.marked;
       failing = all_mapped (IsFailing board) (IsFailing now) strike order failing follows.failing;
@@ -339,13 +340,13 @@ module _ (board : Board) (shadow : Shadow) (order : Order) (follows : Follows bo
 
 -- ---- any response
 
-pub follows_failed : (fate : ℕ → Bool) (board : Board) (port : PortBoard) (order : Order) (beat : AxiBeat) → IsFollowed fate (record board { axi = port }) order
-    → IsFollowed fate (hit_on (failed_span board.errors board.axi beat) (record board { axi = port })) (with_failed board.memory (failed_span board.errors board.axi beat) order)
-follows_failed fate board port order beat followed = by_span (failed_span board.errors board.axi beat) refl
+pub follows_failed : {start : Bytes} (fate : ℕ → Bool) (board : Board) (port : PortBoard) (order : Order) (beat : AxiBeat) → IsFollowed start fate (record board { axi = port }) order
+    → IsFollowed start fate (hit_on (failed_span board.errors board.axi beat) (record board { axi = port })) (with_failed board.memory (failed_span board.errors board.axi beat) order)
+follows_failed {start} fate board port order beat followed = by_span (failed_span board.errors board.axi beat) refl
   where
     by_span : (span : Option Span) → failed_span board.errors board.axi beat ≡ span
-        → IsFollowed fate (hit_on span (record board { axi = port })) (with_failed board.memory span order)
+        → IsFollowed start fate (hit_on span (record board { axi = port })) (with_failed board.memory span order)
     by_span None is = followed
     by_span (Some span) is =
-        subst (λ (f : ℕ → Bool). IsFollowed f (hit_on (Some span) (record board { axi = port })) (map (struck board.memory span) order)) followed.2
+        subst (λ (f : ℕ → Bool). IsFollowed start f (hit_on (Some span) (record board { axi = port })) (map (struck board.memory span) order)) followed.2
         (hit_follows (record board { axi = port }) followed.0 order followed.1 span (told_any board.errors board.axi beat span is))

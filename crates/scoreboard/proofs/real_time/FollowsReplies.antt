@@ -10,7 +10,7 @@ use Rattle.std.proofs.lemmas.Bool.Decides.{nat_tests}
 use Rattle.bus_words.specs.Places.{without_first}
 use Rattle.bus_words.proofs.StoredPlaces.{set_back}
 use Rattle.tl_messages.specs.declared.DBeat.{DBeat}
-use Rattle.meaning.specs.Meaning.{Bytes, acknowledged, zeros}
+use Rattle.meaning.specs.Meaning.{Bytes, acknowledged}
 use Rattle.scoreboard.specs.Boards.{Board, ClientBoard, with_client}
 use Rattle.scoreboard.specs.Flights.{Flights, Footprint, InFlight, begun_after, flights_after, is_of_source, next_reply, with_left}
 use Rattle.scoreboard.specs.Orders.{Entry, Order, after_beat, begun_to, counted, has_ended, is_due, with_beat}
@@ -62,7 +62,7 @@ none_counted begun number source (entry ∷ order) none =
     let rest = none_counted begun number source order none.1 in
     cc (first, rest)
 
-module _ (board : Board) (shadow : Shadow) (order : Order) (follows : Follows board shadow order) (number source : ℕ) where
+module _ {start : Bytes} (board : Board) (shadow : Shadow) (order : Order) (follows : Follows start board shadow order) (number source : ℕ) where
   abbrev begun : Bool
   begun = list_any (begun_to number) order
 
@@ -211,15 +211,15 @@ module _ (board : Board) (shadow : Shadow) (order : Order) (follows : Follows bo
     next = next_is board.clients number source client there begun (begun_here board shadow order follows number)
 
     -- nothing is due
-    quiet : flight_at board.clients from ≡ None → NoneEarly → IsFollowed shadow.fate now (after_beat order number source)
+    quiet : flight_at board.clients from ≡ None → NoneEarly → IsFollowed start shadow.fate now (after_beat order number source)
     quiet nothing no_early =
         let still = flights_none source client.flights (sym next ∙ nothing) in
         let back = set_back board.clients number client there in
         let same : board ≡ now =
         ap {B = Board} (λ clients. record board { clients = clients }) (sym back)
         ∙ ap {B = Board} (λ (flights : Flights). record board { clients = set board.clients number (record client { flights = flights }) }) (sym still) in
-        subst (λ b. IsFollowed shadow.fate b (after_beat order number source)) same
-        (subst (IsFollowed shadow.fate board) (sym (none_due nothing no_early)) (shadow, follows, refl))
+        subst (λ b. IsFollowed start shadow.fate b (after_beat order number source)) same
+        (subst (IsFollowed start shadow.fate board) (sym (none_due nothing no_early)) (shadow, follows, refl))
 
     module _ (due : InFlight) (is_due_here : flight_at board.clients from ≡ Some due) where
       abbrev other : ClientBoard
@@ -285,9 +285,9 @@ module _ (board : Board) (shadow : Shadow) (order : Order) (follows : Follows bo
           let last = settle_beat rest marked.1 opened.1 in
           cc (first, last)
 
-      now_explains : Explains (shadow_of now now_shadow) (settle (after_beat order number source))
+      now_explains : Explains start (shadow_of now now_shadow) (settle (after_beat order number source))
       now_explains =
-          subst (Explains (shadow_of now now_shadow))
+          subst (Explains start (shadow_of now now_shadow))
           (ap (λ (b : Bool). map (with_beat b number source) (settle order)) (begun_settled board shadow order follows number) ∙ sym (settle_beat order follows.marked follows.open_ones))
           (explains_own (shadow_of board shadow) (settle order) number source follows.explains other other_there)
 
@@ -544,7 +544,7 @@ module _ (board : Board) (shadow : Shadow) (order : Order) (follows : Follows bo
           found : (entry : Entry) × IsKnown entry × (is_due begun number source (settled entry) ≡ true)
           found =
               some_passes IsKnown (λ (entry : Entry). is_due begun number source (settled entry)) order
-              (all_known order follows.marked follows.open_ones follows.failing follows.fated (now_marks order zeros follows.marked follows.open_ones now_explains.entries) ends)
+              (all_known order follows.marked follows.open_ones follows.failing follows.fated (now_marks order start follows.marked follows.open_ones now_explains.entries) ends)
               due_there
 
           gone : flight_at now.clients (begun_at number) ≡ None
@@ -625,13 +625,13 @@ module _ (board : Board) (shadow : Shadow) (order : Order) (follows : Follows bo
       now_fails [] marked opened failing = tt
       now_fails (entry ∷ rest) marked opened failing = (now_failing entry marked.0 opened.0 failing.0, now_fails rest marked.1 opened.1 failing.1)
 
-      moved : IsFollowed shadow.fate now (after_beat order number source)
+      moved : IsFollowed start shadow.fate now (after_beat order number source)
       moved = (
         now_shadow,
         record {
           explains = now_explains;
           ahead = now_ahead;
-          marked = now_marks order zeros follows.marked follows.open_ones now_explains.entries;
+          marked = now_marks order start follows.marked follows.open_ones now_explains.entries;
           failing = now_fails order follows.marked follows.open_ones follows.failing;
           fated = now_fates order follows.marked follows.open_ones follows.fated;
           any_fated = follows.any_fated;
@@ -657,10 +657,10 @@ module _ (board : Board) (shadow : Shadow) (order : Order) (follows : Follows bo
 
     -- one in flight has it
     pub replied : (due : InFlight) → next_reply client.flights source ≡ Some due
-        → IsFollowed shadow.fate (with_client number (record client { flights = flights_after client.flights source }) board) (after_beat order number source)
+        → IsFollowed start shadow.fate (with_client number (record client { flights = flights_after client.flights source }) board) (after_beat order number source)
     replied due is = moved due (next ∙ is)
 
     -- none in flight has it, and none early
     pub none_replied : next_reply client.flights source ≡ None → ((due : DBeat) → client.early ≡ Some due → (due.source == source) ≡ false)
-        → IsFollowed shadow.fate (with_client number (record client { flights = flights_after client.flights source }) board) (after_beat order number source)
+        → IsFollowed start shadow.fate (with_client number (record client { flights = flights_after client.flights source }) board) (after_beat order number source)
     none_replied nothing no_early = quiet (next ∙ nothing) (λ due is. no_early due (sym (ap early_in there) ∙ is))

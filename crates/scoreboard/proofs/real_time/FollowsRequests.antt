@@ -13,6 +13,7 @@ use Rattle.tl_checker.specs.Ports.{joined, judged}
 use Rattle.tl_checker.specs.declared.Progress.{Progress}
 use Rattle.tl_checker.specs.declared.Progress.TheVariants.{More, Whole}
 use Rattle.tl_checker.specs.declared.TlRule.{TlRule}
+use Rattle.meaning.specs.Meaning.{Bytes}
 use Rattle.scoreboard.specs.Boards.{Board, ClientBoard, after_a, answer_to, answered_on, continued_on, is_spoiled, more_on, whole_on, with_client}
 use Rattle.scoreboard.specs.Flights.{is_busy}
 use Rattle.scoreboard.specs.Orders.{Order}
@@ -32,11 +33,11 @@ use Rattle.scoreboard.proofs.real_time.FollowsWhole.{given_follows}
 
 -- ---- any beat on channel A
 
-module _ (board : Board) (order new : Order) (fronts : AreFronts board.clients) (shadow : Shadow) (follows : Follows board shadow order) (number : ℕ) (beat : ABeat)
+module _ {start : Bytes} (board : Board) (order new : Order) (fronts : AreFronts board.clients) (shadow : Shadow) (follows : Follows start board shadow order) (number : ℕ) (beat : ABeat)
     (ends : AllByRecursion (HasFate shadow.fate) new) where
   by_taken : (client : ClientBoard) (front : Option HeldMessage) (progress : Progress) → slice_get board.clients number ≡ Some client → client.front ≡ front
       → answer_to RealTime client beat ≡ Ok progress → GoesOnTaken shadow.fate board.errors number front (request_of (joined client.limits client.front beat)) progress order new
-      → IsFollowed shadow.fate (answered_on RealTime board number client (joined client.limits client.front beat) (Ok progress)) new
+      → IsFollowed start shadow.fate (answered_on RealTime board number client (joined client.limits client.front beat) (Ok progress)) new
   by_taken client None More there front is goes =
       let message = joined client.limits client.front beat in
       let right = fronts number client there in
@@ -56,7 +57,7 @@ module _ (board : Board) (order new : Order) (fronts : AreFronts board.clients) 
       (length order) (shadow.fate (length order))
       (joined_free client beat More right is)
       (subst (MayBecome (fated_of shadow.fate board.errors number (request_of message) false (length order))) may.fields may) (follows.any_fated (length order)) silent well in
-      subst₂ (IsFollowed shadow.fate) (ap (λ (o : Option HeldMessage). continued_on RealTime (with_client number (record client { front = Some message }) board) number
+      subst₂ (IsFollowed start shadow.fate) (ap (λ (o : Option HeldMessage). continued_on RealTime (with_client number (record client { front = Some message }) board) number
       (record client { front = Some message }) message (is_some o)) (sym front))
       (ap (λ (r : WholeRequest). put.0 ++ record (first_of board.errors number (request_of message) false (length order)) { request = r } ∷ put.1) (sym may.fields) ∙ sym put.4) after
   by_taken client None Whole there front is goes =
@@ -65,7 +66,7 @@ module _ (board : Board) (order new : Order) (fronts : AreFronts board.clients) 
       let put = goes.2 in
       let after = once_follows board shadow order follows number client there put.0 put.1 put.2 put.3 front (request_of message) goes.0 (length order)
       (joined_free client beat Whole right is) (sound_well client.limits message (whole_sound client beat right is)) goes.1 in
-      subst₂ (IsFollowed shadow.fate) (ap (λ (o : Option HeldMessage). whole_on board number client (request_of message) (is_some o)) (sym front)) (sym put.4) after
+      subst₂ (IsFollowed start shadow.fate) (ap (λ (o : Option HeldMessage). whole_on board number client (request_of message) (is_some o)) (sym front)) (sym put.4) after
   by_taken client (Some held) More there front is goes =
       let message = joined client.limits client.front beat in
       let some = ap (λ (o : Option HeldMessage). is_some o) front in
@@ -73,18 +74,18 @@ module _ (board : Board) (order new : Order) (fronts : AreFronts board.clients) 
       let heard_client : ClientBoard = record client { front = Some message } in
       let here : slice_get (set board.clients number heard_client) number ≡ Some heard_client =
       get_set board.clients number heard_client (slice_get_within board.clients number client there) in
-      subst₂ (IsFollowed shadow.fate)
+      subst₂ (IsFollowed start shadow.fate)
       (ap (λ (o : Option HeldMessage). more_on (with_client number heard_client board) number heard_client (request_of message) (is_some o)) (sym front)) (sym goes)
       (by_spoiled heard_client (request_of message) further here (is_spoiled board.errors (request_of message)) refl)
     where
-      by_spoiled : (changed : ClientBoard) (q : WholeRequest) → Follows (with_client number changed board) shadow order
+      by_spoiled : (changed : ClientBoard) (q : WholeRequest) → Follows start (with_client number changed board) shadow order
           → slice_get (set board.clients number changed) number ≡ Some changed → (b : Bool) → is_spoiled board.errors q ≡ b
-          → IsFollowed shadow.fate (more_on (with_client number changed board) number changed q true) (map (heard board.errors number q) order)
+          → IsFollowed start shadow.fate (more_on (with_client number changed board) number changed q true) (map (heard board.errors number q) order)
       by_spoiled changed q further here true corrupt =
-          subst (λ (b : Bool). IsFollowed shadow.fate (with_client number (record changed { coming = unless_failed b changed.coming }) (with_client number changed board)) (map (heard board.errors number q) order))
+          subst (λ (b : Bool). IsFollowed start shadow.fate (with_client number (record changed { coming = unless_failed b changed.coming }) (with_client number changed board)) (map (heard board.errors number q) order))
           (sym corrupt) (shadow, spoils (with_client number changed board) shadow order further number changed here q corrupt, refl)
       by_spoiled changed q further here false sound =
-          subst₂ (IsFollowed shadow.fate)
+          subst₂ (IsFollowed start shadow.fate)
           (ap {B = Board} (λ (clients : List ClientBoard). record board { clients = clients }) (sym (set-set board.clients number changed changed))
           ∙ ap (λ (b : Bool). with_client number (record changed { coming = unless_failed b changed.coming }) (with_client number changed board)) (sym sound))
           (sym (heard_same board.errors number q order sound)) (shadow, further, refl)
@@ -94,27 +95,27 @@ module _ (board : Board) (order new : Order) (fronts : AreFronts board.clients) 
       let after = given_follows board shadow order follows number client there (request_of message) (ap (λ (o : Option HeldMessage). is_some o) front)
       (joined_free client beat Whole right is) (sound_well client.limits message (whole_sound client beat right is)) goes.1
       (subst (AllByRecursion (HasFate shadow.fate)) goes.0 ends) in
-      subst₂ (IsFollowed shadow.fate) (ap (λ (o : Option HeldMessage). whole_on board number client (request_of message) (is_some o)) (sym front)) (sym goes.0) after
+      subst₂ (IsFollowed start shadow.fate) (ap (λ (o : Option HeldMessage). whole_on board number client (request_of message) (is_some o)) (sym front)) (sym goes.0) after
 
   by_answer : (client : ClientBoard) (answer : Result Progress TlRule) → slice_get board.clients number ≡ Some client → answer_to RealTime client beat ≡ answer
       → GoesOnAnswered shadow.fate board.errors number client.front (joined client.limits client.front beat) answer order new
-      → IsFollowed shadow.fate (answered_on RealTime board number client (joined client.limits client.front beat) answer) new
-  by_answer client (Err rule) there is goes = subst (IsFollowed shadow.fate board) (sym goes) (shadow, follows, refl)
+      → IsFollowed start shadow.fate (answered_on RealTime board number client (joined client.limits client.front beat) answer) new
+  by_answer client (Err rule) there is goes = subst (IsFollowed start shadow.fate board) (sym goes) (shadow, follows, refl)
   by_answer client (Ok progress) there is goes = by_taken client client.front progress there refl is goes
 
   by_client : (found : Option ClientBoard) → slice_get board.clients number ≡ found → GoesOnRequest shadow.fate board.errors number found beat order new
-      → IsFollowed shadow.fate (after_a RealTime board number found beat) new
-  by_client None there goes = subst (IsFollowed shadow.fate board) (sym goes) (shadow, follows, refl)
+      → IsFollowed start shadow.fate (after_a RealTime board number found beat) new
+  by_client None there goes = subst (IsFollowed start shadow.fate board) (sym goes) (shadow, follows, refl)
   by_client (Some client) there goes = by_answer client (answer_to RealTime client beat) there refl goes
 
   followed_on : GoesOnRequest shadow.fate board.errors number (slice_get board.clients number) beat order new
-      → IsFollowed shadow.fate (after_a RealTime board number (slice_get board.clients number) beat) new
+      → IsFollowed start shadow.fate (after_a RealTime board number (slice_get board.clients number) beat) new
   followed_on goes = by_client (slice_get board.clients number) refl goes
 
-pub follows_request : (fate : ℕ → Bool) (board : Board) (order new : Order) → AreFronts board.clients → IsFollowed fate board order → (number : ℕ) (beat : ABeat)
+pub follows_request : {start : Bytes} (fate : ℕ → Bool) (board : Board) (order new : Order) → AreFronts board.clients → IsFollowed start fate board order → (number : ℕ) (beat : ABeat)
     → AllByRecursion (HasFate fate) new → GoesOnRequest fate board.errors number (slice_get board.clients number) beat order new
-    → IsFollowed fate (after_a RealTime board number (slice_get board.clients number) beat) new
-follows_request fate board order new fronts followed number beat =
+    → IsFollowed start fate (after_a RealTime board number (slice_get board.clients number) beat) new
+follows_request {start} fate board order new fronts followed number beat =
     subst (λ (f : ℕ → Bool). AllByRecursion (HasFate f) new → GoesOnRequest f board.errors number (slice_get board.clients number) beat order new
-    → IsFollowed f (after_a RealTime board number (slice_get board.clients number) beat) new) followed.2
+    → IsFollowed start f (after_a RealTime board number (slice_get board.clients number) beat) new) followed.2
     (λ ends goes. followed_on board order new fronts followed.0 followed.1 number beat ends goes)

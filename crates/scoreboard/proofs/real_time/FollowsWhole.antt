@@ -11,6 +11,7 @@ use Rattle.bus_words.proofs.MappedPlaces.{map_same}
 use Rattle.bus_words.proofs.StoredPlaces.{get_set}
 use Rattle.std.proofs.lemmas.Option.{slice_get_within}
 use Rattle.tl_messages.specs.Requests.{WholeRequest}
+use Rattle.meaning.specs.Meaning.{Bytes}
 use Rattle.scoreboard.specs.Boards.{Board, ClientBoard, coming_on, flight_for, given_on, has_replied, is_spoiled, with_accepted, with_whole}
 use Rattle.scoreboard.specs.Flights.{Flights, Footprint, InFlight, no_footprint, due_to, is_of_source}
 use Rattle.scoreboard.specs.Orders.{Entry, Order, has_ended, reply_beats}
@@ -29,7 +30,7 @@ use Rattle.scoreboard.proofs.real_time.Failures.{FatedOf, failed_any, failed_at,
 use Rattle.scoreboard.proofs.real_time.FlightLists.{none_found}
 use Rattle.scoreboard.proofs.real_time.Follows.{ActsAs, Follows, IsFailing, IsFated, IsFollowed, acts_as, IsMarked, IsOpen, all_both, all_mapped, replied_by, settle, settled, some_passes}
 use Rattle.scoreboard.proofs.real_time.FollowsChanges as changes
-use Rattle.scoreboard.proofs.real_time.FollowsChanges.{coming_parts, goes_further, heard_same, spoils}
+use Rattle.scoreboard.proofs.real_time.FollowsChanges.{coming_parts}
 use Rattle.scoreboard.proofs.real_time.FollowsEnded.{removed_follows}
 use Rattle.scoreboard.proofs.real_time.Removed.{ended, without}
 use Rattle.scoreboard.proofs.real_time.Lengths.{some_beats}
@@ -121,7 +122,7 @@ without_last : (source : ℕ) (due : List InFlight) (flight : InFlight) → list
 without_last source [] flight none is = let own : (flight.source == source) ≡ true = grind (arith, nat_tests, is) in rw own refl
 without_last source (first ∷ due) flight none is = grind (arith, none, without_last source due flight)
 
-module _ (board : Board) (shadow : Shadow) (order : Order) (follows : Follows board shadow order) (number : ℕ) (client : ClientBoard)
+module _ {start : Bytes} (board : Board) (shadow : Shadow) (order : Order) (follows : Follows start board shadow order) (number : ℕ) (client : ClientBoard)
     (there : slice_get board.clients number ≡ Some client) where
   -- the same client on the shadow
   there_too : (other : ClientBoard) × (slice_get shadow.clients number ≡ Some other)
@@ -329,10 +330,10 @@ module _ (board : Board) (shadow : Shadow) (order : Order) (follows : Follows bo
               | inr differ ↦ fates_other shadow.fates (due_at number q.source) (shadow.fate numbers.0) (place_of entry) differ ∙ was whole alive
             ])
 
-    whole_follows : Follows given_now given_shadow (map (made_whole board.errors number q) order)
+    whole_follows : Follows start given_now given_shadow (map (made_whole board.errors number q) order)
     whole_follows =
         record {
-          explains = subst (Explains (shadow_of board shadow)) (sym (settle_made board.errors number q order)) follows.explains;
+          explains = subst (Explains start (shadow_of board shadow)) (sym (settle_made board.errors number q order)) follows.explains;
           ahead = gives.given_ahead board shadow follows.ahead number client q final numbers.0 (shadow.fate numbers.0) there comes_it refl may fated_any well free;
           marked = given_marks order follows.marked follows.open_ones becomes;
           failing = given_fails order follows.failing follows.marked follows.open_ones becomes;
@@ -488,7 +489,7 @@ module _ (board : Board) (shadow : Shadow) (order : Order) (follows : Follows bo
             (λ entry. HasFailed number numbers.0 flight entry × (is_coming number entry ≡ true → entry.number ≡ numbers.0)) order (λ entry first second. (first, second)) all numbers.1) some_one in
             its.1.0 its.2 (its.1.1 its.2)
 
-    pub given_follows : IsFollowed shadow.fate (given_on board number client q (coming_on board q client.coming)) (map (finished board.errors number q) order)
+    pub given_follows : IsFollowed start shadow.fate (given_on board number client q (coming_on board q client.coming)) (map (finished board.errors number q) order)
     given_follows = by_replied (has_replied board.errors client) refl
       where
         given_by : Bool → Board
@@ -502,14 +503,14 @@ module _ (board : Board) (shadow : Shadow) (order : Order) (follows : Follows bo
         accepted_there : slice_get given_now.clients number ≡ Some (with_accepted flight_now client)
         accepted_there = get_set board.clients number (with_accepted flight_now client) (slice_get_within board.clients number client there)
 
-        by_replied : (b : Bool) → has_replied board.errors client ≡ b → IsFollowed shadow.fate (given_on board number client q (coming_on board q client.coming)) (map (finished board.errors number q) order)
+        by_replied : (b : Bool) → has_replied board.errors client ≡ b → IsFollowed start shadow.fate (given_on board number client q (coming_on board q client.coming)) (map (finished board.errors number q) order)
         by_replied false none =
-            subst₂ (IsFollowed shadow.fate) (ap given_by (sym none)) (finished_same none order follows.open_ones) (given_shadow, whole_follows, refl)
+            subst₂ (IsFollowed start shadow.fate) (ap given_by (sym none)) (finished_same none order follows.open_ones) (given_shadow, whole_follows, refl)
         by_replied true some_reply =
             let after = removed_follows given_now given_shadow (map (made_whole board.errors number q) order) whole_follows number q.source
             (with_accepted flight_now client) accepted_there (comes_same board.clients number client (with_accepted flight_now client) there)
             (spent some_reply) in
-            subst₂ (IsFollowed shadow.fate)
+            subst₂ (IsFollowed start shadow.fate)
             (ap {B = Board} (λ (clients : List ClientBoard). record given_now { clients = clients })
             (set-set board.clients number (with_accepted flight_now client) (without q.source (with_accepted flight_now client)) ∙ ap (set board.clients number) without_it)
             ∙ ap given_by (sym some_reply))

@@ -10,7 +10,7 @@ use Rattle.tl_messages.specs.Requests.{WholeRequest}
 use Rattle.burst_plan.specs.declared.Region.{Region}
 use Rattle.responses.specs.Shown.{shown}
 use Rattle.subordinate.specs.Faults.{Faults}
-use Rattle.meaning.specs.Meaning.{meaning}
+use Rattle.meaning.specs.Meaning.{Bytes, meaning}
 use Rattle.scoreboard.specs.Boards.{Board, ClientBoard, client_beside, fails, flight_for, footprints_of, is_spoiled, joined_on, joining_on, place_on, with_accepted}
 use Rattle.scoreboard.specs.Flights.{Footprint, InFlight, is_of_source}
 use Rattle.scoreboard.specs.Orders.{Order}
@@ -54,7 +54,7 @@ still_determined true true false shows doubt doubt_there others others_there det
 still_determined true false acts shows doubt doubt_there others others_there determined certain none = absurd (cc (determined))
 still_determined false before acts shows doubt doubt_there others others_there determined certain none = absurd (cc (determined))
 
-module _ (board : Board) (shadow : Shadow) (order : Order) (explains : Explains (shadow_of board shadow) order) (ahead : IsAhead board shadow)
+module _ {start : Bytes} (board : Board) (shadow : Shadow) (order : Order) (explains : Explains start (shadow_of board shadow) order) (ahead : IsAhead board shadow)
     (number : ℕ) (client other_client : ClientBoard) (q r : WholeRequest) (n : ℕ) (fated : Bool)
     (there : slice_get board.clients number ≡ Some client) (there_too : slice_get shadow.clients number ≡ Some other_client) (front : client.front ≡ None)
     (free : list_any (is_of_source q.source) client.flights.due ≡ false) (well : IsWell q) (may : MayBecome (FatedOf board.errors number q n fated) r)

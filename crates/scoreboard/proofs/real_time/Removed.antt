@@ -11,7 +11,7 @@ use Rattle.bus_words.specs.Places.{AreDistinct, without_first}
 use Rattle.bus_words.proofs.DistinctPlaces.{distinct-without_first}
 use Rattle.burst_plan.specs.declared.Region.{Region}
 use Rattle.subordinate.specs.Faults.{Faults}
-use Rattle.meaning.specs.Meaning.{Bytes, zeros}
+use Rattle.meaning.specs.Meaning.{Bytes}
 use Rattle.scoreboard.specs.Boards.{Board, ClientBoard, with_client}
 use Rattle.scoreboard.specs.Flights.{Flights, Footprint, InFlight, is_of_source, no_footprint}
 use Rattle.scoreboard.specs.Orders.{Entry, Order, begun_to, has_ended, reply_beats}
@@ -181,7 +181,7 @@ module _ (number source : ℕ) where
 
 -- ---- on a board that explains an order
 
-module _ (board : Board) (order : Order) (explains : Explains board order) (number source : ℕ) (client : ClientBoard)
+module _ {start : Bytes} (board : Board) (order : Order) (explains : Explains start board order) (number source : ℕ) (client : ClientBoard)
     (there : slice_get board.clients number ≡ Some client) where
   abbrev faults : Faults
   faults = board.memory.faults
@@ -231,7 +231,7 @@ module _ (board : Board) (order : Order) (explains : Explains board order) (numb
     rw (same_request number source entry) (each_ended some_order (carry faults regions entry.request m) each.1),
   )
 
-  pub explains_ended : Explains (with_client number (without source client) board) (map (ended number source) order)
+  pub explains_ended : Explains start (with_client number (without source client) board) (map (ended number source) order)
   explains_ended =
       record {
         sources = sources_with board.clients number client (without source client) there explains.sources (sources_less board.clients number source client there sources);
@@ -240,8 +240,8 @@ module _ (board : Board) (order : Order) (explains : Explains board order) (numb
         apart = apart_less board.clients number source client there sources explains.apart;
         either = either_less board.clients number source client there sources board.indeterminate explains.either;
         distinct = distinct_ended number source order explains.distinct;
-        entries = each_ended order zeros explains.entries;
-        known = λ x certain. ap (λ (f : Bytes). f x) (run_ended number source faults regions order zeros) ∙ explains.known x certain;
+        entries = each_ended order start explains.entries;
+        known = λ x certain. ap (λ (f : Bytes). f x) (run_ended number source faults regions order start) ∙ explains.known x certain;
         waiting = λ c s some. by_place c s some (cases_place (due_at c s) (due_at number source));
         begun = λ c some. any_begun number source c order
             (explains.begun c (sym (ap (λ (o : Option InFlight). is_some o) (kept_at board.clients number source client there sources (begun_at c) (not_due c))) ∙ some));

@@ -4,7 +4,7 @@ use Rattle.std.specs.Prelude.{slice_get}
 use Rattle.std.specs.List.{list_any}
 use Rattle.std.proofs.lemmas.Bool.Decides.{nat_tests}
 use Rattle.bus_words.proofs.PlaceChanges.{find-passes}
-use Rattle.meaning.specs.Meaning.{Bytes, zeros}
+use Rattle.meaning.specs.Meaning.{Bytes}
 use Rattle.scoreboard.specs.Boards.{Board, ClientBoard}
 use Rattle.scoreboard.specs.Flights.{InFlight, flights_after, is_of_source, next_reply}
 use Rattle.scoreboard.specs.Orders.{Entry, Order, after_beat, begun_to}
@@ -15,7 +15,7 @@ use Rattle.scoreboard.proofs.real_time.ReplyMoves.{AreMoved, Moves, begun_next, 
 use Rattle.scoreboard.proofs.real_time.ReplySeen.{are_moved, flights_still, next_is, sources_after, still_apart, still_either}
 use Rattle.scoreboard.proofs.real_time.ReplySteps.{begun_as, counts_none, due_counted, moves_all, next_at, none_due}
 
-module _ (board : Board) (order : Order) (number source : ℕ) (explains : Explains board order) where
+module _ {start : Bytes} (board : Board) (order : Order) (number source : ℕ) (explains : Explains start board order) where
   abbrev begun : Bool
   begun = list_any (begun_to number) order
 
@@ -23,9 +23,9 @@ module _ (board : Board) (order : Order) (number source : ℕ) (explains : Expla
   from = next_at (list_any (begun_to number) order) number source
 
   -- of a client that isn't there nothing is due
-  nobody : slice_get board.clients number ≡ None → Explains board (after_beat order number source)
+  nobody : slice_get board.clients number ≡ None → Explains start board (after_beat order number source)
   nobody none =
-      subst (Explains board)
+      subst (Explains start board)
       (sym (counts_none board order explains number source (λ flight there own.
       absurd (cc (sym (none_due board.clients begun number source none) ∙ there))))) explains
 
@@ -34,7 +34,7 @@ module _ (board : Board) (order : Order) (number source : ℕ) (explains : Expla
     changed = record client { flights = flights_after client.flights source }
 
     abbrev Kept : Type 0
-    Kept = Explains (record board { clients = set board.clients number changed }) (after_beat order number source)
+    Kept = Explains start (record board { clients = set board.clients number changed }) (after_beat order number source)
 
     sources : HaveSources client.flights
     sources = explains.sources number client there
@@ -52,13 +52,13 @@ module _ (board : Board) (order : Order) (number source : ℕ) (explains : Expla
           apart = still_apart number source from (flight_at board.clients) now are explains.apart;
           either = still_either number source from (flight_at board.clients) now are board.indeterminate explains.either;
           distinct = distinct_next begun number source board.memory.faults board.memory.regions from (flight_at board.clients) now are moves
-              order zeros explains.entries explains.distinct;
-          entries = each_next begun number source board.memory.faults board.memory.regions from (flight_at board.clients) now are moves order zeros explains.entries;
-          known = λ x certain. ap (λ (f : Bytes). f x) (run_moved begun number source board.memory.faults board.memory.regions order zeros) ∙ explains.known x certain;
+              order start explains.entries explains.distinct;
+          entries = each_next begun number source board.memory.faults board.memory.regions from (flight_at board.clients) now are moves order start explains.entries;
+          known = λ x certain. ap (λ (f : Bytes). f x) (run_moved begun number source board.memory.faults board.memory.regions order start) ∙ explains.known x certain;
           waiting = λ c place. waiting_next begun number source board.memory.faults board.memory.regions from (flight_at board.clients) now are moves
-              c place order zeros explains.entries (explains.waiting c place);
+              c place order start explains.entries (explains.waiting c place);
           begun = λ c. begun_next begun number source board.memory.faults board.memory.regions from (flight_at board.clients) now are moves
-              c order zeros explains.entries (due_counted board order explains number source of_source) (explains.begun c);
+              c order start explains.entries (due_counted board order explains number source of_source) (explains.begun c);
         }
       where
         now : Place → Option InFlight
@@ -79,7 +79,7 @@ module _ (board : Board) (order : Order) (number source : ℕ) (explains : Expla
     other : (flight : InFlight) → client.flights.begun ≡ Some flight → (flight.source == source) ≡ false → Kept
     other flight is differ =
         let kept = flights_still source client.flights flight is differ in
-        subst (Explains (record board { clients = set board.clients number changed }))
+        subst (Explains start (record board { clients = set board.clients number changed }))
         (sym (counts_none board order explains number source (λ next at own. grind (arith, nat_tests, is, differ, due, at, own))))
         (explains_with board order number client changed there kept refl explains)
 

@@ -4,7 +4,7 @@ use Rattle.std.specs.Prelude.{is_some, slice_get}
 use Rattle.std.specs.List.{list_any}
 use Rattle.std.proofs.lemmas.Bool.{and_parts, both_ways, false_from_ne_true}
 use Rattle.std.proofs.lemmas.Bool.Decides.{nat_tests}
-use Rattle.meaning.specs.Meaning.{Bytes, zeros}
+use Rattle.meaning.specs.Meaning.{Bytes}
 use Rattle.scoreboard.specs.Boards.{Board, ClientBoard}
 use Rattle.scoreboard.specs.Flights.{InFlight}
 use Rattle.scoreboard.specs.Orders.{Entry, Order, begun_to, has_ended, is_due, with_beat}
@@ -42,7 +42,7 @@ pub place_due : (begun : Bool) (number source : ℕ) (entry : Entry) → entry.w
 place_due true number source entry whole is = grind (arith, nat_tests, is.live, is.there)
 place_due false number source entry whole is = grind (arith, nat_tests, whole, is.live, is.there)
 
-module _ (board : Board) (order : Order) (explains : Explains board order) (number source : ℕ) where
+module _ {start : Bytes} (board : Board) (order : Order) (explains : Explains start board order) (number source : ℕ) where
   abbrev flights : Place → Option InFlight
   flights = flight_at board.clients
 
@@ -63,7 +63,7 @@ module _ (board : Board) (order : Order) (explains : Explains board order) (numb
       by_flight (Some flight) there = explains.begun number (ap (λ (o : Option InFlight). is_some o) there)
       by_flight None nothing =
           false_from_ne_true (list_any (begun_to number) order) (λ some.
-          let found = some_each board.memory.faults board.memory.regions Held (begun_to number) order zeros explains.entries some in
+          let found = some_each board.memory.faults board.memory.regions Held (begun_to number) order start explains.entries some in
           let is = due_place true number source found.0 found.3 in
           absurd (cc (sym nothing ∙ ap flights (sym is.there) ∙ (found.2.live is.live).there)))
 
@@ -75,7 +75,7 @@ module _ (board : Board) (order : Order) (explains : Explains board order) (numb
       by_begun : (b : Bool) → is_some (flights (next_at b number source)) ≡ true → list_any (is_due b number source) order ≡ true
       by_begun true some = explains.begun number some
       by_begun false some =
-          any_each board.memory.faults board.memory.regions Held (waits_for number source) (is_due false number source) order zeros
+          any_each board.memory.faults board.memory.regions Held (waits_for number source) (is_due false number source) order start
           (λ entry m held waits. grind (arith, waits, held.whole)) explains.entries (explains.waiting number source some)
 
   -- of which source the request is
@@ -90,7 +90,7 @@ module _ (board : Board) (order : Order) (explains : Explains board order) (numb
   pub counts_none : ((flight : InFlight) → flight_at board.clients (next_at (list_any (begun_to number) order) number source) ≡ Some flight → flight.source ≡ source → ⊥)
       → map (with_beat (list_any (begun_to number) order) number source) order ≡ order
   counts_none other =
-      stays_all begun number source board.memory.faults board.memory.regions flights order zeros
+      stays_all begun number source board.memory.faults board.memory.regions flights order start
       (λ entry m held. false_from_ne_true (counts begun number source entry) (λ is.
       let found = due_source entry m held (and_parts (is_due begun number source entry) (entry.request.source == source) is).0 in
       other found.0 found.1 (grind (arith, nat_tests, found.2, is)))) explains.entries
@@ -103,7 +103,7 @@ module _ (board : Board) (order : Order) (explains : Explains board order) (numb
     pub due_counted : is_some (flight_at board.clients (next_at (list_any (begun_to number) order) number source)) ≡ true
         → list_any (counts (list_any (begun_to number) order) number source) order ≡ true
     due_counted some =
-        any_each board.memory.faults board.memory.regions Held (is_due begun number source) (counts begun number source) order zeros due_counts explains.entries
+        any_each board.memory.faults board.memory.regions Held (is_due begun number source) (counts begun number source) order start due_counts explains.entries
         (due_known some)
 
     pub moves_all : (entry : Entry) (m : Bytes) → Stands board.memory.faults board.memory.regions (flight_at board.clients) entry m

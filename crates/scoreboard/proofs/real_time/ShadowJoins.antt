@@ -7,6 +7,7 @@ use Rattle.bus_words.specs.Lanes.{given_at}
 use Rattle.tl_messages.specs.Requests.{WholeRequest}
 use Rattle.burst_plan.specs.declared.Region.{Region}
 use Rattle.subordinate.specs.Faults.{Faults}
+use Rattle.meaning.specs.Meaning.{Bytes}
 use Rattle.scoreboard.specs.Boards.{Board, footprints_of, joining_on}
 use Rattle.scoreboard.specs.Flights.{Footprint}
 use Rattle.scoreboard.specs.Orders.{Order}
@@ -19,7 +20,7 @@ use Rattle.scoreboard.proofs.real_time.FlightLists.{are_all}
 use Rattle.scoreboard.proofs.real_time.Places.{Place, cases_place, due_at, footprint_at, footprint_in}
 use Rattle.scoreboard.proofs.real_time.RequestActs.{Acts, IsWell, acts, own}
 
-module _ (board : Board) (shadow : Shadow) (order : Order) (explains : Explains (shadow_of board shadow) order) (q : WholeRequest) (well : IsWell q) where
+module _ {start : Bytes} (board : Board) (shadow : Shadow) (order : Order) (explains : Explains start (shadow_of board shadow) order) (q : WholeRequest) (well : IsWell q) where
   abbrev faults : Faults
   faults = board.memory.faults
 

@@ -10,8 +10,8 @@ use Rattle.tl_checker.specs.Ports.{joined}
 use Rattle.tl_checker.specs.declared.Progress.{Progress}
 use Rattle.tl_checker.specs.declared.Progress.TheVariants.{More, Whole}
 use Rattle.tl_checker.specs.declared.TlRule.{TlRule}
-use Rattle.setups.specs.Setups.{SetupLists}
-use Rattle.scoreboard.specs.Boards.{Board, ClientBoard, after_seen, answer_to, is_spoiled, opening_with, wrong_at}
+use Rattle.meaning.specs.Meaning.{Bytes}
+use Rattle.scoreboard.specs.Boards.{Beginning, MayBegin, Board, ClientBoard, after_seen, answer_to, is_spoiled, opening_from, wrong_at}
 use Rattle.scoreboard.specs.Orders.{Entry, IsWrongAs, Order, after_beat, board_after, byte_left, has_ended, reply_beats}
 use Rattle.scoreboard.specs.RealTime.{MayBecome, asked_on, entry_of, heard, is_awaited, with_failed}
 use Rattle.scoreboard.specs.FailedBursts.{failed_span}
@@ -96,27 +96,27 @@ IsOrderFrom fate board now (seen ∷ rest) order =
     (next : Order) × GoesOn fate board seen now next × AllByRecursion (HasFate fate) next × IsOrderFrom fate (after_seen RealTime board seen) next rest order
 
 -- the orders of what begins in all beats since the start: those are fated that were spoiled in the end, as none is but where errors may be told in any way
-pub record IsOrderOf (errors : Errors) (setup : SetupLists) (beats : List ObservedBeat) (order : Order) : Type 0 where
+pub record IsOrderOf (errors : Errors) (setup : Beginning) (beats : List ObservedBeat) (order : Order) : Type 0 where
   pub fate : ℕ → Bool
   pub any : (number : ℕ) → fate number ≡ true → errors ≡ Any
   pub ends : AllByRecursion (λ entry. fate entry.number ≡ true → entry.spoiled ≡ true) order
-  pub from : IsOrderFrom fate (opening_with errors setup) [] beats order
+  pub from : IsOrderFrom fate (opening_from errors setup) [] beats order
 
 -- ---- what is blamed, by these orders
 
 -- a beat on channel D that a board blames, be it the first that is wrong or a later one, is wrong by that rule in each of them
 abbrev pub BlamesByRule : Type 0
 BlamesByRule =
-    (errors : Errors) (setup : SetupLists) (before : List ObservedBeat) (order : Order) (client : ℕ) (beat : DBeat) (wrong : Wrong)
-    → IsOrderOf errors setup before order
+    (errors : Errors) (setup : Beginning) (start : Bytes) (before : List ObservedBeat) (order : Order) (client : ℕ) (beat : DBeat) (wrong : Wrong)
+    → MayBegin setup start → IsOrderOf errors setup before order
     → wrong_at RealTime (board_after errors setup before) (D client beat) ≡ Some wrong
-    → IsWrongAs setup order (asked_on (board_after errors setup before) client beat) wrong
+    → IsWrongAs setup.lists start order (asked_on (board_after errors setup before) client beat) wrong
 
 -- a byte that isn't indeterminate, and that nothing that has begun may write, is what every order leaves
 abbrev pub KnowsBytes : Type 0
 KnowsBytes =
-    (errors : Errors) (setup : SetupLists) (before : List ObservedBeat) (order : Order) (x : ℕ)
-    → IsOrderOf errors setup before order
+    (errors : Errors) (setup : Beginning) (start : Bytes) (before : List ObservedBeat) (order : Order) (x : ℕ)
+    → MayBegin setup start → IsOrderOf errors setup before order
     → (board_after errors setup before).indeterminate x ≡ false
     → is_awaited (board_after errors setup before) x ≡ false
-    → byte_left setup order x ≡ (board_after errors setup before).memory.bytes x
+    → byte_left setup.lists start order x ≡ (board_after errors setup before).memory.bytes x

@@ -1,5 +1,5 @@
 -- None is determined after the last word.
-use Rattle.std.proofs.Common.{◌≡◌, ◌<◌, ◌≤◌, ◌==◌, ◌&&◌, Bool, not, ap, arith, sym, ◌∙◌}
+use Rattle.std.proofs.Common.{◌==◌, ◌&&◌, Bool, not, ap, arith, sym}
 use Rattle.bus_words.specs.Lanes.{lane_byte}
 use Rattle.scoreboard.proofs.held.FootprintBytes.{past_words}
 use Rattle.scoreboard.proofs.in_flight.differs_in.Goals as goal

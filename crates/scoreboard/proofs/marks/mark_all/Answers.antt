@@ -1,5 +1,5 @@
 -- One word more.
-use Rattle.std.proofs.Common.{◌≡◌, ℕ, Bool, ◌+◌, ◌*◌, ◌/◌, ◌<◌, ◌≤◌, ◌^◌, true, ap, arith, sym, ◌∙◌}
+use Rattle.std.proofs.Common.{◌≡◌, ℕ, Bool, ◌+◌, ◌*◌, ◌/◌, ◌<◌, ◌≤◌, ◌^◌, true, ap, arith, ◌∙◌}
 use Rattle.bus_words.specs.Lanes.{word_address}
 use Rattle.sparse_memory.specs.SparseMemory.{put_flags}
 use Rattle.serial_memory.specs.SerialMemory.{doubts_of, rooms_of}

@@ -1,5 +1,5 @@
 -- One word more.
-use Rattle.std.proofs.Common.{ℕ, Bool, ◌≡◌, ◌+◌, ◌/◌, ◌^◌, ◌<◌, ◌≤◌, ◌&&◌, not, true, ap, refl, arith, sym, ◌∙◌}
+use Rattle.std.proofs.Common.{ℕ, Bool, ◌≡◌, ◌+◌, ◌/◌, ◌^◌, ◌<◌, ◌≤◌, ◌&&◌, not, true, ap, refl, arith, ◌∙◌}
 use Rattle.std.proofs.Math.Path.{fun_ext}
 use Rattle.tl_messages.specs.Requests.{HeldMessage, bytes_given}
 use Rattle.serial_memory.specs.SerialMemory.{doubts_of}

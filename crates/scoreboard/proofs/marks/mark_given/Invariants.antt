@@ -1,5 +1,5 @@
 -- The bytes of the words before this one are marked.
-use Rattle.std.proofs.Common.{◌≡◌, ◌&&◌, ◌<◌, ◌+◌, ◌*◌, ℕ, not, if◌then◌else◌}
+use Rattle.std.proofs.Common.{◌≡◌, ◌&&◌, ◌+◌, ◌*◌, ℕ, not, if◌then◌else◌}
 use Rattle.std.specs.Prelude.{nat_lt}
 use Rattle.bus_words.specs.Lanes.{word_address}
 use Rattle.tl_messages.specs.Requests.{bytes_given}

@@ -1,10 +1,10 @@
 -- A lane of the word is given where the beat's mask has it.
-use Rattle.std.proofs.Common.{ℕ, Bool, ◌≡◌, ◌+◌, ◌*◌, ◌-◌, ◌/◌, ◌%◌, ◌<◌, ◌&&◌, not, ap, arith, sym, ◌∙◌}
+use Rattle.std.proofs.Common.{◌+◌, ◌*◌, ◌-◌, ◌/◌, ◌<◌, ◌&&◌, not, ap, arith, ◌∙◌}
 use Rattle.bus_words.specs.Lanes.{has_lane, word_address}
 use Rattle.sparse_memory.specs.SparseMemory.{put_flags}
-use Rattle.tl_messages.specs.Requests.{beat_at, bytes_given}
+use Rattle.tl_messages.specs.Requests.{bytes_given}
 use Rattle.serial_memory.proofs.RequestWords.{range}
-use Rattle.serial_memory.specs.SerialMemory.{IsMemoryRange, doubts_of, rooms_of}
+use Rattle.serial_memory.specs.SerialMemory.{doubts_of, rooms_of}
 use Rattle.scoreboard.specs.InsideBoards.{determined_in, words_of}
 use Rattle.scoreboard.proofs.held.FootprintBytes.{has_lane-not, room_word}
 use Rattle.scoreboard.proofs.held.Marks.{gives, mask_gives, word_marked}

@@ -7,7 +7,6 @@ use Rattle.scoreboard.specs.Right.{IsRight}
 use Rattle.scoreboard.specs.RealTime.{JudgesRightly}
 use Rattle.scoreboard.specs.Wider.{IsWiderAlong, LetsRightPass}
 use Rattle.scoreboard.specs.declared.Policy.{Policy}
-use Rattle.scoreboard.specs.declared.Policy.TheVariants.{AcceptanceOrder}
 use Rattle.scoreboard.specs.declared.Wrong.{Wrong}
 use Rattle.scoreboard.proofs.acceptance_order.Reached.{memory_reached, right_exactly}
 use Rattle.scoreboard.proofs.real_time.JudgedRightly.{judges_rightly}

@@ -1,18 +1,18 @@
 -- There are at most eight clients, and the board holds what was made for it.
-use Rattle.std.proofs.Common.{◌≡◌, ◌≤◌, ap, length, map, refl, ◌∙◌}
+use Rattle.std.proofs.Common.{◌≤◌, ap, length, map, refl, ◌∙◌}
 use Rattle.std.proofs.lemmas.List.{length-map}
-use Rattle.score_setup.specs.ScoreSetups.{lists_of}
+use Rattle.score_setup.specs.ScoreSetups.{lists_of, ranges_of}
 use Rattle.score_setup.proofs.ScoreSetupFaults.{valid_to_score}
 use Rattle.scoreboard.specs.Boards.{Board}
 use Rattle.scoreboard.specs.InsideBoards.{client_of}
 use Rattle.serial_memory.specs.SerialMemory.{rooms_of}
 use Rattle.scoreboard.specs.declared.Errors.TheVariants.{Strict}
-use Rattle.scoreboard.proofs.acceptance_order.BoardClients.{board_opens, device_fine, few_clients, nothing_written, pages_same}
+use Rattle.scoreboard.proofs.acceptance_order.BoardClients.{board_opens, device_fine, few_clients, nothing_written}
 use Rattle.scoreboard.proofs.board.Scoreboard.opening.Goals as goal
 
 pub new-requires-2 : goal.new-requires-2
 new-requires-2 c =
-    record { fine = rw (c.deref.ensures.value, c.in_ok-ranges.ensures, c.as_slice-2.ensures.value, c.as_slice-3.ensures.value, pages_same c.args.setup.now.pages.items) (device_fine (lists_of c.args.setup.now) c.requires) }
+    record { fine = rw (c.as_slice-2.ensures.value, c.as_slice-3.ensures.value) (device_fine (lists_of c.args.setup.now) c.requires) }
 
 pub opening_clients-requires-clause-valid : goal.opening_clients-requires-clause-valid
 opening_clients-requires-clause-valid c = valid_to_score (lists_of c.args.setup.now) c.requires
@@ -33,7 +33,7 @@ invariant_of-result c =
 pub returns : goal.returns
 returns c = (
   ap {B = Board} (λ (b : Board). record b { errors = c.args.errors })
-      (board_opens (lists_of c.args.setup.now)
+      (board_opens (ranges_of c.args.setup.now)
       (record {
         policy = c.args.policy;
         errors = Strict;
@@ -44,7 +44,7 @@ returns c = (
         joining = c.in_ok-joining.joining;
       })
       c.in_ok-clients.ensures.0
-      (c.in_ok-serial.ensures.memory ∙ rw (c.in-Ok.ensures.ok, c.as_slice.ensures.value, c.deref.ensures.value, c.in_ok-ranges.ensures, c.as_slice-2.ensures.value, c.as_slice-3.ensures.value) refl)
-      (c.in_ok-serial.ensures.doubts ∙ rw (c.deref.ensures.value, c.in_ok-ranges.ensures, c.as_slice-2.ensures.value) refl) (cc c.in_ok-axi.ensures)),
+      (c.in_ok-serial.ensures.memory ∙ rw (c.in-Ok.ensures.ok, c.as_slice.ensures.value, c.as_slice-2.ensures.value, c.as_slice-3.ensures.value) refl)
+      (c.in_ok-serial.ensures.doubts ∙ rw c.as_slice-2.ensures.value refl) (cc c.in_ok-axi.ensures)),
   refl,
 )

@@ -1,9 +1,7 @@
 -- A message that has begun is of a free source, and its first beat is right.
-use Rattle.std.proofs.Common.{◌≡◌, Ok, Result, sym, ◌∙◌, ap}
+use Rattle.std.proofs.Common.{◌≡◌, Ok, sym, ◌∙◌, ap}
 use Rattle.tl_checker.specs.Ports.{judged}
 use Rattle.tl_checker.specs.declared.Progress.{Progress}
-use Rattle.tl_checker.specs.declared.Progress.TheVariants.{More, Whole}
-use Rattle.tl_checker.specs.declared.TlRule.{TlRule}
 use Rattle.scoreboard.specs.Boards.{answer_to}
 use Rattle.scoreboard.specs.Flights.{is_busy}
 use Rattle.scoreboard.specs.InsideBoards.{ClientState, client_of, flights_of}

@@ -1,5 +1,5 @@
 -- Those of its mask that are its own.
-use Rattle.std.proofs.Common.{◌≡◌, ◌+◌, ◌-◌, ◌/◌, ◌%◌, ◌&&◌, Bool, ap, ap₂, get_or, sym, ◌∙◌, arith}
+use Rattle.std.proofs.Common.{◌+◌, ◌-◌, ◌/◌, ◌%◌, ◌&&◌, Bool, ap, ap₂, get_or, sym, ◌∙◌}
 use Rattle.bus_words.specs.Lanes.{has_lane}
 use Rattle.bus_words.proofs.MaskLaws.{has_lane-and}
 use Rattle.scoreboard.specs.InsideBoards.{FootprintState, footprint_of}

@@ -1,5 +1,5 @@
 -- A byte that isn't determined is one of a word's.
-use Rattle.std.proofs.Common.{◌≡◌, ◌+◌, ◌*◌, ap, sym, ◌∙◌, arith, below_more}
+use Rattle.std.proofs.Common.{◌+◌, ap, sym, ◌∙◌, arith, below_more}
 use Rattle.bus_words.specs.Lanes.{has_lane}
 use Rattle.scoreboard.specs.InsideBoards.{FootprintState, determined_in, footprint_of}
 use Rattle.scoreboard.specs.Races.{covers}

@@ -1,5 +1,5 @@
 -- One word more; and at the end all of them.
-use Rattle.std.proofs.Common.{◌≡◌, ◌<◌, ◌^◌, ◌+◌, ◌*◌, ◌&&◌, ◌||◌, Bool, ap, ap₂, get_or, refl, ◌∙◌, below_more, arith}
+use Rattle.std.proofs.Common.{◌+◌, ◌*◌, ◌&&◌, ◌||◌, Bool, ap, ap₂, get_or, ◌∙◌, below_more, arith}
 use Rattle.bus_words.specs.Lanes.{has_lane, word_address}
 use Rattle.bus_words.proofs.MaskLaws.{has_lane-and}
 use Rattle.scoreboard.specs.InsideBoards.{FootprintState, determined_in, footprint_of}

@@ -1,7 +1,6 @@
 -- All are, or those that aren't in doubt.
-use Rattle.std.proofs.Common.{◌≡◌, ◌+◌, ◌*◌, ◌&&◌, Bool, false, not, ap, arith, refl, sym, ◌∙◌}
+use Rattle.std.proofs.Common.{◌≡◌, ◌+◌, false, not, ap, arith, refl, sym, ◌∙◌}
 use Rattle.bus_words.specs.Lanes.{has_lane, word_address}
-use Rattle.sparse_memory.specs.SparseMemory.{flags_in}
 use Rattle.sparse_memory.proofs.StateLaws.{lane-flags_in}
 use Rattle.serial_memory.specs.SerialMemory.{doubts_of}
 use Rattle.scoreboard.specs.InsideBoards.{FootprintState}

@@ -7,12 +7,12 @@ pub returns-in_err-open : goal.returns-in_err-open
 returns-in_err-open g c =
     let same : c.from_residual.result ≡ Err c.in_err-open.field-0.0 = search rules in
     rw same
-    (TakesStep-unopened g.K.Kind.rules g.K.Kind.grows (stage_as g.K.Kind.said c.args.self.now) (stage_as g.K.Kind.said c.open.new.self) c.args.number c.args.command.now (g.W.Write.contents c.args.writer.now) c.in_err-open.field-0.0 g.met.K.Kind.gives_text
+    (TakesStep-unopened g.K.Kind.rules g.K.Kind.grows (stage_as g.K.Kind.lists g.K.Kind.said c.args.self.now) (stage_as g.K.Kind.lists g.K.Kind.said c.open.new.self) c.args.number c.args.command.now (g.W.Write.contents c.args.writer.now) c.in_err-open.field-0.0 g.met.K.Kind.gives_text
     c.in_err-open.ensures)
 
 pub returns : goal.returns
 returns g c =
-    TakesStep-carried g.K.Kind.rules g.K.Kind.grows (stage_as g.K.Kind.said c.args.self.now) c.args.number (g.K.Kind.said c.in-Running.world) (g.K.Kind.said c.carry_out.new.world) c.args.command.now (g.W.Write.contents c.args.writer.now) (g.W.Write.contents c.carry_out.new.writer) c.carry_out.result
-    (opened_as (world_at g.K.Kind.rules (stage_as g.K.Kind.said c.args.self.now) c.args.number) (stage_as g.K.Kind.said c.open.new.self) (g.K.Kind.said c.in-Running.world) c.in_ok-open.ensures
-    (ap (stage_as g.K.Kind.said) (sym c.self.view_is ∙ ap (stage_of g.K.Setup.ScriptSetup.lists) c.in-Running.is)))
+    TakesStep-carried g.K.Kind.rules g.K.Kind.grows (stage_as g.K.Kind.lists g.K.Kind.said c.args.self.now) c.args.number (g.K.Kind.said c.in-Running.world) (g.K.Kind.said c.carry_out.new.world) c.args.command.now (g.W.Write.contents c.args.writer.now) (g.W.Write.contents c.carry_out.new.writer) c.carry_out.result
+    (opened_as (world_at g.K.Kind.rules (stage_as g.K.Kind.lists g.K.Kind.said c.args.self.now) c.args.number) (stage_as g.K.Kind.lists g.K.Kind.said c.open.new.self) (g.K.Kind.said c.in-Running.world) c.in_ok-open.ensures
+    (ap (stage_as g.K.Kind.lists g.K.Kind.said) (sym c.self.view_is ∙ ap stage_of c.in-Running.is)))
     c.carry_out.ensures

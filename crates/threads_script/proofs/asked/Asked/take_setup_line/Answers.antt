@@ -4,7 +4,7 @@ use Rattle.std.specs.Prelude.{option_map}
 use Rattle.setups.specs.Setups.{lists_of}
 use Rattle.script_text.proofs.LineRooms.{setup_line-room}
 use Rattle.script_text.specs.Forms.{told_as}
-use Rattle.script_text.specs.Stages.{setup_line}
+use Rattle.script_text.specs.SetupRules.{setup_line}
 use Rattle.script_text.specs.declared.keywords.Form.TheVariants as form
 use Rattle.threads_script.specs.Asked.{AskedLists, is_misplaced}
 use Rattle.threads_script.proofs.AskedLines.{config_asked, setup_room}
@@ -27,8 +27,8 @@ returns-then-matches c =
     (config_asked asked c.args.words.now c.of_config.result c.of_config.ensures ∙ ap (told_as (λ setup. record asked { setup = Some (lists_of setup) })) c.in_ok-of_config.was
     ∙ ap (λ (before : AskedLists). Ok (record before { setup = Some (lists_of c.in_ok-of_config.field-0) })) (sym c.self.view_is))
 
-pub add-requires : goal.add-requires
-add-requires c =
+pub add_line-requires : goal.add_line-requires
+add_line-requires c =
     let read : setup_line c.args.form c.args.words.now ≡ Ok c.in_ok-line.line = sym c.setup_line.ensures ∙ c.in_ok-line.was in
     let setup_is : c.args.self.now.setup ≡ Some (lists_of c.in-Some.setup) = ap (λ asked. asked.setup) (sym c.self.view_is) ∙ ap (option_map lists_of) c.in-Some.is in
     let placed : is_misplaced c.args.self.now (Some (lists_of c.in-Some.setup)) c.args.form c.args.words.now ≡ false =
