@@ -1,9 +1,9 @@
 """Refuses each growth of memory of tlscore in turn, alone and with all after it.
 
 Words that can't be had come first (status 6), then want of memory before any text (status 4). A page takes room with the first
-beat of a request that gives it bytes, and with no other. Where memory is refused there, the program ends with status 4 behind
-the text of the lines before. Where one growth alone is refused a vector may ask once more, for just what it needs: then nothing
-is wanting.
+request that gives it bytes, and with no other: by `profile bridge` at its last beat, by `profile tilelink` at its first. Where
+memory is refused there, the program ends with status 4 behind the text of the lines before. Where one growth alone is refused a
+vector may ask once more, for just what it needs: then nothing is wanting.
 
     python3 tests/score_memory.py TLSCORE
 """
@@ -16,15 +16,15 @@ from shim import Shim
 
 USAGE = b"usage: tlscore\n"
 SETUP = "config 2 4 16 2 16 12 hh", "region 0 4 10 gpah", "page 10 4 good"
-PROFILES = "bridge", "tilelink"
+BRIDGE, TILELINK = PROFILES = "bridge", "tilelink"
 
 
 class Line(NamedTuple):
-    """A line, its text, and whether a page takes room there."""
+    """A line, its text, and the profiles by which a page takes room there."""
 
     given: str
     text: str = ""
-    takes_room: bool = False
+    takes_room: tuple = ()
 
 
 # A beat on channel A is judged at the line behind it.
@@ -35,12 +35,12 @@ LINES = (
     Line("mem 11000", "= mem 00"),
     # The first bytes of a page.
     Line("A 0 0 0 3 5 8 ff 1122334455667788 0"),
-    Line("mem 10008", "= mem 88", True),
+    Line("mem 10008", "= mem 88", PROFILES),
     # A Put of two beats on another page.
     Line("A 1 0 0 4 6 2000 ff 1122334455667788 0"),
-    Line("mem 12000", "= mem 00", True),
+    Line("mem 12000", "= mem 00", (TILELINK,)),
     Line("A 1 0 0 4 6 2000 ff 99aabbccddeeff00 0"),
-    Line("mem 12008", "= mem 00"),
+    Line("mem 12008", "= mem 00", (BRIDGE,)),
     # A corrupt Put gives none, nor does one of a page that isn't there.
     Line("A 1 0 0 3 7 3000 ff 1122334455667788 1"),
     Line("mem 13000", "= mem 00"),
@@ -51,7 +51,7 @@ LINES = (
     Line("mem 10018", "= mem 01"),
     Line("A 0 2 4 3 7 3000 ff 1 0"),
 )
-LAST = Line("", "= judged 8 wrong 0 outstanding 7 open 0", True)
+LAST = Line("", "= judged 8 wrong 0 outstanding 7 open 0", PROFILES)
 
 
 def text_of(lines) -> bytes:
@@ -59,12 +59,12 @@ def text_of(lines) -> bytes:
     return "".join(f"{line.text}\n" for line in lines if line.text).encode()
 
 
-def fronts():
+def fronts(profile):
     """What may have been written where memory is refused, in this order: nothing, and what stands before a page takes room."""
     lines = (*LINES, LAST)
     yield b""
     for place, line in enumerate(lines):
-        if line.takes_room:
+        if profile in line.takes_room:
             yield text_of(lines[:place])
 
 
@@ -84,7 +84,7 @@ def growths(shim, profile):
     free = shim.run([], given)
     yield "no growth refused", free.wrong(0, text, b"")
     asked, seen = free.counts["growth"], set()
-    ends = [(6, b""), *((4, front) for front in fronts())]
+    ends = [(6, b""), *((4, front) for front in fronts(profile))]
     wanted = set(ends)
     for at, alone, ran, name in shim.refused([], given, "growth", asked + 1):
         if at > asked or alone and ran.status == 0 and ran.counts["growth"] == asked + 1:

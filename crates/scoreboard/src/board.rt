@@ -385,7 +385,7 @@ impl Scoreboard {
             Ok(progress) => progress,
             Err(rule) => return Ok(Some(Wrong::Request(rule))),
         };
-        self.make_room(beat)?;
+        self.make_room(beat, progress)?;
         self.take_beat(number, beat, progress);
         match progress {
             Progress::More => self.go_on(client, beat, begun),
@@ -394,12 +394,16 @@ impl Scoreboard {
         Ok(None)
     }
 
-    /// Makes room for the page of what a beat gives, where it may act there. The one error is that memory was refused.
-    fn make_room(&mut self, beat: &ABeat) -> Result<(), AllocError>
+    /// Makes room for the page of what a beat gives, where it may act there: in order of acceptance once its message is whole. The
+    /// one error is that memory was refused.
+    fn make_room(&mut self, beat: &ABeat, progress: Progress) -> Result<(), AllocError>
         ensures board { board_of self.new ≡ board_of self.old }
         ensures rest { self.new ≡ record self.old { memory = self.new.memory } }
-        ensures room { OnOk result (HasRoomForBeat self.old.errors self.new.memory beat.now) }
+        ensures room { OnOk result ((progress ≡ Whole) ⊎ (self.old.policy ≡ RealTime) → HasRoomForBeat self.old.errors self.new.memory beat.now) }
     {
+        if progress == Progress::More && self.policy == Policy::AcceptanceOrder {
+            return Ok(());
+        }
         let Some(operation) = Operation::named(beat.opcode, beat.param) else {
             return Ok(());
         };
@@ -439,7 +443,7 @@ impl Scoreboard {
     fn go_on(&mut self, client: u8, beat: &ABeat, begun: bool)
         requires client { client < length self.old.clients }
         requires first { begun ≡ false → IsFirstBeat beat.now }
-        requires room { HasRoomForBeat self.old.errors self.old.memory beat.now }
+        requires room { self.old.policy ≡ RealTime → HasRoomForBeat self.old.errors self.old.memory beat.now }
         ensures state { (found : ClientBoard) (message : HeldMessage) → slice_get (board_of self.old).clients client ≡ Some found
             → (begun ≡ false → message ≡ joined found.limits None beat.now) → found.front ≡ Some message
             → board_of self.new ≡ continued_on self.old.policy (board_of self.old) client found message begun }

@@ -15,3 +15,6 @@ returns-in-RealTime-2-clause-state c found message is same begun =
     c.begin.ensures.state found is
     ∙ ap (λ (m : HeldMessage). begun_on board c.args.client (record found { early = early_due c.args.self.now.errors (request_of m) }) (joining_on board (request_of m))) (sym (same first))
     ∙ ap₂ (λ (p : Policy) (b : Bool). continued_on p board c.args.client found message b) (sym policy) (sym first)
+
+pub begin-requires-clause-room : goal.begin-requires-clause-room
+begin-requires-clause-room c = c.requires.room (search rules)

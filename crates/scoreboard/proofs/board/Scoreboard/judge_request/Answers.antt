@@ -1,5 +1,5 @@
 -- The client that is there answers.
-use Rattle.std.proofs.Common.{◌≡◌, List, Ok, None, Option, Result, Some, false, ap, ap₂, refl, subst, sym, ◌∙◌}
+use Rattle.std.proofs.Common.{◌≡◌, ◌⊎◌, inl, inr, List, Ok, None, Option, Result, Some, false, ap, ap₂, refl, subst, sym, ◌∙◌}
 use Rattle.std.specs.Prelude.{is_some, slice_get}
 use Rattle.std.proofs.lemmas.Option.{slice_get_within}
 use Rattle.bus_words.proofs.StoredPlaces.{get_set}
@@ -13,6 +13,7 @@ use Rattle.scoreboard.specs.Boards.{Board, ClientBoard, a_wrong, accepted_on, an
 use Rattle.scoreboard.specs.InsideBoards.{BoardState, ClientState, HasRoomForBeat, board_of, client_of, front_after}
 use Rattle.scoreboard.specs.declared.Errors.{Errors}
 use Rattle.scoreboard.specs.declared.Policy.{Policy}
+use Rattle.scoreboard.specs.declared.Policy.TheVariants.{RealTime}
 use Rattle.scoreboard.proofs.held.BoardSteps.{client_there, there_at}
 use Rattle.scoreboard.proofs.held.RequestAnswered.{state_as, with_front, wrong_as}
 use Rattle.scoreboard.proofs.board.Scoreboard.judge_request.Goals.{After-take_beat}
@@ -70,10 +71,10 @@ module _ (c : After-take_beat) where
   none_here first = none_begun found.front (sym c.has_begun-begun.ensures ∙ first)
 
   -- whatever message the beat belongs to has room
-  room : HasRoomForBeat c.take_beat.new.self.errors c.take_beat.new.self.memory c.args.beat.now
-  room =
+  room : (c.in-Ok.progress ≡ Whole) ⊎ (c.args.self.now.policy ≡ RealTime) → HasRoomForBeat c.take_beat.new.self.errors c.take_beat.new.self.memory c.args.beat.now
+  room may =
       subst (λ (errors : Errors). HasRoomForBeat errors c.take_beat.new.self.memory c.args.beat.now) (sym (ap (λ (b : Board). b.errors) (mid (Ok c.in-Ok.progress) refl)))
-      (subst (λ (memory : MemoryState). HasRoomForBeat c.args.self.now.errors memory c.args.beat.now) (sym c.take_beat.ensures.memory) c.in_ok-make_room.ensures.room)
+      (subst (λ (memory : MemoryState). HasRoomForBeat c.args.self.now.errors memory c.args.beat.now) (sym c.take_beat.ensures.memory) (c.in_ok-make_room.ensures.room may))
 
 pub go_on-requires-clause-first : goal.go_on-requires-clause-first
 go_on-requires-clause-first c first =
@@ -81,7 +82,9 @@ go_on-requires-clause-first c first =
     c.take_beat.ensures.first (found at) (there_still at) (none_here at first) c.in-More.is
 
 pub go_on-requires-clause-room : goal.go_on-requires-clause-room
-go_on-requires-clause-room c = room (goal.at.go_on-requires-clause-room c).After-take_beat
+go_on-requires-clause-room c real_time =
+    let at = (goal.at.go_on-requires-clause-room c).After-take_beat in
+    room at (inr (sym (same_policy at) ∙ real_time))
 
 pub returns-in-More-clause-answer : goal.returns-in-More-clause-answer
 returns-in-More-clause-answer c = rw (← c.from-number.ensures) (not_wrong (goal.at.returns-in-More-clause-answer c).After-take_beat)
@@ -107,7 +110,7 @@ pub accept-requires-clause-free : goal.accept-requires-clause-free
 accept-requires-clause-free c one is = c.take_beat.ensures.free one is c.in-Whole.is
 
 pub accept-requires-clause-room : goal.accept-requires-clause-room
-accept-requires-clause-room c = room (goal.at.accept-requires-clause-room c).After-take_beat c.take_beat.new.self.request (c.take_beat.ensures.asked c.in-Whole.is)
+accept-requires-clause-room c = room (goal.at.accept-requires-clause-room c).After-take_beat (inl c.in-Whole.is) c.take_beat.new.self.request (c.take_beat.ensures.asked c.in-Whole.is)
 
 pub returns-in-Whole-clause-answer : goal.returns-in-Whole-clause-answer
 returns-in-Whole-clause-answer c = rw (← c.from-number.ensures) (not_wrong (goal.at.returns-in-Whole-clause-answer c).After-take_beat)
