@@ -78,11 +78,22 @@ impl Drop for PageMap {
 impl PageMap {
     ghost use Rattle.burst_plan.specs.declared.MapFault.TheVariants.{NoMemory};
 
-    /// The map of these regions, at most 16 (this project's profile).
+    /// The map of the regions of a bridge, at most 16 (this project's profile).
     ///
     /// Memory is asked for only where the regions have no fault.
     pub fn new(alloc: Global, regions: &[Region]) -> Result<Self, MapFault>
         requires { length regions.now ≤ 16 }
+        ensures fault { IfSome (region_fault regions.now) (λ fault. result ≡ Err fault) }
+        ensures ok { IfOk result (λ map. map ≡ regions.now) }
+        ensures no_fault { OnOk result (region_fault regions.now ≡ None) }
+        ensures err { IfErr result (λ fault. (region_fault regions.now ≡ Some fault) ⊎ ((region_fault regions.now ≡ None) × (fault ≡ NoMemory))) }
+    {
+        PageMap::of_observed(alloc, regions)
+    }
+
+    /// The same of a bridge that is only observed, which may have 64 (this project's profile).
+    pub fn of_observed(alloc: Global, regions: &[Region]) -> Result<Self, MapFault>
+        requires { length regions.now ≤ 64 }
         ensures fault { IfSome (region_fault regions.now) (λ fault. result ≡ Err fault) }
         ensures ok { IfOk result (λ map. map ≡ regions.now) }
         ensures no_fault { OnOk result (region_fault regions.now ≡ None) }

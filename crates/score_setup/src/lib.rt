@@ -42,7 +42,7 @@ pub struct ScoreSetup {
     /// The bridge's limits.
     pub config: ScoreConfig,
     /// The regions of TileLink pages, each leading to AXI pages.
-    pub regions: ArrayVec<Region, 16>,
+    pub regions: ArrayVec<Region, 64>,
     /// The memory's pages; other pages are absent.
     pub pages: ArrayVec<PageRange, 1024>,
     /// The addresses of eight-byte words of good pages that went bad.
