@@ -1,3 +1,4 @@
+pub mod FilledBytes
 pub mod PutWords
 pub mod RequestWords
 pub mod Words

@@ -1,5 +1,5 @@
 -- The words of a range of the memory, one by one.
-use Rattle.std.specs.Prelude.{ℕ, ◌≡◌, ◌+◌, ◌*◌, ◌/◌, ◌^◌, ◌<◌, true, false, max, List, map, Option, if◌then◌else◌, nat_lt}
+use Rattle.std.specs.Prelude.{ℕ, ◌≡◌, ◌+◌, ◌-◌, ◌*◌, ◌/◌, ◌^◌, ◌<◌, true, false, max, List, map, Option, if◌then◌else◌, nat_lt, slice_index}
 use Rattle.std.specs.List.{range_with_len}
 use Rattle.bus_words.specs.Lanes.{has_lane}
 use Rattle.tl_messages.specs.Lanes.{in_lanes}
@@ -10,7 +10,7 @@ use Rattle.responses.specs.Gathered.{GatherState, gathering_of, outline_of}
 use Rattle.subordinate.specs.Faults.{read_response}
 use Rattle.sparse_memory.specs.SparseMemory.{SparseState, bytes_in, doubts_in, faults_in, has_room, word_in}
 use Rattle.meaning.specs.Meaning.{Bytes, with_bytes}
-use Rattle.serial_memory.specs.SerialMemory.{IsMemoryRange}
+use Rattle.serial_memory.specs.SerialMemory.{IsMemoryRange, is_filled}
 
 -- a word of them, by its number from 0
 pub record IsWordAt (address size place : ℕ) : Type 0 where
@@ -50,3 +50,14 @@ pub record IsWrittenAlone (old new : SparseState) : Type 0 where
   pub faults : faults_in new ≡ faults_in old
   pub doubts : doubts_in new ≡ doubts_in old
   pub rooms : has_room new ≡ has_room old
+
+-- pages have got room, and nothing else has changed
+pub record IsReservedAlone (old new : SparseState) : Type 0 where
+  pub faults : faults_in new ≡ faults_in old
+  pub bytes : bytes_in new ≡ bytes_in old
+  pub doubts : doubts_in new ≡ doubts_in old
+  pub rooms : (page : ℕ) → has_room old page ≡ true → has_room new page ≡ true
+
+-- bytes with the first ones of a list put from an address on, so many as are counted
+abbrev pub filled_until : Bytes → ℕ → List ℕ → ℕ → Bytes
+filled_until m address bytes count x = if is_filled address count x then slice_index bytes (x - address) else m x

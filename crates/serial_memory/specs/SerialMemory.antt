@@ -1,5 +1,6 @@
 -- The memory that accepted requests leave, carried out whole, one at a time: what it holds, and what one request makes of it.
-use Rattle.std.specs.Prelude.{ℕ, ◌≡◌, ◌/◌, ◌%◌, ◌^◌, ◌≤◌, ◌==◌, Bool, true, false, List, Option, Some, None, IfSome, if◌then◌else◌}
+use Rattle.std.specs.Prelude.{ℕ, ◌≡◌, ◌+◌, ◌-◌, ◌/◌, ◌%◌, ◌^◌, ◌≤◌, ◌==◌, Bool, true, false, not, ◌&&◌, List, length, Option, Some, None, IfSome, if◌then◌else◌, nat_le, nat_lt, slice_index}
+use Rattle.std.specs.List.{list_all, range_with_len}
 use Rattle.tl_messages.specs.Operations.{has_data}
 use Rattle.tl_messages.specs.Requests.{HeldMessage, WholeRequest}
 use Rattle.tl_messages.specs.declared.Operation.{Operation}
@@ -54,6 +55,30 @@ on_good_page faults (Some address) = if is_good (standing_at faults address) the
 -- the address of a good page at which a request acts, if it has one
 abbrev pub place_in : Memory → WholeRequest → Option ℕ
 place_in memory q = on_good_page memory.faults (address_of memory.regions q)
+
+-- whether an address is one of so many from another on
+abbrev pub is_filled : ℕ → ℕ → ℕ → Bool
+is_filled address count x = nat_le address x && nat_lt x (address + count)
+
+-- bytes put from an address on, one each
+abbrev pub with_filled : Bytes → ℕ → List ℕ → Bytes
+with_filled m address bytes x = if is_filled address (length bytes) x then slice_index bytes (x - address) else m x
+
+-- a tester says which bytes a memory has from an address on
+abbrev pub filled : Memory → ℕ → List ℕ → Memory
+filled memory address bytes = record memory { bytes = with_filled memory.bytes address bytes }
+
+-- which bytes are in doubt, where so many from an address on are known
+abbrev pub known_from : (ℕ → Bool) → ℕ → ℕ → ℕ → Bool
+known_from doubts address count x = not (is_filled address count x) && doubts x
+
+-- whether a byte is one of 32-bit addresses, on a good page
+abbrev pub is_good_byte : Faults → ℕ → Bool
+is_good_byte faults address = nat_lt address (2 ^ 32) && is_good (standing_at faults address)
+
+-- whether so many bytes from an address on are all of good pages
+abbrev pub can_fill : Faults → ℕ → ℕ → Bool
+can_fill faults address count = list_all (λ k. is_good_byte faults (address + k)) (range_with_len 0 count)
 
 -- 2^size bytes at a multiple of their number, of one page
 pub record IsMemoryRange (address size : ℕ) : Type 0 where

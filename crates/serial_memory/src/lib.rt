@@ -2,8 +2,21 @@
 #![tactic(auto)]
 
 mod carrying;
+mod filling;
 mod memory;
 #[cfg(test)]
 mod tests;
 
 pub use memory::SerialMemory;
+use thiserror::Error;
+
+/// Why a memory isn't filled with bytes.
+#[derive(Clone, Copy, Debug, PartialEq, Eq, Error)]
+pub enum FillFault {
+    /// One of them is of no good page.
+    #[error("a byte on no good page")]
+    Place,
+    /// Memory was refused.
+    #[error("out of memory")]
+    NoMemory,
+}

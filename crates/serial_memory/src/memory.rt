@@ -1,5 +1,5 @@
 //! The memory that requests leave which are carried out whole, one at a time.
-ghost use Rattle.std.specs.Prelude.{◌≡◌, ◌/◌, ◌%◌, ◌||◌, ℕ, false, true, None, IfOk, IfSome, OnErr, OnOk};
+ghost use Rattle.std.specs.Prelude.{◌≡◌, ◌⊎◌, ◌/◌, ◌%◌, ◌||◌, ℕ, false, true, length, Err, None, IfErr, IfOk, IfSome, OnErr, OnOk};
 ghost use Rattle.tl_messages.specs.Requests.{WholeRequest, request_of};
 ghost use Rattle.responses.specs.Shown.{shown};
 ghost use Rattle.subordinate.specs.Faults.{device_fault, is_good, standing_at};
@@ -8,7 +8,9 @@ ghost use Rattle.sparse_memory.specs.SparseMemory.{flags_in, put_flags};
 ghost use Rattle.meaning.specs.Meaning.{zeros};
 ghost use Rattle.serial_memory.specs.SerialMemory.{HasRoomToGive, IsCheckedRequest};
 
+use crate::FillFault;
 use crate::carrying::{answer, place_if_sound, place_of};
+use crate::filling::{can_fill, put_each, reserve_each};
 use burst_plan::PageMap;
 use responses::Gather;
 use sparse_memory::{PageRange, SparseMemory};
@@ -20,7 +22,7 @@ use tl_messages::{Operation, ReplyBox, Request};
 const WORD: u8 = 8;
 
 /// A memory on which requests are carried out whole, one at a time, and which keeps of each byte whether it is in doubt. A page takes
-/// room by `make_room`, and no other call but `new` takes memory.
+/// room by `make_room` and `fill`, and no other call but `new` takes memory.
 pub struct SerialMemory {
     map: PageMap,
     pages: SparseMemory,
@@ -50,7 +52,8 @@ impl Drop for SerialMemory {
 }
 
 impl SerialMemory {
-    ghost use Rattle.serial_memory.specs.SerialMemory.{byte_at, carried_out, doubts_of, is_page_of, meaning_in, memory_of, on_good_page, place_given, place_in, rooms_of};
+    ghost use Rattle.serial_memory.specs.declared.FillFault.TheVariants.{NoMemory, Place};
+    ghost use Rattle.serial_memory.specs.SerialMemory.{byte_at, can_fill, carried_out, doubts_of, filled, is_page_of, known_from, meaning_in, memory_of, on_good_page, place_given, place_in, rooms_of};
 
     /// The memory behind a page map, of these ranges of pages and bad words, which `memory_fault` doesn't refuse; all bytes are zero,
     /// and those of ranges of unknown bytes are in doubt. No page has room. The one error is that memory was refused.
@@ -68,6 +71,28 @@ impl SerialMemory {
         let pages = SparseMemory::new(alloc, ranges, bad_words)?;
         let gather = Gather::new(alloc, WORD)?;
         Ok(SerialMemory { map, pages, gather })
+    }
+
+    /// The bytes from an address on become these, and are known, as a tester says what the memory began with. It fails only where one
+    /// of them is of no good page, or memory was refused; then no byte has changed, and none is known that wasn't.
+    pub fn fill(&mut self, address: u32, bytes: &[u8]) -> Result<(), FillFault>
+        ensures memory { OnOk result (memory_of self.new ≡ filled (memory_of self.old) address bytes.now) }
+        ensures doubts { OnOk result (doubts_of self.new ≡ known_from (doubts_of self.old) address (length bytes.now)) }
+        ensures refused { OnErr result ((memory_of self.new ≡ memory_of self.old) × (doubts_of self.new ≡ doubts_of self.old)) }
+        ensures rooms { (page : ℕ) → rooms_of self.old page ≡ true → rooms_of self.new page ≡ true }
+        ensures place { can_fill (memory_of self.old).faults address (length bytes.now) ≡ false → result ≡ Err Place }
+        ensures no_fault { OnOk result (can_fill (memory_of self.old).faults address (length bytes.now) ≡ true) }
+        ensures err { IfErr result (λ fault. ((can_fill (memory_of self.old).faults address (length bytes.now) ≡ false) × (fault ≡ Place))
+            ⊎ ((can_fill (memory_of self.old).faults address (length bytes.now) ≡ true) × (fault ≡ NoMemory))) }
+    {
+        if !can_fill(&self.pages, address, bytes.len()) {
+            return Err(FillFault::Place);
+        }
+        if reserve_each(&mut self.pages, address, bytes.len()).is_err() {
+            return Err(FillFault::NoMemory);
+        }
+        put_each(&mut self.pages, address, bytes);
+        Ok(())
     }
 
     /// Makes room for the page at which an operation acts, where it gives bytes, and the page is a good one that has none. The one error
@@ -96,6 +121,13 @@ impl SerialMemory {
         ensures { result ≡ byte_at (memory_of self.now) address }
     {
         self.pages.byte(address)
+    }
+
+    /// Whether it is sure that no byte is in doubt.
+    pub fn knows_all(&self) -> bool
+        ensures { result ≡ true → (x : ℕ) → doubts_of self.now x ≡ false }
+    {
+        self.pages.knows_all()
     }
 
     /// Which bytes of the word that an address is in are in doubt, bit i for byte i.

@@ -2,7 +2,7 @@
 ghost use Rattle.std.specs.Prelude.{IfOk};
 ghost use Rattle.serial_memory.specs.SerialMemory.{IsCheckedRequest};
 
-use crate::SerialMemory;
+use crate::{FillFault, SerialMemory};
 use burst_plan::{PageMap, Region};
 use sparse_memory::{PageRange, RangeKind, memory_fault};
 use std::alloc::Global;
@@ -109,5 +109,41 @@ fn carried_out(rt: HostRuntime) -> Result<(), Fail> {
     assert_eq!(rt; reply.as_slice().len(), 1);
     assert_eq!(rt; reply.as_slice()[0].payload, 0x1122_3344_5566_7788);
     assert_eq!(rt; serial.byte(0x1000f), Some(0x11));
+    Ok(())
+}
+
+/// Without pages of unknown bytes all is known, until a byte is marked.
+#[test]
+fn known_at_first(rt: HostRuntime) -> Result<(), Fail> {
+    let alloc = rt.alloc();
+    for (ranges, knows_all) in [(&RANGES[..], false), (&RANGES[1..], true)] {
+        let Ok(map) = PageMap::new(alloc, &[REGION]) else {
+            return Err(Fail::new("a page map"));
+        };
+        assert_eq!(rt; memory_fault(ranges, &[]), None);
+        let serial = SerialMemory::new(alloc, map, ranges, &[])?;
+        assert_eq!(rt; serial.knows_all(), knows_all);
+    }
+    Ok(())
+}
+
+/// Bytes that a tester gives are known, and none is taken where one of them is on no good page.
+#[test]
+fn filled(rt: HostRuntime) -> Result<(), Fail> {
+    let alloc = rt.alloc();
+    let Ok(map) = PageMap::new(alloc, &[REGION]) else {
+        return Err(Fail::new("a page map"));
+    };
+    assert_eq!(rt; memory_fault(&RANGES, &[]), None);
+    let mut serial = SerialMemory::new(alloc, map, &RANGES, &[])?;
+    assert_eq!(rt; serial.fill(0x10ffd, &[1, 2, 3]), Ok(()));
+    assert_eq!(rt; serial.fill(0x10fff, &[4, 5]), Err(FillFault::Place));
+    assert_eq!(rt; serial.fill(0xffff_ffff, &[6, 7]), Err(FillFault::Place));
+    assert_eq!(rt; serial.fill(0x11000, &[]), Ok(()));
+    for (address, byte) in [(0x10ffc, 0), (0x10ffd, 1), (0x10ffe, 2), (0x10fff, 3)] {
+        assert_eq!(rt; serial.byte(address), Some(byte));
+    }
+    assert_eq!(rt; serial.doubts(0x10fff), 0x1f);
+    assert_eq!(rt; serial.doubts(0x10ff7), 0xff);
     Ok(())
 }

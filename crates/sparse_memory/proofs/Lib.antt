@@ -1,5 +1,6 @@
 pub mod CountedPages
 pub mod FlagLaws
+pub mod KnownLaws
 pub mod ListedPages
 pub mod PageLaws
 pub mod RangeLaws

@@ -50,7 +50,7 @@ doubt-with_doubts unknown page k doubts strobes place whole within =
 lane_byte-zero : (lane : ℕ) → lane < 8 → lane_byte 0 lane ≡ 0
 lane_byte-zero lane below = below_eight (λ k. lane_byte 0 k ≡ 0) refl refl refl refl refl refl refl refl lane below
 
-has_lane-none : (lane : ℕ) → lane < 8 → has_lane 0 lane ≡ false
+pub has_lane-none : (lane : ℕ) → lane < 8 → has_lane 0 lane ≡ false
 has_lane-none lane below = below_eight (λ k. has_lane 0 k ≡ false) refl refl refl refl refl refl refl refl lane below
 
 has_lane-every : (lane : ℕ) → lane < 8 → has_lane 255 lane ≡ true

@@ -1,6 +1,6 @@
 -- A memory of which a page has room only once it was asked for: what a state of it says of each byte, and what its calls change. Nothing but the
 -- readings below is said of a state by the calls.
-use Rattle.std.specs.Prelude.{◌≡◌, ℕ, ◌+◌, ◌/◌, ◌%◌, ◌==◌, Bool, true, ◌&&◌, List, Option, Some, None, is_some, if◌then◌else◌, nat_eq, slice_index}
+use Rattle.std.specs.Prelude.{◌≡◌, ℕ, ◌+◌, ◌/◌, ◌%◌, ◌==◌, Bool, true, false, ◌&&◌, List, Option, Some, None, is_some, if◌then◌else◌, nat_eq, slice_index}
 use Rattle.std.specs.Map.{lookup}
 use Rattle.bus_words.specs.Lanes.{has_lane, lane_byte, mask_of, word_address, word_of_lanes}
 use Rattle.subordinate.specs.Faults.{Faults, device_fault, is_good, standing_at}
@@ -58,6 +58,10 @@ doubts_in state address = doubt_of (is_unknown state.ranges (address / 4096)) (p
 pub record IsSoundState (state : SparseState) : Type 0 where
   pub faults : device_fault (faults_in state).pages (faults_in state).bad_words ≡ None
   pub room : (address : ℕ) → has_room state (address / 4096) ≡ true → is_good (standing_at (faults_in state) address) ≡ true
+
+-- where a flag is true, no byte is in doubt
+abbrev pub KnowsAllIf : Bool → SparseState → Type 0
+KnowsAllIf flag state = flag ≡ true → (x : ℕ) → doubts_in state x ≡ false
 
 -- ---- by words
 

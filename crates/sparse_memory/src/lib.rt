@@ -9,7 +9,7 @@ mod ranges;
 mod tests;
 
 pub use memory::SparseMemory;
-pub use ranges::memory_fault;
+pub use ranges::{is_good_page, memory_fault};
 
 /// What the pages of a range are.
 #[derive(Clone, Copy, Debug, Default, PartialEq, Eq)]

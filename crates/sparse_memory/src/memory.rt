@@ -6,7 +6,7 @@ ghost use Rattle.sparse_memory.specs.Ranges.{faults_of, is_unknown, kind_of, pag
 ghost use Rattle.sparse_memory.specs.SparseMemory.{IsSoundState, bytes_in, doubts_in, faults_in, flags_in, has_room, page_in, put_flags, word_in};
 
 use crate::page::Page;
-use crate::ranges::range_of;
+use crate::ranges::{has_unknown, is_unknown_kind, range_of};
 use crate::{PageRange, RangeKind};
 use axi_beats::Resp;
 use bus_words::{has_lane, lane_byte};
@@ -21,16 +21,18 @@ pub struct SparseMemory {
     ranges: Vec<PageRange>,
     bad: Vec<u32>,
     pages: HashMap<u32, Page>,
+    /// Where true, no byte is in doubt.
+    knows_all: bool,
 }
 
 impl Model for SparseMemory {
-    ghost use Rattle.sparse_memory.specs.SparseMemory.{IsSoundState, SparseState, sparse_state};
+    ghost use Rattle.sparse_memory.specs.SparseMemory.{IsSoundState, KnowsAllIf, SparseState, sparse_state};
 
     ghost Value = { SparseState };
 
     ghost view = { λ m. sparse_state m.ranges.items m.bad.items m.pages.entries };
 
-    ghost invariant = { λ m. IsSoundState (sparse_state m.ranges.items m.bad.items m.pages.entries) };
+    ghost invariant = { λ m. IsSoundState (sparse_state m.ranges.items m.bad.items m.pages.entries) × KnowsAllIf m.knows_all (sparse_state m.ranges.items m.bad.items m.pages.entries) };
 }
 
 // Written out, so that what lets go of one calls this, and proves nothing of its parts.
@@ -41,6 +43,7 @@ impl Drop for SparseMemory {
             ranges: _,
             bad: _,
             pages: _,
+            knows_all: _,
         } = self;
     }
 }
@@ -64,6 +67,7 @@ impl SparseMemory {
             ranges: copied(alloc, ranges)?,
             bad: copied(alloc, bad_words)?,
             pages: HashMap::new(alloc),
+            knows_all: !has_unknown(ranges),
         })
     }
 
@@ -129,11 +133,21 @@ impl SparseMemory {
         }
     }
 
+    /// Whether it is sure that no byte is in doubt.
+    pub fn knows_all(&self) -> bool
+        ensures { result ≡ true → (x : ℕ) → doubts_in self.now x ≡ false }
+    {
+        self.knows_all
+    }
+
     /// Which bytes of the word that an address is in are in doubt, bit i for byte i.
     pub fn doubts(&self, address: u32) -> u8
         ensures value { result ≡ flags_in (doubts_in self.now) address }
         ensures sound { IsSoundState self.now }
     {
+        if self.knows_all {
+            return 0;
+        }
         match self.page_of(address) {
             Some(page) => page.doubts(place_of(address)),
             None if self.is_unknown(address) => 0xff,
@@ -170,7 +184,7 @@ impl SparseMemory {
         ensures { result ≡ is_unknown self.now.ranges (address / 4096) }
     {
         match self.range_of(address) {
-            Some(range) => matches!(range.kind, RangeKind::Unknown),
+            Some(range) => is_unknown_kind(range.kind),
             None => false,
         }
     }
@@ -224,6 +238,7 @@ impl SparseMemory {
             return;
         };
         page.put_doubts(place_of(address), doubts, strobes);
+        self.knows_all &= doubts & strobes == 0;
     }
 }
 

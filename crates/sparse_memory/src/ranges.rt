@@ -5,7 +5,7 @@ ghost use Rattle.std.specs.Option.{option_copied};
 ghost use Rattle.bus_words.specs.Tables.{first_broken};
 ghost use Rattle.subordinate.specs.Faults.{device_fault, is_good, is_no_word, rules_of_pages, rules_of_words};
 ghost use Rattle.subordinate.specs.declared.DeviceFault.TheVariants.{PageRange as BeyondRange};
-ghost use Rattle.sparse_memory.specs.Ranges.{has_page, lower, pages_in, pages_of, range_of, standing_in};
+ghost use Rattle.sparse_memory.specs.Ranges.{has_page, is_unknown_kind, lower, pages_in, pages_of, range_of, standing_in};
 
 use crate::{PageRange, RangeKind};
 use subordinate::DeviceFault;
@@ -25,6 +25,20 @@ pub(crate) fn range_of(ranges: &[PageRange], number: u32) -> Option<&PageRange>
     ensures { option_copied result ≡ range_of ranges.now number }
 {
     ranges.iter().find(|range| has_page(range, number))
+}
+
+/// Whether nobody knows at first which bytes the pages of a range have.
+pub(crate) fn is_unknown_kind(kind: RangeKind) -> bool
+    ensures { result ≡ is_unknown_kind kind }
+{
+    matches!(kind, RangeKind::Unknown)
+}
+
+/// Whether some range is of pages of which nobody knows at first which bytes they have.
+pub(crate) fn has_unknown(ranges: &[PageRange]) -> bool
+    ensures { result ≡ list_any (λ range. is_unknown_kind range.kind) ranges.now }
+{
+    ranges.iter().any(|range| is_unknown_kind(range.kind))
 }
 
 /// How many pages of a range, from its first on, have addresses of 32 bits.
@@ -114,8 +128,8 @@ fn page_fault(ranges: &[PageRange]) -> Option<DeviceFault>
     None
 }
 
-/// Whether a page of the ranges is good.
-fn is_good_page(ranges: &[PageRange], number: u32) -> bool
+/// Whether a page of the ranges is good, whatever its bytes are.
+pub fn is_good_page(ranges: &[PageRange], number: u32) -> bool
     ensures { result ≡ is_good (standing_in (range_of ranges.now number)) }
 {
     match range_of(ranges, number) {

@@ -142,6 +142,27 @@ fn answers(rt: HostRuntime) -> Result<(), Fail> {
     Ok(())
 }
 
+/// Without pages of unknown bytes all is known until a byte is marked, of which no clause says anything.
+#[test]
+fn known_at_first(rt: HostRuntime) -> Result<(), Fail> {
+    assert_eq!(rt; memory_fault(&FOUR, &[]), None);
+    let unknown = SparseMemory::new(rt.alloc(), &FOUR, &[])?;
+    assert!(rt; !unknown.knows_all());
+    let zeros = &FOUR[..1];
+    assert_eq!(rt; memory_fault(zeros, &[]), None);
+    let mut memory = SparseMemory::new(rt.alloc(), zeros, &[])?;
+    assert!(rt; memory.is_good(0x10008));
+    memory.reserve(0x10008)?;
+    memory.put_word(0x10008, 0x1122_3344_5566_7788, 0xff);
+    memory.put_doubts(0x10008, 0xf0, 0x0f);
+    assert!(rt; memory.knows_all());
+    assert_eq!(rt; memory.doubts(0x10008), 0);
+    memory.put_doubts(0x10008, 0xf0, 0x10);
+    assert!(rt; !memory.knows_all());
+    assert_eq!(rt; memory.doubts(0x10008), 0x10);
+    Ok(())
+}
+
 /// Lists that make no memory, and some that make one: pages are counted over all ranges.
 #[test]
 fn refused(rt: HostRuntime) {

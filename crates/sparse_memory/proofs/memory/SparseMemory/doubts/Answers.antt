@@ -1,7 +1,12 @@
 use Rattle.std.proofs.Common.{true, false, sym, ap, ◌∙◌}
 use Rattle.std.specs.Option.{option_copied}
+use Rattle.sparse_memory.specs.SparseMemory.{SparseState, doubts_in}
+use Rattle.sparse_memory.proofs.KnownLaws.{known-mask}
 use Rattle.sparse_memory.proofs.SparseLaws.{mask-of, no-mask}
 use Rattle.sparse_memory.proofs.memory.SparseMemory.doubts.Goals as goal
+
+pub returns-then-self-clause-value : goal.returns-then-self-clause-value
+returns-then-self-clause-value c = known-mask (doubts_in c.args.self.now) c.args.address (λ x. ap (λ (state : SparseState). doubts_in state x) (sym c.self.view_is) ∙ c.self.invariant.1 c.if-self.true x)
 
 pub returns-in-Some-clause-value : goal.returns-in-Some-clause-value
 returns-in-Some-clause-value c =

@@ -1,6 +1,8 @@
 -- Just one page is changed, and in it just the strobed bytes of one word.
-use Rattle.std.proofs.Common.{◌≡◌, ◌/◌, ◌%◌, ◌∙◌, Option, Some, ap, is_some, refl, sym}
+use Rattle.std.proofs.Common.{rules, ◌≡◌, ◌/◌, ◌%◌, ◌==◌, ◌∙◌, bit_and, Option, Some, ap, is_some, refl, sym}
+use Rattle.std.proofs.lemmas.Bool.{and_parts, eqb-true}
 use Rattle.sparse_memory.specs.SparseMemory.{PageState, SparseState, bytes_in, doubts_in, page_in, put_flags, sparse_state}
+use Rattle.sparse_memory.proofs.KnownLaws.{known-put}
 use Rattle.sparse_memory.proofs.PageLaws.{with_doubts}
 use Rattle.sparse_memory.proofs.SparseLaws.{ChangesPage, doubts-put, bytes-kept}
 use Rattle.sparse_memory.proofs.memory.SparseMemory.put_doubts.Goals as goal
@@ -30,3 +32,13 @@ returns-clause-doubts c =
     let d = (goal.at.returns-clause-doubts c).After-put_doubts in
     doubts-put (before d) (after d) c.args.address c.args.doubts c.args.strobes c.in-Some.page.now (there d) c.put_doubts.ensures.whole (changes d)
     ∙ ap (λ (state : SparseState). put_flags c.args.address c.args.doubts c.args.strobes (doubts_in state)) c.self.view_is
+
+pub invariant_of-self-2 : goal.invariant_of-self-2
+invariant_of-self-2 c =
+    let d = (goal.at.invariant_of-self-2 c).After-put_doubts in (
+      search rules,
+      λ known x.
+          let (before_known, none) = and_parts c.self.inside.knows_all (bit_and c.args.doubts c.args.strobes == 0) known in
+          ap (λ doubts. doubts x) (doubts-put (before d) (after d) c.args.address c.args.doubts c.args.strobes c.in-Some.page.now (there d) c.put_doubts.ensures.whole (changes d))
+          ∙ known-put (doubts_in (before d)) c.args.address c.args.doubts c.args.strobes (c.self.invariant.1 before_known) (eqb-true (bit_and c.args.doubts c.args.strobes) 0 none) x,
+    )

@@ -1,5 +1,5 @@
 -- Just one page is changed, and in it just the strobed bytes of one word.
-use Rattle.std.proofs.Common.{◌≡◌, ◌/◌, ◌%◌, ◌∙◌, Option, Some, ap, is_some, refl, sym}
+use Rattle.std.proofs.Common.{rules, ◌≡◌, ◌/◌, ◌%◌, ◌∙◌, Option, Some, ap, is_some, refl, sym}
 use Rattle.sparse_memory.specs.SparseMemory.{PageState, SparseState, bytes_in, doubts_in, page_in, put_word, sparse_state}
 use Rattle.sparse_memory.proofs.PageLaws.{with_word}
 use Rattle.sparse_memory.proofs.SparseLaws.{ChangesPage, bytes-put, doubts-kept}
@@ -30,3 +30,8 @@ pub returns-clause-doubts : goal.returns-clause-doubts
 returns-clause-doubts c =
     let d = (goal.at.returns-clause-doubts c).After-put_word in
     doubts-kept (before d) (after d) (c.args.address / 4096) c.in-Some.page.now _ (there d) refl (changes d) ∙ ap doubts_in c.self.view_is
+
+pub invariant_of-self-2 : goal.invariant_of-self-2
+invariant_of-self-2 c =
+    let d = (goal.at.invariant_of-self-2 c).After-put_word in
+    (search rules, λ known x. ap (λ doubts. doubts x) (doubts-kept (before d) (after d) (c.args.address / 4096) c.in-Some.page.now _ (there d) refl (changes d)) ∙ c.self.invariant.1 known x)
